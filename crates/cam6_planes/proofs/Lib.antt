@@ -1,0 +1,6 @@
+pub mod Words
+pub mod WordByWord
+pub mod Bytes
+pub mod HexText
+pub mod CellsAt
+pub mod Blank

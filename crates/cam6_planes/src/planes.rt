@@ -1,0 +1,177 @@
+//! The four planes of a machine.
+ghost use Rattle.std.specs.Prelude.{◌≡◌, ◌<◌, ◌≤◌, ℕ, slice_index_or, slice_set, [], IfOk, length};
+ghost use Rattle.cam6_planes.specs.Row.{column_bit, byte_column, row_text};
+ghost use Rattle.cam6_planes.specs.Cells.{cells, no_cells, with_row};
+ghost use Rattle.cam6_planes.specs.declared.row.TheConstants.{SIDE, DIGITS};
+
+use crate::memory::NoMemory;
+use crate::row::{BYTES, DIGITS, Row, SIDE, WORDS, hex_of, is_set, row_of_bytes};
+use std::alloc::Global;
+use std::marker::Model;
+
+/// Four bit planes of 256 by 256 cells. A row of the storage holds that row of all four.
+#[derive(Drop)]
+pub struct Planes {
+    rows: Vec<[Row; 4]>,
+}
+
+impl Model for Planes {
+    ghost use Rattle.std.specs.Prelude.{◌≤◌, vec_len};
+    ghost use Rattle.cam6_planes.specs.Stored.{Stored};
+
+    ghost Value = { Stored };
+
+    ghost view = { λ a. record { side = 256; rows = a.rows.items } };
+
+    ghost invariant = { λ a. 256 ≤ vec_len a.rows };
+}
+
+impl Planes {
+    /// Planes with every bit 0.
+    pub fn blank(alloc: Global) -> Result<Planes, NoMemory>
+        ensures cells { IfOk result (λ planes. cells planes ≡ no_cells) }
+        ensures side { IfOk result (λ planes. planes.side ≡ SIDE) }
+    {
+        let mut rows = Vec::with_capacity(alloc, SIDE)?;
+        for _y in 0..SIDE {
+            rows.push([[0; WORDS]; 4])?;
+        }
+        Ok(Planes { rows })
+    }
+
+    /// The bit of plane `p` at column `x` of row `y`.
+    #[tactic(auto, using(crate::proofs::CellsAt::cells_at))]
+    pub fn bit(&self, p: usize, x: usize, y: usize) -> bool
+        requires plane { p < 4 }
+        requires column { x < SIDE }
+        requires row { y < SIDE }
+        ensures value { result ≡ cells self.now p x y }
+        ensures side { self.now.side ≡ SIDE }
+    {
+        is_set(&plane_row(&self.rows[y], p), x)
+    }
+
+    /// Row `y` of plane `p`, in words.
+    #[tactic(auto, using(crate::proofs::CellsAt::cells_at))]
+    pub fn row_words(&self, p: usize, y: usize) -> Row
+        requires plane { p < 4 }
+        requires row { y < SIDE }
+        ensures value { (x : ℕ) → x < SIDE → column_bit result x ≡ cells self.now p x y }
+        ensures side { self.now.side ≡ SIDE }
+    {
+        plane_row(&self.rows[y], p)
+    }
+
+    /// Row `y` of plane `p`, as 64 lower case hexadecimal digits.
+    pub fn row_hex(&self, p: usize, y: usize) -> [u8; DIGITS]
+        requires plane { p < 4 }
+        requires row { y < SIDE }
+        ensures value { result ≡ row_text DIGITS (λ x. cells self.now p x y) }
+        ensures side { self.now.side ≡ SIDE }
+    {
+        hex_of(&self.row_words(p, y))
+    }
+
+    /// Writes row `y` of plane `p` from words.
+    pub fn set_row_words(&mut self, p: usize, y: usize, words: Row)
+        requires plane { p < 4 }
+        requires row { y < SIDE }
+        ensures cells { cells self.new ≡ with_row SIDE (cells self.old) p y (column_bit words) }
+        ensures side { (self.old.side ≡ SIDE) × (self.new.side ≡ SIDE) }
+    {
+        set_plane_row(&mut self.rows[y], p, words);
+    }
+
+    /// Writes row `y` of plane `p` from bytes, of which the first has columns 0 to 7.
+    pub fn put_row(&mut self, p: usize, y: usize, bits: &[u8; BYTES])
+        requires plane { p < 4 }
+        requires row { y < SIDE }
+        ensures cells { cells self.new ≡ with_row SIDE (cells self.old) p y (byte_column bits.now) }
+        ensures side { (self.old.side ≡ SIDE) × (self.new.side ≡ SIDE) }
+    {
+        self.set_row_words(p, y, row_of_bytes(bits));
+    }
+
+    /// Makes these planes show what the others show.
+    pub fn copy_from(&mut self, other: &Planes)
+        ensures cells { cells self.new ≡ cells other.now }
+        ensures side { (self.old.side ≡ SIDE) × (self.new.side ≡ SIDE) × (other.now.side ≡ SIDE) }
+    {
+        for y in 0..SIDE {
+            self.rows[y] = other.rows[y];
+        }
+    }
+}
+
+fn plane_row(rows: &[Row; 4], p: usize) -> Row
+    requires { p < 4 }
+    ensures { result ≡ slice_index_or rows.now p [] }
+{
+    rows[p]
+}
+
+fn set_plane_row(rows: &mut [Row; 4], p: usize, words: Row)
+    requires { p < 4 }
+    ensures planes { length rows.old ≡ 4 }
+    ensures value { rows.new ≡ slice_set rows.old p words }
+{
+    rows[p] = words;
+}
+
+#[cfg(test)]
+mod tests {
+    use super::*;
+    use std::test::Fail;
+
+    // Columns 0, 131, 132 and 255: the bytes 80, 18 and 01 at 0, 16 and 31.
+    const ROW: Row = [0x8000_0000_0000_0000, 0, 0x1800_0000_0000_0000, 1];
+
+    // By hand, four columns to a digit from column 0 on.
+    const TEXT: [u8; DIGITS] = *b"8000000000000000000000000000000018000000000000000000000000000001";
+
+    #[test]
+    fn writes_one_row(rt: HostRuntime) -> Result<(), Fail> {
+        let mut bits = [0; BYTES];
+        bits[0] = 0x80;
+        bits[16] = 0x18;
+        bits[31] = 0x01;
+        let mut planes = Planes::blank(rt.alloc())?;
+        planes.put_row(2, 10, &bits);
+        for x in 0..SIDE {
+            let want = x == 0 || x == 131 || x == 132 || x == 255;
+            assert_eq!(rt; planes.bit(2, x, 10), want, "column {x}");
+        }
+        assert_eq!(rt; planes.row_hex(2, 10), TEXT);
+        for plane in 0..4 {
+            for row in 0..SIDE {
+                let want = if plane == 2 && row == 10 {
+                    ROW
+                } else {
+                    [0; WORDS]
+                };
+                assert_eq!(rt;
+                    planes.row_words(plane, row),
+                    want,
+                    "row {row} of plane {plane}"
+                );
+            }
+        }
+        Ok(())
+    }
+
+    #[test]
+    fn copies(rt: HostRuntime) -> Result<(), Fail> {
+        let mut planes = Planes::blank(rt.alloc())?;
+        planes.set_row_words(0, 0, ROW);
+        planes.set_row_words(3, 255, ROW);
+        let mut copy = Planes::blank(rt.alloc())?;
+        copy.set_row_words(1, 7, ROW);
+        copy.copy_from(&planes);
+        planes.set_row_words(0, 0, [0; WORDS]);
+        assert_eq!(rt; copy.row_words(0, 0), ROW);
+        assert_eq!(rt; copy.row_words(3, 255), ROW);
+        assert_eq!(rt; copy.row_words(1, 7), [0; WORDS]);
+        assert_eq!(rt; planes.row_words(0, 0), [0; WORDS]);
+        Ok(())
+    }
+}
