@@ -1,0 +1,70 @@
+-- Names: the planes and bits that they read, and when two are the same.
+use Rattle.std.specs.Prelude.{ℕ, Bool, true, false, ◌&&◌}
+use Rattle.cam6_wiring.specs.declared.names.Compass.{Compass}
+use Rattle.cam6_wiring.specs.declared.names.Compass.TheVariants.{Center, North, South, West, East, NorthWest, NorthEast, SouthWest, SouthEast}
+use Rattle.cam6_wiring.specs.declared.names.Turn.{Turn}
+use Rattle.cam6_wiring.specs.declared.names.Turn.TheVariants.{Clockwise, Opposite, CounterClockwise}
+use Rattle.cam6_wiring.specs.declared.names.Half.{Half}
+use Rattle.cam6_wiring.specs.declared.names.Half.TheVariants.{A, B}
+use Rattle.cam6_wiring.specs.declared.names.Level.{Level}
+use Rattle.cam6_wiring.specs.declared.names.Level.TheVariants.{Lower, Upper}
+use Rattle.cam6_wiring.specs.declared.names.Phase.{Phase}
+use Rattle.cam6_wiring.specs.declared.names.Phase.TheVariants.{P0, P1, P2, P3}
+use Rattle.cam6_wiring.specs.declared.names.Name.{Name}
+use Rattle.cam6_wiring.specs.declared.names.Name.TheVariants as name
+
+-- the number of a half's plane
+abbrev pub plane_of : Half → Level → ℕ
+plane_of A Lower = 0
+plane_of A Upper = 1
+plane_of B Lower = 2
+plane_of B Upper = 3
+
+abbrev pub other_half : Half → Half
+other_half A = B
+other_half B = A
+
+-- the phase's low bit, or its high bit
+abbrev pub phase_bit : Phase → Level → Bool
+phase_bit P0 level = false
+phase_bit P1 Lower = true
+phase_bit P1 Upper = false
+phase_bit P2 Lower = false
+phase_bit P2 Upper = true
+phase_bit P3 level = true
+
+abbrev pub is_same_level : Level → Level → Bool
+is_same_level Lower Lower = true
+is_same_level Upper Upper = true
+is_same_level _ _ = false
+
+abbrev pub is_same_turn : Turn → Turn → Bool
+is_same_turn Clockwise Clockwise = true
+is_same_turn Opposite Opposite = true
+is_same_turn CounterClockwise CounterClockwise = true
+is_same_turn _ _ = false
+
+abbrev pub is_same_place : Compass → Compass → Bool
+is_same_place Center Center = true
+is_same_place North North = true
+is_same_place South South = true
+is_same_place West West = true
+is_same_place East East = true
+is_same_place NorthWest NorthWest = true
+is_same_place NorthEast NorthEast = true
+is_same_place SouthWest SouthWest = true
+is_same_place SouthEast SouthEast = true
+is_same_place _ _ = false
+
+-- whether two names are one
+abbrev pub is_same_name : Name → Name → Bool
+is_same_name (name.Beside c l) (name.Beside d m) = is_same_place c d && is_same_level l m
+is_same_name (name.InBlock c l) (name.InBlock d m) = is_same_turn c d && is_same_level l m
+is_same_name (name.Phase l) (name.Phase m) = is_same_level l m
+is_same_name name.Horz name.Horz = true
+is_same_name name.Vert name.Vert = true
+is_same_name (name.MinorCenter l) (name.MinorCenter m) = is_same_level l m
+is_same_name (name.MinorPhase l) (name.MinorPhase m) = is_same_level l m
+is_same_name name.MinorHorz name.MinorHorz = true
+is_same_name name.MinorVert name.MinorVert = true
+is_same_name _ _ = false

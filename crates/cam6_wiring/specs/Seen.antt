@@ -1,0 +1,59 @@
+-- What a cell sees, and the address that it shows. The planes f are a torus of side s, so a
+-- coordinate past the edge wraps round; s - 1 further on is one back.
+use Rattle.std.specs.Prelude.{ℕ, ◌+◌, ◌-◌, ◌*◌, ◌==◌, Bool, false, List, [], ◌∷◌, map, Option, Some, None}
+use Rattle.cam6_planes.specs.Row.{bit_number}
+use Rattle.cam6_planes.specs.Cells.{Cells}
+use Rattle.cam6_wiring.specs.Block.{corner_of, in_block, side_in_block}
+use Rattle.cam6_wiring.specs.Name.{plane_of, other_half, phase_bit}
+use Rattle.cam6_wiring.specs.Wiring.{names_of}
+use Rattle.cam6_wiring.specs.declared.names.Name.{Name}
+use Rattle.cam6_wiring.specs.declared.names.Name.TheVariants as name
+use Rattle.cam6_wiring.specs.declared.neighbours.Setting.{Setting}
+use Rattle.cam6_wiring.specs.declared.blocks.Grid.{Grid}
+use Rattle.cam6_wiring.specs.declared.wirings.Hood.{Hood}
+use Rattle.cam6_wiring.specs.declared.wirings.Minor.{Minor}
+use Rattle.cam6_wiring.specs.declared.names.Compass.{Compass}
+use Rattle.cam6_wiring.specs.declared.names.Compass.TheVariants.{Center, North, South, West, East, NorthWest, NorthEast, SouthWest, SouthEast}
+use Rattle.cam6_wiring.specs.declared.names.Turn.{Turn}
+
+-- the bit of plane p that the cell at column x of row y sees beside it
+abbrev pub seen_beside : ℕ → Cells → Compass → Cells
+seen_beside s f Center p x y = f p x y
+seen_beside s f North p x y = f p x (y + (s - 1))
+seen_beside s f South p x y = f p x (y + 1)
+seen_beside s f West p x y = f p (x + (s - 1)) y
+seen_beside s f East p x y = f p (x + 1) y
+seen_beside s f NorthWest p x y = f p (x + (s - 1)) (y + (s - 1))
+seen_beside s f NorthEast p x y = f p (x + 1) (y + (s - 1))
+seen_beside s f SouthWest p x y = f p (x + (s - 1)) (y + 1)
+seen_beside s f SouthEast p x y = f p (x + 1) (y + 1)
+
+-- the bit of plane p that it sees in its block
+abbrev pub seen_in_block : ℕ → Cells → Grid → Turn → Cells
+seen_in_block s f grid turn p x y = seen_beside s f (in_block (corner_of grid x y) turn) p x y
+
+-- the bit that a name means to the cell at column x of row y
+abbrev pub seen : ℕ → Cells → Setting → Name → ℕ → ℕ → Bool
+seen s f setting (name.Beside compass level) x y = seen_beside s f compass (plane_of setting.half level) x y
+seen s f setting (name.InBlock turn level) x y = seen_in_block s f setting.grid turn (plane_of setting.half level) x y
+seen s f setting (name.Phase level) x y = phase_bit setting.phase level
+seen s f setting name.Horz x y = side_in_block setting.grid x == 1
+seen s f setting name.Vert x y = side_in_block setting.grid y == 1
+seen s f setting (name.MinorCenter level) x y = f (plane_of (other_half setting.half) level) x y
+seen s f setting (name.MinorPhase level) x y = phase_bit setting.phase level
+seen s f setting name.MinorHorz x y = side_in_block setting.grid x == 1
+seen s f setting name.MinorVert x y = side_in_block setting.grid y == 1
+
+-- what a line shows: 0 without a name
+abbrev pub line_seen : ℕ → Cells → Setting → ℕ → ℕ → Option Name → Bool
+line_seen s f setting x y None = false
+line_seen s f setting x y (Some name) = seen s f setting name x y
+
+-- the number whose bits these are, the lowest first
+abbrev pub number_of : List Bool → ℕ
+number_of [] = 0
+number_of (b ∷ bits) = 2 * number_of bits + bit_number b
+
+-- the address that the cell at column x of row y shows: bit i is what it sees under line i's name
+unfoldable pub address : ℕ → Cells → Setting → Hood → Minor → ℕ → ℕ → ℕ
+address s f setting hood minor x y = number_of (map (line_seen s f setting x y) (names_of hood minor))

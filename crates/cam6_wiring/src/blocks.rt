@@ -1,0 +1,69 @@
+//! Margolus blocks: the torus cut into squares of two by two cells, by the even or the odd grid.
+ghost use Rattle.std.specs.Prelude.{◌≡◌, ◌<◌};
+ghost use Rattle.cam6_wiring.specs.Block.{corner_of, in_block, side_in_block};
+ghost use Rattle.cam6_planes.specs.declared.row.TheConstants.{SIDE};
+
+use crate::names::{Compass, Turn};
+use cam6_planes::SIDE;
+
+/// Where a block's upper left cell lies: at even coordinates, or at odd ones. The last blocks of the
+/// odd grid join the last column with column 0, and the last row with row 0.
+#[derive(Clone, Copy, Debug, PartialEq, Eq)]
+pub enum Grid {
+    Even,
+    Odd,
+}
+
+/// A cell's place in its block; the places run clockwise.
+#[derive(Clone, Copy, Debug, PartialEq, Eq)]
+pub enum Corner {
+    UpperLeft,
+    UpperRight,
+    LowerRight,
+    LowerLeft,
+}
+
+/// The corner of its block in which the cell at column `x` of row `y` lies.
+pub fn corner_of(grid: Grid, x: usize, y: usize) -> Corner
+    requires column { x < SIDE }
+    requires row { y < SIDE }
+    ensures { result ≡ corner_of grid x y }
+{
+    match (side_in_block(grid, x), side_in_block(grid, y)) {
+        (0, 0) => Corner::UpperLeft,
+        (_, 0) => Corner::UpperRight,
+        (0, _) => Corner::LowerLeft,
+        _ => Corner::LowerRight,
+    }
+}
+
+/// Where the block's cell at this turn lies, seen from a corner.
+pub fn in_block(corner: Corner, turn: Turn) -> Compass
+    ensures { result ≡ in_block corner turn }
+{
+    match (corner, turn) {
+        (Corner::UpperLeft, Turn::Clockwise) => Compass::East,
+        (Corner::UpperLeft, Turn::Opposite) => Compass::SouthEast,
+        (Corner::UpperLeft, Turn::CounterClockwise) => Compass::South,
+        (Corner::UpperRight, Turn::Clockwise) => Compass::South,
+        (Corner::UpperRight, Turn::Opposite) => Compass::SouthWest,
+        (Corner::UpperRight, Turn::CounterClockwise) => Compass::West,
+        (Corner::LowerRight, Turn::Clockwise) => Compass::West,
+        (Corner::LowerRight, Turn::Opposite) => Compass::NorthWest,
+        (Corner::LowerRight, Turn::CounterClockwise) => Compass::North,
+        (Corner::LowerLeft, Turn::Clockwise) => Compass::North,
+        (Corner::LowerLeft, Turn::Opposite) => Compass::NorthEast,
+        (Corner::LowerLeft, Turn::CounterClockwise) => Compass::East,
+    }
+}
+
+/// 0 in a block's left column, and 1 in its right one; of a row, 0 in the upper and 1 in the lower.
+pub(crate) fn side_in_block(grid: Grid, x: usize) -> usize
+    requires { x < SIDE }
+    ensures { result ≡ side_in_block grid x }
+{
+    match grid {
+        Grid::Even => x % 2,
+        Grid::Odd => (x + 1) % 2,
+    }
+}

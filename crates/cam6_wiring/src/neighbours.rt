@@ -1,0 +1,120 @@
+//! What a cell sees, and the address that it shows.
+ghost use Rattle.std.specs.Prelude.{◌≡◌, ◌<◌, ◌^◌};
+ghost use Rattle.cam6_planes.specs.Cells.{cells};
+ghost use Rattle.cam6_planes.specs.Row.{bit_number};
+ghost use Rattle.cam6_planes.specs.declared.row.TheConstants.{SIDE};
+ghost use Rattle.cam6_wiring.specs.declared.wirings.TheConstants.{LINES};
+ghost use Rattle.cam6_wiring.specs.Seen.{seen, seen_beside, seen_in_block, line_seen, address};
+
+use crate::blocks::{Grid, corner_of, in_block, side_in_block};
+use crate::names::{Compass, Half, Name, Phase, Turn};
+use crate::wirings::{Hood, LINES, Minor, names_of};
+use cam6_planes::{Planes, SIDE};
+
+/// What is the same for every cell of a half during one step.
+#[derive(Clone, Copy, Debug, PartialEq, Eq)]
+pub struct Setting {
+    pub half: Half,
+    pub grid: Grid,
+    pub phase: Phase,
+}
+
+/// The number that the cell at column `x` of row `y` shows on its twelve address lines; bit 0 is the
+/// lowest. A line without a name shows 0.
+pub fn address_at(
+    planes: &Planes,
+    half: Half,
+    hood: Hood,
+    minor: Minor,
+    grid: Grid,
+    phase: Phase,
+    x: usize,
+    y: usize,
+) -> u16
+    requires column { x < SIDE }
+    requires row { y < SIDE }
+    ensures address { result ≡ address SIDE (cells planes.now)
+        (record { half = half; grid = grid; phase = phase }) hood minor x y }
+    ensures within { result < 2 ^ LINES }
+{
+    let setting = Setting { half, grid, phase };
+    let names = names_of(hood, minor);
+    let mut address = 0;
+    for line in 0..LINES {
+        let bit = line_bit(planes, setting, names[LINES - 1 - line], x, y);
+        address = 2 * address + bit;
+    }
+    address
+}
+
+fn line_bit(planes: &Planes, setting: Setting, name: Option<Name>, x: usize, y: usize) -> u16
+    requires column { x < SIDE }
+    requires row { y < SIDE }
+    ensures bit { result ≡ bit_number (line_seen SIDE (cells planes.now) setting x y name) }
+    ensures within { result < 2 }
+{
+    match name {
+        Some(name) => u16::from(seen(planes, setting, name, x, y)),
+        None => 0,
+    }
+}
+
+/// The bit that a name means to the cell at column `x` of row `y`.
+pub fn seen(planes: &Planes, setting: Setting, name: Name, x: usize, y: usize) -> bool
+    requires column { x < SIDE }
+    requires row { y < SIDE }
+    ensures { result ≡ seen SIDE (cells planes.now) setting name x y }
+{
+    let Setting { half, grid, phase } = setting;
+    match name {
+        Name::Beside(compass, level) => seen_beside(planes, compass, half.plane(level), x, y),
+        Name::InBlock(turn, level) => seen_in_block(planes, grid, turn, half.plane(level), x, y),
+        Name::MinorCenter(level) => {
+            seen_beside(planes, Compass::Center, half.other().plane(level), x, y)
+        }
+        Name::Phase(level) | Name::MinorPhase(level) => phase.bit(level),
+        Name::Horz | Name::MinorHorz => side_in_block(grid, x) == 1,
+        Name::Vert | Name::MinorVert => side_in_block(grid, y) == 1,
+    }
+}
+
+/// The bit of plane `p` that the cell sees beside it.
+fn seen_beside(planes: &Planes, compass: Compass, p: usize, x: usize, y: usize) -> bool
+    requires plane { p < 4 }
+    requires column { x < SIDE }
+    requires row { y < SIDE }
+    ensures { result ≡ seen_beside SIDE (cells planes.now) compass p x y }
+{
+    let (west, east) = (x + (SIDE - 1), x + 1);
+    let (north, south) = (y + (SIDE - 1), y + 1);
+    match compass {
+        Compass::Center => wrapped(planes, p, x, y),
+        Compass::North => wrapped(planes, p, x, north),
+        Compass::South => wrapped(planes, p, x, south),
+        Compass::West => wrapped(planes, p, west, y),
+        Compass::East => wrapped(planes, p, east, y),
+        Compass::NorthWest => wrapped(planes, p, west, north),
+        Compass::NorthEast => wrapped(planes, p, east, north),
+        Compass::SouthWest => wrapped(planes, p, west, south),
+        Compass::SouthEast => wrapped(planes, p, east, south),
+    }
+}
+
+/// The bit of plane `p` that the cell sees in its block.
+fn seen_in_block(planes: &Planes, grid: Grid, turn: Turn, p: usize, x: usize, y: usize) -> bool
+    requires plane { p < 4 }
+    requires column { x < SIDE }
+    requires row { y < SIDE }
+    ensures { result ≡ seen_in_block SIDE (cells planes.now) grid turn p x y }
+{
+    let compass = in_block(corner_of(grid, x, y), turn);
+    seen_beside(planes, compass, p, x, y)
+}
+
+/// The bit at any coordinates: past the last column or row the torus begins again.
+fn wrapped(planes: &Planes, p: usize, x: usize, y: usize) -> bool
+    requires { p < 4 }
+    ensures { result ≡ cells planes.now p x y }
+{
+    planes.bit(p, x % SIDE, y % SIDE)
+}

@@ -1,0 +1,158 @@
+//! Which name stands on which of a half's twelve address lines.
+ghost use Rattle.std.specs.Prelude.{◌≡◌, ◌<◌, IfSome};
+ghost use Rattle.cam6_wiring.specs.declared.wirings.TheConstants.{LINES};
+ghost use Rattle.cam6_wiring.specs.Wiring.{lower, upper, block_names, hood_names, minor_names, names_of, is_at, line_of};
+
+use crate::names::{Compass, Half, Level, Name, Turn};
+
+/// A half's neighbourhood: the names on address lines 0 to 9.
+#[derive(Clone, Copy, Debug, PartialEq, Eq)]
+pub enum Hood {
+    /// N/MOORE
+    Moore,
+    /// N/VONN
+    VonNeumann,
+    /// N/MARG
+    Margolus,
+    /// N/MARG-PH
+    MargolusPhase,
+    /// N/MARG-HV
+    MargolusHorzVert,
+}
+
+/// A half's minor assignment: the names on address lines 10 and 11.
+#[derive(Clone, Copy, Debug, PartialEq, Eq)]
+pub enum Minor {
+    /// &/CENTERS
+    Centers,
+    /// &/PHASES
+    Phases,
+    /// &/HV
+    HorzVert,
+}
+
+/// What a rule is written for: a half, and the names on its address lines.
+#[derive(Clone, Copy, Debug, PartialEq, Eq)]
+pub struct Wiring {
+    pub half: Half,
+    pub hood: Hood,
+    pub minor: Minor,
+}
+
+/// Address lines of a half.
+pub const LINES: usize = 12;
+
+/// The address line on which a name stands, or `None` where the wiring lacks the name.
+#[tactic(auto, unfolding(crate::specs::Wiring::line_of))]
+pub fn line_of(hood: Hood, minor: Minor, name: Name) -> Option<u8>
+    ensures line { result ≡ line_of hood minor name }
+    ensures within { IfSome result (λ line. line < LINES) }
+{
+    for (line, known) in names_of(hood, minor).iter().enumerate() {
+        if is_at(name, *known) {
+            return Some(line as u8);
+        }
+    }
+    None
+}
+
+fn is_at(name: Name, known: Option<Name>) -> bool
+    ensures { result ≡ is_at name known }
+{
+    match known {
+        Some(known) => known == name,
+        None => false,
+    }
+}
+
+/// The name of each line, the lowest first, where it has one.
+pub(crate) fn names_of(hood: Hood, minor: Minor) -> [Option<Name>; LINES]
+    ensures { result ≡ names_of hood minor }
+{
+    let [n0, n1, n2, n3, n4, n5, n6, n7, n8, n9] = hood_names(hood);
+    let [n10, n11] = minor_names(minor);
+    [n0, n1, n2, n3, n4, n5, n6, n7, n8, n9, n10, n11]
+}
+
+fn lower(place: Compass) -> Option<Name>
+    ensures { result ≡ lower place }
+{
+    Some(Name::Beside(place, Level::Lower))
+}
+
+fn upper(place: Compass) -> Option<Name>
+    ensures { result ≡ upper place }
+{
+    Some(Name::Beside(place, Level::Upper))
+}
+
+fn hood_names(hood: Hood) -> [Option<Name>; 10]
+    ensures { result ≡ hood_names hood }
+{
+    match hood {
+        Hood::Moore => [
+            lower(Compass::Center),
+            upper(Compass::Center),
+            lower(Compass::North),
+            lower(Compass::South),
+            lower(Compass::West),
+            lower(Compass::East),
+            lower(Compass::NorthWest),
+            lower(Compass::NorthEast),
+            lower(Compass::SouthWest),
+            lower(Compass::SouthEast),
+        ],
+        Hood::VonNeumann => [
+            lower(Compass::Center),
+            upper(Compass::Center),
+            lower(Compass::North),
+            lower(Compass::South),
+            lower(Compass::West),
+            lower(Compass::East),
+            upper(Compass::North),
+            upper(Compass::South),
+            upper(Compass::West),
+            upper(Compass::East),
+        ],
+        Hood::Margolus => block_names([None, None]),
+        Hood::MargolusPhase => block_names([
+            Some(Name::Phase(Level::Lower)),
+            Some(Name::Phase(Level::Upper)),
+        ]),
+        Hood::MargolusHorzVert => block_names([Some(Name::Horz), Some(Name::Vert)]),
+    }
+}
+
+fn block_names(last: [Option<Name>; 2]) -> [Option<Name>; 10]
+    ensures { result ≡ block_names last }
+{
+    let [eighth, ninth] = last;
+    [
+        lower(Compass::Center),
+        upper(Compass::Center),
+        Some(Name::InBlock(Turn::Clockwise, Level::Lower)),
+        Some(Name::InBlock(Turn::CounterClockwise, Level::Lower)),
+        Some(Name::InBlock(Turn::Opposite, Level::Lower)),
+        Some(Name::InBlock(Turn::Clockwise, Level::Upper)),
+        Some(Name::InBlock(Turn::CounterClockwise, Level::Upper)),
+        Some(Name::InBlock(Turn::Opposite, Level::Upper)),
+        eighth,
+        ninth,
+    ]
+}
+
+fn minor_names(minor: Minor) -> [Option<Name>; 2]
+    ensures { result ≡ minor_names minor }
+{
+    match minor {
+        Minor::Centers => [
+            Some(Name::MinorCenter(Level::Lower)),
+            Some(Name::MinorCenter(Level::Upper)),
+        ],
+        Minor::Phases => [
+            Some(Name::MinorPhase(Level::Lower)),
+            Some(Name::MinorPhase(Level::Upper)),
+        ],
+        Minor::HorzVert => [Some(Name::MinorHorz), Some(Name::MinorVert)],
+    }
+}
