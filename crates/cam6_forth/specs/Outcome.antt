@@ -1,0 +1,28 @@
+-- What the calls answer. Where memory runs out, nothing is said of the reading.
+use Rattle.std.specs.Prelude.{◌≡◌, ℕ, List, Result, Ok, Err, Vec}
+use Rattle.std.specs.declared.alloc.Global.{Global}
+use Rattle.cam6_wiring.specs.declared.wirings.Wiring.{Wiring}
+use Rattle.cam6_forth.specs.declared.faults.ParseFault.{ParseFault}
+use Rattle.cam6_forth.specs.declared.faults.ParseFault.TheVariants as parse_fault
+use Rattle.cam6_forth.specs.declared.faults.StepFault.{StepFault}
+use Rattle.cam6_forth.specs.declared.faults.StepFault.TheVariants as step_fault
+use Rattle.cam6_forth.specs.Defined.{Defined, RuleWords}
+use Rattle.cam6_forth.specs.Reading.{State}
+
+-- the new state, or the number of the token's fault
+abbrev pub Steps : Result State ℕ → State → Result (Unit {0}) StepFault → Type 0
+Steps reading new (Ok done) = reading ≡ Ok new
+Steps reading new (Err step_fault.NoMemory) = Unit {0}
+Steps reading new (Err (step_fault.Number number)) = reading ≡ Err number
+
+-- the definitions, or the number of the end's fault
+abbrev pub Finishes : Result (List Defined) ℕ → Result (Vec Defined Global) ℕ → Type 0
+Finishes reading (Ok definitions) = reading ≡ Ok definitions.items
+Finishes reading (Err number) = reading ≡ Err number
+
+-- the rule of this wiring with the definitions that were read, or the first fault
+abbrev pub Answers :
+    Result (List Defined) (ℕ × ℕ) → Wiring → Result RuleWords ParseFault → Type 0
+Answers reading wiring (Ok rule) = (reading ≡ Ok rule.definitions) × (rule.wiring ≡ wiring)
+Answers reading wiring (Err parse_fault.NoMemory) = Unit {0}
+Answers reading wiring (Err (parse_fault.Text fault)) = reading ≡ Err (fault.number, fault.token)

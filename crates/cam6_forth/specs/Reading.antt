@@ -1,0 +1,211 @@
+-- How a text is read, token by token: a fault is of the token at which it comes, by what stands
+-- before it.
+use Rattle.std.specs.Prelude.{ℕ, ◌+◌, Bool, true, false, not, List, [], ◌∷◌, ◌++◌, length, max, Option, Some, None, is_some, Result, Ok, Err, if◌then◌else◌, nat_lt, nat_le}
+use Rattle.std.specs.Str.{bytes_eq}
+use Rattle.cam6_wiring.specs.declared.names.Half.{Half}
+use Rattle.cam6_wiring.specs.declared.names.Half.TheVariants.{A, B}
+use Rattle.cam6_wiring.specs.declared.wirings.Wiring.{Wiring}
+use Rattle.cam6_wiring.specs.Wiring.{line_of}
+use Rattle.cam6_forth.specs.declared.faults.TheConstants.{UNKNOWN_WORD, NOT_DEFINABLE, OUT_OF_PLACE, TOO_LARGE, TOO_MANY_IFS, OTHER_HALF, LITERAL_RANGE, NO_DEFINITION, TOO_LONG, MAX_TEXT, MAX_DEFINITIONS, MAX_SIZE, MAX_OPEN_IFS}
+use Rattle.cam6_forth.specs.declared.words.Word.{Word}
+use Rattle.cam6_forth.specs.declared.words.Word.TheVariants as word
+use Rattle.cam6_forth.specs.declared.kinds.Kind.{Kind}
+use Rattle.cam6_forth.specs.declared.kinds.Kind.TheVariants.{Colon, Semicolon, Open, OpenBrace, CloseBrace, If, Else, Then, Digits, Stack, Output, Name, Other}
+use Rattle.cam6_forth.specs.declared.reader.Place.{Place}
+use Rattle.cam6_forth.specs.declared.reader.Place.TheVariants.{Outside, Naming, Inside, Braces}
+use Rattle.cam6_forth.specs.Tokens.{Token, tokens}
+use Rattle.cam6_forth.specs.Kinds.{kind_of, ends_comment}
+use Rattle.cam6_forth.specs.Defined.{Defined}
+
+-- what was read: the definitions, where the next token stands, whether a comment is open, and
+-- of the definition that is read its name, its words, its size and its open IFs, the innermost
+-- first, each with whether its ELSE has come
+pub record State : Type 0 where
+  pub done : List Defined
+  pub place : Place
+  pub comment : Bool
+  pub name : Token
+  pub words : List Word
+  pub size : ℕ
+  pub open_ifs : List Bool
+
+-- before the first token
+abbrev pub begin : State
+begin = record {
+  done = [];
+  place = Outside;
+  comment = false;
+  name = [];
+  words = [];
+  size = 0;
+  open_ifs = [];
+}
+
+-- the place of a name among definitions that are counted from a place on, and its definition's size
+abbrev pub place_from : ℕ → Token → List Defined → Option (ℕ × ℕ)
+place_from place name [] = None
+place_from place name (definition ∷ later) =
+    if bytes_eq definition.name name then Some (place, definition.size)
+    else place_from (place + 1) name later
+
+-- the place of a name among the definitions, and its definition's size
+abbrev pub place_of : Token → List Defined → Option (ℕ × ℕ)
+place_of name done = place_from 0 name done
+
+-- whether two halves are one
+abbrev pub is_same_half : Half → Half → Bool
+is_same_half A A = true
+is_same_half B B = true
+is_same_half _ _ = false
+
+-- a literal has size 1, and a value of at most 65,535
+abbrev pub literal_word : Option ℕ → Result (Word × ℕ) ℕ
+literal_word None = Err LITERAL_RANGE
+literal_word (Some value) = Ok (word.Literal value, 1)
+
+-- a defined name has its definition's size, or 1 where that is 0
+abbrev pub defined_word : Option (ℕ × ℕ) → Result (Word × ℕ) ℕ
+defined_word None = Err UNKNOWN_WORD
+defined_word (Some (place, size)) = Ok (word.Defined place, max size 1)
+
+-- the word that a token says by itself, with its size, or the number of the token's fault
+abbrev pub word_of : Wiring → List Defined → Kind → Token → Result (Word × ℕ) ℕ
+word_of wiring done (Digits value) token = literal_word value
+word_of wiring done (Stack stack) token = Ok (word.Stack stack, 1)
+word_of wiring done (Output output) token =
+    if is_same_half output.half wiring.half then Ok (word.Output output.target, 1)
+    else Err OTHER_HALF
+word_of wiring done (Name name) token =
+    if is_some (line_of wiring.hood wiring.minor name) then Ok (word.Name name, 1)
+    else Err UNKNOWN_WORD
+word_of wiring done Other token = defined_word (place_of token done)
+word_of wiring done kind token = Err OUT_OF_PLACE
+
+-- one more word, of this size, unless the definition grows too large
+abbrev pub grown : ℕ → Word → State → Result State ℕ
+grown size added state =
+    if nat_le (state.size + size) MAX_SIZE
+    then Ok (record state { size = state.size + size; words = state.words ++ added ∷ [] })
+    else Err TOO_LARGE
+
+-- a word that a token says by itself, of so much more size
+abbrev pub grown_by : ℕ → Result (Word × ℕ) ℕ → State → Result State ℕ
+grown_by more (Err number) state = Err number
+grown_by more (Ok (added, size)) state = grown (size + more) added state
+
+-- outside definitions: `:` begins one, unless it is one too many
+abbrev pub outside : State → Kind → Result State ℕ
+outside state Colon =
+    if nat_lt (length state.done) MAX_DEFINITIONS then Ok (record state { place = Naming })
+    else Err TOO_LONG
+outside state Open = Ok (record state { comment = true })
+outside state kind = Err OUT_OF_PLACE
+
+-- after `:`, a name that is neither reserved nor defined
+abbrev pub naming : State → Kind → Token → Result State ℕ
+naming state Other token =
+    if is_some (place_of token state.done) then Err NOT_DEFINABLE
+    else Ok (record state { place = Inside; name = token; words = []; size = 0; open_ifs = [] })
+naming state kind token = Err NOT_DEFINABLE
+
+-- IF, unless it is one too many
+abbrev pub with_if : State → Result State ℕ
+with_if state =
+    if nat_lt (length state.open_ifs) MAX_OPEN_IFS
+    then grown 1 word.If (record state { open_ifs = false ∷ state.open_ifs })
+    else Err TOO_MANY_IFS
+
+-- ELSE, where the innermost open IF has none yet
+abbrev pub with_else : List Bool → State → Result State ℕ
+with_else (false ∷ outer) state = grown 1 word.Else (record state { open_ifs = true ∷ outer })
+with_else open_ifs state = Err OUT_OF_PLACE
+
+-- THEN, where an IF is open
+abbrev pub with_then : List Bool → State → Result State ℕ
+with_then [] state = Err OUT_OF_PLACE
+with_then (has_else ∷ outer) state =
+    Ok (record state { words = state.words ++ word.Then ∷ []; open_ifs = outer })
+
+-- the definition that was read
+abbrev pub defined : State → Defined
+defined state = record { name = state.name; words = state.words; size = state.size }
+
+-- `;`, where no IF is open
+abbrev pub with_end : List Bool → State → Result State ℕ
+with_end [] state =
+    Ok (record state {
+      done = state.done ++ defined state ∷ [];
+      place = Outside;
+      name = [];
+      words = [];
+      size = 0;
+    })
+with_end (has_else ∷ outer) state = Err OUT_OF_PLACE
+
+-- in a body
+abbrev pub inside : Wiring → State → Kind → Token → Result State ℕ
+inside wiring state Semicolon token = with_end state.open_ifs state
+inside wiring state Open token = Ok (record state { comment = true })
+inside wiring state If token = with_if state
+inside wiring state Else token = with_else state.open_ifs state
+inside wiring state Then token = with_then state.open_ifs state
+inside wiring state OpenBrace token = grown 1 word.Cases (record state { place = Braces })
+inside wiring state kind token = grown_by 0 (word_of wiring state.done kind token) state
+
+-- between braces, where each word has one more than its size
+abbrev pub braces : Wiring → State → Kind → Token → Result State ℕ
+braces wiring state Open token = Ok (record state { comment = true })
+braces wiring state CloseBrace token =
+    Ok (record state { place = Inside; words = state.words ++ word.EndCases ∷ [] })
+braces wiring state kind token = grown_by 1 (word_of wiring state.done kind token) state
+
+-- a token that stands at this place
+abbrev pub step_at : Wiring → Place → State → Kind → Token → Result State ℕ
+step_at wiring Outside state kind token = outside state kind
+step_at wiring Naming state kind token = naming state kind token
+step_at wiring Inside state kind token = inside wiring state kind token
+step_at wiring Braces state kind token = braces wiring state kind token
+
+-- one more token, or the number of its fault
+abbrev pub step : Wiring → State → Token → Result State ℕ
+step wiring state token =
+    if state.comment then Ok (record state { comment = not (ends_comment token) })
+    else step_at wiring state.place state (kind_of token) token
+
+-- at least one definition
+abbrev pub some_definition : List Defined → Result (List Defined) ℕ
+some_definition [] = Err NO_DEFINITION
+some_definition (first ∷ later) = Ok (first ∷ later)
+
+-- a text may end outside definitions
+abbrev pub finish_at : Place → State → Result (List Defined) ℕ
+finish_at Outside state = some_definition state.done
+finish_at place state = Err OUT_OF_PLACE
+
+-- the definitions at the end of the text, or the number of the end's fault
+abbrev pub finish : State → Result (List Defined) ℕ
+finish state = if state.comment then Err OUT_OF_PLACE else finish_at state.place state
+
+-- a fault with its token
+abbrev pub numbered : Result (List Defined) ℕ → ℕ → Result (List Defined) (ℕ × ℕ)
+numbered (Ok done) token_number = Ok done
+numbered (Err number) token_number = Err (number, token_number)
+
+-- what follows a token is read, unless the token has a fault
+abbrev pub go_on :
+    Result State ℕ → ℕ → (State → Result (List Defined) (ℕ × ℕ)) → Result (List Defined) (ℕ × ℕ)
+go_on (Ok state) token_number rest = rest state
+go_on (Err number) token_number rest = Err (number, token_number)
+
+-- the definitions of tokens that are numbered from here on, or the first fault with its token
+abbrev pub read : Wiring → State → ℕ → List Token → Result (List Defined) (ℕ × ℕ)
+read wiring state token_number [] = numbered (finish state) token_number
+read wiring state token_number (token ∷ later) =
+    go_on (step wiring state token) token_number
+    (λ next. read wiring next (token_number + 1) later)
+
+-- a text's definitions, or its first fault with its token
+unfoldable pub read_text : Wiring → List ℕ → Result (List Defined) (ℕ × ℕ)
+read_text wiring text =
+    if nat_lt MAX_TEXT (length text) then Err (TOO_LONG, 0)
+    else read wiring begin 1 (tokens text)

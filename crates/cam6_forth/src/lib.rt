@@ -1,0 +1,32 @@
+//! CAM Forth: a rule's text, and the rule or the first fault that it is read as.
+//!
+//! Contract: `parse` gives the definitions that the text's tokens are read as, or the number of the
+//! first fault and its token (`specs/Reading.antt`), unless memory runs out.
+//!
+//! Stands on: `cam6_wiring`.
+//!
+//! Read next: `words`, the words of a body, and `rules`; `tokens` and `kinds`, how a text is cut
+//! and what a token is; `reader`, what was read so far; then `parsing`.
+#![tactic(auto)]
+
+mod faults;
+mod kinds;
+mod open_ifs;
+mod parsing;
+mod reader;
+mod rules;
+mod spellings;
+mod tokens;
+mod words;
+
+pub use faults::{
+    LITERAL_RANGE, MAX_DEFINITIONS, MAX_OPEN_IFS, MAX_SIZE, MAX_TEXT, NO_DEFINITION, NOT_DEFINABLE,
+    OTHER_HALF, OUT_OF_PLACE, ParseFault, TOO_LARGE, TOO_LONG, TOO_MANY_IFS, TextFault,
+    UNKNOWN_WORD,
+};
+pub use parsing::parse;
+pub use rules::{Definition, Rule};
+pub use words::{Output, StackWord, Target, Word};
+
+#[cfg(test)]
+mod tests;

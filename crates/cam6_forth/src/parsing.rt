@@ -1,0 +1,54 @@
+//! A rule's text is read as a rule, or as its first fault.
+ghost use Rattle.std.specs.Prelude.{◌≡◌};
+ghost use Rattle.cam6_forth.specs.declared.faults.ParseFault.TheVariants.{Text};
+ghost use Rattle.cam6_forth.specs.Reading.{read_text};
+ghost use Rattle.cam6_forth.specs.Outcome.{Answers};
+
+use crate::faults::{MAX_TEXT, ParseFault, StepFault, TOO_LONG, TextFault};
+use crate::reader::Reader;
+use crate::rules::Rule;
+use crate::tokens::first_token;
+use cam6_wiring::{Half, Hood, Minor, Wiring};
+use std::alloc::Global;
+
+/// The rule that a text says for this half, hood and minor, or the text's first fault.
+#[tactic(auto, unfolding(crate::specs::Reading::read_text))]
+pub fn parse(
+    alloc: Global,
+    text: &str,
+    half: Half,
+    hood: Hood,
+    minor: Minor,
+) -> Result<Rule, ParseFault>
+    ensures exact { Answers
+        (read_text (record { half = half; hood = hood; minor = minor }) text.now)
+        (record { half = half; hood = hood; minor = minor })
+        result }
+{
+    if text.len() > MAX_TEXT {
+        return Err(text_fault(TOO_LONG, 0));
+    }
+    let wiring = Wiring { half, hood, minor };
+    let mut reader = Reader::new(alloc);
+    let mut rest = text.as_bytes();
+    let mut token_number = 1;
+    while let Some((token, after)) = first_token(rest) {
+        match reader.step(wiring, token) {
+            Ok(()) => {}
+            Err(StepFault::NoMemory) => return Err(ParseFault::NoMemory),
+            Err(StepFault::Number(number)) => return Err(text_fault(number, token_number)),
+        }
+        rest = after;
+        token_number += 1;
+    }
+    match reader.finish() {
+        Ok(definitions) => Ok(Rule::new(wiring, definitions)),
+        Err(number) => Err(text_fault(number, token_number)),
+    }
+}
+
+fn text_fault(number: u8, token: u32) -> ParseFault
+    ensures { result ≡ Text (record { number = number; token = token }) }
+{
+    ParseFault::Text(TextFault { number, token })
+}

@@ -1,0 +1,283 @@
+//! A text is read token by token: what was read so far, and one more token.
+ghost use Rattle.std.specs.Prelude.{◌≡◌};
+ghost use Rattle.cam6_forth.specs.Reading.{place_of};
+
+use crate::faults::{
+    LITERAL_RANGE, MAX_DEFINITIONS, MAX_OPEN_IFS, MAX_SIZE, NO_DEFINITION, NOT_DEFINABLE,
+    OTHER_HALF, OUT_OF_PLACE, StepFault, TOO_LARGE, TOO_LONG, TOO_MANY_IFS, UNKNOWN_WORD,
+};
+use crate::kinds::{Kind, ends_comment, kind_of};
+use crate::open_ifs::OpenIfs;
+use crate::rules::Definition;
+use crate::words::Word;
+use cam6_wiring::{Wiring, line_of};
+use std::alloc::Global;
+use std::marker::Model;
+use std::mem;
+
+/// Where the next token stands, unless a comment is open.
+#[derive(Clone, Copy, Debug, PartialEq, Eq)]
+pub(crate) enum Place {
+    Outside,
+    /// Right after `:`.
+    Naming,
+    /// In a body.
+    Inside,
+    /// Between a body's braces.
+    Braces,
+}
+
+/// What was read so far.
+#[derive(Drop)]
+pub(crate) struct Reader {
+    alloc: Global,
+    definitions: Vec<Definition>,
+    place: Place,
+    comment: bool,
+    name: Vec<u8>,
+    words: Vec<Word>,
+    size: u16,
+    open_ifs: OpenIfs,
+}
+
+impl Model for Reader {
+    ghost use Rattle.cam6_forth.specs.Reading.{State};
+
+    ghost Value = { State };
+
+    ghost view = { λ r. record {
+      done = r.definitions.items;
+      place = r.place;
+      comment = r.comment;
+      name = r.name.items;
+      words = r.words.items;
+      size = r.size;
+      open_ifs = r.open_ifs;
+    } };
+}
+
+impl Reader {
+    ghost use Rattle.cam6_forth.specs.Reading.{begin, step, grown, outside, naming, with_if, with_else, with_then, with_end, inside, braces, word_of, finish};
+    ghost use Rattle.cam6_forth.specs.Outcome.{Steps, Finishes};
+
+    pub(crate) fn new(alloc: Global) -> Self
+        ensures { result ≡ begin }
+    {
+        Reader {
+            alloc,
+            definitions: Vec::new(alloc),
+            place: Place::Outside,
+            comment: false,
+            name: Vec::new(alloc),
+            words: Vec::new(alloc),
+            size: 0,
+            open_ifs: OpenIfs::new(),
+        }
+    }
+
+    /// One more token.
+    pub(crate) fn step(&mut self, wiring: Wiring, token: &[u8]) -> Result<(), StepFault>
+        ensures { Steps (step wiring self.old token.now) self.new result }
+    {
+        if self.comment {
+            self.comment = !ends_comment(token);
+            return Ok(());
+        }
+        let kind = kind_of(token);
+        match self.place {
+            Place::Outside => self.outside(kind),
+            Place::Naming => self.naming(kind, token),
+            Place::Inside => self.inside(wiring, kind, token),
+            Place::Braces => self.braces(wiring, kind, token),
+        }
+    }
+
+    /// The definitions, at the end of the text, or the number of its fault.
+    pub(crate) fn finish(self) -> Result<Vec<Definition>, u8>
+        ensures { Finishes (finish self) result }
+    {
+        if self.comment || self.place != Place::Outside {
+            Err(OUT_OF_PLACE)
+        } else if self.definitions.is_empty() {
+            Err(NO_DEFINITION)
+        } else {
+            Ok(self.definitions)
+        }
+    }
+
+    fn outside(&mut self, kind: Kind) -> Result<(), StepFault>
+        ensures { Steps (outside self.old kind) self.new result }
+    {
+        match kind {
+            Kind::Colon => {
+                if self.definitions.len() >= MAX_DEFINITIONS {
+                    return Err(StepFault::Number(TOO_LONG));
+                }
+                self.place = Place::Naming;
+                Ok(())
+            }
+            Kind::Open => {
+                self.comment = true;
+                Ok(())
+            }
+            _ => Err(StepFault::Number(OUT_OF_PLACE)),
+        }
+    }
+
+    fn naming(&mut self, kind: Kind, token: &[u8]) -> Result<(), StepFault>
+        ensures { Steps (naming self.old kind token.now) self.new result }
+    {
+        if kind != Kind::Other || place_of(token, &self.definitions).is_some() {
+            return Err(StepFault::Number(NOT_DEFINABLE));
+        }
+        self.name = token.to_vec(self.alloc)?;
+        self.words = Vec::new(self.alloc);
+        self.size = 0;
+        self.open_ifs = OpenIfs::new();
+        self.place = Place::Inside;
+        Ok(())
+    }
+
+    fn inside(&mut self, wiring: Wiring, kind: Kind, token: &[u8]) -> Result<(), StepFault>
+        ensures { Steps (inside wiring self.old kind token.now) self.new result }
+    {
+        match kind {
+            Kind::Semicolon => self.with_end(),
+            Kind::Open => {
+                self.comment = true;
+                Ok(())
+            }
+            Kind::If => self.with_if(),
+            Kind::Else => self.with_else(),
+            Kind::Then => self.with_then(),
+            Kind::OpenBrace => {
+                self.place = Place::Braces;
+                self.grow(1, Word::Cases)
+            }
+            _ => match self.word_of(wiring, kind, token) {
+                Ok((word, size)) => self.grow(size.into(), word),
+                Err(number) => Err(StepFault::Number(number)),
+            },
+        }
+    }
+
+    fn braces(&mut self, wiring: Wiring, kind: Kind, token: &[u8]) -> Result<(), StepFault>
+        ensures { Steps (braces wiring self.old kind token.now) self.new result }
+    {
+        match kind {
+            Kind::Open => {
+                self.comment = true;
+                Ok(())
+            }
+            Kind::CloseBrace => {
+                self.place = Place::Inside;
+                self.words.push(Word::EndCases)?;
+                Ok(())
+            }
+            _ => match self.word_of(wiring, kind, token) {
+                Ok((word, size)) => self.grow(u32::from(size) + 1, word),
+                Err(number) => Err(StepFault::Number(number)),
+            },
+        }
+    }
+
+    fn with_if(&mut self) -> Result<(), StepFault>
+        ensures { Steps (with_if self.old) self.new result }
+    {
+        if self.open_ifs.len() >= MAX_OPEN_IFS {
+            return Err(StepFault::Number(TOO_MANY_IFS));
+        }
+        self.open_ifs.push(false);
+        self.grow(1, Word::If)
+    }
+
+    fn with_else(&mut self) -> Result<(), StepFault>
+        ensures { Steps (with_else self.old.open_ifs self.old) self.new result }
+    {
+        if self.open_ifs.len() == 0 || self.open_ifs.pop() {
+            return Err(StepFault::Number(OUT_OF_PLACE));
+        }
+        self.open_ifs.push(true);
+        self.grow(1, Word::Else)
+    }
+
+    fn with_then(&mut self) -> Result<(), StepFault>
+        ensures { Steps (with_then self.old.open_ifs self.old) self.new result }
+    {
+        if self.open_ifs.len() == 0 {
+            return Err(StepFault::Number(OUT_OF_PLACE));
+        }
+        let _ = self.open_ifs.pop();
+        self.words.push(Word::Then)?;
+        Ok(())
+    }
+
+    fn with_end(&mut self) -> Result<(), StepFault>
+        ensures { Steps (with_end self.old.open_ifs self.old) self.new result }
+    {
+        if self.open_ifs.len() != 0 {
+            return Err(StepFault::Number(OUT_OF_PLACE));
+        }
+        let name = mem::replace(&mut self.name, Vec::new(self.alloc));
+        let words = mem::replace(&mut self.words, Vec::new(self.alloc));
+        let size = mem::replace(&mut self.size, 0);
+        self.definitions.push(Definition { name, words, size })?;
+        self.place = Place::Outside;
+        Ok(())
+    }
+
+    // One more word, of this size.
+    fn grow(&mut self, size: u32, word: Word) -> Result<(), StepFault>
+        ensures { Steps (grown size word self.old) self.new result }
+    {
+        let total = u64::from(self.size) + u64::from(size);
+        if total > u64::from(MAX_SIZE) {
+            return Err(StepFault::Number(TOO_LARGE));
+        }
+        self.words.push(word)?;
+        self.size = total as u16;
+        Ok(())
+    }
+
+    // The word that a token says by itself, with its size, or the number of the token's fault.
+    fn word_of(&self, wiring: Wiring, kind: Kind, token: &[u8]) -> Result<(Word, u16), u8>
+        ensures { result ≡ word_of wiring self.now.done kind token.now }
+    {
+        match kind {
+            Kind::Digits(Some(value)) => Ok((Word::Literal(value), 1)),
+            Kind::Digits(None) => Err(LITERAL_RANGE),
+            Kind::Stack(word) => Ok((Word::Stack(word), 1)),
+            Kind::Output(output) => {
+                if output.half == wiring.half {
+                    Ok((Word::Output(output.target), 1))
+                } else {
+                    Err(OTHER_HALF)
+                }
+            }
+            Kind::Name(name) => {
+                if line_of(wiring.hood, wiring.minor, name).is_some() {
+                    Ok((Word::Name(name), 1))
+                } else {
+                    Err(UNKNOWN_WORD)
+                }
+            }
+            Kind::Other => match place_of(token, &self.definitions) {
+                Some((place, size)) => Ok((Word::Defined(place), size.max(1))),
+                None => Err(UNKNOWN_WORD),
+            },
+            _ => Err(OUT_OF_PLACE),
+        }
+    }
+}
+
+// The place of a name among the definitions, and that definition's size.
+fn place_of(token: &[u8], definitions: &[Definition]) -> Option<(usize, u16)>
+    ensures { result ≡ place_of token.now definitions.now }
+{
+    for (i, definition) in definitions.iter().enumerate() {
+        if definition.name.as_slice() == token {
+            return Some((i, definition.size));
+        }
+    }
+    None
+}

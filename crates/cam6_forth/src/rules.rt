@@ -1,0 +1,62 @@
+//! A rule as it was read: its definitions, the last of which is the rule.
+ghost use Rattle.std.specs.Prelude.{◌≡◌};
+
+use crate::words::Word;
+use cam6_wiring::Wiring;
+use std::marker::Model;
+
+/// A definition: its name, its words in a row, and its size.
+#[derive(Debug, Drop)]
+pub struct Definition {
+    pub name: Vec<u8>,
+    pub words: Vec<Word>,
+    pub size: u16,
+}
+
+impl Model for Definition {
+    ghost use Rattle.cam6_forth.specs.Defined.{Defined};
+
+    ghost Value = { Defined };
+
+    ghost view = { λ d. record { name = d.name.items; words = d.words.items; size = d.size } };
+}
+
+/// A rule, as `parse` accepted it.
+#[derive(Debug, Drop)]
+pub struct Rule {
+    wiring: Wiring,
+    definitions: Vec<Definition>,
+}
+
+impl Model for Rule {
+    ghost use Rattle.cam6_forth.specs.Defined.{RuleWords};
+
+    ghost Value = { RuleWords };
+
+    ghost view = { λ r. record { wiring = r.wiring; definitions = r.definitions.items } };
+}
+
+impl Rule {
+    pub(crate) fn new(wiring: Wiring, definitions: Vec<Definition>) -> Rule
+        ensures { result ≡ record { wiring = wiring; definitions = definitions.items } }
+    {
+        Rule {
+            wiring,
+            definitions,
+        }
+    }
+
+    /// The half, hood and minor that the rule is written for.
+    pub fn wiring(&self) -> Wiring
+        ensures { result ≡ self.now.wiring }
+    {
+        self.wiring
+    }
+
+    /// The definitions in their order; the last one is the rule.
+    pub fn definitions(&self) -> &[Definition]
+        ensures { result.now ≡ self.now.definitions }
+    {
+        self.definitions.as_slice()
+    }
+}

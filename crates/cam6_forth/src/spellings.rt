@@ -1,0 +1,166 @@
+//! How the words are spelled.
+ghost use Rattle.std.specs.Prelude.{◌≡◌};
+ghost use Rattle.cam6_forth.specs.Spellings.{stack_word, output_word, neighbour_name, plain_name, primed_name, block_name, added_name, minor_name};
+
+use crate::words::{Output, StackWord, Target};
+use cam6_wiring::{Compass, Half, Level, Name, Turn};
+
+#[tactic(auto, unfolding(crate::specs::Spellings::stack_word))]
+pub(crate) fn stack_word(token: &[u8]) -> Option<StackWord>
+    ensures { result ≡ stack_word token.now }
+{
+    match token {
+        b"DUP" => Some(StackWord::Dup),
+        b"DROP" => Some(StackWord::Drop),
+        b"SWAP" => Some(StackWord::Swap),
+        b"OVER" => Some(StackWord::Over),
+        b"ROT" => Some(StackWord::Rot),
+        b"+" => Some(StackWord::Plus),
+        b"-" => Some(StackWord::Minus),
+        b"*" => Some(StackWord::Times),
+        b"AND" => Some(StackWord::And),
+        b"OR" => Some(StackWord::Or),
+        b"XOR" => Some(StackWord::Xor),
+        b"0=" => Some(StackWord::IsZero),
+        b"=" => Some(StackWord::Equal),
+        b"<" => Some(StackWord::Less),
+        b">" => Some(StackWord::Greater),
+        _ => None,
+    }
+}
+
+#[tactic(auto, unfolding(crate::specs::Spellings::output_word))]
+pub(crate) fn output_word(token: &[u8]) -> Option<Output>
+    ensures { result ≡ output_word token.now }
+{
+    let (half, target) = if token == b">PLN0".as_slice() {
+        (Half::A, Target::Lower)
+    } else if token == b">PLN1".as_slice() {
+        (Half::A, Target::Upper)
+    } else if token == b">PLNA".as_slice() {
+        (Half::A, Target::Both)
+    } else if token == b">PLN2".as_slice() {
+        (Half::B, Target::Lower)
+    } else if token == b">PLN3".as_slice() {
+        (Half::B, Target::Upper)
+    } else if token == b">PLNB".as_slice() {
+        (Half::B, Target::Both)
+    } else {
+        return None;
+    };
+    Some(Output { half, target })
+}
+
+/// A neighbour name, of whichever hood or minor.
+#[tactic(auto, unfolding(crate::specs::Spellings::neighbour_name))]
+pub(crate) fn neighbour_name(token: &[u8]) -> Option<Name>
+    ensures { result ≡ neighbour_name token.now }
+{
+    plain_name(token)
+        .or(primed_name(token))
+        .or(block_name(token))
+        .or(added_name(token))
+        .or(minor_name(token))
+}
+
+#[tactic(auto, unfolding(crate::specs::Spellings::plain_name))]
+fn plain_name(token: &[u8]) -> Option<Name>
+    ensures { result ≡ plain_name token.now }
+{
+    let place = if token == b"CENTER".as_slice() {
+        Compass::Center
+    } else if token == b"NORTH".as_slice() {
+        Compass::North
+    } else if token == b"SOUTH".as_slice() {
+        Compass::South
+    } else if token == b"WEST".as_slice() {
+        Compass::West
+    } else if token == b"EAST".as_slice() {
+        Compass::East
+    } else if token == b"N.WEST".as_slice() {
+        Compass::NorthWest
+    } else if token == b"N.EAST".as_slice() {
+        Compass::NorthEast
+    } else if token == b"S.WEST".as_slice() {
+        Compass::SouthWest
+    } else if token == b"S.EAST".as_slice() {
+        Compass::SouthEast
+    } else {
+        return None;
+    };
+    Some(Name::Beside(place, Level::Lower))
+}
+
+#[tactic(auto, unfolding(crate::specs::Spellings::primed_name))]
+fn primed_name(token: &[u8]) -> Option<Name>
+    ensures { result ≡ primed_name token.now }
+{
+    let place = if token == b"CENTER'".as_slice() {
+        Compass::Center
+    } else if token == b"NORTH'".as_slice() {
+        Compass::North
+    } else if token == b"SOUTH'".as_slice() {
+        Compass::South
+    } else if token == b"WEST'".as_slice() {
+        Compass::West
+    } else if token == b"EAST'".as_slice() {
+        Compass::East
+    } else {
+        return None;
+    };
+    Some(Name::Beside(place, Level::Upper))
+}
+
+#[tactic(auto, unfolding(crate::specs::Spellings::block_name))]
+fn block_name(token: &[u8]) -> Option<Name>
+    ensures { result ≡ block_name token.now }
+{
+    let (turn, level) = match token {
+        b"CW" => (Turn::Clockwise, Level::Lower),
+        b"CCW" => (Turn::CounterClockwise, Level::Lower),
+        b"OPP" => (Turn::Opposite, Level::Lower),
+        b"CW'" => (Turn::Clockwise, Level::Upper),
+        b"CCW'" => (Turn::CounterClockwise, Level::Upper),
+        b"OPP'" => (Turn::Opposite, Level::Upper),
+        _ => return None,
+    };
+    Some(Name::InBlock(turn, level))
+}
+
+#[tactic(auto, unfolding(crate::specs::Spellings::added_name))]
+fn added_name(token: &[u8]) -> Option<Name>
+    ensures { result ≡ added_name token.now }
+{
+    if token == b"PHASE".as_slice() {
+        Some(Name::Phase(Level::Lower))
+    } else if token == b"PHASE'".as_slice() {
+        Some(Name::Phase(Level::Upper))
+    } else if token == b"HORZ".as_slice() {
+        Some(Name::Horz)
+    } else if token == b"VERT".as_slice() {
+        Some(Name::Vert)
+    } else {
+        None
+    }
+}
+
+#[tactic(auto, unfolding(crate::specs::Spellings::minor_name))]
+fn minor_name(token: &[u8]) -> Option<Name>
+    ensures { result ≡ minor_name token.now }
+{
+    if token == b"&CENTER".as_slice() {
+        Some(Name::MinorCenter(Level::Lower))
+    } else if token == b"&CENTER'".as_slice() {
+        Some(Name::MinorCenter(Level::Upper))
+    } else if token == b"&PHASE".as_slice() {
+        Some(Name::MinorPhase(Level::Lower))
+    } else if token == b"&PHASE'".as_slice() {
+        Some(Name::MinorPhase(Level::Upper))
+    } else if token == b"&HORZ".as_slice() {
+        Some(Name::MinorHorz)
+    } else if token == b"&VERT".as_slice() {
+        Some(Name::MinorVert)
+    } else {
+        None
+    }
+}
