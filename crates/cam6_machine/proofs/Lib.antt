@@ -1,0 +1,2 @@
+pub mod KeptRules
+pub mod PlaneTexts

@@ -1,0 +1,99 @@
+-- When a command is refused, and for which fault, before a rule's text is looked at.
+use Rattle.std.specs.Prelude.{◌≡◌, ℕ, Bool, true, false, ◌&&◌, ◌||◌, ◌==◌, List, [], ◌∷◌, length, nat_le, nat_lt, Option, Some, None, if◌then◌else◌}
+use Rattle.std.specs.List.{list_all, list_any}
+use Rattle.cam6_wiring.specs.declared.names.Half.{Half}
+use Rattle.cam6_wiring.specs.declared.names.Half.TheVariants as half
+use Rattle.cam6_wiring.specs.declared.wirings.Wiring.{Wiring}
+use Rattle.cam6_machine.specs.Rules.{Rule, place_of, wiring_of, is_rule_name}
+use Rattle.cam6_machine.specs.Kept.{Kept}
+use Rattle.cam6_machine.specs.declared.cycles.Entry.{Entry}
+use Rattle.cam6_machine.specs.declared.commands.NamedEntry.{NamedEntry}
+use Rattle.cam6_machine.specs.declared.commands.Command.{Command}
+use Rattle.cam6_machine.specs.declared.commands.Command.TheVariants.{Set, Rule as SetRule, Cycle, Run, Plane}
+use Rattle.cam6_machine.specs.declared.replies.Fault.{Fault}
+use Rattle.cam6_machine.specs.declared.replies.Fault.TheVariants.{NoRule, RuleInUse, TooManyRules, NoCycle, OutOfRange, WrongHalf}
+
+abbrev pub unless : Bool → Fault → Option Fault
+unless ok fault = if ok then None else Some fault
+
+-- the first of two refusals, if there is one
+abbrev pub or_then : Option Fault → Option Fault → Option Fault
+or_then None next = next
+or_then (Some fault) next = Some fault
+
+-- planes are 0 to 3, rows 0 to 255
+abbrev pub set_refusal : ℕ → ℕ → Option Fault
+set_refusal plane row = unless (nat_lt plane 4 && nat_lt row 256) OutOfRange
+
+abbrev pub plane_refusal : ℕ → Option Fault
+plane_refusal plane = unless (nat_lt plane 4) OutOfRange
+
+abbrev pub some_cycle : List Entry → Option Fault
+some_cycle [] = Some NoCycle
+some_cycle (entry ∷ entries) = None
+
+-- at most 65,535 steps, and then a cycle
+abbrev pub run_refusal : List Entry → ℕ → Option Fault
+run_refusal cycle n = or_then (unless (nat_le n 65535) OutOfRange) (some_cycle cycle)
+
+abbrev pub is_place : ℕ → Option ℕ → Bool
+is_place place None = false
+is_place place (Some other) = other == place
+
+-- whether an entry names the rule at this place
+abbrev pub uses : ℕ → Entry → Bool
+uses place entry = is_place place entry.a || is_place place entry.b
+
+abbrev pub is_used : List Entry → ℕ → Bool
+is_used cycle place = list_any (uses place) cycle
+
+-- a rule that the cycle uses stays; a new one wants a place among sixteen
+abbrev pub place_refusal : List Rule → List Entry → Option ℕ → Option Fault
+place_refusal rules cycle (Some place) = if is_used cycle place then Some RuleInUse else None
+place_refusal rules cycle None = if nat_le 16 (length rules) then Some TooManyRules else None
+
+abbrev pub rule_refusal : List Rule → List Entry → List ℕ → Option Fault
+rule_refusal rules cycle name =
+    if is_rule_name name then place_refusal rules cycle (place_of name rules) else Some OutOfRange
+
+-- phases are 0 to 3
+abbrev pub have_phases : List NamedEntry → Bool
+have_phases entries = list_all (λ entry. nat_lt entry.phase 4) entries
+
+-- 1 to 16 entries, each with a phase
+abbrev pub is_cycle : List NamedEntry → Bool
+is_cycle entries =
+    nat_le 1 (length entries) && nat_le (length entries) 16 && have_phases entries
+
+abbrev pub is_of : Half → Half → Bool
+is_of half.A half.A = true
+is_of half.B half.B = true
+is_of _ _ = false
+
+-- a name must be a rule's, and the rule one of this half
+abbrev pub wiring_refusal : Half → Option Wiring → Option Fault
+wiring_refusal h None = Some NoRule
+wiring_refusal h (Some wiring) = if is_of wiring.half h then None else Some WrongHalf
+
+abbrev pub half_refusal : List Rule → Half → Option (List ℕ) → Option Fault
+half_refusal rules h None = None
+half_refusal rules h (Some name) = wiring_refusal h (wiring_of name rules)
+
+-- half A's name is looked at before half B's
+abbrev pub entry_refusal : List Rule → NamedEntry → Option Fault
+entry_refusal rules entry = or_then (half_refusal rules half.A entry.a) (half_refusal rules half.B entry.b)
+
+abbrev pub first_refusal : List Rule → List NamedEntry → Option Fault
+first_refusal rules [] = None
+first_refusal rules (entry ∷ entries) = or_then (entry_refusal rules entry) (first_refusal rules entries)
+
+abbrev pub cycle_refusal : List Rule → List NamedEntry → Option Fault
+cycle_refusal rules entries = if is_cycle entries then first_refusal rules entries else Some OutOfRange
+
+-- the fault for which a machine refuses a command, if it does
+abbrev pub refusal : Kept → Command → Option Fault
+refusal m (Set plane row bits) = set_refusal plane row
+refusal m (SetRule name half hood minor text) = rule_refusal m.rules m.cycle name
+refusal m (Cycle entries) = cycle_refusal m.rules entries
+refusal m (Run n) = run_refusal m.cycle n
+refusal m (Plane plane) = plane_refusal plane

@@ -1,0 +1,80 @@
+//! What a user asks of his machine.
+
+use crate::replies::Reply;
+use crate::texts::Text;
+use cam6_wiring::{Grid, Half, Hood, Minor};
+use std::marker::Model;
+
+/// A command. Its numbers are checked by the machine.
+#[derive(Debug, Drop)]
+pub enum Command {
+    /// Writes a row of a plane; column 0 is the highest bit of the first byte.
+    Set { plane: u64, row: u64, bits: [u8; 32] },
+    /// Keeps a rule under a name, in place of the one that has the name already.
+    Rule {
+        name: Text,
+        half: Half,
+        hood: Hood,
+        minor: Minor,
+        text: Text,
+    },
+    /// Sets the cycle, and the position to 0.
+    Cycle { entries: NamedEntries },
+    /// Does so many steps forward along the cycle.
+    Run { n: u64 },
+    /// Asks for all rows of a plane.
+    Plane { plane: u64 },
+}
+
+/// An entry of a cycle as a user writes it: for each half a rule's name, or none.
+#[derive(Debug, Drop)]
+pub struct NamedEntry {
+    pub a: Option<Text>,
+    pub b: Option<Text>,
+    pub grid: Grid,
+    pub phase: u64,
+}
+
+/// The entries of a cycle, in order. Contracts see them as a list.
+#[derive(Debug, Drop)]
+pub struct NamedEntries {
+    entries: Vec<NamedEntry>,
+}
+
+impl Model for NamedEntries {
+    ghost use Rattle.std.specs.Prelude.{List};
+    ghost use Rattle.cam6_machine.specs.declared.commands.NamedEntry.{NamedEntry};
+
+    ghost Value = { List NamedEntry };
+
+    ghost view = { λ e. e.entries.items };
+}
+
+impl NamedEntries {
+    ghost use Rattle.std.specs.Prelude.{◌≡◌};
+
+    pub fn new(entries: Vec<NamedEntry>) -> NamedEntries
+        ensures { result ≡ entries.items }
+    {
+        NamedEntries { entries }
+    }
+
+    pub fn as_slice(&self) -> &[NamedEntry]
+        ensures { result.now ≡ self.now }
+    {
+        self.entries.as_slice()
+    }
+}
+
+/// Which way a run goes along the cycle.
+#[derive(Clone, Copy, Debug, PartialEq, Eq)]
+pub enum Direction {
+    Forward,
+}
+
+/// What a command comes to at once: a reply, or so many steps to do.
+#[derive(Debug, Drop)]
+pub enum Now {
+    Reply(Reply),
+    Work(u16, Direction),
+}

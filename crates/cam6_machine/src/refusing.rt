@@ -1,0 +1,112 @@
+//! Which fault a command is refused for, before anything is done.
+ghost use Rattle.std.specs.Prelude.{◌≡◌, ◌≤◌, length, IfNone};
+ghost use Rattle.std.specs.Bool.{OnTrue};
+ghost use Rattle.cam6_machine.specs.declared.cycles.TheConstants.{MAX_ENTRIES};
+ghost use Rattle.cam6_machine.specs.Rules.{rules_of};
+ghost use Rattle.cam6_machine.specs.Refusals.{rule_refusal, cycle_refusal, is_cycle, have_phases, first_refusal, entry_refusal, half_refusal, uses, is_used};
+
+use crate::commands::{NamedEntries, NamedEntry};
+use crate::cycles::{Entry, MAX_ENTRIES};
+use crate::replies::Fault;
+use crate::rules::{KeptRule, MAX_RULES, is_rule_name, place_of, wiring_of};
+use crate::texts::Text;
+use cam6_wiring::Half;
+use indexmap::IndexMap;
+
+pub(crate) fn rule_refusal(
+    rules: &IndexMap<String, KeptRule>,
+    cycle: &[Entry],
+    name: &Text,
+) -> Option<Fault>
+    ensures { result ≡ rule_refusal (rules_of rules.now.entries) cycle.now name.now }
+{
+    if !is_rule_name(name) {
+        return Some(Fault::OutOfRange);
+    }
+    match place_of(rules, name) {
+        Some(place) if is_used(cycle, place) => Some(Fault::RuleInUse),
+        Some(_) => None,
+        None if rules.len() >= MAX_RULES => Some(Fault::TooManyRules),
+        None => None,
+    }
+}
+
+/// Whether an entry of the cycle names the rule at this place.
+fn is_used(cycle: &[Entry], place: usize) -> bool
+    ensures { result ≡ is_used cycle.now place }
+{
+    cycle.iter().any(|entry| uses(*entry, place))
+}
+
+fn uses(entry: Entry, place: usize) -> bool
+    ensures { result ≡ uses place entry }
+{
+    entry.a == Some(place) || entry.b == Some(place)
+}
+
+pub(crate) fn cycle_refusal(
+    rules: &IndexMap<String, KeptRule>,
+    entries: &NamedEntries,
+) -> Option<Fault>
+    ensures refusal { result ≡ cycle_refusal (rules_of rules.now.entries) entries.now }
+    ensures within { IfNone result (length entries.now ≤ MAX_ENTRIES) }
+{
+    let entries = entries.as_slice();
+    if is_cycle(entries) {
+        first_refusal(rules, entries)
+    } else {
+        Some(Fault::OutOfRange)
+    }
+}
+
+fn is_cycle(entries: &[NamedEntry]) -> bool
+    ensures value { result ≡ is_cycle entries.now }
+    ensures within { OnTrue result (length entries.now ≤ MAX_ENTRIES) }
+{
+    !entries.is_empty() && entries.len() <= MAX_ENTRIES && have_phases(entries)
+}
+
+fn have_phases(entries: &[NamedEntry]) -> bool
+    ensures { result ≡ have_phases entries.now }
+{
+    entries.iter().all(|entry| entry.phase < 4)
+}
+
+/// The first fault of an entry, in the order of the entries.
+fn first_refusal(rules: &IndexMap<String, KeptRule>, entries: &[NamedEntry]) -> Option<Fault>
+    ensures { result ≡ first_refusal (rules_of rules.now.entries) entries.now }
+{
+    for entry in entries {
+        if let Some(fault) = entry_refusal(rules, entry) {
+            return Some(fault);
+        }
+    }
+    None
+}
+
+fn entry_refusal(rules: &IndexMap<String, KeptRule>, entry: &NamedEntry) -> Option<Fault>
+    ensures { result ≡ entry_refusal (rules_of rules.now.entries) entry.now }
+{
+    if let Some(fault) = half_refusal(rules, Half::A, &entry.a) {
+        return Some(fault);
+    }
+    half_refusal(rules, Half::B, &entry.b)
+}
+
+/// The fault of a name that an entry has for a half.
+fn half_refusal(
+    rules: &IndexMap<String, KeptRule>,
+    half: Half,
+    name: &Option<Text>,
+) -> Option<Fault>
+    ensures { result ≡ half_refusal (rules_of rules.now.entries) half name.now }
+{
+    let Some(name) = name else {
+        return None;
+    };
+    match wiring_of(rules, name) {
+        Some(wiring) if wiring.half == half => None,
+        Some(_) => Some(Fault::WrongHalf),
+        None => Some(Fault::NoRule),
+    }
+}

@@ -1,0 +1,92 @@
+//! What a machine answers.
+ghost use Rattle.std.specs.Prelude.{◌≡◌};
+ghost use Rattle.cam6_machine.specs.Faults.{fault_number};
+
+use cam6_forth::TextFault;
+use cam6_table::RuleFault;
+use std::marker::Model;
+
+/// A reply. Each command has a form of its own, and each refusal has one.
+#[derive(Debug, Drop)]
+pub enum Reply {
+    Set,
+    Rule,
+    Cycle,
+    /// The position after the run.
+    Run { position: usize },
+    Plane { rows: PlaneRows },
+    Fault(Fault),
+    /// The first fault of a rule's text.
+    RuleText(TextFault),
+    /// The least address at which a rule stops, and why it stops there.
+    RuleStops { address: u16, fault: RuleFault },
+}
+
+/// Why a command is refused, apart from faults of a rule.
+#[derive(Clone, Copy, Debug, PartialEq, Eq)]
+pub enum Fault {
+    /// No rule has the name.
+    NoRule,
+    /// The cycle uses the rule.
+    RuleInUse,
+    /// There are 16 rules, and the name is a new one.
+    TooManyRules,
+    /// No cycle is set.
+    NoCycle,
+    /// A number, a name or a cycle is outside its limits.
+    OutOfRange,
+    /// A rule of half B stands for half A, or the other way round.
+    WrongHalf,
+}
+
+impl Fault {
+    /// The fault's number in replies.
+    pub fn number(self) -> u8
+        ensures { result ≡ fault_number self }
+    {
+        match self {
+            Fault::NoRule => 60,
+            Fault::RuleInUse => 61,
+            Fault::TooManyRules => 62,
+            Fault::NoCycle => 63,
+            Fault::OutOfRange => 65,
+            Fault::WrongHalf => 66,
+        }
+    }
+}
+
+/// The rows of a plane, each as 64 hexadecimal digits. Contracts see them as a list.
+#[derive(Debug, Drop)]
+pub struct PlaneRows {
+    rows: Vec<[u8; 64]>,
+}
+
+impl Model for PlaneRows {
+    ghost use Rattle.std.specs.Prelude.{List, ℕ, All};
+    ghost use Rattle.std.specs.Str.{IsAscii};
+
+    ghost Value = { List (List ℕ) };
+
+    ghost view = { λ r. r.rows.items };
+
+    ghost invariant = { λ r. All IsAscii r.rows.items };
+}
+
+impl PlaneRows {
+    ghost use Rattle.std.specs.Prelude.{◌≡◌, All};
+    ghost use Rattle.std.specs.Str.{IsAscii};
+
+    pub fn new(rows: Vec<[u8; 64]>) -> PlaneRows
+        requires rows { All IsAscii rows.items }
+        ensures { result ≡ rows.items }
+    {
+        PlaneRows { rows }
+    }
+
+    pub fn as_slice(&self) -> &[[u8; 64]]
+        ensures rows { result.now ≡ self.now }
+        ensures ascii { All IsAscii result.now }
+    {
+        self.rows.as_slice()
+    }
+}

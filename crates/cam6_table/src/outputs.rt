@@ -1,0 +1,56 @@
+//! The state of a rule that runs: its stack, and the last write to each plane.
+ghost use Rattle.std.specs.Prelude.{◌≡◌, ◌<◌, ℕ, Bool, None};
+ghost use Rattle.cam6_table.specs.Words.{Does};
+ghost use Rattle.cam6_table.specs.Outputs.{begin, written, entry_of};
+
+use crate::faults::RuleFault;
+use crate::stacks::Stack;
+use cam6_forth::Target;
+
+/// A stack, and for each plane of the half the last bit written to it.
+#[derive(Drop)]
+pub struct State {
+    pub stack: Stack,
+    pub lower: Option<bool>,
+    pub upper: Option<bool>,
+}
+
+/// The state in which a rule begins.
+pub fn begin() -> State
+    ensures { result ≡ begin }
+{
+    State {
+        stack: Stack::new(),
+        lower: None,
+        upper: None,
+    }
+}
+
+/// Does what an output word says. After a fault nothing is promised of the stack.
+pub fn write(state: &mut State, target: Target) -> Result<(), RuleFault>
+    ensures { Does (written target state.old) state.new result }
+{
+    let value = state.stack.pop()?;
+    let low = value % 2 == 1;
+    let high = value / 2 % 2 == 1;
+    match target {
+        Target::Lower => state.lower = Some(low),
+        Target::Upper => state.upper = Some(low),
+        Target::Both => {
+            state.lower = Some(low);
+            state.upper = Some(high);
+        }
+    }
+    Ok(())
+}
+
+/// The table's entry at an address: bit 0 the new lower plane, bit 1 the new upper plane. A plane
+/// that isn't written keeps its centre, which stands on line 0 or 1 of every neighbourhood.
+pub fn entry_of(state: &State, address: u16) -> u8
+    ensures entry { result ≡ entry_of state.now address }
+    ensures within { result < 4 }
+{
+    let lower = state.lower.unwrap_or(address % 2 == 1);
+    let upper = state.upper.unwrap_or(address / 2 % 2 == 1);
+    u8::from(lower) + 2 * u8::from(upper)
+}

@@ -1,0 +1,239 @@
+//! The stack of a rule that runs, and what each word does to it.
+ghost use Rattle.std.specs.Prelude.{◌≡◌, ◌<◌, length};
+ghost use Rattle.cam6_table.specs.Words.{pushed, on_stack, Does, Takes};
+
+use crate::faults::RuleFault;
+use cam6_forth::StackWord;
+use std::marker::Model;
+
+/// Values that a stack can hold.
+pub const MAX_VALUES: usize = 32;
+
+/// At most 32 values of 0 to 65,535. Contracts see them with the top one first.
+#[derive(Drop)]
+pub struct Stack {
+    values: [u16; MAX_VALUES],
+    len: usize,
+}
+
+impl Model for Stack {
+    ghost use Rattle.std.specs.Prelude.{List, ℕ, reverse, take, ◌≤◌};
+
+    ghost Value = { List ℕ };
+
+    ghost view = { λ s. reverse (take s.len s.values) };
+
+    ghost invariant = { λ s. s.len ≤ 32 };
+}
+
+impl Stack {
+    ghost use Rattle.std.specs.Prelude.{[], ◌∷◌, ◌<◌, OnOk};
+
+    pub fn new() -> Stack
+        ensures { result ≡ [] }
+    {
+        Stack {
+            values: [0; MAX_VALUES],
+            len: 0,
+        }
+    }
+
+    /// Puts a value on top, if there is room.
+    pub fn push(&mut self, value: u16) -> Result<(), RuleFault>
+        ensures { Does (pushed value self.old) self.new result }
+    {
+        if self.len == MAX_VALUES {
+            return Err(RuleFault::FullStack);
+        }
+        self.put(value);
+        Ok(())
+    }
+
+    /// Takes the top value off, if there is one.
+    pub fn pop(&mut self) -> Result<u16, RuleFault>
+        ensures taken { Takes self.old self.new result }
+        ensures room { OnOk result (length self.new < MAX_VALUES) }
+    {
+        if self.len == 0 {
+            return Err(RuleFault::MissingValue);
+        }
+        self.len -= 1;
+        Ok(self.values[self.len])
+    }
+
+    fn put(&mut self, value: u16)
+        requires room { length self.old < MAX_VALUES }
+        ensures { self.new ≡ value ∷ self.old }
+    {
+        self.values[self.len] = value;
+        self.len += 1;
+    }
+
+    /// Does what a stack word says. After a fault nothing is promised of the stack.
+    pub fn apply(&mut self, word: StackWord) -> Result<(), RuleFault>
+        ensures { Does (on_stack word self.old) self.new result }
+    {
+        match word {
+            StackWord::Dup => self.dup(),
+            StackWord::Drop => self.drop_top(),
+            StackWord::Swap => self.swap(),
+            StackWord::Over => self.over(),
+            StackWord::Rot => self.rot(),
+            StackWord::Plus => self.plus(),
+            StackWord::Minus => self.minus(),
+            StackWord::Times => self.times(),
+            StackWord::And => self.and(),
+            StackWord::Or => self.or(),
+            StackWord::Xor => self.xor(),
+            StackWord::IsZero => self.is_zero(),
+            StackWord::Equal => self.equal(),
+            StackWord::Less => self.less(),
+            StackWord::Greater => self.greater(),
+        }
+    }
+
+    fn dup(&mut self) -> Result<(), RuleFault>
+        ensures { Does (on_stack StackWord.Dup self.old) self.new result }
+    {
+        let a = self.pop()?;
+        self.put(a);
+        self.push(a)
+    }
+
+    fn drop_top(&mut self) -> Result<(), RuleFault>
+        ensures { Does (on_stack StackWord.Drop self.old) self.new result }
+    {
+        self.pop()?;
+        Ok(())
+    }
+
+    fn swap(&mut self) -> Result<(), RuleFault>
+        ensures { Does (on_stack StackWord.Swap self.old) self.new result }
+    {
+        let b = self.pop()?;
+        let a = self.pop()?;
+        self.put(b);
+        self.put(a);
+        Ok(())
+    }
+
+    fn over(&mut self) -> Result<(), RuleFault>
+        ensures { Does (on_stack StackWord.Over self.old) self.new result }
+    {
+        let b = self.pop()?;
+        let a = self.pop()?;
+        self.put(a);
+        self.put(b);
+        self.push(a)
+    }
+
+    fn rot(&mut self) -> Result<(), RuleFault>
+        ensures { Does (on_stack StackWord.Rot self.old) self.new result }
+    {
+        let c = self.pop()?;
+        let b = self.pop()?;
+        let a = self.pop()?;
+        self.put(b);
+        self.put(c);
+        self.put(a);
+        Ok(())
+    }
+
+    fn plus(&mut self) -> Result<(), RuleFault>
+        ensures { Does (on_stack StackWord.Plus self.old) self.new result }
+    {
+        let b = self.pop()?;
+        let a = self.pop()?;
+        let Some(sum) = a.checked_add(b) else {
+            return Err(RuleFault::Range);
+        };
+        self.put(sum);
+        Ok(())
+    }
+
+    fn minus(&mut self) -> Result<(), RuleFault>
+        ensures { Does (on_stack StackWord.Minus self.old) self.new result }
+    {
+        let b = self.pop()?;
+        let a = self.pop()?;
+        let Some(difference) = a.checked_sub(b) else {
+            return Err(RuleFault::Range);
+        };
+        self.put(difference);
+        Ok(())
+    }
+
+    fn times(&mut self) -> Result<(), RuleFault>
+        ensures { Does (on_stack StackWord.Times self.old) self.new result }
+    {
+        let b = self.pop()?;
+        let a = self.pop()?;
+        let Some(product) = a.checked_mul(b) else {
+            return Err(RuleFault::Range);
+        };
+        self.put(product);
+        Ok(())
+    }
+
+    fn and(&mut self) -> Result<(), RuleFault>
+        ensures { Does (on_stack StackWord.And self.old) self.new result }
+    {
+        let b = self.pop()?;
+        let a = self.pop()?;
+        self.put(a & b);
+        Ok(())
+    }
+
+    fn or(&mut self) -> Result<(), RuleFault>
+        ensures { Does (on_stack StackWord.Or self.old) self.new result }
+    {
+        let b = self.pop()?;
+        let a = self.pop()?;
+        self.put(a | b);
+        Ok(())
+    }
+
+    fn xor(&mut self) -> Result<(), RuleFault>
+        ensures { Does (on_stack StackWord.Xor self.old) self.new result }
+    {
+        let b = self.pop()?;
+        let a = self.pop()?;
+        self.put(a ^ b);
+        Ok(())
+    }
+
+    fn is_zero(&mut self) -> Result<(), RuleFault>
+        ensures { Does (on_stack StackWord.IsZero self.old) self.new result }
+    {
+        let a = self.pop()?;
+        self.put(u16::from(a == 0));
+        Ok(())
+    }
+
+    fn equal(&mut self) -> Result<(), RuleFault>
+        ensures { Does (on_stack StackWord.Equal self.old) self.new result }
+    {
+        let b = self.pop()?;
+        let a = self.pop()?;
+        self.put(u16::from(a == b));
+        Ok(())
+    }
+
+    fn less(&mut self) -> Result<(), RuleFault>
+        ensures { Does (on_stack StackWord.Less self.old) self.new result }
+    {
+        let b = self.pop()?;
+        let a = self.pop()?;
+        self.put(u16::from(a < b));
+        Ok(())
+    }
+
+    fn greater(&mut self) -> Result<(), RuleFault>
+        ensures { Does (on_stack StackWord.Greater self.old) self.new result }
+    {
+        let b = self.pop()?;
+        let a = self.pop()?;
+        self.put(u16::from(a > b));
+        Ok(())
+    }
+}

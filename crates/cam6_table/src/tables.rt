@@ -1,0 +1,73 @@
+//! A rule's table: its entry at each address.
+ghost use Rattle.std.specs.Prelude.{◌≡◌, ◌<◌, IfOk, IfErr, slice_index, replicate};
+ghost use Rattle.cam6_table.specs.declared.tables.TheConstants.{ENTRIES};
+
+use crate::codes::Code;
+use crate::evaluation::{MAX_TURNS, eval};
+use crate::faults::RuleFault;
+use cam6_planes::NoMemory;
+use std::alloc::Global;
+use std::marker::Model;
+
+/// Entries of a table, one for each address.
+pub const ENTRIES: u16 = 4096;
+
+/// Two new bits for each address: bit 0 the lower plane's, bit 1 the upper plane's. Contracts see a
+/// table as the list of its entries.
+#[derive(Drop)]
+pub struct Table {
+    entries: Vec<u8>,
+}
+
+impl Model for Table {
+    ghost use Rattle.std.specs.Prelude.{◌≡◌, List, ℕ, vec_len};
+
+    ghost Value = { List ℕ };
+
+    ghost view = { λ t. t.entries.items };
+
+    ghost invariant = { λ t. vec_len t.entries ≡ 4096 };
+}
+
+impl Table {
+    ghost use Rattle.std.specs.Prelude.{slice_set};
+
+    /// A table of which every entry is 0.
+    pub fn blank(alloc: Global) -> Result<Table, NoMemory>
+        ensures { IfOk result (λ table. table ≡ replicate ENTRIES 0) }
+    {
+        let entries = vec![in alloc; 0; usize::from(ENTRIES)]?;
+        Ok(Table { entries })
+    }
+
+    /// The entry at an address.
+    pub fn at(&self, address: u16) -> u8
+        requires { address < ENTRIES }
+        ensures { result ≡ slice_index self.now address }
+    {
+        self.entries[usize::from(address)]
+    }
+
+    fn put(&mut self, address: u16, entry: u8)
+        requires { address < ENTRIES }
+        ensures { self.new ≡ slice_set self.old address entry }
+    {
+        let place = usize::from(address);
+        self.entries[place] = entry;
+    }
+}
+
+/// Makes the table that of a rule, or names the first address at which the rule stops, and the fault
+/// there. After a fault nothing is promised of the table's entries.
+pub fn fill(code: &Code, table: &mut Table) -> Result<(), (u16, RuleFault)>
+    ensures address { IfErr result (λ fault. fault.0 < ENTRIES) }
+{
+    for address in 0..ENTRIES {
+        let mut turns = MAX_TURNS;
+        match eval(code, address, &mut turns) {
+            Ok(entry) => table.put(address, entry),
+            Err(fault) => return Err((address, fault)),
+        }
+    }
+    Ok(())
+}
