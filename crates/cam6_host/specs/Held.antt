@@ -1,0 +1,21 @@
+-- What is kept of a line.
+use Rattle.std.specs.Prelude.{◌≡◌, ◌<◌, ◌≤◌, ℕ, List, ◌++◌, length, MatchBool, Bool, not, ◌&&◌}
+use Rattle.std.specs.Prelude.{◌==◌}
+
+-- the bytes of a line, unless there are too many
+pub record Held : Type 0 where
+  pub bytes : List ℕ
+  pub is_long : Bool
+
+-- what is kept stands for this line
+abbrev pub Holds : Held → List ℕ → Type 0
+Holds held line =
+    MatchBool held.is_long (16384 < length line) ((held.bytes ≡ line) × (length line ≤ 16384))
+
+-- where the old stands for some line, the new stands for that line with a part behind it
+abbrev pub Grows : Held → Held → List ℕ → Type 0
+Grows old new part = (line : List ℕ) → Holds old line → Holds new (line ++ part)
+
+-- the line has no byte
+abbrev pub is_empty : Held → Bool
+is_empty held = not held.is_long && (length held.bytes == 0)

@@ -1,0 +1,103 @@
+//! The program `cam6`: command lines on standard input, one reply line for each on standard output.
+//!
+//! Contract: `next_line` takes one line, or says why it stopped (`specs/Reading.antt`); `send`
+//! writes a text and its LF, or a front of them (`specs/Front.antt`); `options` reads the words as
+//! `clap` takes them (`specs/CommandLine.antt`). `serve` joins the first two, and returns.
+//!
+//! Stands on: `cam6_planes`, `cam6_machine`, `cam6_wire`, `clap`, `thiserror`.
+//!
+//! Read next: `line_buffer`, then `lines`, `asking`, `writing` and `serving`; `modes` and `words`
+//! for the command line.
+#![tactic(auto)]
+
+mod asking;
+mod line_buffer;
+mod lines;
+mod modes;
+mod serving;
+#[cfg(test)]
+mod tests;
+mod words;
+mod writing;
+
+use cam6_machine::Machine;
+use modes::{Options, Refused};
+use serving::{End, serve};
+use std::alloc::Global;
+use std::io;
+use std::io::{BufReader, ErrorKind};
+use std::process::ExitCode;
+
+/// How often one run looks at standard input at most.
+const TURNS: u64 = 1_099_511_627_776;
+
+const REFUSED_WORDS: u8 = 2;
+
+const READ_FAILED: u8 = 3;
+
+const WRITE_FAILED: u8 = 4;
+
+const NO_MEMORY: u8 = 5;
+
+const TURN_BOUND_REACHED: u8 = 6;
+
+fn main(rt: HostRuntime) -> ExitCode {
+    match options_given(&rt) {
+        Ok(Options::Alone) => alone(&rt),
+        Err(Refused::Help(text)) => match rt.print(text.as_str()) {
+            Ok(()) => ExitCode::SUCCESS,
+            Err(_) => failed(&rt, WRITE_FAILED, "cam6: write failed\n"),
+        },
+        Err(Refused::Words(text)) => failed(&rt, REFUSED_WORDS, text.as_str()),
+        Err(Refused::NoMemory) => failed(&rt, NO_MEMORY, "cam6: no memory\n"),
+    }
+}
+
+fn options_given(rt: &HostRuntime) -> Result<Options, Refused> {
+    let alloc = rt.alloc();
+    let args = match std::env::args(rt) {
+        Ok(args) => args,
+        Err(e) => return Err(unreadable(alloc, e.kind())),
+    };
+    let Ok(words) = args.collect::<Vec<String>>(alloc) else {
+        return Err(Refused::NoMemory);
+    };
+    words::options(alloc, words.as_slice())
+}
+
+/// Why the words could not be had.
+fn unreadable(alloc: Global, kind: ErrorKind) -> Refused {
+    match kind {
+        ErrorKind::OutOfMemory => Refused::NoMemory,
+        _ => match String::from_str(alloc, "cam6: a word is not UTF-8\n") {
+            Ok(text) => Refused::Words(text),
+            Err(_) => Refused::NoMemory,
+        },
+    }
+}
+
+/// Serves one machine.
+fn alone<R: Input + Print + Eprint + Alloc<A = Global>>(rt: &R) -> ExitCode {
+    let alloc = rt.alloc();
+    let Ok(mut machine) = Machine::new(alloc) else {
+        return failed(rt, NO_MEMORY, "cam6: no memory\n");
+    };
+    let Ok(mut reader) = BufReader::new(alloc, rt.reader()) else {
+        return failed(rt, NO_MEMORY, "cam6: no memory\n");
+    };
+    let mut writer = io::writer(rt);
+    match serve(alloc, &mut reader, &mut writer, &mut machine, TURNS) {
+        End::EndOfInput => ExitCode::SUCCESS,
+        End::ReadFault => failed(rt, READ_FAILED, "cam6: read failed\n"),
+        End::WriteFault => failed(rt, WRITE_FAILED, "cam6: write failed\n"),
+        End::NoMemory { .. } => failed(rt, NO_MEMORY, "cam6: no memory\n"),
+        End::TurnBound => failed(rt, TURN_BOUND_REACHED, "cam6: turn bound reached\n"),
+    }
+}
+
+/// Ends with a status, and a text on standard error.
+fn failed(rt: &impl Eprint, status: u8, text: &str) -> ExitCode {
+    // Standard error is the last place to tell of a fault, so a fault of its own isn't told.
+    let _ = rt.eprint(text);
+    ExitCode::from(status)
+}

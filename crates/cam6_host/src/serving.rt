@@ -1,0 +1,106 @@
+//! A stream of command lines, each answered by one line.
+ghost use Rattle.std.specs.Prelude.{◌≡◌, if◌then◌else◌};
+
+use crate::asking::Ask;
+use crate::line_buffer::LineBuf;
+use crate::lines::{Line, next_line};
+use crate::writing::send;
+use cam6_machine::Command;
+use cam6_wire::{LineFault, fault_text, read_command, reply_text};
+use std::alloc::Global;
+use std::io::{BufRead, Write};
+
+/// How serving ended.
+#[derive(Clone, Copy, Debug, PartialEq, Eq)]
+pub enum End {
+    /// All lines were answered.
+    EndOfInput,
+    /// The reader failed. A line without its end is given up.
+    ReadFault,
+    /// The writer failed, or took no byte.
+    WriteFault,
+    /// No memory was found for a line. Nothing is written for it.
+    NoMemory {
+        /// Whether the line's command was done.
+        done: bool,
+    },
+    /// The turns ran out. A line without its end is given up.
+    TurnBound,
+}
+
+/// Answers each line of the reader by one line, until the input ends or something fails. Each look
+/// at the reader takes a turn.
+pub fn serve<R: BufRead, W: Write, D: Ask>(
+    alloc: Global,
+    reader: &mut R,
+    writer: &mut W,
+    desk: &mut D,
+    turns: u64,
+) -> End {
+    let Ok(mut line) = LineBuf::new(alloc) else {
+        return End::NoMemory { done: false };
+    };
+    let mut left = turns;
+    loop {
+        match next_line(reader, &mut line, &mut left) {
+            Line::EndOfInput => return End::EndOfInput,
+            Line::ReadFault => return End::ReadFault,
+            Line::TurnBound => return End::TurnBound,
+            Line::Ended => {
+                if let Some(end) = respond(alloc, &line, writer, desk) {
+                    return end;
+                }
+            }
+            Line::Last => return respond(alloc, &line, writer, desk).unwrap_or(End::EndOfInput),
+        }
+    }
+}
+
+/// Answers a whole line, or says how serving ends there.
+fn respond<W: Write, D: Ask>(
+    alloc: Global,
+    line: &LineBuf,
+    writer: &mut W,
+    desk: &mut D,
+) -> Option<End> {
+    match said(alloc, line) {
+        Ok(command) => respond_to(alloc, command, writer, desk),
+        Err(fault) => respond_fault(fault, writer),
+    }
+}
+
+/// What a line says.
+fn said(alloc: Global, line: &LineBuf) -> Result<Command, LineFault> {
+    if line.is_long() {
+        return Err(LineFault::TooLong);
+    }
+    read_command(alloc, line.bytes())
+}
+
+fn respond_to<W: Write, D: Ask>(
+    alloc: Global,
+    command: Command,
+    writer: &mut W,
+    desk: &mut D,
+) -> Option<End> {
+    let Ok(reply) = desk.ask(command) else {
+        return Some(End::NoMemory { done: false });
+    };
+    let Ok(text) = reply_text(alloc, &reply) else {
+        return Some(End::NoMemory { done: true });
+    };
+    sent(send(writer, text.as_bytes()))
+}
+
+fn respond_fault<W: Write>(fault: LineFault, writer: &mut W) -> Option<End> {
+    match fault {
+        LineFault::NoMemory => Some(End::NoMemory { done: false }),
+        _ => sent(send(writer, fault_text(fault).as_bytes())),
+    }
+}
+
+fn sent(done: bool) -> Option<End>
+    ensures { result ≡ (if done then None else Some End.WriteFault) }
+{
+    if done { None } else { Some(End::WriteFault) }
+}

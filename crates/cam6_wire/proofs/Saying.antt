@@ -1,0 +1,53 @@
+-- What a line says, step by step as it is read.
+use Rattle.std.proofs.Common.{◌≡◌, ◌≤◌, ℕ, List, length, Bool, true, false, nat_lt, cond, Option}
+use Rattle.std.proofs.Common.{Some, None, ok_or, Result, Err, refl, ap, ◌∙◌, sym, arith, subst}
+use Rattle.std.proofs.Common.{IsUtf8}
+use Rattle.std.proofs.lemmas.Str.{is_utf8-from_IsUtf8, IsUtf8-from_is_utf8}
+use Rattle.std.specs.Str.{is_utf8}
+use Rattle.serde_json.specs.Data.{Data}
+use Rattle.serde_json.specs.Read.{read}
+use Rattle.cam6_machine.specs.declared.commands.Command.{Command}
+use Rattle.cam6_wire.specs.Commands.{command, command_in, from_value, value_of, Reads}
+use Rattle.cam6_wire.specs.declared.faults.LineFault.{LineFault}
+use Rattle.cam6_wire.specs.declared.faults.LineFault.TheVariants.{NoJson, NoCommand, TooLong}
+
+not_long : (n : ℕ) → n ≤ 16384 → nat_lt 16384 n ≡ false
+not_long n h = grind arith
+
+-- a line within the limit says what its value says
+short_line : (line : List ℕ) → length line ≤ 16384 → command line ≡ from_value (value_of line)
+short_line line h =
+    ap (λ b. cond b (Err TooLong) (from_value (value_of line))) (not_long (length line) h)
+
+value_found : (line : List ℕ) (d : Data) → IsUtf8 line → read line ≡ Some d → value_of line ≡ Some d
+value_found line d text e = ap (λ b. cond b (read line) None) (is_utf8-from_IsUtf8 line text) ∙ e
+
+no_value : (line : List ℕ) (b : Bool) → is_utf8 line ≡ b → (IsUtf8 line → read line ≡ None) →
+    cond b (read line) None ≡ None
+no_value line false e h = refl
+no_value line true e h = h (IsUtf8-from_is_utf8 line e)
+
+-- a line that is no JSON
+pub says_no_json : (line : List ℕ) → length line ≤ 16384 → (IsUtf8 line → read line ≡ None) →
+    command line ≡ Err NoJson
+says_no_json line short h =
+    short_line line short ∙ ap from_value (no_value line (is_utf8 line) refl h)
+
+-- a line that is JSON
+says_value : (line : List ℕ) (d : Data) → length line ≤ 16384 → IsUtf8 line → read line ≡ Some d →
+    command line ≡ ok_or (command_in d) NoCommand
+says_value line d short text e = short_line line short ∙ ap from_value (value_found line d text e)
+
+same_or_fault : (o : Option Command) (said : Result Command LineFault) →
+    said ≡ ok_or o NoCommand → Reads (ok_or o NoCommand) said
+same_or_fault None said e = e
+same_or_fault (Some c) said e = e
+
+-- what was found in a line's value is what the line says
+pub reads_value : (line : List ℕ) (d : Data) (found : Option Command)
+    (answered : Result Command LineFault) → length line ≤ 16384 →
+    IsUtf8 line × (read line ≡ Some d) → found ≡ command_in d → answered ≡ ok_or found NoCommand →
+    Reads answered (command line)
+reads_value line d found answered short text e given =
+    let said = says_value line d short text.0 text.1 ∙ ap (λ x. ok_or x NoCommand) (sym e) in
+    subst (λ x. Reads x (command line)) (sym given) (same_or_fault found (command line) said)

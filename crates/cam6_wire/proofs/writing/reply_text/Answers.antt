@@ -1,0 +1,12 @@
+use Rattle.std.proofs.Common.{ap, ◌∙◌}
+use Rattle.serde_json.specs.Written.{compact_text, has_float}
+use Rattle.cam6_wire.proofs.Floats.{reply_without_float}
+use Rattle.cam6_wire.specs.Replies.{reply_bytes}
+use Rattle.cam6_wire.proofs.writing.reply_text.Goals as goal
+
+pub returns : goal.returns
+unfolding reply_bytes
+returns c =
+    let is = c.in_ok-reply_value.ensures in
+    let without_float = ap has_float is ∙ reply_without_float c.args.reply.now in
+    c.in_ok-to_string.ensures.text without_float ∙ ap compact_text is

@@ -1,0 +1,93 @@
+-- What a line says: the JSON value that it is, and the command that the value is.
+use Rattle.std.specs.Prelude.{◌≡◌, ℕ, List, length, codes, nat_lt, if◌then◌else◌, Option, Some, None}
+use Rattle.std.specs.Prelude.{option_map, ok_or, Result, Ok, Err, ⊤}
+use Rattle.std.specs.Bool.{then_some}
+use Rattle.std.specs.Str.{bytes_eq, is_utf8}
+use Rattle.serde_json.specs.Data.{Data}
+use Rattle.serde_json.specs.Read.{read}
+use Rattle.cam6_machine.specs.declared.commands.Command.{Command}
+use Rattle.cam6_machine.specs.declared.commands.Command.TheVariants.{Set, Rule, Cycle, Run, Plane}
+use Rattle.cam6_wire.specs.declared.faults.LineFault.{LineFault}
+use Rattle.cam6_wire.specs.declared.faults.LineFault.TheVariants.{NoMemory, TooLong, NoJson, NoCommand}
+use Rattle.cam6_wire.specs.Fields.{has_size, number_at, text_at, bits_at, ◌>>=◌}
+use Rattle.cam6_wire.specs.Settings.{wiring_in}
+use Rattle.cam6_wire.specs.Entries.{entries_at}
+use Rattle.cam6_wire.specs.Fragment.{is_in_fragment}
+
+-- the command of the keys plane, row and bits
+abbrev pub set_fields : Data → Option Command
+set_fields d = do
+  plane ← number_at (codes "plane") d
+  row ← number_at (codes "row") d
+  bits ← bits_at (codes "bits") d
+  Some (Set plane row bits)
+
+-- {"do":"set","plane":p,"row":y,"bits":"64 digits"}
+unfoldable pub set_of : Data → Option Command
+set_of d = if has_size 4 d then set_fields d else None
+
+-- the command of the keys name, half, hood, minor and text
+abbrev pub rule_fields : Data → Option Command
+rule_fields d = do
+  name ← text_at (codes "name") d
+  wiring ← wiring_in d
+  text ← text_at (codes "text") d
+  Some (Rule name wiring.half wiring.hood wiring.minor text)
+
+-- {"do":"rule","name":n,"half":h,"hood":o,"minor":m,"text":t}
+unfoldable pub rule_of : Data → Option Command
+rule_of d = if has_size 6 d then rule_fields d else None
+
+-- {"do":"cycle","entries":[{"a":n,"b":n,"grid":g,"phase":f},..]}
+unfoldable pub cycle_of : Data → Option Command
+cycle_of d = if has_size 2 d then option_map Cycle (entries_at (codes "entries") d) else None
+
+-- {"do":"run","n":k}
+unfoldable pub run_of : Data → Option Command
+run_of d = if has_size 2 d then option_map Run (number_at (codes "n") d) else None
+
+-- {"do":"plane","plane":p}
+unfoldable pub plane_of : Data → Option Command
+plane_of d = if has_size 2 d then option_map Plane (number_at (codes "plane") d) else None
+
+-- by the word at the key do
+abbrev pub by_word : List ℕ → Data → Option Command
+by_word word d =
+    if bytes_eq word (codes "set") then set_of d
+    else if bytes_eq word (codes "rule") then rule_of d
+    else if bytes_eq word (codes "cycle") then cycle_of d
+    else if bytes_eq word (codes "run") then run_of d
+    else if bytes_eq word (codes "plane") then plane_of d
+    else None
+
+-- the command that a JSON value is, where it is one that is accepted so far
+abbrev pub command_in : Data → Option Command
+command_in d = do
+  word ← text_at (codes "do") d
+  command ← by_word word d
+  then_some (is_in_fragment command) command
+
+-- the JSON value that the bytes are, as serde_json reads them
+abbrev pub value_of : List ℕ → Option Data
+value_of line = if is_utf8 line then read line else None
+
+-- what a value says, or the fault where there is none or it is no command
+abbrev pub from_value : Option Data → Result Command LineFault
+from_value None = Err NoJson
+from_value (Some d) = ok_or (command_in d) NoCommand
+
+-- what a line says
+abbrev pub command : List ℕ → Result Command LineFault
+command line = if nat_lt 16384 (length line) then Err TooLong else from_value (value_of line)
+
+-- the fault that was answered is what the line says, unless memory ran out
+abbrev pub Fails : LineFault → Result Command LineFault → Type 0
+Fails NoMemory said = ⊤
+Fails TooLong said = said ≡ Err TooLong
+Fails NoJson said = said ≡ Err NoJson
+Fails NoCommand said = said ≡ Err NoCommand
+
+-- what was answered is what the line says, unless memory ran out
+abbrev pub Reads : Result Command LineFault → Result Command LineFault → Type 0
+Reads (Ok answered) said = said ≡ Ok answered
+Reads (Err fault) said = Fails fault said

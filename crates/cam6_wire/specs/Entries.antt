@@ -1,0 +1,40 @@
+-- The entries of a cycle.
+use Rattle.std.specs.Prelude.{ℕ, List, [], ◌∷◌, codes, if◌then◌else◌, Option, Some, None}
+use Rattle.std.specs.Str.{bytes_eq}
+use Rattle.serde_json.specs.Data.{Data, Items, no_items, item}
+use Rattle.serde_json.specs.Find.{get, as_array}
+use Rattle.cam6_machine.specs.declared.commands.NamedEntry.{NamedEntry}
+use Rattle.cam6_wire.specs.Fields.{has_size, number_at, text_at, ◌>>=◌}
+use Rattle.cam6_wire.specs.Settings.{grid_named}
+
+-- `-` names no rule
+abbrev pub rule_named : List ℕ → Option (List ℕ)
+rule_named text = if bytes_eq text (codes "-") then None else Some text
+
+-- the entry of the keys a, b, grid and phase
+abbrev pub entry_fields : Data → Option NamedEntry
+entry_fields d = do
+  a ← text_at (codes "a") d
+  b ← text_at (codes "b") d
+  grid ← text_at (codes "grid") d >>= grid_named
+  phase ← number_at (codes "phase") d
+  Some (record { a = rule_named a; b = rule_named b; grid = grid; phase = phase })
+
+-- {"a":n,"b":n,"grid":g,"phase":f}
+unfoldable pub entry_of : Data → Option NamedEntry
+entry_of d = if has_size 4 d then entry_fields d else None
+
+-- a list of entries, each of which is one
+abbrev pub entries_of : Items → Option (List NamedEntry)
+entries_of no_items = Some []
+entries_of (item d ds) = do
+  entry ← entry_of d
+  entries ← entries_of ds
+  Some (entry ∷ entries)
+
+-- the entries at a key
+abbrev pub entries_at : List ℕ → Data → Option (List NamedEntry)
+entries_at key d = do
+  found ← get key d
+  items ← as_array found
+  entries_of items

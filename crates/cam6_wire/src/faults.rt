@@ -1,0 +1,52 @@
+//! Why a line is no command.
+ghost use Rattle.std.specs.Prelude.{◌≡◌};
+ghost use Rattle.cam6_wire.specs.Faults.{fault_number};
+
+use std::alloc::{AllocError, AllocFailed};
+
+/// Why a line isn't read as a command.
+#[derive(Clone, Copy, Debug, PartialEq, Eq)]
+pub enum LineFault {
+    /// Memory was asked for and refused.
+    NoMemory,
+    /// The line has more than `LINE_LIMIT` bytes.
+    TooLong,
+    /// The line is no JSON value.
+    NoJson,
+    /// The line is a JSON value that is no command.
+    NoCommand,
+}
+
+impl LineFault {
+    /// The fault's number in replies, and 0 for want of memory, which has no reply.
+    pub fn number(self) -> u8
+        ensures { result ≡ fault_number self }
+    {
+        match self {
+            LineFault::NoMemory => 0,
+            LineFault::TooLong => 1,
+            LineFault::NoJson => 2,
+            LineFault::NoCommand => 3,
+        }
+    }
+}
+
+impl From<AllocError> for LineFault {
+    ghost use Rattle.cam6_wire.specs.declared.faults.LineFault.TheVariants.{NoMemory};
+
+    ghost from_gives = { λ _ e. e ≡ NoMemory };
+
+    fn from(_refused: AllocError) -> LineFault {
+        LineFault::NoMemory
+    }
+}
+
+impl<T: Drop> From<AllocFailed<T>> for LineFault {
+    ghost use Rattle.cam6_wire.specs.declared.faults.LineFault.TheVariants.{NoMemory};
+
+    ghost from_gives = { λ _ e. e ≡ NoMemory };
+
+    fn from(_refused: AllocFailed<T>) -> LineFault {
+        LineFault::NoMemory
+    }
+}
