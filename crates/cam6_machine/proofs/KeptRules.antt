@@ -45,10 +45,12 @@ rules_of-insert_entry (e ∷ es) k v = put (bytes_eq (string_bytes k) (string_by
   where
     new : Rule
     new = record { name = string_bytes k; wiring = v.wiring; text = v.text }
+
     first : Rule
     first = record { name = string_bytes e.0; wiring = e.1.wiring; text = e.1.text }
+
     put : (b : Bool) → rules_of (insert_entry string_eq es k v) ≡ with_rule new (rules_of es)
         → rules_of (cond b ((e.0, v) ∷ es) (e ∷ insert_entry string_eq es k v))
-            ≡ cond b (record first { wiring = v.wiring; text = v.text } ∷ rules_of es) (first ∷ with_rule new (rules_of es))
+        ≡ cond b (record first { wiring = v.wiring; text = v.text } ∷ rules_of es) (first ∷ with_rule new (rules_of es))
     put true h = refl
     put false h = ap (λ l. first ∷ l) h

@@ -33,9 +33,31 @@ IsAscii-map_any f (x ∷ xs) h zero = h x
 IsAscii-map_any f (x ∷ xs) h (suc i) = IsAscii-map_any f xs h i
 
 digits-ascii : IsAscii (codes "0123456789abcdef")
-digits-ascii = IsAscii-below (codes "0123456789abcdef")
-    (lit< tt, (lit< tt, (lit< tt, (lit< tt, (lit< tt, (lit< tt, (lit< tt, (lit< tt,
-    (lit< tt, (lit< tt, (lit< tt, (lit< tt, (lit< tt, (lit< tt, (lit< tt, (lit< tt, tt))))))))))))))))
+digits-ascii = IsAscii-below (codes "0123456789abcdef") (
+  lit< tt,
+  (
+    lit< tt,
+    (
+      lit< tt,
+      (
+        lit< tt,
+        (
+          lit< tt,
+          (
+            lit< tt,
+            (
+              lit< tt,
+              (
+                lit< tt,
+                (lit< tt, (lit< tt, (lit< tt, (lit< tt, (lit< tt, (lit< tt, (lit< tt, (lit< tt, tt)))))))),
+              ),
+            ),
+          ),
+        ),
+      ),
+    ),
+  ),
+)
 
 row_text-ascii : (n : ℕ) (row : ℕ → Bool) → IsAscii (row_text n row)
 unfolding row_text

@@ -9,7 +9,11 @@ use std::marker::Model;
 #[derive(Debug, Drop)]
 pub enum Command {
     /// Writes a row of a plane; column 0 is the highest bit of the first byte.
-    Set { plane: u64, row: u64, bits: [u8; 32] },
+    Set {
+        plane: u64,
+        row: u64,
+        bits: [u8; 32],
+    },
     /// Keeps a rule under a name, in place of the one that has the name already.
     Rule {
         name: Text,
@@ -19,11 +23,17 @@ pub enum Command {
         text: Text,
     },
     /// Sets the cycle, and the position to 0.
-    Cycle { entries: NamedEntries },
+    Cycle {
+        entries: NamedEntries,
+    },
     /// Does so many steps forward along the cycle.
-    Run { n: u64 },
+    Run {
+        n: u64,
+    },
     /// Asks for all rows of a plane.
-    Plane { plane: u64 },
+    Plane {
+        plane: u64,
+    },
 }
 
 /// An entry of a cycle as a user writes it: for each half a rule's name, or none.

@@ -51,16 +51,15 @@ impl Model for Machine {
     ghost Value = { Kept };
 
     ghost view = { λ m. record {
-        planes = m.planes;
-        rules = rules_of m.rules.entries;
-        cycle = m.cycle.items;
-        position = m.position;
-        colours = m.colours
+      planes = m.planes;
+      rules = rules_of m.rules.entries;
+      cycle = m.cycle.items;
+      position = m.position;
+      colours = m.colours;
     } };
 
     ghost invariant = { λ m.
-        (vec_len m.cycle ≤ 16) × (0 < vec_len m.cycle → m.position < vec_len m.cycle) × (vec_len m.tables ≡ 32)
-    };
+        (vec_len m.cycle ≤ 16) × (0 < vec_len m.cycle → m.position < vec_len m.cycle) × (vec_len m.tables ≡ 32) };
 }
 
 impl Machine {
@@ -143,7 +142,13 @@ impl Machine {
         if let Some(fault) = rule_refusal(&self.rules, &self.cycle, &name) {
             return Ok(Reply::Fault(fault));
         }
-        let rule = match parse(self.alloc, text.as_str(), wiring.half, wiring.hood, wiring.minor) {
+        let rule = match parse(
+            self.alloc,
+            text.as_str(),
+            wiring.half,
+            wiring.hood,
+            wiring.minor,
+        ) {
             Ok(rule) => rule,
             Err(ParseFault::Text(fault)) => return Ok(Reply::RuleText(fault)),
             Err(ParseFault::NoMemory) => return Err(NoMemory),
@@ -231,9 +236,19 @@ impl Machine {
         let a = rule_table(&self.rules, a, &self.tables[2 * self.position]);
         let b = rule_table(&self.rules, b, &self.tables[2 * self.position + 1]);
         let half = Half::A;
-        step_half(&self.planes, &mut self.next, &a, Setting { half, grid, phase });
+        step_half(
+            &self.planes,
+            &mut self.next,
+            &a,
+            Setting { half, grid, phase },
+        );
         let half = Half::B;
-        step_half(&self.planes, &mut self.next, &b, Setting { half, grid, phase });
+        step_half(
+            &self.planes,
+            &mut self.next,
+            &b,
+            Setting { half, grid, phase },
+        );
         mem::swap(&mut self.planes, &mut self.next);
         self.position = (self.position + 1) % self.cycle.len();
     }

@@ -41,7 +41,9 @@ fn new_rows(old: &Planes, rule: &RuleTable<'_>, setting: Setting, y: usize) -> [
     let mut lower = [0; WORDS];
     let mut upper = [0; WORDS];
     for x in 0..SIDE {
-        let entry = rule.table.at(shown_address(old, rule.wiring, setting, x, y));
+        let entry = rule
+            .table
+            .at(shown_address(old, rule.wiring, setting, x, y));
         let column = 63 - x % 64;
         lower[x / 64] |= u64::from(entry & 1) << column;
         upper[x / 64] |= u64::from(entry >> 1 & 1) << column;
@@ -54,7 +56,11 @@ fn shown_address(old: &Planes, wiring: Wiring, setting: Setting, x: usize, y: us
     requires row { y < SIDE }
     ensures { result < 4096 }
 {
-    let Wiring { half: _, hood, minor } = wiring;
+    let Wiring {
+        half: _,
+        hood,
+        minor,
+    } = wiring;
     let Setting { half, grid, phase } = setting;
     address_at(old, half, hood, minor, grid, phase, x, y)
 }

@@ -31,7 +31,12 @@ fn rule_of_half_b(alloc: Global) -> Result<Command, AllocError> {
 fn cycle(alloc: Global, a: Option<Text>, b: Option<Text>) -> Result<Command, AllocError> {
     let mut entries = Vec::new(alloc);
     let grid = Grid::Odd;
-    entries.push(NamedEntry { a, b, grid, phase: 3 })?;
+    entries.push(NamedEntry {
+        a,
+        b,
+        grid,
+        phase: 3,
+    })?;
     let entries = NamedEntries::new(entries);
     Ok(Command::Cycle { entries })
 }

@@ -1,10 +1,10 @@
 -- What a word does to the stack, of which the top value stands first, or the fault that it stops at.
-use Rattle.std.specs.Prelude.{◌≡◌, ℕ, ◌+◌, ◌-◌, ◌*◌, Bool, List, [], ◌∷◌, length, Result, Ok, Err, MatchResult, nat_lt, nat_le, bit_and, bit_or, bit_xor, if◌then◌else◌, ◌==◌}
+use Rattle.std.specs.Prelude.{◌≡◌, ℕ, ◌+◌, ◌-◌, ◌*◌, List, [], ◌∷◌, length, Result, Ok, Err, MatchResult, nat_lt, nat_le, bit_and, bit_or, bit_xor, if◌then◌else◌, ◌==◌}
 use Rattle.cam6_planes.specs.Row.{bit_number}
 use Rattle.cam6_forth.specs.declared.words.StackWord.{StackWord}
 use Rattle.cam6_forth.specs.declared.words.StackWord.TheVariants as word
 use Rattle.cam6_table.specs.declared.faults.RuleFault.{RuleFault}
-use Rattle.cam6_table.specs.declared.faults.RuleFault.TheVariants.{MissingValue, FullStack, CaseIndex, Range}
+use Rattle.cam6_table.specs.declared.faults.RuleFault.TheVariants.{MissingValue, FullStack, Range}
 
 -- values on a stack, the top one first
 abbrev pub Values : Type 0

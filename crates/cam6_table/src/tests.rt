@@ -23,9 +23,21 @@ const CHOICE: &str = ": R NORTH IF 3 ELSE { 0 1 } THEN >PLNA ;";
 #[test]
 fn rules_at_addresses(rt: HostRuntime) -> Result<(), Fail> {
     for (text, address, want) in [
-        (": R CENTER NORTH XOR SOUTH XOR WEST XOR EAST XOR >PLN0 ;", 61, Ok(1)),
-        (": R CENTER NORTH XOR SOUTH XOR WEST XOR EAST XOR >PLN0 ;", 63, Ok(3)),
-        (": R CENTER NORTH XOR SOUTH XOR WEST XOR EAST XOR >PLN0 ;", 5, Ok(0)),
+        (
+            ": R CENTER NORTH XOR SOUTH XOR WEST XOR EAST XOR >PLN0 ;",
+            61,
+            Ok(1),
+        ),
+        (
+            ": R CENTER NORTH XOR SOUTH XOR WEST XOR EAST XOR >PLN0 ;",
+            63,
+            Ok(3),
+        ),
+        (
+            ": R CENTER NORTH XOR SOUTH XOR WEST XOR EAST XOR >PLN0 ;",
+            5,
+            Ok(0),
+        ),
         (": R ;", 2, Ok(2)),
         (": R 1 >PLN0 0 >PLN0 7 >PLN1 ;", 0, Ok(2)),
         (": T 1 + ; : R CENTER T T >PLNA ;", 1, Ok(3)),
@@ -33,7 +45,11 @@ fn rules_at_addresses(rt: HostRuntime) -> Result<(), Fail> {
         (": R CENTER { 5 NORTH SOUTH } >PLN0 ;", 5, Ok(1)),
         (": R CENTER { 5 NORTH SOUTH } >PLN0 ;", 0, Ok(1)),
         (": C { 2 1 } ; : R 0 C 1 C 1 { 3 C } - >PLNA ;", 0, Ok(1)),
-        (": C { 2 1 } ; : R 0 C 1 C - 0 1 { 3 C } + >PLNA ;", 0, Ok(3)),
+        (
+            ": C { 2 1 } ; : R 0 C 1 C - 0 1 { 3 C } + >PLNA ;",
+            0,
+            Ok(3),
+        ),
         (CHOICE, 4, Ok(3)),
         (CHOICE, 0, Err(RuleFault::MissingValue)),
         (": R 2 { 0 1 } ;", 0, Err(RuleFault::CaseIndex)),
@@ -41,7 +57,11 @@ fn rules_at_addresses(rt: HostRuntime) -> Result<(), Fail> {
     ] {
         let mut turns = MAX_TURNS;
         let code = code(rt.alloc(), text)?;
-        assert_eq!(rt; eval(&code, address, &mut turns), want, "{text} at {address}");
+        assert_eq!(rt;
+            eval(&code, address, &mut turns),
+            want,
+            "{text} at {address}"
+        );
     }
     Ok(())
 }
