@@ -14,7 +14,10 @@ mod asking;
 mod line_buffer;
 mod lines;
 mod modes;
+#[cfg(test)]
+mod machine_tests;
 mod serving;
+mod statuses;
 #[cfg(test)]
 mod tests;
 mod words;
@@ -22,7 +25,8 @@ mod writing;
 
 use cam6_machine::Machine;
 use modes::{Options, Refused};
-use serving::{End, serve};
+use serving::serve;
+use statuses::{NO_MEMORY, REFUSED_WORDS, WRITE_FAILED, failure_of};
 use std::alloc::Global;
 use std::io;
 use std::io::{BufReader, ErrorKind};
@@ -30,16 +34,6 @@ use std::process::ExitCode;
 
 /// How often one run looks at standard input at most.
 const TURNS: u64 = 1_099_511_627_776;
-
-const REFUSED_WORDS: u8 = 2;
-
-const READ_FAILED: u8 = 3;
-
-const WRITE_FAILED: u8 = 4;
-
-const NO_MEMORY: u8 = 5;
-
-const TURN_BOUND_REACHED: u8 = 6;
 
 fn main(rt: HostRuntime) -> ExitCode {
     match options_given(&rt) {
@@ -86,12 +80,10 @@ fn alone<R: Input + Print + Eprint + Alloc<A = Global>>(rt: &R) -> ExitCode {
         return failed(rt, NO_MEMORY, "cam6: no memory\n");
     };
     let mut writer = io::writer(rt);
-    match serve(alloc, &mut reader, &mut writer, &mut machine, TURNS) {
-        End::EndOfInput => ExitCode::SUCCESS,
-        End::ReadFault => failed(rt, READ_FAILED, "cam6: read failed\n"),
-        End::WriteFault => failed(rt, WRITE_FAILED, "cam6: write failed\n"),
-        End::NoMemory { .. } => failed(rt, NO_MEMORY, "cam6: no memory\n"),
-        End::TurnBound => failed(rt, TURN_BOUND_REACHED, "cam6: turn bound reached\n"),
+    let end = serve(alloc, &mut reader, &mut writer, &mut machine, TURNS);
+    match failure_of(end) {
+        Some((status, text)) => failed(rt, status, text),
+        None => ExitCode::SUCCESS,
     }
 }
 

@@ -100,7 +100,8 @@ impl Write for Ones {
     }
 }
 
-// A short session. Its answers are those of 04, section 3, where each command is a `set`.
+// A short session, with the answers of the profile's table of faults; the desk answers each command
+// as a `set`.
 const LINES: &[u8] = b"{\"do\":\"run\",\"n\":1}\nnope\n{\"do\":\"fly\"}";
 
 const ANSWERS: &[u8] = b"{\"ok\":\"set\"}\n{\"fault\":2}\n{\"fault\":3}\n";

@@ -1,0 +1,142 @@
+//! A machine asked by lines: each numbered refusal, and faults of rules.
+
+use crate::serving::{End, serve};
+use crate::statuses::failure_of;
+use cam6_machine::Machine;
+use std::alloc::{AllocError, Global};
+use std::test::Fail;
+
+/// What is written for one line.
+fn answer(alloc: Global, machine: &mut Machine, line: &str) -> Vec<u8> {
+    let mut reader = line.as_bytes();
+    let mut writer = Vec::new(alloc);
+    match serve(alloc, &mut reader, &mut writer, machine, 100) {
+        End::EndOfInput => writer,
+        _ => Vec::new(alloc),
+    }
+}
+
+fn rule(alloc: Global, name: &str, text: &str) -> Result<String, AllocError> {
+    format!(in alloc; "{{\"do\":\"rule\",\"name\":\"{name}\",\"half\":\"A\",\"hood\":\"N/VONN\",\"minor\":\"&/CENTERS\",\"text\":\"{text}\"}}")
+}
+
+fn cycle(alloc: Global, name: &str, phase: &str) -> Result<String, AllocError> {
+    format!(in alloc; "{{\"do\":\"cycle\",\"entries\":[{{\"a\":\"{name}\",\"b\":\"-\",\"grid\":\"EVEN\",\"phase\":{phase}}}]}}")
+}
+
+// By the profile's order of faults: 65, then 63 of a run; 60 of a cycle.
+#[test]
+fn refusals_without_rules(rt: HostRuntime) -> Result<(), Fail> {
+    let alloc = rt.alloc();
+    let mut machine = Machine::new(alloc)?;
+    for (line, want) in [
+        ("{\"do\":\"run\",\"n\":1}", "{\"fault\":63}\n"),
+        ("{\"do\":\"run\",\"n\":0}", "{\"fault\":63}\n"),
+        ("{\"do\":\"run\",\"n\":65536}", "{\"fault\":65}\n"),
+        ("{\"do\":\"plane\",\"plane\":4}", "{\"fault\":65}\n"),
+        (SET_PLANE_4, "{\"fault\":65}\n"),
+        (SET_ROW_256, "{\"fault\":65}\n"),
+        (SET_ROW_255, "{\"ok\":\"set\"}\n"),
+    ] {
+        let got = answer(alloc, &mut machine, line);
+        assert_eq!(rt; got.as_slice(), want.as_bytes(), "{line}");
+    }
+    for (name, want) in [("X", "{\"fault\":60}\n"), ("-", "{\"ok\":\"cycle\"}\n")] {
+        let line = cycle(alloc, name, "0")?;
+        let got = answer(alloc, &mut machine, &line);
+        assert_eq!(rt; got.as_slice(), want.as_bytes(), "{line}");
+    }
+    Ok(())
+}
+
+const SET_PLANE_4: &str = "{\"do\":\"set\",\"plane\":4,\"row\":0,\"bits\":\"0000000000000000000000000000000000000000000000000000000000000000\"}";
+
+const SET_ROW_256: &str = "{\"do\":\"set\",\"plane\":0,\"row\":256,\"bits\":\"0000000000000000000000000000000000000000000000000000000000000000\"}";
+
+const SET_ROW_255: &str = "{\"do\":\"set\",\"plane\":3,\"row\":255,\"bits\":\"0000000000000000000000000000000000000000000000000000000000000000\"}";
+
+const PARITY: &str = ": P CENTER NORTH XOR SOUTH XOR WEST XOR EAST XOR >PLN0 ;";
+
+const ONES: &str = ": R 1 1 1 1 1 1 1 1 1 1 1 1 1 1 1 1 1 1 1 1 1 1 1 1 1 1 1 1 1 1 1 1 1 ;";
+
+// Faults of names, of texts and of rules that run, by the profile.
+#[test]
+fn rules_are_tried(rt: HostRuntime) -> Result<(), Fail> {
+    let alloc = rt.alloc();
+    let mut machine = Machine::new(alloc)?;
+    for (name, text, want) in [
+        ("R", ": R XOR >PLN0 ;", "{\"address\":0,\"fault\":40}\n"),
+        ("R", ONES, "{\"address\":0,\"fault\":41}\n"),
+        ("R", ": R 0 { } ;", "{\"address\":0,\"fault\":42}\n"),
+        ("R", ": R { } ;", "{\"address\":0,\"fault\":40}\n"),
+        ("R", ": R 0 NORTH - >PLN0 ;", "{\"address\":4,\"fault\":43}\n"),
+        ("R", ": R FOO ;", "{\"fault\":20,\"token\":3}\n"),
+        ("R", ": R 1 >PLN2 ;", "{\"fault\":25,\"token\":4}\n"),
+        ("R", ": R 65536 ;", "{\"fault\":26,\"token\":3}\n"),
+        ("R", "", "{\"fault\":27,\"token\":1}\n"),
+        ("R", ": R 0065535 DROP ;", "{\"ok\":\"rule\"}\n"),
+        ("-", PARITY, "{\"fault\":65}\n"),
+        ("", PARITY, "{\"fault\":65}\n"),
+        ("a b", PARITY, "{\"fault\":65}\n"),
+        ("a\\u0022b", PARITY, "{\"fault\":65}\n"),
+        ("a\\\\b", PARITY, "{\"fault\":65}\n"),
+        ("abcdefghijklmnopqrstuvwxy", PARITY, "{\"fault\":65}\n"),
+        ("abcdefghijklmnopqrstuvwx", PARITY, "{\"ok\":\"rule\"}\n"),
+    ] {
+        let line = rule(alloc, name, text)?;
+        let got = answer(alloc, &mut machine, &line);
+        assert_eq!(rt; got.as_slice(), want.as_bytes(), "{line}");
+    }
+    Ok(())
+}
+
+// A rule that the cycle uses stays, and a refused one changes nothing.
+#[test]
+fn used_rules_stay(rt: HostRuntime) -> Result<(), Fail> {
+    let alloc = rt.alloc();
+    let mut machine = Machine::new(alloc)?;
+    let run = String::from_str(alloc, "{\"do\":\"run\",\"n\":0}")?;
+    for (line, want) in [
+        (rule(alloc, "P", PARITY)?, "{\"ok\":\"rule\"}\n"),
+        (rule(alloc, "Q", PARITY)?, "{\"ok\":\"rule\"}\n"),
+        (cycle(alloc, "P", "0")?, "{\"ok\":\"cycle\"}\n"),
+        (rule(alloc, "P", ": R FOO ;")?, "{\"fault\":61}\n"),
+        (rule(alloc, "Q", ": R + >PLN0 ;")?, "{\"address\":0,\"fault\":40}\n"),
+        (run, "{\"ok\":\"run\",\"position\":0}\n"),
+    ] {
+        let got = answer(alloc, &mut machine, &line);
+        assert_eq!(rt; got.as_slice(), want.as_bytes(), "{line}");
+    }
+    Ok(())
+}
+
+// Sixteen names, one of them again, and then a seventeenth, whose text isn't looked at.
+#[test]
+fn sixteen_rules(rt: HostRuntime) -> Result<(), Fail> {
+    let alloc = rt.alloc();
+    let mut machine = Machine::new(alloc)?;
+    for name in "ABCDEFGHIJKLMNOPA".chars() {
+        let name = format!(in alloc; "{name}")?;
+        let line = rule(alloc, &name, PARITY)?;
+        let got = answer(alloc, &mut machine, &line);
+        assert_eq!(rt; got.as_slice(), b"{\"ok\":\"rule\"}\n".as_slice(), "{line}");
+    }
+    let line = rule(alloc, "Q", ": R FOO ;")?;
+    let got = answer(alloc, &mut machine, &line);
+    assert_eq!(rt; got.as_slice(), b"{\"fault\":62}\n".as_slice());
+    Ok(())
+}
+
+#[test]
+fn statuses_of_ends(rt: HostRuntime) {
+    for (end, want) in [
+        (End::EndOfInput, None),
+        (End::ReadFault, Some((3, "cam6: read failed\n"))),
+        (End::WriteFault, Some((4, "cam6: write failed\n"))),
+        (End::NoMemory { done: true }, Some((5, "cam6: no memory\n"))),
+        (End::NoMemory { done: false }, Some((5, "cam6: no memory\n"))),
+        (End::TurnBound, Some((6, "cam6: turn bound reached\n"))),
+    ] {
+        assert!(rt; failure_of(end) == want, "{end:?}");
+    }
+}

@@ -1,0 +1,25 @@
+//! The exit statuses of the program.
+
+use crate::serving::End;
+
+/// Words that are refused.
+pub const REFUSED_WORDS: u8 = 2;
+
+pub const READ_FAILED: u8 = 3;
+
+pub const WRITE_FAILED: u8 = 4;
+
+pub const NO_MEMORY: u8 = 5;
+
+pub const TURN_BOUND_REACHED: u8 = 6;
+
+/// The status of a session that failed, with its line for standard error.
+pub fn failure_of(end: End) -> Option<(u8, &'static str)> {
+    match end {
+        End::EndOfInput => None,
+        End::ReadFault => Some((READ_FAILED, "cam6: read failed\n")),
+        End::WriteFault => Some((WRITE_FAILED, "cam6: write failed\n")),
+        End::NoMemory { .. } => Some((NO_MEMORY, "cam6: no memory\n")),
+        End::TurnBound => Some((TURN_BOUND_REACHED, "cam6: turn bound reached\n")),
+    }
+}
