@@ -17,11 +17,15 @@ fn answer(alloc: Global, machine: &mut Machine, line: &str) -> Vec<u8> {
 }
 
 fn rule(alloc: Global, name: &str, text: &str) -> Result<String, AllocError> {
-    format!(in alloc; "{{\"do\":\"rule\",\"name\":\"{name}\",\"half\":\"A\",\"hood\":\"N/VONN\",\"minor\":\"&/CENTERS\",\"text\":\"{text}\"}}")
+    format!(in alloc;
+        "{{\"do\":\"rule\",\"name\":\"{name}\",\"half\":\"A\",\"hood\":\"N/VONN\",\"minor\":\"&/CENTERS\",\"text\":\"{text}\"}}"
+    )
 }
 
 fn cycle(alloc: Global, name: &str, phase: &str) -> Result<String, AllocError> {
-    format!(in alloc; "{{\"do\":\"cycle\",\"entries\":[{{\"a\":\"{name}\",\"b\":\"-\",\"grid\":\"EVEN\",\"phase\":{phase}}}]}}")
+    format!(in alloc;
+        "{{\"do\":\"cycle\",\"entries\":[{{\"a\":\"{name}\",\"b\":\"-\",\"grid\":\"EVEN\",\"phase\":{phase}}}]}}"
+    )
 }
 
 // By the profile's order of faults: 65, then 63 of a run; 60 of a cycle.
@@ -49,11 +53,14 @@ fn refusals_without_rules(rt: HostRuntime) -> Result<(), Fail> {
     Ok(())
 }
 
-const SET_PLANE_4: &str = "{\"do\":\"set\",\"plane\":4,\"row\":0,\"bits\":\"0000000000000000000000000000000000000000000000000000000000000000\"}";
+const SET_PLANE_4: &str =
+    "{\"do\":\"set\",\"plane\":4,\"row\":0,\"bits\":\"0000000000000000000000000000000000000000000000000000000000000000\"}";
 
-const SET_ROW_256: &str = "{\"do\":\"set\",\"plane\":0,\"row\":256,\"bits\":\"0000000000000000000000000000000000000000000000000000000000000000\"}";
+const SET_ROW_256: &str =
+    "{\"do\":\"set\",\"plane\":0,\"row\":256,\"bits\":\"0000000000000000000000000000000000000000000000000000000000000000\"}";
 
-const SET_ROW_255: &str = "{\"do\":\"set\",\"plane\":3,\"row\":255,\"bits\":\"0000000000000000000000000000000000000000000000000000000000000000\"}";
+const SET_ROW_255: &str =
+    "{\"do\":\"set\",\"plane\":3,\"row\":255,\"bits\":\"0000000000000000000000000000000000000000000000000000000000000000\"}";
 
 const PARITY: &str = ": P CENTER NORTH XOR SOUTH XOR WEST XOR EAST XOR >PLN0 ;";
 
@@ -69,7 +76,11 @@ fn rules_are_tried(rt: HostRuntime) -> Result<(), Fail> {
         ("R", ONES, "{\"address\":0,\"fault\":41}\n"),
         ("R", ": R 0 { } ;", "{\"address\":0,\"fault\":42}\n"),
         ("R", ": R { } ;", "{\"address\":0,\"fault\":40}\n"),
-        ("R", ": R 0 NORTH - >PLN0 ;", "{\"address\":4,\"fault\":43}\n"),
+        (
+            "R",
+            ": R 0 NORTH - >PLN0 ;",
+            "{\"address\":4,\"fault\":43}\n",
+        ),
         ("R", ": R FOO ;", "{\"fault\":20,\"token\":3}\n"),
         ("R", ": R 1 >PLN2 ;", "{\"fault\":25,\"token\":4}\n"),
         ("R", ": R 65536 ;", "{\"fault\":26,\"token\":3}\n"),
@@ -101,7 +112,10 @@ fn used_rules_stay(rt: HostRuntime) -> Result<(), Fail> {
         (rule(alloc, "Q", PARITY)?, "{\"ok\":\"rule\"}\n"),
         (cycle(alloc, "P", "0")?, "{\"ok\":\"cycle\"}\n"),
         (rule(alloc, "P", ": R FOO ;")?, "{\"fault\":61}\n"),
-        (rule(alloc, "Q", ": R + >PLN0 ;")?, "{\"address\":0,\"fault\":40}\n"),
+        (
+            rule(alloc, "Q", ": R + >PLN0 ;")?,
+            "{\"address\":0,\"fault\":40}\n",
+        ),
         (run, "{\"ok\":\"run\",\"position\":0}\n"),
     ] {
         let got = answer(alloc, &mut machine, &line);
@@ -134,7 +148,10 @@ fn statuses_of_ends(rt: HostRuntime) {
         (End::ReadFault, Some((3, "cam6: read failed\n"))),
         (End::WriteFault, Some((4, "cam6: write failed\n"))),
         (End::NoMemory { done: true }, Some((5, "cam6: no memory\n"))),
-        (End::NoMemory { done: false }, Some((5, "cam6: no memory\n"))),
+        (
+            End::NoMemory { done: false },
+            Some((5, "cam6: no memory\n")),
+        ),
         (End::TurnBound, Some((6, "cam6: turn bound reached\n"))),
     ] {
         assert!(rt; failure_of(end) == want, "{end:?}");

@@ -13,9 +13,9 @@
 mod asking;
 mod line_buffer;
 mod lines;
-mod modes;
 #[cfg(test)]
 mod machine_tests;
+mod modes;
 mod serving;
 mod statuses;
 #[cfg(test)]
