@@ -1,8 +1,19 @@
--- In the order of reading: how a text is cut, how words are spelled and what a token is, what a
--- rule is without where it lies in memory, how a text is read, and what the calls answer.
+-- In the order of reading: how a text is cut, how words are spelled and what a token is, the
+-- limits and the faults' numbers; what a rule is without where it lies in memory, and what a token
+-- says by itself; the tree of a rule and its spelling, comments, which text is which rule; a rule
+-- that is being written, and the fault of a token that follows it. Last, how a text is read token
+-- by token, what the calls answer, and the laws that tie this to the trees.
 pub mod Tokens
 pub mod Spellings
 pub mod Kinds
+pub mod Limits
 pub mod Defined
+pub mod SingleWords
+pub mod Tree
+pub mod Comments
+pub mod Texts
+pub mod Unfinished
+pub mod Faults
 pub mod Reading
 pub mod Outcome
+pub mod Laws

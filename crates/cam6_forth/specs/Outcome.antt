@@ -7,6 +7,9 @@ use Rattle.cam6_forth.specs.declared.faults.ParseFault.TheVariants as parse_faul
 use Rattle.cam6_forth.specs.declared.faults.StepFault.{StepFault}
 use Rattle.cam6_forth.specs.declared.faults.StepFault.TheVariants as step_fault
 use Rattle.cam6_forth.specs.Defined.{Defined, RuleWords}
+use Rattle.cam6_forth.specs.Tree.{Part, rule_of}
+use Rattle.cam6_forth.specs.Texts.{IsTextOf}
+use Rattle.cam6_forth.specs.Faults.{HasFault}
 use Rattle.cam6_forth.specs.Reading.{State}
 
 -- the new state, or the number of the token's fault
@@ -26,3 +29,28 @@ abbrev pub Answers :
 Answers reading wiring (Ok rule) = (reading ≡ Ok rule.definitions) × (rule.wiring ≡ wiring)
 Answers reading wiring (Err parse_fault.NoMemory) = Unit {0}
 Answers reading wiring (Err (parse_fault.Text fault)) = reading ≡ Err (fault.number, fault.token)
+
+-- an accepted text is the tree of the rule
+abbrev pub IsAccepted : Wiring → List ℕ → Result RuleWords ParseFault → Type 0
+IsAccepted wiring text (Ok rule) =
+    (parts : List Part) × IsTextOf wiring parts text × (rule ≡ rule_of wiring parts)
+IsAccepted wiring text (Err fault) = Unit {0}
+
+-- a refused text has the fault
+abbrev pub IsRefused : Wiring → List ℕ → Result RuleWords ParseFault → Type 0
+IsRefused wiring text (Err (parse_fault.Text fault)) =
+    HasFault wiring text fault.number fault.token
+IsRefused wiring text _ = Unit {0}
+
+-- the answer is this rule, unless memory runs out
+abbrev pub Gives : RuleWords → Result RuleWords ParseFault → Type 0
+Gives rule (Ok given) = given ≡ rule
+Gives rule (Err parse_fault.NoMemory) = Unit {0}
+Gives rule (Err (parse_fault.Text fault)) = ⊥
+
+-- the answer is this fault, unless memory runs out
+abbrev pub GivesFault : ℕ → ℕ → Result RuleWords ParseFault → Type 0
+GivesFault number token_number (Ok given) = ⊥
+GivesFault number token_number (Err parse_fault.NoMemory) = Unit {0}
+GivesFault number token_number (Err (parse_fault.Text fault)) =
+    (fault.number ≡ number) × (fault.token ≡ token_number)

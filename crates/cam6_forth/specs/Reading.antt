@@ -1,21 +1,18 @@
 -- How a text is read, token by token: a fault is of the token at which it comes, by what stands
 -- before it.
-use Rattle.std.specs.Prelude.{ℕ, ◌+◌, Bool, true, false, not, List, [], ◌∷◌, ◌++◌, length, max, Option, Some, None, is_some, Result, Ok, Err, if◌then◌else◌, nat_lt, nat_le}
-use Rattle.std.specs.Str.{bytes_eq}
-use Rattle.cam6_wiring.specs.declared.names.Half.{Half}
-use Rattle.cam6_wiring.specs.declared.names.Half.TheVariants.{A, B}
+use Rattle.std.specs.Prelude.{ℕ, ◌+◌, Bool, true, false, not, List, [], ◌∷◌, ◌++◌, length, is_some, Result, Ok, Err, if◌then◌else◌, nat_lt, nat_le}
 use Rattle.cam6_wiring.specs.declared.wirings.Wiring.{Wiring}
-use Rattle.cam6_wiring.specs.Wiring.{line_of}
-use Rattle.cam6_forth.specs.declared.faults.TheConstants.{UNKNOWN_WORD, NOT_DEFINABLE, OUT_OF_PLACE, TOO_LARGE, TOO_MANY_IFS, OTHER_HALF, LITERAL_RANGE, NO_DEFINITION, TOO_LONG, MAX_TEXT, MAX_DEFINITIONS, MAX_SIZE, MAX_OPEN_IFS}
 use Rattle.cam6_forth.specs.declared.words.Word.{Word}
 use Rattle.cam6_forth.specs.declared.words.Word.TheVariants as word
 use Rattle.cam6_forth.specs.declared.kinds.Kind.{Kind}
-use Rattle.cam6_forth.specs.declared.kinds.Kind.TheVariants.{Colon, Semicolon, Open, OpenBrace, CloseBrace, If, Else, Then, Digits, Stack, Output, Name, Other}
+use Rattle.cam6_forth.specs.declared.kinds.Kind.TheVariants.{Colon, Semicolon, Open, OpenBrace, CloseBrace, If, Else, Then, Other}
 use Rattle.cam6_forth.specs.declared.reader.Place.{Place}
 use Rattle.cam6_forth.specs.declared.reader.Place.TheVariants.{Outside, Naming, Inside, Braces}
 use Rattle.cam6_forth.specs.Tokens.{Token, tokens}
 use Rattle.cam6_forth.specs.Kinds.{kind_of, ends_comment}
+use Rattle.cam6_forth.specs.Limits.{max_text, max_definitions, max_size, max_open_ifs, not_definable, out_of_place, too_large, too_many_ifs, no_definition, too_long}
 use Rattle.cam6_forth.specs.Defined.{Defined}
+use Rattle.cam6_forth.specs.SingleWords.{word_of, place_of}
 
 -- what was read: the definitions, where the next token stands, whether a comment is open, and
 -- of the definition that is read its name, its words, its size and its open IFs, the innermost
@@ -41,52 +38,12 @@ begin = record {
   open_ifs = [];
 }
 
--- the place of a name among definitions that are counted from a place on, and its definition's size
-abbrev pub place_from : ℕ → Token → List Defined → Option (ℕ × ℕ)
-place_from place name [] = None
-place_from place name (definition ∷ later) =
-    if bytes_eq definition.name name then Some (place, definition.size)
-    else place_from (place + 1) name later
-
--- the place of a name among the definitions, and its definition's size
-abbrev pub place_of : Token → List Defined → Option (ℕ × ℕ)
-place_of name done = place_from 0 name done
-
--- whether two halves are one
-abbrev pub is_same_half : Half → Half → Bool
-is_same_half A A = true
-is_same_half B B = true
-is_same_half _ _ = false
-
--- a literal has size 1, and a value of at most 65,535
-abbrev pub literal_word : Option ℕ → Result (Word × ℕ) ℕ
-literal_word None = Err LITERAL_RANGE
-literal_word (Some value) = Ok (word.Literal value, 1)
-
--- a defined name has its definition's size, or 1 where that is 0
-abbrev pub defined_word : Option (ℕ × ℕ) → Result (Word × ℕ) ℕ
-defined_word None = Err UNKNOWN_WORD
-defined_word (Some (place, size)) = Ok (word.Defined place, max size 1)
-
--- the word that a token says by itself, with its size, or the number of the token's fault
-abbrev pub word_of : Wiring → List Defined → Kind → Token → Result (Word × ℕ) ℕ
-word_of wiring done (Digits value) token = literal_word value
-word_of wiring done (Stack stack) token = Ok (word.Stack stack, 1)
-word_of wiring done (Output output) token =
-    if is_same_half output.half wiring.half then Ok (word.Output output.target, 1)
-    else Err OTHER_HALF
-word_of wiring done (Name name) token =
-    if is_some (line_of wiring.hood wiring.minor name) then Ok (word.Name name, 1)
-    else Err UNKNOWN_WORD
-word_of wiring done Other token = defined_word (place_of token done)
-word_of wiring done kind token = Err OUT_OF_PLACE
-
 -- one more word, of this size, unless the definition grows too large
 abbrev pub grown : ℕ → Word → State → Result State ℕ
 grown size added state =
-    if nat_le (state.size + size) MAX_SIZE
+    if nat_le (state.size + size) max_size
     then Ok (record state { size = state.size + size; words = state.words ++ added ∷ [] })
-    else Err TOO_LARGE
+    else Err too_large
 
 -- a word that a token says by itself, of so much more size
 abbrev pub grown_by : ℕ → Result (Word × ℕ) ℕ → State → Result State ℕ
@@ -96,33 +53,33 @@ grown_by more (Ok (added, size)) state = grown (size + more) added state
 -- outside definitions: `:` begins one, unless it is one too many
 abbrev pub outside : State → Kind → Result State ℕ
 outside state Colon =
-    if nat_lt (length state.done) MAX_DEFINITIONS then Ok (record state { place = Naming })
-    else Err TOO_LONG
+    if nat_lt (length state.done) max_definitions then Ok (record state { place = Naming })
+    else Err too_long
 outside state Open = Ok (record state { comment = true })
-outside state kind = Err OUT_OF_PLACE
+outside state kind = Err out_of_place
 
 -- after `:`, a name that is neither reserved nor defined
 abbrev pub naming : State → Kind → Token → Result State ℕ
 naming state Other token =
-    if is_some (place_of token state.done) then Err NOT_DEFINABLE
+    if is_some (place_of token state.done) then Err not_definable
     else Ok (record state { place = Inside; name = token; words = []; size = 0; open_ifs = [] })
-naming state kind token = Err NOT_DEFINABLE
+naming state kind token = Err not_definable
 
 -- IF, unless it is one too many
 abbrev pub with_if : State → Result State ℕ
 with_if state =
-    if nat_lt (length state.open_ifs) MAX_OPEN_IFS
+    if nat_lt (length state.open_ifs) max_open_ifs
     then grown 1 word.If (record state { open_ifs = false ∷ state.open_ifs })
-    else Err TOO_MANY_IFS
+    else Err too_many_ifs
 
 -- ELSE, where the innermost open IF has none yet
 abbrev pub with_else : List Bool → State → Result State ℕ
 with_else (false ∷ outer) state = grown 1 word.Else (record state { open_ifs = true ∷ outer })
-with_else open_ifs state = Err OUT_OF_PLACE
+with_else open_ifs state = Err out_of_place
 
 -- THEN, where an IF is open
 abbrev pub with_then : List Bool → State → Result State ℕ
-with_then [] state = Err OUT_OF_PLACE
+with_then [] state = Err out_of_place
 with_then (has_else ∷ outer) state =
     Ok (record state { words = state.words ++ word.Then ∷ []; open_ifs = outer })
 
@@ -140,7 +97,7 @@ with_end [] state =
       words = [];
       size = 0;
     })
-with_end (has_else ∷ outer) state = Err OUT_OF_PLACE
+with_end (has_else ∷ outer) state = Err out_of_place
 
 -- in a body
 abbrev pub inside : Wiring → State → Kind → Token → Result State ℕ
@@ -174,17 +131,17 @@ step wiring state token =
 
 -- at least one definition
 abbrev pub some_definition : List Defined → Result (List Defined) ℕ
-some_definition [] = Err NO_DEFINITION
+some_definition [] = Err no_definition
 some_definition (first ∷ later) = Ok (first ∷ later)
 
 -- a text may end outside definitions
 abbrev pub finish_at : Place → State → Result (List Defined) ℕ
 finish_at Outside state = some_definition state.done
-finish_at place state = Err OUT_OF_PLACE
+finish_at place state = Err out_of_place
 
 -- the definitions at the end of the text, or the number of the end's fault
 abbrev pub finish : State → Result (List Defined) ℕ
-finish state = if state.comment then Err OUT_OF_PLACE else finish_at state.place state
+finish state = if state.comment then Err out_of_place else finish_at state.place state
 
 -- a fault with its token
 abbrev pub numbered : Result (List Defined) ℕ → ℕ → Result (List Defined) (ℕ × ℕ)
@@ -207,5 +164,5 @@ read wiring state token_number (token ∷ later) =
 -- a text's definitions, or its first fault with its token
 unfoldable pub read_text : Wiring → List ℕ → Result (List Defined) (ℕ × ℕ)
 read_text wiring text =
-    if nat_lt MAX_TEXT (length text) then Err (TOO_LONG, 0)
+    if nat_lt max_text (length text) then Err (too_long, 0)
     else read wiring begin 1 (tokens text)

@@ -1,8 +1,11 @@
 //! A rule's text is read as a rule, or as its first fault.
-ghost use Rattle.std.specs.Prelude.{◌≡◌};
+ghost use Rattle.std.specs.Prelude.{◌≡◌, ℕ, List};
 ghost use Rattle.cam6_forth.specs.declared.faults.ParseFault.TheVariants.{Text};
 ghost use Rattle.cam6_forth.specs.Reading.{read_text};
-ghost use Rattle.cam6_forth.specs.Outcome.{Answers};
+ghost use Rattle.cam6_forth.specs.Tree.{Part, rule_of};
+ghost use Rattle.cam6_forth.specs.Texts.{IsTextOf};
+ghost use Rattle.cam6_forth.specs.Faults.{HasFault};
+ghost use Rattle.cam6_forth.specs.Outcome.{Answers, IsAccepted, IsRefused, Gives, GivesFault};
 
 use crate::faults::{MAX_TEXT, ParseFault, StepFault, TOO_LONG, TextFault};
 use crate::reader::Reader;
@@ -12,7 +15,6 @@ use cam6_wiring::{Half, Hood, Minor, Wiring};
 use std::alloc::Global;
 
 /// The rule that a text says for this half, hood and minor, or the text's first fault.
-#[tactic(auto, unfolding(crate::specs::Reading::read_text))]
 pub fn parse(
     alloc: Global,
     text: &str,
@@ -20,15 +22,36 @@ pub fn parse(
     hood: Hood,
     minor: Minor,
 ) -> Result<Rule, ParseFault>
+    // An accepted text is the tree of the rule, and a refused one has the fault.
+    ensures accepted { IsAccepted
+        (record { half = half; hood = hood; minor = minor }) text.now result }
+    ensures refused { IsRefused
+        (record { half = half; hood = hood; minor = minor }) text.now result }
+    // A text that is a rule is accepted, and one that has a fault is refused with it, unless
+    // memory runs out.
+    ensures rule { (parts : List Part) →
+        IsTextOf (record { half = half; hood = hood; minor = minor }) parts text.now →
+        Gives (rule_of (record { half = half; hood = hood; minor = minor }) parts) result }
+    ensures fault { (number token_number : ℕ) →
+        HasFault (record { half = half; hood = hood; minor = minor }) text.now
+        number token_number →
+        GivesFault number token_number result }
+    // The same as a function of the text.
     ensures exact { Answers
         (read_text (record { half = half; hood = hood; minor = minor }) text.now)
         (record { half = half; hood = hood; minor = minor })
         result }
 {
+    parse_under(alloc, text, Wiring { half, hood, minor })
+}
+
+#[tactic(auto, unfolding(crate::specs::Reading::read_text))]
+fn parse_under(alloc: Global, text: &str, wiring: Wiring) -> Result<Rule, ParseFault>
+    ensures { Answers (read_text wiring text.now) wiring result }
+{
     if text.len() > MAX_TEXT {
         return Err(text_fault(TOO_LONG, 0));
     }
-    let wiring = Wiring { half, hood, minor };
     let mut reader = Reader::new(alloc);
     let mut rest = text.as_bytes();
     let mut token_number = 1;

@@ -1,6 +1,6 @@
 //! A text is read token by token: what was read so far, and one more token.
 ghost use Rattle.std.specs.Prelude.{◌≡◌};
-ghost use Rattle.cam6_forth.specs.Reading.{place_of};
+ghost use Rattle.cam6_forth.specs.SingleWords.{place_of};
 
 use crate::faults::{
     LITERAL_RANGE, MAX_DEFINITIONS, MAX_OPEN_IFS, MAX_SIZE, NO_DEFINITION, NOT_DEFINABLE,
@@ -57,7 +57,8 @@ impl Model for Reader {
 }
 
 impl Reader {
-    ghost use Rattle.cam6_forth.specs.Reading.{begin, step, grown, outside, naming, with_if, with_else, with_then, with_end, inside, braces, word_of, finish};
+    ghost use Rattle.cam6_forth.specs.SingleWords.{word_of};
+    ghost use Rattle.cam6_forth.specs.Reading.{begin, step, grown, outside, naming, with_if, with_else, with_then, with_end, inside, braces, finish};
     ghost use Rattle.cam6_forth.specs.Outcome.{Steps, Finishes};
 
     pub(crate) fn new(alloc: Global) -> Self

@@ -21,7 +21,7 @@ impl Model for Definition {
     ghost view = { λ d. record { name = d.name.items; words = d.words.items; size = d.size } };
 }
 
-/// A rule, as `parse` accepted it.
+/// A rule, as `parse` accepted it: the words of a tree.
 #[derive(Debug, Drop)]
 pub struct Rule {
     wiring: Wiring,
@@ -30,14 +30,22 @@ pub struct Rule {
 
 impl Model for Rule {
     ghost use Rattle.cam6_forth.specs.Defined.{RuleWords};
+    ghost use Rattle.cam6_forth.specs.Tree.{IsOfTree};
 
     ghost Value = { RuleWords };
 
     ghost view = { λ r. record { wiring = r.wiring; definitions = r.definitions.items } };
+
+    ghost invariant = { λ r.
+        IsOfTree (record { wiring = r.wiring; definitions = r.definitions.items }) };
 }
 
 impl Rule {
+    ghost use Rattle.cam6_forth.specs.Tree.{IsOfTree};
+
     pub(crate) fn new(wiring: Wiring, definitions: Vec<Definition>) -> Rule
+        requires definitions { IsOfTree
+            (record { wiring = wiring; definitions = definitions.items }) }
         ensures { result ≡ record { wiring = wiring; definitions = definitions.items } }
     {
         Rule {
@@ -55,7 +63,8 @@ impl Rule {
 
     /// The definitions in their order; the last one is the rule.
     pub fn definitions(&self) -> &[Definition]
-        ensures { result.now ≡ self.now.definitions }
+        ensures definitions { result.now ≡ self.now.definitions }
+        ensures tree { IsOfTree self.now }
     {
         self.definitions.as_slice()
     }

@@ -1,5 +1,5 @@
 use Rattle.std.proofs.Common.{◌≡◌, drop}
-use Rattle.cam6_forth.specs.Reading.{place_of, place_from}
+use Rattle.cam6_forth.specs.SingleWords.{place_of, place_from}
 use Rattle.cam6_forth.proofs.reader.place_of.Given as goal
 
 abbrev pub invariant-loop-i : goal.invariant-loop-i

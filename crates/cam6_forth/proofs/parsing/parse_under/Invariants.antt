@@ -1,14 +1,14 @@
 use Rattle.std.proofs.Common.{length, ◌≡◌, ◌+◌, ◌≤◌}
-use Rattle.cam6_forth.specs.declared.faults.TheConstants.{MAX_TEXT}
+use Rattle.cam6_forth.specs.Limits.{max_text}
 use Rattle.cam6_forth.specs.Tokens.{tokens}
 use Rattle.cam6_forth.specs.Reading.{read, begin}
-use Rattle.cam6_forth.proofs.parsing.parse.Given as goal
+use Rattle.cam6_forth.proofs.parsing.parse_under.Given as goal
 
 abbrev pub invariant-loop-token : goal.invariant-loop-token
 invariant-loop-token l = record {
   same : read l.wiring l.reader l.token_number (tokens l.rest)
       ≡ read l.wiring begin 1 (tokens l.text);
-  short : l.token_number + length l.rest ≤ MAX_TEXT + 1;
+  short : l.token_number + length l.rest ≤ max_text + 1;
 }
 
 abbrev pub decreases-loop-token : goal.decreases-loop-token

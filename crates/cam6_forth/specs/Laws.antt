@@ -1,0 +1,57 @@
+-- The laws that tie texts, trees and faults.
+use Rattle.std.specs.Prelude.{◌≡◌, ℕ, ◌-◌, ◌≤◌, ◌⊎◌, List, ◌++◌, length, take}
+use Rattle.cam6_wiring.specs.declared.wirings.Wiring.{Wiring}
+use Rattle.cam6_forth.specs.Tokens.{Token}
+use Rattle.cam6_forth.specs.Tree.{Part, spell, IsRule, rule_of}
+use Rattle.cam6_forth.specs.Texts.{AreTokensOf, IsTextOf, Begins}
+use Rattle.cam6_forth.specs.Unfinished.{Unfinished}
+use Rattle.cam6_forth.specs.Faults.{AreSoundTokens, HasTokenFault, HasEndFault, HasFault}
+
+-- trees that are spelled alike are one rule
+abbrev pub HasOneMeaning : Type 0
+HasOneMeaning =
+    (wiring : Wiring) (first second : List Part) → IsRule wiring first → IsRule wiring second →
+    spell first ≡ spell second → rule_of wiring first ≡ rule_of wiring second
+
+-- a text is a rule or has a fault
+abbrev pub HasAnswer : Type 0
+HasAnswer =
+    (wiring : Wiring) (text : List ℕ) →
+    ((parts : List Part) × IsTextOf wiring parts text)
+    ⊎ ((number : ℕ) × (token_number : ℕ) × HasFault wiring text number token_number)
+
+-- it has one fault, and none where it is a rule
+abbrev pub HasOneFault : Type 0
+HasOneFault =
+    (wiring : Wiring) (text : List ℕ) (number token_number : ℕ) →
+    HasFault wiring text number token_number →
+    ((other other_token : ℕ) → HasFault wiring text other other_token →
+    (other ≡ number) × (other_token ≡ token_number))
+    × ((parts : List Part) → IsTextOf wiring parts text → ⊥)
+
+-- tokens that have no fault so far can be completed to the tokens of a rule
+abbrev pub CanBeCompleted : Type 0
+CanBeCompleted =
+    (wiring : Wiring) (before : List Token) (unfinished : Unfinished) →
+    AreSoundTokens wiring unfinished before → Begins wiring before
+
+-- a token's fault doesn't depend on what follows the token
+abbrev pub FaultStays : Type 0
+FaultStays =
+    (wiring : Wiring) (first later other : List Token) (number token_number : ℕ) →
+    token_number ≤ length first → HasTokenFault wiring (first ++ later) number token_number →
+    HasTokenFault wiring (first ++ other) number token_number
+
+-- the token of a fault is the first with which the tokens begin no rule
+abbrev pub FaultIsFirst : Type 0
+FaultIsFirst =
+    (wiring : Wiring) (all : List Token) (number token_number : ℕ) →
+    HasTokenFault wiring all number token_number →
+    Begins wiring (take (token_number - 1) all) × (Begins wiring (take token_number all) → ⊥)
+
+-- where the end has a fault, the tokens begin a rule and are none
+abbrev pub EndIsTooEarly : Type 0
+EndIsTooEarly =
+    (wiring : Wiring) (all : List Token) (number token_number : ℕ) →
+    HasEndFault wiring all number token_number →
+    Begins wiring all × ((parts : List Part) → AreTokensOf wiring parts all → ⊥)

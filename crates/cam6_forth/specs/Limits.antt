@@ -1,0 +1,52 @@
+-- The limits of a text, and the numbers of its faults.
+use Rattle.std.specs.Prelude.{ℕ}
+
+-- the most bytes of a text, definitions of a text, size of a definition, and IFs that are open
+-- together in one definition
+abbrev pub max_text : ℕ
+max_text = 8192
+
+abbrev pub max_definitions : ℕ
+max_definitions = 64
+
+abbrev pub max_size : ℕ
+max_size = 4096
+
+abbrev pub max_open_ifs : ℕ
+max_open_ifs = 16
+
+-- in a body, a name that isn't known there, or that the hood and the minor lack
+abbrev pub unknown_word : ℕ
+unknown_word = 20
+
+-- after `:`, a reserved token or a name already defined
+abbrev pub not_definable : ℕ
+not_definable = 21
+
+-- a token, or the end of the text, where none such may stand
+abbrev pub out_of_place : ℕ
+out_of_place = 22
+
+-- the definition grows above its largest size
+abbrev pub too_large : ℕ
+too_large = 23
+
+-- one more IF than may be open together
+abbrev pub too_many_ifs : ℕ
+too_many_ifs = 24
+
+-- an output word of the other half
+abbrev pub other_half : ℕ
+other_half = 25
+
+-- a literal above 65,535
+abbrev pub literal_range : ℕ
+literal_range = 26
+
+-- a text without a definition
+abbrev pub no_definition : ℕ
+no_definition = 27
+
+-- one more definition than a text may have, or a longer text
+abbrev pub too_long : ℕ
+too_long = 28

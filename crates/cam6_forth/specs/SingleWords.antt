@@ -1,0 +1,54 @@
+-- What a token says by itself in a body: a word, and by how much it makes the definition grow.
+use Rattle.std.specs.Prelude.{ℕ, ◌+◌, Bool, true, false, List, [], ◌∷◌, max, Option, Some, None, is_some, Result, Ok, Err, if◌then◌else◌}
+use Rattle.std.specs.Str.{bytes_eq}
+use Rattle.cam6_wiring.specs.declared.names.Half.{Half}
+use Rattle.cam6_wiring.specs.declared.names.Half.TheVariants.{A, B}
+use Rattle.cam6_wiring.specs.declared.wirings.Wiring.{Wiring}
+use Rattle.cam6_wiring.specs.Wiring.{line_of}
+use Rattle.cam6_forth.specs.declared.words.Word.{Word}
+use Rattle.cam6_forth.specs.declared.words.Word.TheVariants as word
+use Rattle.cam6_forth.specs.declared.kinds.Kind.{Kind}
+use Rattle.cam6_forth.specs.declared.kinds.Kind.TheVariants.{Digits, Stack, Output, Name, Other}
+use Rattle.cam6_forth.specs.Tokens.{Token}
+use Rattle.cam6_forth.specs.Limits.{unknown_word, out_of_place, other_half, literal_range}
+use Rattle.cam6_forth.specs.Defined.{Defined}
+
+-- the place of a name among definitions that are counted from a place on, and its definition's size
+abbrev pub place_from : ℕ → Token → List Defined → Option (ℕ × ℕ)
+place_from place name [] = None
+place_from place name (definition ∷ later) =
+    if bytes_eq definition.name name then Some (place, definition.size)
+    else place_from (place + 1) name later
+
+-- the place of a name among the definitions, and its definition's size
+abbrev pub place_of : Token → List Defined → Option (ℕ × ℕ)
+place_of name done = place_from 0 name done
+
+-- whether two halves are one
+abbrev pub is_same_half : Half → Half → Bool
+is_same_half A A = true
+is_same_half B B = true
+is_same_half _ _ = false
+
+-- a literal has size 1, and a value of at most 65,535
+abbrev pub literal_word : Option ℕ → Result (Word × ℕ) ℕ
+literal_word None = Err literal_range
+literal_word (Some value) = Ok (word.Literal value, 1)
+
+-- a defined name has its definition's size, or 1 where that is 0
+abbrev pub defined_word : Option (ℕ × ℕ) → Result (Word × ℕ) ℕ
+defined_word None = Err unknown_word
+defined_word (Some (place, size)) = Ok (word.Defined place, max size 1)
+
+-- the word that a token says by itself, with its size, or the number of the token's fault
+abbrev pub word_of : Wiring → List Defined → Kind → Token → Result (Word × ℕ) ℕ
+word_of wiring done (Digits value) token = literal_word value
+word_of wiring done (Stack stack) token = Ok (word.Stack stack, 1)
+word_of wiring done (Output output) token =
+    if is_same_half output.half wiring.half then Ok (word.Output output.target, 1)
+    else Err other_half
+word_of wiring done (Name name) token =
+    if is_some (line_of wiring.hood wiring.minor name) then Ok (word.Name name, 1)
+    else Err unknown_word
+word_of wiring done Other token = defined_word (place_of token done)
+word_of wiring done kind token = Err out_of_place

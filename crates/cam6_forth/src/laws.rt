@@ -1,0 +1,38 @@
+//! Laws that tie texts, trees and faults. Each is the contract of a function that does nothing.
+ghost use Rattle.cam6_forth.specs.Laws.{HasOneMeaning, HasAnswer, HasOneFault, CanBeCompleted, FaultStays, FaultIsFirst, EndIsTooEarly};
+
+/// Trees that are spelled alike are one rule.
+pub fn trees_spelled_alike_are_one_rule()
+    ensures law { HasOneMeaning }
+{}
+
+/// A text is a rule or has a fault.
+pub fn a_text_is_a_rule_or_has_a_fault()
+    ensures law { HasAnswer }
+{}
+
+/// A text has at most one fault, and none where it is a rule.
+pub fn a_text_has_one_fault()
+    ensures law { HasOneFault }
+{}
+
+/// Tokens that have no fault so far can be completed to the tokens of a rule. A text's limit of bytes
+/// is of the whole text, and not of its tokens.
+pub fn tokens_without_a_fault_begin_a_rule()
+    ensures law { CanBeCompleted }
+{}
+
+/// A token's fault doesn't depend on what follows the token.
+pub fn a_fault_stays()
+    ensures law { FaultStays }
+{}
+
+/// The tokens before a token that has a fault begin a rule; with that token they begin none.
+pub fn a_fault_is_the_first()
+    ensures law { FaultIsFirst }
+{}
+
+/// Where the end of a text has a fault, its tokens begin a rule and are none.
+pub fn an_end_with_a_fault_is_too_early()
+    ensures law { EndIsTooEarly }
+{}
