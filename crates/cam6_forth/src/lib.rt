@@ -32,4 +32,12 @@ pub use rules::{Definition, Rule};
 pub use words::{Output, StackWord, Target, Word};
 
 #[cfg(test)]
+mod limit_tests;
+#[cfg(test)]
+mod place_tests;
+#[cfg(test)]
+mod size_tests;
+#[cfg(test)]
 mod tests;
+#[cfg(test)]
+mod tree_tests;

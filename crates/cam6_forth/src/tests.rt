@@ -6,11 +6,11 @@ use std::alloc::Global;
 use std::test::Fail;
 
 // The first fault of a text, or `None` where it is read.
-fn fault_of(alloc: Global, text: &str) -> Result<Option<TextFault>, ParseFault> {
+pub(crate) fn fault_of(alloc: Global, text: &str) -> Result<Option<TextFault>, ParseFault> {
     fault_under(alloc, text, Half::A, Hood::VonNeumann, Minor::Centers)
 }
 
-fn fault_under(
+pub(crate) fn fault_under(
     alloc: Global,
     text: &str,
     half: Half,
@@ -24,7 +24,7 @@ fn fault_under(
     }
 }
 
-fn fault(number: u8, token: u32) -> Option<TextFault> {
+pub(crate) fn fault(number: u8, token: u32) -> Option<TextFault> {
     Some(TextFault { number, token })
 }
 
@@ -83,7 +83,7 @@ fn first_faults(rt: HostRuntime) -> Result<(), Fail> {
 }
 
 // A text with more after it, so many times.
-fn repeated(alloc: Global, first: &str, more: &str, times: u32) -> Result<String, Fail> {
+pub(crate) fn repeated(alloc: Global, first: &str, more: &str, times: u32) -> Result<String, Fail> {
     let mut text = String::from_str(alloc, first)?;
     for _ in 0..times {
         text.push_str(more)?;
@@ -101,7 +101,8 @@ fn doubled(alloc: Global, first: &str, last: u32) -> Result<String, Fail> {
     Ok(text)
 }
 
-fn numbered(alloc: Global, definitions: u32) -> Result<String, Fail> {
+// So many definitions without a word, of three tokens each.
+pub(crate) fn numbered(alloc: Global, definitions: u32) -> Result<String, Fail> {
     let mut text = String::new(alloc);
     for k in 0..definitions {
         let line = format!(in alloc; ": A{k} ; ")?;
