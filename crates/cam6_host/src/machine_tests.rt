@@ -7,7 +7,7 @@ use std::alloc::{AllocError, Global};
 use std::test::Fail;
 
 /// What is written for one line.
-fn answer(alloc: Global, machine: &mut Machine, line: &str) -> Vec<u8> {
+pub(crate) fn answer(alloc: Global, machine: &mut Machine, line: &str) -> Vec<u8> {
     let mut reader = line.as_bytes();
     let mut writer = Vec::new(alloc);
     match serve(alloc, &mut reader, &mut writer, machine, 100) {
@@ -16,7 +16,7 @@ fn answer(alloc: Global, machine: &mut Machine, line: &str) -> Vec<u8> {
     }
 }
 
-fn rule(alloc: Global, name: &str, text: &str) -> Result<String, AllocError> {
+pub(crate) fn rule(alloc: Global, name: &str, text: &str) -> Result<String, AllocError> {
     format!(in alloc;
         "{{\"do\":\"rule\",\"name\":\"{name}\",\"half\":\"A\",\"hood\":\"N/VONN\",\"minor\":\"&/CENTERS\",\"text\":\"{text}\"}}"
     )

@@ -16,6 +16,8 @@ mod lines;
 #[cfg(test)]
 mod machine_tests;
 mod modes;
+#[cfg(test)]
+mod rule_text_tests;
 mod serving;
 mod statuses;
 #[cfg(test)]
