@@ -17,3 +17,4 @@ pub mod Readings
 pub mod Fresh
 pub mod Completing
 pub mod TextLaws
+pub mod Singles

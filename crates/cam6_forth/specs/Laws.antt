@@ -1,8 +1,10 @@
 -- The laws that tie texts, trees and faults.
-use Rattle.std.specs.Prelude.{◌≡◌, ℕ, ◌-◌, ◌≤◌, ◌⊎◌, List, ◌++◌, length, take}
+use Rattle.std.specs.Prelude.{◌≡◌, ℕ, ◌-◌, ◌≤◌, ◌⊎◌, List, ◌++◌, length, take, IsOk}
 use Rattle.cam6_wiring.specs.declared.wirings.Wiring.{Wiring}
 use Rattle.cam6_forth.specs.Tokens.{Token}
-use Rattle.cam6_forth.specs.Tree.{Part, spell, IsRule, rule_of}
+use Rattle.cam6_forth.specs.Defined.{Defined}
+use Rattle.cam6_forth.specs.SingleWords.{IsSingle}
+use Rattle.cam6_forth.specs.Tree.{Part, spell, IsRule, rule_of, word_at, word_in, size_in}
 use Rattle.cam6_forth.specs.Texts.{AreTokensOf, IsTextOf, Begins}
 use Rattle.cam6_forth.specs.Unfinished.{Unfinished}
 use Rattle.cam6_forth.specs.Faults.{AreSoundTokens, HasTokenFault, HasEndFault, HasFault}
@@ -55,3 +57,9 @@ EndIsTooEarly =
     (wiring : Wiring) (all : List Token) (number token_number : ℕ) →
     HasEndFault wiring all number token_number →
     Begins wiring all × ((parts : List Part) → AreTokensOf wiring parts all → ⊥)
+
+-- a known token says a single word
+abbrev pub KnownIsSingle : Type 0
+KnownIsSingle =
+    (wiring : Wiring) (done : List Defined) (token : Token) → IsOk (word_at wiring done token) →
+    IsSingle wiring done (word_in (word_at wiring done token)) (size_in (word_at wiring done token))

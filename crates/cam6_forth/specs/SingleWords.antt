@@ -1,5 +1,5 @@
 -- What a token says by itself in a body: a word, and by how much it makes the definition grow.
-use Rattle.std.specs.Prelude.{ℕ, ◌+◌, Bool, true, false, List, [], ◌∷◌, max, Option, Some, None, is_some, Result, Ok, Err, if◌then◌else◌}
+use Rattle.std.specs.Prelude.{◌≡◌, ℕ, ◌+◌, ◌++◌, length, Bool, true, false, List, [], ◌∷◌, max, Option, Some, None, is_some, Result, Ok, Err, if◌then◌else◌}
 use Rattle.std.specs.Str.{bytes_eq}
 use Rattle.cam6_wiring.specs.declared.names.Half.{Half}
 use Rattle.cam6_wiring.specs.declared.names.Half.TheVariants.{A, B}
@@ -52,3 +52,17 @@ word_of wiring done (Name name) token =
     else Err unknown_word
 word_of wiring done Other token = defined_word (place_of token done)
 word_of wiring done kind token = Err out_of_place
+
+-- what a word by itself can be: it has size 1, but that a defined name has its definition's; a
+-- neighbour name stands on a line of the wiring; IF, ELSE, THEN and braces are none
+abbrev pub IsSingle : Wiring → List Defined → Word → ℕ → Type 0
+IsSingle wiring done (word.Literal value) size = size ≡ 1
+IsSingle wiring done (word.Name name) size =
+    (line : ℕ) × (line_of wiring.hood wiring.minor name ≡ Some line) × (size ≡ 1)
+IsSingle wiring done (word.Stack stack) size = size ≡ 1
+IsSingle wiring done (word.Output target) size = size ≡ 1
+IsSingle wiring done (word.Defined place) size =
+    (before : List Defined) × (definition : Defined) × (later : List Defined)
+    × (done ≡ before ++ definition ∷ later) × (place ≡ length before)
+    × (size ≡ max definition.size 1)
+IsSingle wiring done _ size = ⊥

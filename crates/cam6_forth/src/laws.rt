@@ -1,5 +1,5 @@
 //! Laws that tie texts, trees and faults. Each is the contract of a function that does nothing.
-ghost use Rattle.cam6_forth.specs.Laws.{HasOneMeaning, HasAnswer, HasOneFault, CanBeCompleted, FaultStays, FaultIsFirst, EndIsTooEarly};
+ghost use Rattle.cam6_forth.specs.Laws.{HasOneMeaning, HasAnswer, HasOneFault, CanBeCompleted, FaultStays, FaultIsFirst, EndIsTooEarly, KnownIsSingle};
 
 /// Trees that are spelled alike are one rule.
 pub fn trees_spelled_alike_are_one_rule()
@@ -35,4 +35,9 @@ pub fn a_fault_is_the_first()
 /// Where the end of a text has a fault, its tokens begin a rule and are none.
 pub fn an_end_with_a_fault_is_too_early()
     ensures law { EndIsTooEarly }
+{}
+
+/// A token that is known in a body says a single word, of size 1 or its definition's.
+pub fn a_known_token_is_a_single_word()
+    ensures law { KnownIsSingle }
 {}

@@ -1,0 +1,10 @@
+pub mod BodyCodes
+pub mod Emission
+pub mod Lengths
+pub mod Segments
+pub mod BodiesDo
+pub mod Correct
+pub mod LastCode
+pub mod TrueTables
+pub mod OneMeaning
+pub mod Jumps

@@ -28,7 +28,7 @@ written_top target (v ∷ rest) s = Ok (with_output target v (record s { stack =
 abbrev pub written : Target → State → Result State RuleFault
 written target s = written_top target s.stack s
 
--- the two new bits as a number; a plane that isn't written keeps its centre, bit 0 or 1 of the address
-abbrev pub entry_of : State → ℕ → ℕ
-entry_of s address =
-    bit_number (unwrap_or s.lower (is_odd address)) + 2 * bit_number (unwrap_or s.upper (is_odd (address / 2)))
+-- the two new bits as a number; a plane that isn't written keeps its centre
+abbrev pub entry_of : (lower upper : Bool) → State → ℕ
+entry_of lower upper s =
+    bit_number (unwrap_or s.lower lower) + 2 * bit_number (unwrap_or s.upper upper)

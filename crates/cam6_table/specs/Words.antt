@@ -1,4 +1,5 @@
--- What a word does to the stack, of which the top value stands first, or the fault that it stops at.
+-- What a word does to the stack, of which the top value stands first, or the fault that it stops
+-- at.
 use Rattle.std.specs.Prelude.{◌≡◌, ℕ, ◌+◌, ◌-◌, ◌*◌, List, [], ◌∷◌, length, Result, Ok, Err, MatchResult, nat_lt, nat_le, bit_and, bit_or, bit_xor, if◌then◌else◌, ◌==◌}
 use Rattle.cam6_planes.specs.Row.{bit_number}
 use Rattle.cam6_forth.specs.declared.words.StackWord.{StackWord}
@@ -51,4 +52,5 @@ Does said new result = MatchResult result (λ _. said ≡ Ok new) (λ fault. sai
 
 -- a call took the top value off, or found none
 abbrev pub Takes : Values → Values → Result ℕ RuleFault → Type 0
-Takes old new result = MatchResult result (λ v. old ≡ v ∷ new) (λ fault. (old ≡ []) × (fault ≡ MissingValue))
+Takes old new result =
+    MatchResult result (λ v. old ≡ v ∷ new) (λ fault. (old ≡ []) × (fault ≡ MissingValue))

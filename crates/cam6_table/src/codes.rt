@@ -1,6 +1,10 @@
 //! Flat code: instructions in a row, with jumps that only go forward.
+ghost use Rattle.std.specs.Prelude.{◌≡◌, ◌≤◌, ◌<◌, length};
 
 use cam6_forth::{StackWord, Target};
+use cam6_planes::NoMemory;
+use std::alloc::Global;
+use std::marker::Model;
 
 /// One instruction. A jump says how many instructions it passes.
 #[derive(Clone, Copy, Debug, PartialEq, Eq)]
@@ -14,15 +18,103 @@ pub enum Instruction {
     /// Takes the top value off, and passes so many instructions where it is 0.
     SkipIfZero(usize),
     Skip(usize),
-    /// Takes an index off, and goes on at that word of a case: it passes as many instructions as the
-    /// code's list of distances has at `first` and the index together.
-    Case { first: usize, count: usize },
+    /// Takes an index off, and looks for that word of the case, which has so many words.
+    Case(usize),
+    /// The head of a case's word. The word has `length` instructions, and the case `after` of them
+    /// from here to its end.
+    CaseWord { length: usize, after: usize },
 }
 
-/// The code of a rule. A jump past the last instruction ends the rule.
+/// Instructions in a row, to which more come in front. They are kept back to front, and contracts
+/// see them in the order in which they are done.
+#[derive(Debug, Drop)]
+pub struct Instructions {
+    back_to_front: Vec<Instruction>,
+}
+
+impl Model for Instructions {
+    ghost use Rattle.std.specs.Prelude.{List, reverse};
+    ghost use Rattle.cam6_table.specs.declared.codes.Instruction.{Instruction};
+
+    ghost Value = { List Instruction };
+
+    ghost view = { λ c. reverse c.back_to_front.items };
+}
+
+impl Instructions {
+    ghost use Rattle.std.specs.Prelude.{[], ◌∷◌, ◌++◌, ◌+◌, OnOk};
+    ghost use Rattle.cam6_table.specs.Codes.{last_of};
+
+    pub fn new(alloc: Global) -> Instructions
+        ensures { result ≡ [] }
+    {
+        Instructions {
+            back_to_front: Vec::new(alloc),
+        }
+    }
+
+    pub fn len(&self) -> usize
+        ensures { result ≡ length self.now }
+    {
+        self.back_to_front.len()
+    }
+
+    /// The instruction before so many at the end.
+    pub fn before(&self, behind: usize) -> Instruction
+        requires { behind < length self.now }
+        ensures { last_of (behind + 1) self.now ≡ result ∷ last_of behind self.now }
+    {
+        self.back_to_front[behind]
+    }
+
+    /// Puts an instruction in front.
+    pub fn put(&mut self, instruction: Instruction) -> Result<(), NoMemory>
+        ensures new { OnOk result (self.new ≡ instruction ∷ self.old) }
+        ensures grows { length self.old ≤ length self.new }
+    {
+        self.back_to_front.push(instruction)?;
+        Ok(())
+    }
+
+    /// Puts other instructions in front.
+    pub fn put_all(&mut self, others: &Instructions) -> Result<(), NoMemory>
+        ensures new { OnOk result (self.new ≡ others.now ++ self.old) }
+        ensures grows { length self.old ≤ length self.new }
+    {
+        self.back_to_front.extend_from_slice(&others.back_to_front)?;
+        Ok(())
+    }
+}
+
+/// The code of a rule: at most 4,096 instructions. A jump past the last one ends the rule.
 #[derive(Debug, Drop)]
 pub struct Code {
-    pub(crate) instructions: Vec<Instruction>,
-    /// For each word of each case, how far behind the case's instruction it begins.
-    pub(crate) distances: Vec<usize>,
+    instructions: Instructions,
+}
+
+impl Model for Code {
+    ghost use Rattle.std.specs.Prelude.{List, length, ◌≤◌};
+    ghost use Rattle.cam6_table.specs.declared.codes.Instruction.{Instruction};
+
+    ghost Value = { List Instruction };
+
+    ghost view = { λ c. c.instructions };
+
+    ghost invariant = { λ c. length c.instructions ≤ 4096 };
+}
+
+impl Code {
+    pub(crate) fn new(instructions: Instructions) -> Code
+        requires { length instructions ≤ 4096 }
+        ensures { result ≡ instructions }
+    {
+        Code { instructions }
+    }
+
+    pub(crate) fn instructions(&self) -> &Instructions
+        ensures instructions { result.now ≡ self.now }
+        ensures limit { length self.now ≤ 4096 }
+    {
+        &self.instructions
+    }
 }

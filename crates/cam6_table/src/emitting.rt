@@ -1,216 +1,220 @@
-//! A rule becomes flat code: its words in their order, the definitions that it uses written out.
+//! A rule becomes flat code: the definitions that it uses are written out.
+ghost use Rattle.std.specs.Prelude.{◌≡◌, [], ◌++◌, IfOk, OnOk};
+ghost use Rattle.cam6_table.specs.Codes.{IsCodeOf};
+ghost use Rattle.cam6_table.specs.Emitting.{words_code, all_codes};
 
-use crate::codes::{Code, Instruction};
+use crate::codes::{Code, Instruction, Instructions};
 use cam6_forth::{Definition, Rule, Word};
 use cam6_planes::NoMemory;
 use cam6_wiring::{Wiring, line_of};
 use std::alloc::Global;
+use std::marker::Model;
 
 impl Code {
     /// The code of a rule.
-    pub fn of(alloc: Global, rule: &Rule) -> Result<Code, NoMemory> {
-        let mut codes = Vec::new(alloc);
-        for definition in rule.definitions() {
-            let code = code_of(alloc, rule.wiring(), definition, &codes)?;
-            codes.push(code)?;
-        }
-        Ok(codes.pop().unwrap_or(empty(alloc)))
-    }
-
-    /// How many instructions stand behind this place.
-    fn passed_since(&self, place: usize) -> usize {
-        let behind = self.instructions.len().saturating_sub(place);
-        behind.saturating_sub(1)
-    }
-
-    /// Lets the jump at this place lead behind the last instruction.
-    fn land(&mut self, jump: usize) {
-        let distance = self.passed_since(jump);
-        if jump < self.instructions.len() {
-            self.instructions[jump] = match self.instructions[jump] {
-                Instruction::SkipIfZero(_) => Instruction::SkipIfZero(distance),
-                Instruction::Skip(_) => Instruction::Skip(distance),
-                other => other,
-            };
-        }
+    pub fn of(alloc: Global, rule: &Rule) -> Result<Code, NoMemory>
+        ensures meaning { IfOk result (λ code. IsCodeOf code rule.now) }
+    {
+        let mut codes = codes_of(alloc, rule.wiring(), rule.definitions())?;
+        let last = codes.pop().unwrap_or(Instructions::new(alloc));
+        Ok(Code::new(last))
     }
 }
 
-fn empty(alloc: Global) -> Code {
-    Code {
-        instructions: Vec::new(alloc),
-        distances: Vec::new(alloc),
+/// The code of each definition, the rule's last.
+fn codes_of(
+    alloc: Global,
+    wiring: Wiring,
+    definitions: &[Definition],
+) -> Result<Vec<Instructions>, NoMemory>
+    ensures { IfOk result (λ codes. codes.items ≡ all_codes wiring [] definitions.now) }
+{
+    let mut codes = Vec::new(alloc);
+    for definition in definitions {
+        let code = code_of(alloc, wiring, &definition.words, &codes)?;
+        codes.push(code)?;
     }
+    Ok(codes)
 }
 
-/// The code of a definition, given that of the definitions before it.
+/// The code of words in a row, given that of the definitions before. The words are taken from the
+/// last to the first, so that what a jump leads over is there before the jump.
 fn code_of(
     alloc: Global,
     wiring: Wiring,
-    definition: &Definition,
-    codes: &[Code],
-) -> Result<Code, NoMemory> {
+    words: &[Word],
+    codes: &[Instructions],
+) -> Result<Instructions, NoMemory>
+    ensures { IfOk result (λ code. code ≡ words_code wiring codes.now words.now) }
+{
     let mut emitter = Emitter {
-        code: empty(alloc),
-        jumps: Vec::new(alloc),
+        code: Instructions::new(alloc),
+        landings: Vec::new(alloc),
         case: None,
-        exits: Vec::new(alloc),
     };
-    for word in &definition.words {
-        emitter.emit(wiring, *word, codes)?;
+    for i in (0..words.len()).rev() {
+        emitter.emit(wiring, words[i], codes)?;
     }
     let Emitter {
         code,
-        jumps,
+        landings,
         case: _,
-        exits,
     } = emitter;
-    drop(jumps);
-    drop(exits);
+    drop(landings);
     Ok(code)
 }
 
-/// Code that is being written.
+/// A case of which the words are being written, from the last to the first.
+#[derive(Clone, Copy, Debug, PartialEq, Eq)]
+struct OpenCase {
+    /// How many instructions stand behind the case.
+    end: usize,
+    /// How many words it has so far.
+    count: usize,
+}
+
+/// Code that is being written, by what stands behind it.
 #[derive(Drop)]
 struct Emitter {
-    code: Code,
-    /// Where the jumps of the open IFs stand, the innermost last.
-    jumps: Vec<usize>,
-    /// Where the instruction of the open case stands.
-    case: Option<usize>,
-    /// Where the jumps out of the open case stand, one behind each word.
-    exits: Vec<usize>,
+    code: Instructions,
+    /// For each open IF, the innermost last, how many instructions stand from where it leads on.
+    landings: Vec<usize>,
+    case: Option<OpenCase>,
+}
+
+impl Model for Emitter {
+    ghost use Rattle.std.specs.Prelude.{reverse, length, ◌≤◌, IfSome};
+    ghost use Rattle.cam6_table.specs.Emitting.{Emitted};
+
+    ghost Value = { Emitted };
+
+    ghost view = { λ e.
+        record { code = e.code; landings = reverse e.landings.items; case = e.case } };
+
+    /// An open case has at most as many words as there are instructions.
+    ghost invariant = { λ e. IfSome e.case (λ case. case.count ≤ length e.code) };
 }
 
 impl Emitter {
-    fn emit(&mut self, wiring: Wiring, word: Word, codes: &[Code]) -> Result<(), NoMemory> {
+    ghost use Rattle.cam6_table.specs.Emitting.{emit, emit_then, emit_else, emit_if, emit_end_cases, emit_cases, emit_word, with_head, word_code};
+
+    /// One more word in front.
+    fn emit(&mut self, wiring: Wiring, word: Word, codes: &[Instructions]) -> Result<(), NoMemory>
+        ensures { OnOk result (self.new ≡ emit wiring codes.now word self.old) }
+    {
         match word {
-            Word::If => self.emit_if(),
+            Word::Then => self.emit_then(),
             Word::Else => self.emit_else(),
-            Word::Then => {
-                self.emit_then();
+            Word::If => self.emit_if(),
+            Word::EndCases => {
+                self.emit_end_cases();
                 Ok(())
             }
             Word::Cases => self.emit_cases(),
-            Word::EndCases => {
-                self.emit_end();
-                Ok(())
-            }
-            _ => match self.case {
-                Some(case) => self.emit_case_word(case, wiring, word, codes),
-                None => self.emit_word(wiring, word, codes),
-            },
+            _ => self.emit_word(wiring, word, codes),
         }
     }
 
-    fn emit_if(&mut self) -> Result<(), NoMemory> {
-        let here = self.code.instructions.len();
-        self.code.instructions.push(Instruction::SkipIfZero(0))?;
-        self.jumps.push(here)?;
+    /// Here an IF or its ELSE leads on.
+    fn emit_then(&mut self) -> Result<(), NoMemory>
+        ensures { OnOk result (self.new ≡ emit_then self.old) }
+    {
+        let landing = self.code.len();
+        self.landings.push(landing)?;
         Ok(())
     }
 
-    /// The IF's jump leads behind the instruction that the ELSE becomes.
-    fn emit_else(&mut self) -> Result<(), NoMemory> {
-        let Some(jump) = self.jumps.pop() else {
+    /// The first body passes the second one, which begins where the IF leads on.
+    fn emit_else(&mut self) -> Result<(), NoMemory>
+        ensures { OnOk result (self.new ≡ emit_else self.old.landings self.old) }
+    {
+        let Some(landing) = self.landings.pop() else {
             return Ok(());
         };
-        let here = self.code.instructions.len();
-        self.code.instructions.push(Instruction::Skip(0))?;
-        self.code.land(jump);
-        self.jumps.push(here)?;
+        let here = self.code.len();
+        let passed = here.saturating_sub(landing);
+        self.code.put(Instruction::Skip(passed))?;
+        self.landings.push(here)?;
         Ok(())
     }
 
-    fn emit_then(&mut self) {
-        if let Some(jump) = self.jumps.pop() {
-            self.code.land(jump);
+    fn emit_if(&mut self) -> Result<(), NoMemory>
+        ensures { OnOk result (self.new ≡ emit_if self.old.landings self.old) }
+    {
+        let Some(landing) = self.landings.pop() else {
+            return Ok(());
+        };
+        let passed = self.code.len().saturating_sub(landing);
+        self.code.put(Instruction::SkipIfZero(passed))
+    }
+
+    fn emit_end_cases(&mut self)
+        ensures { self.new ≡ emit_end_cases self.old }
+    {
+        self.case = Some(OpenCase {
+            end: self.code.len(),
+            count: 0,
+        });
+    }
+
+    fn emit_cases(&mut self) -> Result<(), NoMemory>
+        ensures { OnOk result (self.new ≡ emit_cases self.old.case self.old) }
+    {
+        match self.case.take() {
+            Some(case) => self.code.put(Instruction::Case(case.count)),
+            None => Ok(()),
         }
     }
 
-    fn emit_cases(&mut self) -> Result<(), NoMemory> {
-        let here = self.code.instructions.len();
-        let first = self.code.distances.len();
-        self.code
-            .instructions
-            .push(Instruction::Case { first, count: 0 })?;
-        self.case = Some(here);
-        Ok(())
-    }
-
-    /// Each word of a case ends with a jump behind the case.
-    fn emit_case_word(
+    /// A single word, which between braces gets a head.
+    fn emit_word(
         &mut self,
-        case: usize,
         wiring: Wiring,
         word: Word,
-        codes: &[Code],
-    ) -> Result<(), NoMemory> {
-        let distance = self.code.passed_since(case);
-        self.code.distances.push(distance)?;
-        self.emit_word(wiring, word, codes)?;
-        let here = self.code.instructions.len();
-        self.code.instructions.push(Instruction::Skip(0))?;
-        self.exits.push(here)?;
+        codes: &[Instructions],
+    ) -> Result<(), NoMemory>
+        ensures { OnOk result (self.new ≡
+            emit_word self.old.case (word_code wiring codes.now word) self.old) }
+    {
+        let before = self.code.len();
+        self.put_word(wiring, word, codes)?;
+        if let Some(case) = self.case {
+            let here = self.code.len();
+            self.code.put(Instruction::CaseWord {
+                length: here.saturating_sub(before),
+                after: here.saturating_sub(case.end),
+            })?;
+            prove!(case.count < self.code.len());
+            self.case = Some(OpenCase {
+                end: case.end,
+                count: case.count + 1,
+            });
+        }
         Ok(())
     }
 
-    fn emit_end(&mut self) {
-        if let Some(case) = self.case.take() {
-            self.count_words(case);
-        }
-        while let Some(exit) = self.exits.pop() {
-            self.code.land(exit);
-        }
-    }
-
-    fn emit_word(&mut self, wiring: Wiring, word: Word, codes: &[Code]) -> Result<(), NoMemory> {
+    fn put_word(
+        &mut self,
+        wiring: Wiring,
+        word: Word,
+        codes: &[Instructions],
+    ) -> Result<(), NoMemory>
+        ensures { OnOk result (self.new ≡
+            record self.old { code = word_code wiring codes.now word ++ self.old.code }) }
+    {
         match word {
-            Word::Literal(value) => self.code.instructions.push(Instruction::Literal(value))?,
+            Word::Literal(value) => self.code.put(Instruction::Literal(value)),
             Word::Name(name) => match line_of(wiring.hood, wiring.minor, name) {
-                Some(line) => self.code.instructions.push(Instruction::Line(line))?,
-                None => self.code.instructions.push(Instruction::Literal(0))?,
+                Some(line) => self.code.put(Instruction::Line(line)),
+                None => Ok(()),
             },
-            Word::Stack(word) => self.code.instructions.push(Instruction::Stack(word))?,
-            Word::Output(target) => self.code.instructions.push(Instruction::Output(target))?,
-            Word::Defined(place) => {
-                if let Some(code) = codes.get(place) {
-                    self.write_out(code)?;
-                }
-            }
-            _ => {}
-        }
-        Ok(())
-    }
-
-    /// The code of an earlier definition, its cases' distances behind those that stand already.
-    fn write_out(&mut self, code: &Code) -> Result<(), NoMemory> {
-        let shift = self.code.distances.len();
-        for instruction in &code.instructions {
-            let moved = match *instruction {
-                Instruction::Case { first, count } => Instruction::Case {
-                    first: first.saturating_add(shift),
-                    count,
-                },
-                other => other,
-            };
-            self.code.instructions.push(moved)?;
-        }
-        self.code.distances.extend_from_slice(&code.distances)?;
-        Ok(())
-    }
-
-    /// Tells the case at this place how many words it has.
-    fn count_words(&mut self, case: usize) {
-        let words = self.exits.len();
-        if case < self.code.instructions.len() {
-            self.code.instructions[case] = match self.code.instructions[case] {
-                Instruction::Case { first, count: _ } => Instruction::Case {
-                    first,
-                    count: words,
-                },
-                other => other,
-            };
+            Word::Stack(word) => self.code.put(Instruction::Stack(word)),
+            Word::Output(target) => self.code.put(Instruction::Output(target)),
+            Word::Defined(place) => match codes.get(place) {
+                Some(code) => self.code.put_all(code),
+                None => Ok(()),
+            },
+            _ => Ok(()),
         }
     }
 }

@@ -1,42 +1,72 @@
 //! Flat code is run at an address.
-ghost use Rattle.std.specs.Prelude.{◌≡◌, ◌+◌, ◌<◌, ◌≤◌, IfOk, MatchResult};
+ghost use Rattle.std.specs.Prelude.{◌≡◌, ◌+◌, ◌<◌, ◌≤◌, None, IfOk, length};
+ghost use Rattle.cam6_planes.specs.Row.{bit_number};
+ghost use Rattle.cam6_wiring.specs.Seen.{shown};
 ghost use Rattle.cam6_table.specs.declared.evaluation.TheConstants.{MAX_TURNS};
+ghost use Rattle.cam6_table.specs.Words.{Does};
+ghost use Rattle.cam6_table.specs.Codes.{act, exec, turns_of, answer, turns_at, at_head, Acts};
 
-use crate::codes::{Code, Instruction};
+use crate::codes::{Code, Instruction, Instructions};
 use crate::faults::RuleFault;
 use crate::outputs::{State, begin, entry_of, write};
 
 /// Turns that a rule can take, one for each instruction.
 pub const MAX_TURNS: u32 = 4096;
 
-/// The entry of the rule's table at an address, or the fault at which the rule stops there. Bit 0 is
-/// the new lower plane, bit 1 the new upper plane. Each turn does one instruction.
+/// The entry of the rule's table at an address, or the fault at which the rule stops there. Bit 0
+/// is the new lower plane, bit 1 the new upper plane. Each turn does one instruction.
 pub fn eval(code: &Code, address: u16, turns: &mut u32) -> Result<u8, RuleFault>
     requires turns { MAX_TURNS ≤ turns.old }
+    ensures answer { result ≡ answer code.now address }
     ensures within { IfOk result (λ entry. entry < 4) }
-    ensures lowered { turns.new ≤ turns.old }
-    ensures turns { turns.old ≤ turns.new + MAX_TURNS }
+    ensures turns { turns.old ≡ turns.new + turns_at code.now address }
+    ensures limit { turns.old ≤ turns.new + MAX_TURNS }
 {
     let mut state = begin();
-    let mut place = 0;
-    for _turn in 0..MAX_TURNS {
-        let Some(instruction) = code.instructions.get(place) else {
-            break;
-        };
-        *turns -= 1;
-        let passed = act(code, *instruction, address, &mut state)?;
-        place = place.saturating_add(1).saturating_add(passed);
-    }
+    run(code.instructions(), address, &mut state, turns)?;
     Ok(entry_of(&state, address))
 }
 
-/// Does one instruction, and says how many of the instructions behind it are passed.
+/// Runs the instructions from a state on.
+fn run(
+    code: &Instructions,
+    address: u16,
+    state: &mut State,
+    turns: &mut u32,
+) -> Result<(), RuleFault>
+    requires turns { length code.now ≤ turns.old }
+    ensures done { Does (exec (shown address) code.now 0 None state.old) state.new result }
+    ensures turns { turns.old ≡ turns.new + turns_of (shown address) code.now 0 None state.old }
+    ensures limit { turns.old ≤ turns.new + length code.now }
+{
+    let mut behind = code.len();
+    let mut word = None;
+    while behind > 0 {
+        behind -= 1;
+        *turns -= 1;
+        let next = act(word, code.before(behind), address, state)?;
+        behind = behind.saturating_sub(next.passed);
+        word = next.word;
+    }
+    Ok(())
+}
+
+/// How the code goes on: it passes so many instructions, and looks for a word of a case, if any.
+#[derive(Clone, Copy, Debug, PartialEq, Eq)]
+struct Next {
+    passed: usize,
+    word: Option<usize>,
+}
+
+/// Does one instruction.
 fn act(
-    code: &Code,
+    word: Option<usize>,
     instruction: Instruction,
     address: u16,
     state: &mut State,
-) -> Result<usize, RuleFault> {
+) -> Result<Next, RuleFault>
+    ensures { Acts (act (shown address) word instruction state.old) state.new result }
+{
     match instruction {
         Instruction::Literal(value) => state.stack.push(value)?,
         Instruction::Line(line) => state.stack.push(bit_of(address, line))?,
@@ -44,25 +74,42 @@ fn act(
         Instruction::Output(target) => write(state, target)?,
         Instruction::SkipIfZero(distance) => {
             if state.stack.pop()? == 0 {
-                return Ok(distance);
+                return Ok(go(distance, None));
             }
         }
-        Instruction::Skip(distance) => return Ok(distance),
-        Instruction::Case { first, count } => {
+        Instruction::Skip(distance) => return Ok(go(distance, None)),
+        Instruction::Case(count) => {
             let index = usize::from(state.stack.pop()?);
             if index >= count {
                 return Err(RuleFault::CaseIndex);
             }
-            let distance = code.distances.get(first.saturating_add(index));
-            return Ok(distance.copied().unwrap_or(0));
+            return Ok(go(0, Some(index)));
         }
+        Instruction::CaseWord { length, after } => return Ok(at_head(word, length, after)),
     }
-    Ok(0)
+    Ok(go(0, None))
+}
+
+fn go(passed: usize, word: Option<usize>) -> Next
+    ensures { result ≡ record { passed = passed; word = word } }
+{
+    Next { passed, word }
+}
+
+/// At the head of a case's word: the word is done where it is the one looked for.
+fn at_head(word: Option<usize>, length: usize, after: usize) -> Next
+    ensures { result ≡ at_head word length after }
+{
+    match word {
+        None => go(after, None),
+        Some(0) => go(0, None),
+        Some(index) => go(length, Some(index - 1)),
+    }
 }
 
 /// The bit of an address line.
 fn bit_of(address: u16, line: u8) -> u16
-    ensures { result < 2 }
+    ensures { result ≡ bit_number (shown address line) }
 {
     if line < 16 { address >> line & 1 } else { 0 }
 }

@@ -1,19 +1,21 @@
 //! Flat code and tables: a rule compiled to instructions with forward jumps, run at each address.
 //!
-//! Contract: `eval` runs code in at most 4,096 turns, one instruction each, and `fill` leaves a
-//! table of 4,096 entries or names an address and the fault there. What each word does to the stack
-//! is `specs/Words.antt`, and what is put out `specs/Outputs.antt`.
+//! Contract: the code of a rule answers at each address what the rule means there
+//! (`specs/Meaning.antt`), the two new bits or the first fault. `eval` gives that answer in at most
+//! 4,096 turns, one instruction each; `fill` leaves the table of all answers, or names the least
+//! address at which any fault comes, with the fault there.
 //!
 //! Stands on: `cam6_planes` (its `NoMemory`), `cam6_wiring` and `cam6_forth`.
 //!
 //! Read next: `stacks`, what a word does; `outputs`; `codes`, the instructions; `emitting`, how a
-//! rule becomes code; `evaluation`; then `tables`.
+//! rule becomes code; `evaluation`; `tables`; then `laws`.
 #![tactic(auto)]
 
 mod codes;
 mod emitting;
 mod evaluation;
 mod faults;
+pub mod laws;
 mod outputs;
 mod stacks;
 mod tables;
@@ -23,5 +25,9 @@ pub use evaluation::{MAX_TURNS, eval};
 pub use faults::RuleFault;
 pub use tables::{ENTRIES, Table, fill};
 
+#[cfg(test)]
+mod rule_tests;
+#[cfg(test)]
+mod stack_tests;
 #[cfg(test)]
 mod tests;

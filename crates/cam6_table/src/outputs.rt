@@ -1,7 +1,7 @@
 //! The state of a rule that runs: its stack, and the last write to each plane.
-ghost use Rattle.std.specs.Prelude.{◌≡◌, ◌<◌, ℕ, Bool, None};
+ghost use Rattle.std.specs.Prelude.{◌≡◌, ◌<◌, ◌/◌, ℕ, Bool, None};
 ghost use Rattle.cam6_table.specs.Words.{Does};
-ghost use Rattle.cam6_table.specs.Outputs.{begin, written, entry_of};
+ghost use Rattle.cam6_table.specs.Outputs.{begin, written, is_odd, entry_of};
 
 use crate::faults::RuleFault;
 use crate::stacks::Stack;
@@ -47,7 +47,7 @@ pub fn write(state: &mut State, target: Target) -> Result<(), RuleFault>
 /// The table's entry at an address: bit 0 the new lower plane, bit 1 the new upper plane. A plane
 /// that isn't written keeps its centre, which stands on line 0 or 1 of every neighbourhood.
 pub fn entry_of(state: &State, address: u16) -> u8
-    ensures entry { result ≡ entry_of state.now address }
+    ensures entry { result ≡ entry_of (is_odd address) (is_odd (address / 2)) state.now }
     ensures within { result < 4 }
 {
     let lower = state.lower.unwrap_or(address % 2 == 1);

@@ -1,6 +1,8 @@
 //! A rule's table: its entry at each address.
 ghost use Rattle.std.specs.Prelude.{◌≡◌, ◌<◌, IfOk, IfErr, slice_index, replicate};
 ghost use Rattle.cam6_table.specs.declared.tables.TheConstants.{ENTRIES};
+ghost use Rattle.cam6_table.specs.Tables.{AreEntries, IsFirstFault};
+ghost use Rattle.cam6_table.specs.Codes.{answer};
 
 use crate::codes::Code;
 use crate::evaluation::{MAX_TURNS, eval};
@@ -57,11 +59,14 @@ impl Table {
     }
 }
 
-/// Makes the table that of a rule, or names the first address at which the rule stops, and the fault
-/// there. After a fault nothing is promised of the table's entries.
+/// Makes the table that of a rule, or names the least address at which the rule stops, and the fault
+/// there, also if no cell shows the address. After a fault nothing is promised of the table's
+/// entries. It takes no memory.
 pub fn fill(code: &Code, table: &mut Table) -> Result<(), (u16, RuleFault)>
-    ensures address { IfErr result (λ fault. fault.0 < ENTRIES) }
+    ensures filled { IfOk result (λ _. AreEntries (answer code.now) table.new) }
+    ensures fault { IfErr result (λ refused. IsFirstFault (answer code.now) refused.0 refused.1) }
 {
+    prove!(table.entries.len() == usize::from(ENTRIES));
     for address in 0..ENTRIES {
         let mut turns = MAX_TURNS;
         match eval(code, address, &mut turns) {

@@ -1,13 +1,13 @@
 //! Rules at addresses, worked out by hand.
 
-use crate::{Code, ENTRIES, MAX_TURNS, RuleFault, Table, eval, fill};
+use crate::{Code, MAX_TURNS, RuleFault, eval};
 use cam6_forth::{ParseFault, parse};
 use cam6_wiring::{Half, Hood, Minor};
 use std::alloc::Global;
 use std::test::Fail;
 
-fn code(alloc: Global, text: &str) -> Result<Code, Fail> {
-    match parse(alloc, text, Half::A, Hood::VonNeumann, Minor::Centers) {
+pub(crate) fn code(alloc: Global, text: &str, hood: Hood, minor: Minor) -> Result<Code, Fail> {
+    match parse(alloc, text, Half::A, hood, minor) {
         Ok(rule) => Ok(Code::of(alloc, &rule)?),
         Err(ParseFault::NoMemory) => Err("no memory")?,
         Err(ParseFault::Text(fault)) => {
@@ -56,27 +56,12 @@ fn rules_at_addresses(rt: HostRuntime) -> Result<(), Fail> {
         (": R 0 NORTH - ;", 4, Err(RuleFault::Range)),
     ] {
         let mut turns = MAX_TURNS;
-        let code = code(rt.alloc(), text)?;
+        let code = code(rt.alloc(), text, Hood::VonNeumann, Minor::Centers)?;
         assert_eq!(rt;
             eval(&code, address, &mut turns),
             want,
             "{text} at {address}"
         );
     }
-    Ok(())
-}
-
-#[test]
-fn a_whole_table(rt: HostRuntime) -> Result<(), Fail> {
-    let mut table = Table::blank(rt.alloc())?;
-    assert_eq!(rt; table.at(ENTRIES - 1), 0);
-    let east = code(rt.alloc(), ": R EAST >PLN0 ;")?;
-    assert_eq!(rt; fill(&east, &mut table), Ok(()));
-    for address in 0..ENTRIES {
-        let want = (address / 32 % 2 + address / 2 % 2 * 2) as u8;
-        assert_eq!(rt; table.at(address), want, "at {address}");
-    }
-    let faulty = code(rt.alloc(), ": R 0 NORTH - >PLN0 ;")?;
-    assert_eq!(rt; fill(&faulty, &mut table), Err((4, RuleFault::Range)));
     Ok(())
 }

@@ -1,11 +1,12 @@
 -- What a cell sees, and the address that it shows. The planes f are a torus of side s, so a
 -- coordinate past the edge wraps round; s - 1 further on is one back.
 use Rattle.std.specs.Prelude.{ℕ, ◌+◌, ◌-◌, ◌*◌, ◌==◌, Bool, false, List, [], ◌∷◌, map, Option, Some, None}
+use Rattle.std.specs.Int.{bit_at}
 use Rattle.cam6_planes.specs.Row.{bit_number}
 use Rattle.cam6_planes.specs.Cells.{Cells}
 use Rattle.cam6_wiring.specs.Block.{corner_of, in_block, side_in_block}
 use Rattle.cam6_wiring.specs.Name.{plane_of, other_half, phase_bit}
-use Rattle.cam6_wiring.specs.Wiring.{names_of}
+use Rattle.cam6_wiring.specs.Wiring.{names_of, line_of}
 use Rattle.cam6_wiring.specs.declared.names.Name.{Name}
 use Rattle.cam6_wiring.specs.declared.names.Name.TheVariants as name
 use Rattle.cam6_wiring.specs.declared.neighbours.Setting.{Setting}
@@ -34,8 +35,10 @@ seen_in_block s f grid turn p x y = seen_beside s f (in_block (corner_of grid x 
 
 -- the bit that a name means to the cell at column x of row y
 abbrev pub seen : ℕ → Cells → Setting → Name → ℕ → ℕ → Bool
-seen s f setting (name.Beside compass level) x y = seen_beside s f compass (plane_of setting.half level) x y
-seen s f setting (name.InBlock turn level) x y = seen_in_block s f setting.grid turn (plane_of setting.half level) x y
+seen s f setting (name.Beside compass level) x y =
+    seen_beside s f compass (plane_of setting.half level) x y
+seen s f setting (name.InBlock turn level) x y =
+    seen_in_block s f setting.grid turn (plane_of setting.half level) x y
 seen s f setting (name.Phase level) x y = phase_bit setting.phase level
 seen s f setting name.Horz x y = side_in_block setting.grid x == 1
 seen s f setting name.Vert x y = side_in_block setting.grid y == 1
@@ -44,16 +47,37 @@ seen s f setting (name.MinorPhase level) x y = phase_bit setting.phase level
 seen s f setting name.MinorHorz x y = side_in_block setting.grid x == 1
 seen s f setting name.MinorVert x y = side_in_block setting.grid y == 1
 
--- what a line shows: 0 without a name
-abbrev pub line_seen : ℕ → Cells → Setting → ℕ → ℕ → Option Name → Bool
-line_seen s f setting x y None = false
-line_seen s f setting x y (Some name) = seen s f setting name x y
-
 -- the number whose bits these are, the lowest first
 abbrev pub number_of : List Bool → ℕ
 number_of [] = 0
 number_of (b ∷ bits) = 2 * number_of bits + bit_number b
 
--- the address that the cell at column x of row y shows: bit i is what it sees under line i's name
-unfoldable pub address : ℕ → Cells → Setting → Hood → Minor → ℕ → ℕ → ℕ
-address s f setting hood minor x y = number_of (map (line_seen s f setting x y) (names_of hood minor))
+-- the bits that names mean, whatever they are read from
+abbrev pub Sees : Type 0
+Sees = Name → Bool
+
+-- what a line shows: 0 without a name
+abbrev pub line_shows : Sees → Option Name → Bool
+line_shows sees None = false
+line_shows sees (Some name) = sees name
+
+-- the address of what is seen: bit i is what is seen under line i's name
+unfoldable pub address_of : Hood → Minor → Sees → ℕ
+address_of hood minor sees = number_of (map (line_shows sees) (names_of hood minor))
+
+-- the address that the cell at column x of row y shows
+abbrev pub address : ℕ → Cells → Setting → Hood → Minor → ℕ → ℕ → ℕ
+address s f setting hood minor x y = address_of hood minor (λ name. seen s f setting name x y)
+
+-- what an address shows on a line
+abbrev pub shown : ℕ → ℕ → Bool
+shown address line = bit_at address line == 1
+
+-- and on the line of a name; 0 where the wiring lacks the name
+abbrev pub shown_under : ℕ → Option ℕ → Bool
+shown_under address None = false
+shown_under address (Some line) = shown address line
+
+-- what an address shows under each name
+abbrev pub environment : Hood → Minor → ℕ → Sees
+environment hood minor address name = shown_under address (line_of hood minor name)

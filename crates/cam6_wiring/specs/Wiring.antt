@@ -25,8 +25,10 @@ upper place = Some (Beside place Upper)
 abbrev pub block_names : List (Option Name) → List (Option Name)
 block_names last =
     lower Center ∷ upper Center
-    ∷ Some (InBlock Clockwise Lower) ∷ Some (InBlock CounterClockwise Lower) ∷ Some (InBlock Opposite Lower)
-    ∷ Some (InBlock Clockwise Upper) ∷ Some (InBlock CounterClockwise Upper) ∷ Some (InBlock Opposite Upper)
+    ∷ Some (InBlock Clockwise Lower) ∷ Some (InBlock CounterClockwise Lower)
+    ∷ Some (InBlock Opposite Lower)
+    ∷ Some (InBlock Clockwise Upper) ∷ Some (InBlock CounterClockwise Upper)
+    ∷ Some (InBlock Opposite Upper)
     ∷ last
 
 -- lines 0 to 9

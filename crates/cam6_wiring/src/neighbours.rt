@@ -4,7 +4,7 @@ ghost use Rattle.cam6_planes.specs.Cells.{cells};
 ghost use Rattle.cam6_planes.specs.Row.{bit_number};
 ghost use Rattle.cam6_planes.specs.declared.row.TheConstants.{SIDE};
 ghost use Rattle.cam6_wiring.specs.declared.wirings.TheConstants.{LINES};
-ghost use Rattle.cam6_wiring.specs.Seen.{seen, seen_beside, seen_in_block, line_seen, address};
+ghost use Rattle.cam6_wiring.specs.Seen.{seen, seen_beside, seen_in_block, line_shows, address};
 
 use crate::blocks::{Grid, corner_of, in_block, side_in_block};
 use crate::names::{Compass, Half, Name, Phase, Turn};
@@ -47,13 +47,14 @@ pub fn address_at(
     address
 }
 
-fn line_bit(planes: &Planes, setting: Setting, name: Option<Name>, x: usize, y: usize) -> u16
+fn line_bit(planes: &Planes, setting: Setting, line: Option<Name>, x: usize, y: usize) -> u16
     requires column { x < SIDE }
     requires row { y < SIDE }
-    ensures bit { result ≡ bit_number (line_seen SIDE (cells planes.now) setting x y name) }
+    ensures bit { result ≡ bit_number
+        (line_shows (λ name. seen SIDE (cells planes.now) setting name x y) line) }
     ensures within { result < 2 }
 {
-    match name {
+    match line {
         Some(name) => u16::from(seen(planes, setting, name, x, y)),
         None => 0,
     }

@@ -1,0 +1,25 @@
+use Rattle.std.proofs.Common.{◌∙◌}
+use Rattle.cam6_table.proofs.LastCode.{last_is, made_of, last-length, last-is_code}
+use Rattle.cam6_table.proofs.codes.Code.of.Goals as goal
+
+pub new-requires-2 : goal.new-requires-2
+new-requires-2 c =
+    let codes = c.in_ok-codes.codes in
+    let made = made_of c.args.rule.now c.wiring.result c.definitions.result.now codes.items
+    c.wiring.ensures c.definitions.ensures.definitions c.in_ok-codes.ensures in
+    let last = last_is codes.items c.pop.result _ _ c.new.result c.unwrap_or-last.result codes.ok.0
+    c.pop.ensures.cases c.pop.ensures.value c.new.ensures c.unwrap_or-last.ensures in
+    last-length c.args.rule.now codes.items c.unwrap_or-last.result made last
+    c.definitions.ensures.tree
+
+pub returns : goal.returns
+returns c =
+    let codes = c.in_ok-codes.codes in
+    let made = made_of c.args.rule.now c.wiring.result c.definitions.result.now codes.items
+    c.wiring.ensures c.definitions.ensures.definitions c.in_ok-codes.ensures in
+    let last = last_is codes.items c.pop.result _ _ c.new.result c.unwrap_or-last.result codes.ok.0
+    c.pop.ensures.cases c.pop.ensures.value c.new.ensures c.unwrap_or-last.ensures in
+    record {
+      meaning = last-is_code c.args.rule.now codes.items c.new-2.result made
+          (c.new-2.ensures ∙ last);
+    }

@@ -1,0 +1,11 @@
+use Rattle.std.proofs.Common.{◌≡◌, ◌<◌, slice_index, ℕ, Ok, length}
+use Rattle.cam6_table.specs.Codes.{answer}
+use Rattle.cam6_table.proofs.tables.fill.Given as goal
+
+-- each address so far has its answer in the table
+abbrev pub invariant-loop-address : goal.invariant-loop-address
+invariant-loop-address l = record {
+  all : length l.table ≡ 4096;
+  filled : (before : ℕ) → before < l.address →
+      answer l.code before ≡ Ok (slice_index l.table before);
+}

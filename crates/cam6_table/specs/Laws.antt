@@ -1,0 +1,22 @@
+-- The laws that tie trees, what they mean, and tables.
+use Rattle.std.specs.Prelude.{◌≡◌, ℕ, List, slice_index, Ok}
+use Rattle.cam6_wiring.specs.Seen.{Sees, address_of}
+use Rattle.cam6_wiring.specs.declared.wirings.Wiring.{Wiring}
+use Rattle.cam6_forth.specs.Tree.{Part, IsRule, rule_of}
+use Rattle.cam6_table.specs.Meaning.{meaning}
+use Rattle.cam6_table.specs.Tables.{IsTrueTable}
+
+-- a true table, read at the address of what is seen, is the rule as a function
+abbrev pub TrueTableIsRule : Type 0
+TrueTableIsRule =
+    (wiring : Wiring) (parts : List Part) (entries : List ℕ) (sees : Sees) →
+    IsRule wiring parts → IsTrueTable wiring parts entries →
+    meaning wiring parts sees
+    ≡ Ok (slice_index entries (address_of wiring.hood wiring.minor sees))
+
+-- trees of one rule mean the same
+abbrev pub TreesMeanTheSame : Type 0
+TreesMeanTheSame =
+    (wiring : Wiring) (first second : List Part) (sees : Sees) →
+    IsRule wiring first → IsRule wiring second → rule_of wiring first ≡ rule_of wiring second →
+    meaning wiring first sees ≡ meaning wiring second sees

@@ -1,0 +1,25 @@
+-- What a table of entries is to a rule, and the least address at which a rule stops.
+use Rattle.std.specs.Prelude.{◌≡◌, ℕ, ◌<◌, List, slice_index, Result, Ok, Err, IsOk}
+use Rattle.cam6_wiring.specs.declared.wirings.Wiring.{Wiring}
+use Rattle.cam6_forth.specs.Tree.{Part}
+use Rattle.cam6_table.specs.declared.faults.RuleFault.{RuleFault}
+use Rattle.cam6_table.specs.Meaning.{at_address}
+
+-- at each address an entry, or a fault
+abbrev pub Answers : Type 0
+Answers = ℕ → Result ℕ RuleFault
+
+-- each entry is the answer at its address
+abbrev pub AreEntries : Answers → List ℕ → Type 0
+AreEntries answers entries =
+    (address : ℕ) → address < 4096 → answers address ≡ Ok (slice_index entries address)
+
+-- the least address at which any fault comes, with the fault there
+pub record IsFirstFault (answers : Answers) (address : ℕ) (fault : RuleFault) : Type 0 where
+  pub within : address < 4096
+  pub stops : answers address ≡ Err fault
+  pub least : (before : ℕ) → before < address → IsOk (answers before)
+
+-- the table of a rule
+abbrev pub IsTrueTable : Wiring → List Part → List ℕ → Type 0
+IsTrueTable wiring parts entries = AreEntries (at_address wiring parts) entries
