@@ -1,4 +1,4 @@
-use Rattle.std.proofs.Common.{◌∙◌}
+use Rattle.std.proofs.Common.{◌∙◌, arith}
 use Rattle.cam6_table.proofs.LastCode.{last_is, made_of, last-length, last-is_code}
 use Rattle.cam6_table.proofs.codes.Code.of.Goals as goal
 
@@ -19,7 +19,10 @@ returns c =
     c.wiring.ensures c.definitions.ensures.definitions c.in_ok-codes.ensures in
     let last = last_is codes.items c.pop.result _ _ c.new.result c.unwrap_or-last.result codes.ok.0
     c.pop.ensures.cases c.pop.ensures.value c.new.ensures c.unwrap_or-last.ensures in
+    let code_is = c.new-2.ensures ∙ last in
+    let few = last-length c.args.rule.now codes.items c.new-2.result made code_is
+    c.definitions.ensures.tree in
     record {
-      meaning = last-is_code c.args.rule.now codes.items c.new-2.result made
-          (c.new-2.ensures ∙ last);
+      meaning = last-is_code c.args.rule.now codes.items c.new-2.result made code_is;
+      limit = omega (arith, few);
     }
