@@ -13,7 +13,8 @@ use Rattle.cam6_forth.specs.Unfinished.{OpenIf, Opened, Unfinished, Within, Brac
 use Rattle.cam6_forth.specs.Reading.{State, grown, grown_by, with_if, with_else, with_then}
 use Rattle.cam6_forth.proofs.States.{open_flags, state_of}
 use Rattle.cam6_forth.proofs.Runs.{ok_state, ok-same}
-use Rattle.cam6_forth.proofs.Joined.{join, spell_body-join, depth_of-join, words_of-join, size_of-join, known-join, case_words-more, case_size-more, words-more}
+use Rattle.cam6_forth.specs.Trees.{join}
+use Rattle.cam6_forth.proofs.Joined.{spell_body-join, depth_of-join, words_of-join, size_of-join, known-join, case_words-more, case_size-more, words-more}
 use Rattle.cam6_forth.proofs.FaultsOfSteps.{length-flags}
 use Rattle.cam6_forth.proofs.Grows.{Grows, if_then_ok, grown_ok, grown_by_ok, opened, same_body, same_braces}
 

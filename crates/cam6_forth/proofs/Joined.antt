@@ -4,14 +4,7 @@ use Rattle.cam6_wiring.specs.declared.wirings.Wiring.{Wiring}
 use Rattle.cam6_forth.specs.Tokens.{Token}
 use Rattle.cam6_forth.specs.Defined.{Defined}
 use Rattle.cam6_forth.specs.Tree.{Body, End, Says, Choice, Either, Cases, Part, spell_body, spell, words_of, size_of, depth_of, IsKnown, AreWords, case_words, case_size, defined, IsDefinition, AreDefinitions, meant, word_at, word_in, size_in}
-
--- the items of one body, and then those of another
-abbrev pub join : Body → Body → Body
-join End last = last
-join (Says token rest) last = Says token (join rest last)
-join (Choice on rest) last = Choice on (join rest last)
-join (Either on off rest) last = Either on off (join rest last)
-join (Cases words rest) last = Cases words (join rest last)
+use Rattle.cam6_forth.specs.Trees.{join}
 
 -- the spelling of both
 pub spell_body-join : (a b : Body) → spell_body (join a b) ≡ spell_body a ++ spell_body b

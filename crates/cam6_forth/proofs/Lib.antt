@@ -18,3 +18,4 @@ pub mod Fresh
 pub mod Completing
 pub mod TextLaws
 pub mod Singles
+pub mod OneTree

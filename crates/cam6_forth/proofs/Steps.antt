@@ -54,31 +54,31 @@ pub known_is : (result : Result (Word × ℕ) ℕ) → IsOk result →
 known_is (Ok (said, size)) known = refl
 known_is (Err number) known = absurd (false≢true known)
 
-kind-if : kind_of (codes "IF") ≡ kind.If
+pub kind-if : kind_of (codes "IF") ≡ kind.If
 unfolding kind_of mark
 kind-if = refl
 
-kind-else : kind_of (codes "ELSE") ≡ kind.Else
+pub kind-else : kind_of (codes "ELSE") ≡ kind.Else
 unfolding kind_of mark
 kind-else = refl
 
-kind-then : kind_of (codes "THEN") ≡ kind.Then
+pub kind-then : kind_of (codes "THEN") ≡ kind.Then
 unfolding kind_of mark
 kind-then = refl
 
-kind-open_brace : kind_of (codes "{") ≡ kind.OpenBrace
+pub kind-open_brace : kind_of (codes "{") ≡ kind.OpenBrace
 unfolding kind_of mark
 kind-open_brace = refl
 
-kind-close_brace : kind_of (codes "}") ≡ kind.CloseBrace
+pub kind-close_brace : kind_of (codes "}") ≡ kind.CloseBrace
 unfolding kind_of mark
 kind-close_brace = refl
 
-kind-colon : kind_of (codes ":") ≡ kind.Colon
+pub kind-colon : kind_of (codes ":") ≡ kind.Colon
 unfolding kind_of mark
 kind-colon = refl
 
-kind-semicolon : kind_of (codes ";") ≡ kind.Semicolon
+pub kind-semicolon : kind_of (codes ";") ≡ kind.Semicolon
 unfolding kind_of mark
 kind-semicolon = refl
 

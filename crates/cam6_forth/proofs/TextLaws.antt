@@ -11,12 +11,9 @@ use Rattle.cam6_forth.specs.Defined.{Defined, RuleWords}
 use Rattle.cam6_forth.specs.Tree.{Part, meant, rule_of, IsOfTree}
 use Rattle.cam6_forth.specs.Texts.{AreTokensOf, IsTextOf, Begins}
 use Rattle.cam6_forth.specs.Faults.{HasTokenFault, HasFault}
-use Rattle.cam6_forth.specs.Reading.{State, begin, read, read_text}
+use Rattle.cam6_forth.specs.Reading.{begin, read, read_text}
 use Rattle.cam6_forth.specs.Outcome.{Answers, Gives, GivesFault, IsAccepted, IsRefused}
-use Rattle.cam6_forth.specs.Laws.{HasOneMeaning, HasAnswer, HasOneFault, CanBeCompleted, FaultStays, FaultIsFirst, EndIsTooEarly}
-use Rattle.cam6_forth.proofs.States.{after_all}
-use Rattle.cam6_forth.proofs.Runs.{ok_state, ok-same, run}
-use Rattle.cam6_forth.proofs.Complete.{run-parts}
+use Rattle.cam6_forth.specs.Laws.{HasAnswer, HasOneFault, CanBeCompleted, FaultStays, FaultIsFirst, EndIsTooEarly}
 use Rattle.cam6_forth.proofs.Readings.{sound_run, token_fault_read, end_fault_read, rule_read, rule_back, fault_back}
 use Rattle.cam6_forth.proofs.Completing.{run_begins}
 
@@ -169,20 +166,6 @@ module _ (w : Wiring) (text : List ℕ) where
   fault_from (Err (parse_fault.Text found)) e number token_number fault =
       same_fault found.number found.token number token_number
       (sym e ∙ fault_read number token_number fault)
-
-pub one_meaning : HasOneMeaning
-one_meaning w first second one other e =
-    let done = meant w [] first in
-    let limit = one.limit in
-    let limit_other = other.limit in
-    let there : ok_state (after_all done) ≡ ok_state (after_all (meant w [] second)) =
-    sym (run-parts w first [] one.each (omega arith)) ∙ ap (run w begin) e
-    ∙ run-parts w second [] other.each (omega arith) in
-    ap (λ (s : State). rule_in s.done)
-    (ok-same (after_all done) (after_all (meant w [] second)) there)
-  where
-    rule_in : List Defined → RuleWords
-    rule_in done = record { wiring = w; definitions = done }
 
 pub some_answer : HasAnswer
 some_answer w text = has_answer w text

@@ -4,16 +4,23 @@ use Rattle.cam6_wiring.specs.declared.wirings.Wiring.{Wiring}
 use Rattle.cam6_forth.specs.Tokens.{Token}
 use Rattle.cam6_forth.specs.Defined.{Defined}
 use Rattle.cam6_forth.specs.SingleWords.{IsSingle}
-use Rattle.cam6_forth.specs.Tree.{Part, spell, IsRule, rule_of, word_at, word_in, size_in}
+use Rattle.cam6_forth.specs.Tree.{Part, spell, IsRule, word_at, word_in, size_in}
+use Rattle.cam6_forth.specs.Trees.{tree_of}
 use Rattle.cam6_forth.specs.Texts.{AreTokensOf, IsTextOf, Begins}
 use Rattle.cam6_forth.specs.Unfinished.{Unfinished}
 use Rattle.cam6_forth.specs.Faults.{AreSoundTokens, HasTokenFault, HasEndFault, HasFault}
 
--- trees that are spelled alike are one rule
-abbrev pub HasOneMeaning : Type 0
-HasOneMeaning =
+-- trees that are spelled alike are one
+abbrev pub HasOneTree : Type 0
+HasOneTree =
     (wiring : Wiring) (first second : List Part) → IsRule wiring first → IsRule wiring second →
-    spell first ≡ spell second → rule_of wiring first ≡ rule_of wiring second
+    spell first ≡ spell second → first ≡ second
+
+-- the tree of a text that is a rule is the one that is read from it
+abbrev pub TreeIsRead : Type 0
+TreeIsRead =
+    (wiring : Wiring) (parts : List Part) (text : List ℕ) → IsTextOf wiring parts text →
+    tree_of text ≡ parts
 
 -- a text is a rule or has a fault
 abbrev pub HasAnswer : Type 0

@@ -1,9 +1,14 @@
 //! Laws that tie texts, trees and faults. Each is the contract of a function that does nothing.
-ghost use Rattle.cam6_forth.specs.Laws.{HasOneMeaning, HasAnswer, HasOneFault, CanBeCompleted, FaultStays, FaultIsFirst, EndIsTooEarly, KnownIsSingle};
+ghost use Rattle.cam6_forth.specs.Laws.{HasOneTree, TreeIsRead, HasAnswer, HasOneFault, CanBeCompleted, FaultStays, FaultIsFirst, EndIsTooEarly, KnownIsSingle};
 
-/// Trees that are spelled alike are one rule.
-pub fn trees_spelled_alike_are_one_rule()
-    ensures law { HasOneMeaning }
+/// Trees that are spelled alike are one tree.
+pub fn trees_spelled_alike_are_one()
+    ensures law { HasOneTree }
+{}
+
+/// A text that is a rule has one tree, which can be read from it.
+pub fn the_tree_of_a_text_is_read()
+    ensures law { TreeIsRead }
 {}
 
 /// A text is a rule or has a fault.
