@@ -124,6 +124,34 @@ fn used_rules_stay(rt: HostRuntime) -> Result<(), Fail> {
     Ok(())
 }
 
+const REFUSED_RULE: &str =
+    r#"{"do":"rule","name":"P","half":"A","hood":"N/VONN","minor":"&/CENTERS","text":": P CENTER NORTH XOR SOUTH XOR WEST XOR EAST XOR >PLN0 ;"}
+{"do":"cycle","entries":[{"a":"P","b":"-","grid":"EVEN","phase":0}]}
+{"do":"set","plane":0,"row":0,"bits":"8000000000000000000000000000000000000000000000000000000000000000"}
+{"do":"run","n":1}
+{"do":"rule","name":"Q","half":"A","hood":"N/VONN","minor":"&/CENTERS","text":": R + >PLN0 ;"}
+{"do":"run","n":0}
+{"do":"cycle","entries":[{"a":"Q","b":"-","grid":"EVEN","phase":0}]}
+"#;
+
+const REPLIES: &str = r#"{"ok":"rule"}
+{"ok":"cycle"}
+{"ok":"set"}
+{"ok":"run","position":0}
+{"address":0,"fault":40}
+{"ok":"run","position":0}
+{"fault":60}
+"#;
+
+// After the worked example a rule that stops is refused: the cycle stays, and no rule has its name.
+#[test]
+fn a_refused_rule_changes_nothing(rt: HostRuntime) -> Result<(), Fail> {
+    let mut machine = Machine::new(rt.alloc())?;
+    let got = answer(rt.alloc(), &mut machine, REFUSED_RULE);
+    assert_eq!(rt; got.as_slice(), REPLIES.as_bytes());
+    Ok(())
+}
+
 // Sixteen names, one of them again, and then a seventeenth, whose text isn't looked at.
 #[test]
 fn sixteen_rules(rt: HostRuntime) -> Result<(), Fail> {
