@@ -1,6 +1,6 @@
 //! Who answers commands.
 
-use cam6_machine::{Command, Machine, Now, Reply};
+use cam6_machine::{Command, Machine, Reply};
 use cam6_planes::NoMemory;
 
 /// Something that answers commands as a machine does.
@@ -11,9 +11,6 @@ pub trait Ask {
 
 impl Ask for Machine {
     fn ask(&mut self, command: Command) -> Result<Reply, NoMemory> {
-        match self.now(command)? {
-            Now::Reply(reply) => Ok(reply),
-            Now::Work(n, direction) => Ok(self.work(n, direction)),
-        }
+        self.answer(command)
     }
 }

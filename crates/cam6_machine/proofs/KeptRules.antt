@@ -1,13 +1,14 @@
 -- The rules of a map, looked up by name.
-use Rattle.std.proofs.Common.{◌≡◌, ℕ, ◌+◌, List, [], ◌∷◌, Bool, true, false, cond, Option, Some, None, String, Global, refl, ap, ◌∙◌, map, string_bytes, option_map}
+use Rattle.std.proofs.Common.{◌≡◌, ℕ, ◌+◌, List, [], ◌∷◌, Bool, true, false, cond, Some, None, String, Global, refl, sym, ap, ◌∙◌, map, string_bytes, option_map, slice_get}
 use Rattle.std.specs.Map.{lookup}
 use Rattle.std.specs.List.{position, position_from}
 use Rattle.std.specs.Str.{bytes_eq}
 use Rattle.std.proofs.lemmas.Iterator.Adapters.{position_from-zero}
 use Rattle.std.specs.String.{string_eq}
+use Rattle.std.proofs.lemmas.Option.{slice_get-map}
 use Rattle.indexmap.specs.IndexMap.{insert_entry}
 use Rattle.cam6_machine.specs.Effects.{with_rule}
-use Rattle.cam6_machine.specs.Rules.{Rule, rules_of, place_from, place_of, wiring_of}
+use Rattle.cam6_machine.specs.Rules.{Rule, rules_of, place_from, place_of, wiring_of, rule_at}
 use Rattle.cam6_machine.specs.declared.rules.KeptRule.{KeptRule}
 
 -- whether a key of the map is this name
@@ -15,42 +16,76 @@ abbrev pub is_name : List ℕ → String Global → Bool
 is_name name key = bytes_eq name (string_bytes key)
 
 pub wiring_of-rules_of : (name : List ℕ) (es : List (String Global × KeptRule)) →
-    option_map (λ (r : KeptRule). r.wiring) (lookup (is_name name) es) ≡ wiring_of name (rules_of es)
+    option_map (λ (r : KeptRule). r.wiring) (lookup (is_name name) es)
+    ≡ wiring_of name (rules_of es)
 wiring_of-rules_of name [] = refl
-wiring_of-rules_of name (e ∷ es) = found (bytes_eq name (string_bytes e.0)) (wiring_of-rules_of name es)
+wiring_of-rules_of name (e ∷ es) =
+    found (bytes_eq name (string_bytes e.0)) (wiring_of-rules_of name es)
   where
-    found : (b : Bool) → option_map (λ (r : KeptRule). r.wiring) (lookup (is_name name) es) ≡ wiring_of name (rules_of es)
-        → option_map (λ (r : KeptRule). r.wiring) (cond b (Some e.1) (lookup (is_name name) es)) ≡ cond b (Some e.1.wiring) (wiring_of name (rules_of es))
+    found : (b : Bool)
+        → option_map (λ (r : KeptRule). r.wiring) (lookup (is_name name) es)
+        ≡ wiring_of name (rules_of es)
+        → option_map (λ (r : KeptRule). r.wiring) (cond b (Some e.1) (lookup (is_name name) es))
+        ≡ cond b (Some e.1.wiring) (wiring_of name (rules_of es))
     found true h = refl
     found false h = h
 
 place_from-rules_of : (i : ℕ) (name : List ℕ) (es : List (String Global × KeptRule)) →
     position_from (is_name name) i (map (λ e. e.0) es) ≡ place_from i name (rules_of es)
 place_from-rules_of i name [] = refl
-place_from-rules_of i name (e ∷ es) = found (bytes_eq name (string_bytes e.0)) (place_from-rules_of (i + 1) name es)
+place_from-rules_of i name (e ∷ es) =
+    found (bytes_eq name (string_bytes e.0)) (place_from-rules_of (i + 1) name es)
   where
-    found : (b : Bool) → position_from (is_name name) (i + 1) (map (λ e. e.0) es) ≡ place_from (i + 1) name (rules_of es)
-        → cond b (Some i) (position_from (is_name name) (i + 1) (map (λ e. e.0) es)) ≡ cond b (Some i) (place_from (i + 1) name (rules_of es))
+    found : (b : Bool)
+        → position_from (is_name name) (i + 1) (map (λ e. e.0) es)
+        ≡ place_from (i + 1) name (rules_of es)
+        → cond b (Some i) (position_from (is_name name) (i + 1) (map (λ e. e.0) es))
+        ≡ cond b (Some i) (place_from (i + 1) name (rules_of es))
     found true h = refl
     found false h = h
 
 pub place_of-rules_of : (name : List ℕ) (es : List (String Global × KeptRule)) →
     position (is_name name) (map (λ e. e.0) es) ≡ place_of name (rules_of es)
-place_of-rules_of name es = position_from-zero (is_name name) (map (λ e. e.0) es) ∙ place_from-rules_of 0 name es
+place_of-rules_of name es =
+    position_from-zero (is_name name) (map (λ e. e.0) es) ∙ place_from-rules_of 0 name es
 
-pub rules_of-insert_entry : (es : List (String Global × KeptRule)) (k : String Global) (v : KeptRule) →
-    rules_of (insert_entry string_eq es k v) ≡ with_rule (record { name = string_bytes k; wiring = v.wiring; text = v.text }) (rules_of es)
+-- a rule as it is listed
+abbrev pub listed : String Global × KeptRule → Rule
+listed e = record { name = string_bytes e.0; wiring = e.1.wiring; text = e.1.text }
+
+pub rules_of-insert_entry : (es : List (String Global × KeptRule)) (k : String Global)
+    (v : KeptRule) →
+    rules_of (insert_entry string_eq es k v) ≡ with_rule (listed (k, v)) (rules_of es)
 rules_of-insert_entry [] k v = refl
-rules_of-insert_entry (e ∷ es) k v = put (bytes_eq (string_bytes k) (string_bytes e.0)) (rules_of-insert_entry es k v)
+rules_of-insert_entry (e ∷ es) k v =
+    put (bytes_eq (string_bytes k) (string_bytes e.0)) (rules_of-insert_entry es k v)
   where
     new : Rule
-    new = record { name = string_bytes k; wiring = v.wiring; text = v.text }
+    new = listed (k, v)
 
     first : Rule
-    first = record { name = string_bytes e.0; wiring = e.1.wiring; text = e.1.text }
+    first = listed e
 
-    put : (b : Bool) → rules_of (insert_entry string_eq es k v) ≡ with_rule new (rules_of es)
+    put : (b : Bool)
+        → rules_of (insert_entry string_eq es k v) ≡ with_rule new (rules_of es)
         → rules_of (cond b ((e.0, v) ∷ es) (e ∷ insert_entry string_eq es k v))
-        ≡ cond b (record first { wiring = v.wiring; text = v.text } ∷ rules_of es) (first ∷ with_rule new (rules_of es))
+        ≡ cond b (record first { wiring = v.wiring; text = v.text } ∷ rules_of es)
+        (first ∷ with_rule new (rules_of es))
     put true h = refl
     put false h = ap (λ l. first ∷ l) h
+
+pub rule_at-rules_of : (es : List (String Global × KeptRule)) (place : ℕ) →
+    rule_at (rules_of es) (Some place) ≡ option_map listed (slice_get es place)
+rule_at-rules_of es place = slice_get-map listed es place
+
+-- a rule that is found at a place
+pub rule_found : (es : List (String Global × KeptRule)) (place : ℕ)
+    (e : String Global × KeptRule) → Some e ≡ slice_get es place →
+    rule_at (rules_of es) (Some place) ≡ Some (listed e)
+rule_found es place e found =
+    rule_at-rules_of es place ∙ ap (option_map listed) (sym found)
+
+pub no_rule_found : (es : List (String Global × KeptRule)) (place : ℕ) →
+    None ≡ slice_get es place → rule_at (rules_of es) (Some place) ≡ None
+no_rule_found es place none =
+    rule_at-rules_of es place ∙ ap (option_map listed) (sym none)

@@ -1,36 +1,29 @@
--- What an answer says of the command, and of the machine after it.
-use Rattle.std.specs.Prelude.{◌≡◌, ◌≤◌, ◌<◌, ℕ, length, Option, Some, None, ⊤}
+-- What an answer of the machine says: a reply, or that there are steps to do.
+use Rattle.std.specs.Prelude.{◌≡◌, ℕ, ◌≤◌, ◌<◌, length, Option, Some, None, ⊤}
 use Rattle.cam6_machine.specs.Kept.{Kept}
+use Rattle.cam6_machine.specs.Machine.{Machine}
+use Rattle.cam6_machine.specs.Alone.{reply, after}
 use Rattle.cam6_machine.specs.declared.commands.Command.{Command}
-use Rattle.cam6_machine.specs.declared.commands.Command.TheVariants as command
+use Rattle.cam6_machine.specs.declared.commands.Direction.{Direction}
 use Rattle.cam6_machine.specs.declared.commands.Now.{Now}
 use Rattle.cam6_machine.specs.declared.commands.Now.TheVariants as now
-use Rattle.cam6_machine.specs.declared.replies.Fault.{Fault}
-use Rattle.cam6_machine.specs.declared.replies.Reply.{Reply}
-use Rattle.cam6_machine.specs.declared.replies.Reply.TheVariants as reply
 
-abbrev pub fault_in : Reply → Option Fault
-fault_in (reply.Fault fault) = Some fault
-fault_in _ = None
+-- the steps that are left to do, and their direction, if there are any
+abbrev pub work_left : Now → Option (ℕ × Direction)
+work_left (now.Reply r) = None
+work_left (now.Work n direction) = Some (n, direction)
 
--- the fault that an answer names
-abbrev pub fault_of : Now → Option Fault
-fault_of (now.Reply r) = fault_in r
-fault_of (now.Work n direction) = None
+-- a reply is the reply to the command
+abbrev pub IsReplyTo : Now → Machine → Command → Type 0
+IsReplyTo (now.Reply r) m c = r ≡ reply m c
+IsReplyTo (now.Work n direction) m c = ⊤
 
--- what a reply leaves as it was: everything but planes, rules, or the cycle with the position
-abbrev pub IsKeptBy : Reply → Kept → Kept → Type 0
-IsKeptBy reply.Set old new = new ≡ record old { planes = new.planes }
-IsKeptBy reply.Rule old new = new ≡ record old { rules = new.rules }
-IsKeptBy reply.Cycle old new = new ≡ record old { cycle = new.cycle; position = 0 }
-IsKeptBy _ old new = new ≡ old
+-- with a reply the command is done, and with steps left to do nothing is done yet
+abbrev pub machine_after : Now → Machine → Command → Machine
+machine_after (now.Reply r) m c = after m c
+machine_after (now.Work n direction) m c = m
 
--- the machine after an answer: where work is left, it is as it was
-abbrev pub Keeps : Now → Kept → Kept → Type 0
-Keeps (now.Reply r) old new = IsKeptBy r old new
-Keeps (now.Work n direction) old new = new ≡ old
-
--- work is left by a run of at least one step alone, and there is a cycle for it
-abbrev pub IsWorkOf : Now → Kept → Command → Type 0
-IsWorkOf (now.Reply r) m c = ⊤
-IsWorkOf (now.Work n direction) m c = (c ≡ command.Run n) × (1 ≤ n) × (0 < length m.cycle)
+-- steps that are left can be done: there is at least one, and there is a cycle
+abbrev pub CanWork : Now → Kept → Type 0
+CanWork (now.Reply r) m = ⊤
+CanWork (now.Work n direction) m = (1 ≤ n) × (0 < length m.cycle)

@@ -1,5 +1,5 @@
 -- The entries of a cycle, with their rules by place.
-use Rattle.std.specs.Prelude.{ℕ, zero, suc, List, map, Option, Some, None}
+use Rattle.std.specs.Prelude.{ℕ, zero, suc, List, Option, Some, None}
 use Rattle.cam6_wiring.specs.declared.names.Phase.{Phase}
 use Rattle.cam6_wiring.specs.declared.names.Phase.TheVariants.{P0, P1, P2, P3}
 use Rattle.cam6_machine.specs.Rules.{Rule, place_of}
@@ -20,4 +20,9 @@ placed rules (Some name) = place_of name rules
 
 abbrev pub placed_entry : List Rule → NamedEntry → Entry
 placed_entry rules entry =
-    record { a = placed rules entry.a; b = placed rules entry.b; grid = entry.grid; phase = phase_of entry.phase }
+    record {
+      a = placed rules entry.a;
+      b = placed rules entry.b;
+      grid = entry.grid;
+      phase = phase_of entry.phase;
+    }

@@ -1,9 +1,14 @@
--- In the order of reading: the rules that a machine keeps, entries of a cycle, all that it keeps,
--- when a command is refused, what an answer leaves as it was, and what it does.
+-- In the order of reading: the rules that a machine keeps, entries of a cycle, what a cell becomes
+-- in a step, all that a machine keeps and the machine that it is, when a command is refused, what
+-- it does, the machine alone, and what an answer says of it. Last, how the program steps by tables.
 pub mod Faults
 pub mod Rules
 pub mod Cycles
+pub mod Steps
 pub mod Kept
+pub mod Machine
 pub mod Refusals
-pub mod Answers
 pub mod Effects
+pub mod Alone
+pub mod Answers
+pub mod ByTables

@@ -1,29 +1,37 @@
--- When a command is refused, and for which fault, before a rule's text is looked at.
-use Rattle.std.specs.Prelude.{◌≡◌, ℕ, Bool, true, false, ◌&&◌, ◌||◌, ◌==◌, List, [], ◌∷◌, length, nat_le, nat_lt, Option, Some, None, if◌then◌else◌}
+-- When a command is refused, and with which reply.
+use Rattle.std.specs.Prelude.{ℕ, Bool, true, false, ◌&&◌, ◌||◌, ◌==◌, List, [], ◌∷◌, length, nat_le, nat_lt, Option, Some, None, Result, Ok, Err, if◌then◌else◌}
 use Rattle.std.specs.List.{list_all, list_any}
 use Rattle.cam6_wiring.specs.declared.names.Half.{Half}
 use Rattle.cam6_wiring.specs.declared.names.Half.TheVariants as half
 use Rattle.cam6_wiring.specs.declared.wirings.Wiring.{Wiring}
+use Rattle.cam6_forth.specs.Defined.{Defined}
+use Rattle.cam6_forth.specs.Reading.{read_text}
+use Rattle.cam6_forth.specs.Trees.{tree_of}
+use Rattle.cam6_table.specs.declared.faults.RuleFault.{RuleFault}
+use Rattle.cam6_table.specs.Meaning.{at_address}
+use Rattle.cam6_table.specs.Tables.{least_stop}
 use Rattle.cam6_machine.specs.Rules.{Rule, place_of, wiring_of, is_rule_name}
-use Rattle.cam6_machine.specs.Kept.{Kept}
+use Rattle.cam6_machine.specs.Machine.{Machine}
 use Rattle.cam6_machine.specs.declared.cycles.Entry.{Entry}
 use Rattle.cam6_machine.specs.declared.commands.NamedEntry.{NamedEntry}
 use Rattle.cam6_machine.specs.declared.commands.Command.{Command}
 use Rattle.cam6_machine.specs.declared.commands.Command.TheVariants.{Set, Rule as SetRule, Cycle, Run, Plane}
 use Rattle.cam6_machine.specs.declared.replies.Fault.{Fault}
 use Rattle.cam6_machine.specs.declared.replies.Fault.TheVariants.{NoRule, RuleInUse, TooManyRules, NoCycle, OutOfRange, WrongHalf}
+use Rattle.cam6_machine.specs.declared.replies.Reply.{Reply}
+use Rattle.cam6_machine.specs.declared.replies.Reply.TheVariants as reply
 
 abbrev pub unless : Bool → Fault → Option Fault
 unless ok fault = if ok then None else Some fault
 
 -- the first of two refusals, if there is one
-abbrev pub or_then : Option Fault → Option Fault → Option Fault
+abbrev pub or_then : {A : Type 0} → Option A → Option A → Option A
 or_then None next = next
-or_then (Some fault) next = Some fault
+or_then (Some first) next = Some first
 
--- planes are 0 to 3, rows 0 to 255
-abbrev pub set_refusal : ℕ → ℕ → Option Fault
-set_refusal plane row = unless (nat_lt plane 4 && nat_lt row 256) OutOfRange
+-- planes are 0 to 3, rows 0 to 255 on a torus of side 256
+abbrev pub set_refusal : ℕ → ℕ → ℕ → Option Fault
+set_refusal s plane row = unless (nat_lt plane 4 && nat_lt row s) OutOfRange
 
 abbrev pub plane_refusal : ℕ → Option Fault
 plane_refusal plane = unless (nat_lt plane 4) OutOfRange
@@ -81,19 +89,44 @@ half_refusal rules h (Some name) = wiring_refusal h (wiring_of name rules)
 
 -- half A's name is looked at before half B's
 abbrev pub entry_refusal : List Rule → NamedEntry → Option Fault
-entry_refusal rules entry = or_then (half_refusal rules half.A entry.a) (half_refusal rules half.B entry.b)
+entry_refusal rules entry =
+    or_then (half_refusal rules half.A entry.a) (half_refusal rules half.B entry.b)
 
 abbrev pub first_refusal : List Rule → List NamedEntry → Option Fault
 first_refusal rules [] = None
-first_refusal rules (entry ∷ entries) = or_then (entry_refusal rules entry) (first_refusal rules entries)
+first_refusal rules (entry ∷ entries) =
+    or_then (entry_refusal rules entry) (first_refusal rules entries)
 
 abbrev pub cycle_refusal : List Rule → List NamedEntry → Option Fault
-cycle_refusal rules entries = if is_cycle entries then first_refusal rules entries else Some OutOfRange
+cycle_refusal rules entries =
+    if is_cycle entries then first_refusal rules entries else Some OutOfRange
 
--- the fault for which a machine refuses a command, if it does
-abbrev pub refusal : Kept → Command → Option Fault
-refusal m (Set plane row bits) = set_refusal plane row
-refusal m (SetRule name half hood minor text) = rule_refusal m.rules m.cycle name
-refusal m (Cycle entries) = cycle_refusal m.rules entries
-refusal m (Run n) = run_refusal m.cycle n
-refusal m (Plane plane) = plane_refusal plane
+-- a text's first fault, with its token
+abbrev pub text_refusal : Result (List Defined) (ℕ × ℕ) → Option Reply
+text_refusal (Ok definitions) = None
+text_refusal (Err fault) = Some (reply.RuleText (record { number = fault.0; token = fault.1 }))
+
+-- the least address at which a rule stops, with the fault there
+abbrev pub stop_refusal : Option (ℕ × RuleFault) → Option Reply
+stop_refusal None = None
+stop_refusal (Some stop) = Some (reply.RuleStops stop.0 stop.1)
+
+-- a text must be a rule's, and the rule must stop nowhere
+abbrev pub words_refusal : Wiring → List ℕ → Option Reply
+words_refusal wiring text =
+    or_then (text_refusal (read_text wiring text))
+    (stop_refusal (least_stop (at_address wiring (tree_of text))))
+
+abbrev pub fault_reply : Option Fault → Option Reply
+fault_reply None = None
+fault_reply (Some fault) = Some (reply.Fault fault)
+
+-- the reply with which a machine refuses a command, if it does
+abbrev pub refusal : Machine → Command → Option Reply
+refusal m (Set plane row bits) = fault_reply (set_refusal m.side plane row)
+refusal m (SetRule name half hood minor text) =
+    or_then (fault_reply (rule_refusal m.rules m.cycle name))
+    (words_refusal (record { half = half; hood = hood; minor = minor }) text)
+refusal m (Cycle entries) = fault_reply (cycle_refusal m.rules entries)
+refusal m (Run n) = fault_reply (run_refusal m.cycle n)
+refusal m (Plane plane) = fault_reply (plane_refusal plane)

@@ -1,30 +1,36 @@
 //! One user's machine: four planes, rules by name, a cycle with a position, and what each command
 //! does to them.
 //!
-//! Contract: `Machine::now` refuses a command exactly for the fault that `specs/Refusals.antt`
-//! names, and after a refusal, after want of memory and where work is left the machine is as it was;
-//! `Machine::work` takes no memory and moves the position by the steps that it does.
+//! Contract: what `Machine::now` and `Machine::work` answer, and the machine after them, are those
+//! of the definitions in `specs/`: a cell's new state by the words of its rule, one step of all
+//! cells, steps along the cycle, the effect and the reply of each command. A refused command, or one
+//! that found no memory, leaves the machine. `replies_alone` does a whole list of commands.
 //!
 //! Stands on: `cam6_planes`, `cam6_wiring`, `cam6_forth`, `cam6_table`.
 //!
 //! Read next: `commands` and `replies`; `rules` and `cycles`, what a machine keeps; `stepping`, one
-//! step of all cells; then `machines`.
+//! step of all cells, with the `tables` that it reads, and `running`, steps along a cycle; then
+//! `machines` and `alone`.
 #![tactic(auto)]
 
+mod alone;
 mod commands;
 mod cycles;
 mod machines;
 mod refusing;
 mod replies;
 mod rules;
+mod running;
 mod stepping;
+mod tables;
 mod texts;
 
+pub use alone::replies_alone;
 pub use commands::{Command, Direction, NamedEntries, NamedEntry, Now};
 pub use cycles::{Entry, MAX_ENTRIES};
 pub use machines::Machine;
 pub use replies::{Fault, PlaneRows, Reply};
-pub use rules::{KeptRule, MAX_RULES};
+pub use rules::MAX_RULES;
 pub use texts::Text;
 
 #[cfg(test)]

@@ -4,26 +4,21 @@ ghost use Rattle.std.specs.Str.{IsAscii};
 ghost use Rattle.cam6_planes.specs.Cells.{cells};
 ghost use Rattle.cam6_planes.specs.declared.row.TheConstants.{SIDE};
 ghost use Rattle.cam6_machine.specs.Effects.{plane_rows};
-ghost use Rattle.cam6_machine.specs.declared.machines.TheConstants.{TABLES};
 
 use crate::commands::{Command, Direction, NamedEntries, Now};
-use crate::cycles::{Entry, placed_entries};
-use crate::refusing::{cycle_refusal, rule_refusal};
-use crate::replies::{Fault, PlaneRows, Reply};
-use crate::rules::{KeptRule, put};
-use crate::stepping::{RuleTable, step_half};
+use crate::cycles::{Entry, MAX_ENTRIES, placed_entries};
+use crate::refusing::{cycle_refusal, plane_refusal, rule_refusal, run_refusal, set_refusal};
+use crate::replies::{PlaneRows, Reply};
+use crate::rules::{KeptRule, put, tried_rule};
+use crate::running::run_along;
+use crate::tables::{TablePair, fill_tables};
 use crate::texts::Text;
-use cam6_forth::{ParseFault, parse};
 use cam6_planes::{NoMemory, Planes, SIDE};
-use cam6_table::{Code, Table, fill};
-use cam6_wiring::{Half, Setting, Wiring};
+use cam6_table::Table;
+use cam6_wiring::Wiring;
 use indexmap::IndexMap;
 use std::alloc::Global;
 use std::marker::Model;
-use std::mem;
-
-/// Tables of a machine: for each entry of a cycle one for each half.
-const TABLES: usize = 32;
 
 /// One user's machine. All memory of a run is taken when the machine is made.
 #[derive(Drop)]
@@ -37,8 +32,8 @@ pub struct Machine {
     cycle: Vec<Entry>,
     position: usize,
     colours: [u8; 16],
-    /// For each entry of the cycle half A's table and half B's, filled when a run begins.
-    tables: Vec<Table>,
+    /// Room for the tables of each entry of a cycle, filled when a run begins.
+    tables: Vec<TablePair>,
     /// Where a new rule is tried at every address.
     trial: Table,
 }
@@ -59,26 +54,23 @@ impl Model for Machine {
     } };
 
     ghost invariant = { λ m.
-        (vec_len m.cycle ≤ 16) × (0 < vec_len m.cycle → m.position < vec_len m.cycle) × (vec_len m.tables ≡ 32) };
+        (m.planes.side ≡ 256) × (vec_len m.cycle ≤ 16)
+        × (0 < vec_len m.cycle → m.position < vec_len m.cycle) × (vec_len m.tables ≡ 16) };
 }
 
 impl Machine {
-    ghost use Rattle.std.specs.Prelude.{◌≡◌, ◌<◌, ◌≤◌, ◌+◌, ◌%◌, [], IfOk, OnErr, length};
-    ghost use Rattle.cam6_planes.specs.Cells.{cells, no_cells};
-    ghost use Rattle.cam6_machine.specs.Refusals.{refusal, set_refusal, plane_refusal, run_refusal, rule_refusal, cycle_refusal};
-    ghost use Rattle.cam6_machine.specs.Effects.{IsEffect, HasEffect};
-    ghost use Rattle.cam6_machine.specs.Answers.{fault_in, fault_of, IsKeptBy, Keeps, IsWorkOf};
+    ghost use Rattle.std.specs.Prelude.{◌≡◌, ◌<◌, ◌≤◌, IfOk, OnErr, length};
+    ghost use Rattle.cam6_machine.specs.Machine.{blank, steps, machine_of};
+    ghost use Rattle.cam6_machine.specs.Alone.{reply, after, work_of};
+    ghost use Rattle.cam6_machine.specs.Answers.{work_left, IsReplyTo, machine_after, CanWork};
 
     /// A machine with blank planes, no rules and no cycle.
     pub fn new(alloc: Global) -> Result<Machine, NoMemory>
-        ensures cells { IfOk result (λ m. cells m.planes ≡ no_cells) }
-        ensures rules { IfOk result (λ m. m.rules ≡ []) }
-        ensures cycle { IfOk result (λ m. m.cycle ≡ []) }
-        ensures position { IfOk result (λ m. m.position ≡ 0) }
+        ensures machine { IfOk result (λ m. machine_of m ≡ blank) }
     {
-        let mut tables = Vec::with_capacity(alloc, TABLES)?;
-        for _place in 0..TABLES {
-            tables.push(Table::blank(alloc)?)?;
+        let mut tables = Vec::with_capacity(alloc, MAX_ENTRIES)?;
+        for _place in 0..MAX_ENTRIES {
+            tables.push(TablePair::blank(alloc)?)?;
         }
         Ok(Machine {
             alloc,
@@ -96,10 +88,12 @@ impl Machine {
     /// Answers a command, or says how many steps are to be done for it. All memory of a command is
     /// taken here.
     pub fn now(&mut self, command: Command) -> Result<Now, NoMemory>
-        ensures refusal { IfOk result (λ now. fault_of now ≡ refusal self.old command) }
-        ensures kept { IfOk result (λ now. Keeps now self.old self.new) }
-        ensures work { IfOk result (λ now. IsWorkOf now self.old command) }
-        ensures effect { IfOk result (λ now. HasEffect command now self.old self.new) }
+        // Steps are left exactly where the command does some.
+        ensures work { IfOk result (λ now. work_left now ≡ work_of (machine_of self.old) command) }
+        ensures reply { IfOk result (λ now. IsReplyTo now (machine_of self.old) command) }
+        ensures machine { IfOk result (λ now.
+            machine_of self.new ≡ machine_after now (machine_of self.old) command) }
+        ensures ready { IfOk result (λ now. CanWork now self.new) }
         ensures err { OnErr result (self.new ≡ self.old) }
     {
         match command {
@@ -121,50 +115,42 @@ impl Machine {
     }
 
     fn set(&mut self, plane: u64, row: u64, bits: &[u8; 32]) -> Reply
-        ensures refusal { fault_in result ≡ set_refusal plane row }
-        ensures kept { IsKeptBy result self.old self.new }
-        ensures effect { IsEffect (Command.Set plane row bits.now) result self.old self.new }
+        ensures reply { result ≡ reply (machine_of self.old) (Command.Set plane row bits.now) }
+        ensures machine { machine_of self.new
+            ≡ after (machine_of self.old) (Command.Set plane row bits.now) }
     {
-        if plane >= 4 || row >= 256 {
-            return Reply::Fault(Fault::OutOfRange);
+        let planes = &mut self.planes;
+        if let Some(fault) = set_refusal(plane, row) {
+            return Reply::Fault(fault);
         }
-        self.planes.put_row(plane as usize, row as usize, bits);
+        planes.put_row(plane as usize, row as usize, bits);
         Reply::Set
     }
 
     fn define(&mut self, name: Text, wiring: Wiring, text: Text) -> Result<Reply, NoMemory>
-        ensures refusal { IfOk result (λ reply. fault_in reply ≡ rule_refusal self.old.rules self.old.cycle name) }
-        ensures kept { IfOk result (λ reply. IsKeptBy reply self.old self.new) }
-        ensures effect { IfOk result (λ reply. IsEffect
-            (Command.Rule name wiring.half wiring.hood wiring.minor text) reply self.old self.new) }
+        ensures reply { IfOk result (λ r. r ≡ reply (machine_of self.old)
+            (Command.Rule name wiring.half wiring.hood wiring.minor text)) }
+        ensures machine { IfOk result (λ r. machine_of self.new ≡ after (machine_of self.old)
+            (Command.Rule name wiring.half wiring.hood wiring.minor text)) }
         ensures err { OnErr result (self.new ≡ self.old) }
     {
         if let Some(fault) = rule_refusal(&self.rules, &self.cycle, &name) {
             return Ok(Reply::Fault(fault));
         }
-        let rule = match parse(
-            self.alloc,
-            text.as_str(),
-            wiring.half,
-            wiring.hood,
-            wiring.minor,
-        ) {
-            Ok(rule) => rule,
-            Err(ParseFault::Text(fault)) => return Ok(Reply::RuleText(fault)),
-            Err(ParseFault::NoMemory) => return Err(NoMemory),
-        };
-        let code = Code::of(self.alloc, &rule)?;
-        if let Err((address, fault)) = fill(&code, &mut self.trial) {
-            return Ok(Reply::RuleStops { address, fault });
+        match tried_rule(self.alloc, wiring, text, &mut self.trial)? {
+            Ok(rule) => {
+                put(&mut self.rules, name, rule)?;
+                Ok(Reply::Rule)
+            }
+            Err(refused) => Ok(refused),
         }
-        put(&mut self.rules, name, KeptRule { wiring, text, code })?;
-        Ok(Reply::Rule)
     }
 
     fn turn_by(&mut self, entries: &NamedEntries) -> Result<Reply, NoMemory>
-        ensures refusal { IfOk result (λ reply. fault_in reply ≡ cycle_refusal self.old.rules entries.now) }
-        ensures kept { IfOk result (λ reply. IsKeptBy reply self.old self.new) }
-        ensures effect { IfOk result (λ reply. IsEffect (Command.Cycle entries.now) reply self.old self.new) }
+        ensures reply { IfOk result (λ r.
+            r ≡ reply (machine_of self.old) (Command.Cycle entries.now)) }
+        ensures machine { IfOk result (λ r.
+            machine_of self.new ≡ after (machine_of self.old) (Command.Cycle entries.now)) }
         ensures err { OnErr result (self.new ≡ self.old) }
     {
         if let Some(fault) = cycle_refusal(&self.rules, entries) {
@@ -176,16 +162,14 @@ impl Machine {
     }
 
     fn run(&self, n: u64) -> Now
-        ensures refusal { fault_of result ≡ run_refusal self.now.cycle n }
-        ensures kept { Keeps result self.now self.now }
-        ensures work { IsWorkOf result self.now (Command.Run n) }
-        ensures effect { HasEffect (Command.Run n) result self.now self.now }
+        ensures work { work_left result ≡ work_of (machine_of self.now) (Command.Run n) }
+        ensures reply { IsReplyTo result (machine_of self.now) (Command.Run n) }
+        ensures machine { machine_of self.now
+            ≡ machine_after result (machine_of self.now) (Command.Run n) }
+        ensures ready { CanWork result self.now }
     {
-        if n > 65_535 {
-            return Now::Reply(Reply::Fault(Fault::OutOfRange));
-        }
-        if self.cycle.is_empty() {
-            return Now::Reply(Reply::Fault(Fault::NoCycle));
+        if let Some(fault) = run_refusal(&self.cycle, n) {
+            return Now::Reply(Reply::Fault(fault));
         }
         if n == 0 {
             return Now::Reply(Reply::Run {
@@ -196,12 +180,12 @@ impl Machine {
     }
 
     fn show(&self, plane: u64) -> Result<Reply, NoMemory>
-        ensures refusal { IfOk result (λ reply. fault_in reply ≡ plane_refusal plane) }
-        ensures kept { IfOk result (λ reply. IsKeptBy reply self.now self.now) }
-        ensures effect { IfOk result (λ reply. IsEffect (Command.Plane plane) reply self.now self.now) }
+        ensures reply { IfOk result (λ r.
+            r ≡ reply (machine_of self.now) (Command.Plane plane)) }
+        ensures machine { machine_of self.now ≡ after (machine_of self.now) (Command.Plane plane) }
     {
-        if plane >= 4 {
-            return Ok(Reply::Fault(Fault::OutOfRange));
+        if let Some(fault) = plane_refusal(plane) {
+            return Ok(Reply::Fault(fault));
         }
         let rows = plane_rows(self.alloc, &self.planes, plane as usize)?;
         let rows = PlaneRows::new(rows);
@@ -212,45 +196,36 @@ impl Machine {
     pub fn work(&mut self, n: u16, direction: Direction) -> Reply
         requires steps { 1 ≤ n }
         requires cycle { 0 < length self.old.cycle }
-        ensures reply { result ≡ Reply.Run self.new.position }
-        ensures position { self.new.position ≡ (self.old.position + n) % length self.old.cycle }
-        ensures others { self.new ≡ record self.old { planes = self.new.planes; position = self.new.position } }
+        ensures reply { result ≡ Reply.Run (steps n (machine_of self.old)).position }
+        ensures machine { machine_of self.new ≡ steps n (machine_of self.old) }
     {
         let Direction::Forward = direction;
         fill_tables(&self.rules, &self.cycle, &mut self.tables);
-        for _step in 0..n {
-            self.step();
-        }
+        self.position = run_along(
+            &mut self.planes,
+            &mut self.next,
+            &self.rules,
+            &self.cycle,
+            &self.tables,
+            self.position,
+            n,
+        );
         Reply::Run {
             position: self.position,
         }
     }
 
-    /// One step by the entry at the position, which then moves on by one.
-    fn step(&mut self)
-        requires { 0 < length self.old.cycle }
-        ensures position { self.new.position ≡ (self.old.position + 1) % length self.old.cycle }
-        ensures others { self.new ≡ record self.old { planes = self.new.planes; position = self.new.position } }
+    /// Answers a command and does its steps.
+    pub fn answer(&mut self, command: Command) -> Result<Reply, NoMemory>
+        ensures reply { IfOk result (λ r. r ≡ reply (machine_of self.old) command) }
+        ensures machine { IfOk result (λ r.
+            machine_of self.new ≡ after (machine_of self.old) command) }
+        ensures err { OnErr result (self.new ≡ self.old) }
     {
-        let Entry { a, b, grid, phase } = self.cycle[self.position];
-        let a = rule_table(&self.rules, a, &self.tables[2 * self.position]);
-        let b = rule_table(&self.rules, b, &self.tables[2 * self.position + 1]);
-        let half = Half::A;
-        step_half(
-            &self.planes,
-            &mut self.next,
-            &a,
-            Setting { half, grid, phase },
-        );
-        let half = Half::B;
-        step_half(
-            &self.planes,
-            &mut self.next,
-            &b,
-            Setting { half, grid, phase },
-        );
-        mem::swap(&mut self.planes, &mut self.next);
-        self.position = (self.position + 1) % self.cycle.len();
+        match self.now(command)? {
+            Now::Reply(reply) => Ok(reply),
+            Now::Work(n, direction) => Ok(self.work(n, direction)),
+        }
     }
 }
 
@@ -265,38 +240,4 @@ fn plane_rows(alloc: Global, planes: &Planes, p: usize) -> Result<Vec<[u8; 64]>,
         rows.push(planes.row_hex(p, y))?;
     }
     Ok(rows)
-}
-
-/// The table of the rule at this place, if there is such a rule.
-fn rule_table<'a>(
-    rules: &IndexMap<String, KeptRule>,
-    place: Option<usize>,
-    table: &'a Table,
-) -> Option<RuleTable<'a>> {
-    let (_, rule) = rules.get_index(place?)?;
-    Some(RuleTable {
-        wiring: rule.wiring,
-        table,
-    })
-}
-
-/// Fills the tables of a cycle's rules: those of entry i have places 2i and 2i + 1.
-fn fill_tables(rules: &IndexMap<String, KeptRule>, cycle: &[Entry], tables: &mut [Table])
-    requires cycle { length cycle.now ≤ 16 }
-    requires tables { length tables.old ≡ TABLES }
-{
-    for (i, entry) in cycle.iter().enumerate() {
-        fill_table(rules, entry.a, &mut tables[2 * i]);
-        fill_table(rules, entry.b, &mut tables[2 * i + 1]);
-    }
-}
-
-/// Fills the table of the rule at this place. It meets no fault: the rule was tried when it came.
-fn fill_table(rules: &IndexMap<String, KeptRule>, place: Option<usize>, table: &mut Table) {
-    let Some(place) = place else {
-        return;
-    };
-    if let Some((_, rule)) = rules.get_index(place) {
-        let _filled = fill(&rule.code, table);
-    }
 }

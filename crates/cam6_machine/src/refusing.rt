@@ -1,9 +1,10 @@
 //! Which fault a command is refused for, before anything is done.
-ghost use Rattle.std.specs.Prelude.{◌≡◌, ◌≤◌, length, IfNone};
+ghost use Rattle.std.specs.Prelude.{◌≡◌, ◌<◌, ◌≤◌, length, IfNone};
 ghost use Rattle.std.specs.Bool.{OnTrue};
+ghost use Rattle.cam6_planes.specs.declared.row.TheConstants.{SIDE};
 ghost use Rattle.cam6_machine.specs.declared.cycles.TheConstants.{MAX_ENTRIES};
 ghost use Rattle.cam6_machine.specs.Rules.{rules_of};
-ghost use Rattle.cam6_machine.specs.Refusals.{rule_refusal, cycle_refusal, is_cycle, have_phases, first_refusal, entry_refusal, half_refusal, uses, is_used};
+ghost use Rattle.cam6_machine.specs.Refusals.{set_refusal, plane_refusal, run_refusal, rule_refusal, cycle_refusal, is_cycle, have_phases, first_refusal, entry_refusal, half_refusal, uses, is_used};
 
 use crate::commands::{NamedEntries, NamedEntry};
 use crate::cycles::{Entry, MAX_ENTRIES};
@@ -12,6 +13,41 @@ use crate::rules::{KeptRule, MAX_RULES, is_rule_name, place_of, wiring_of};
 use crate::texts::Text;
 use cam6_wiring::Half;
 use indexmap::IndexMap;
+
+/// Planes are 0 to 3, rows 0 to 255.
+pub(crate) fn set_refusal(plane: u64, row: u64) -> Option<Fault>
+    ensures refusal { result ≡ set_refusal SIDE plane row }
+    ensures within { IfNone result ((plane < 4) × (row < SIDE)) }
+{
+    if plane >= 4 || row >= 256 {
+        return Some(Fault::OutOfRange);
+    }
+    None
+}
+
+pub(crate) fn plane_refusal(plane: u64) -> Option<Fault>
+    ensures refusal { result ≡ plane_refusal plane }
+    ensures within { IfNone result (plane < 4) }
+{
+    if plane >= 4 {
+        return Some(Fault::OutOfRange);
+    }
+    None
+}
+
+/// At most 65,535 steps, and then a cycle.
+pub(crate) fn run_refusal(cycle: &[Entry], n: u64) -> Option<Fault>
+    ensures refusal { result ≡ run_refusal cycle.now n }
+    ensures within { IfNone result ((n ≤ 65535) × (0 < length cycle.now)) }
+{
+    if n > 65_535 {
+        return Some(Fault::OutOfRange);
+    }
+    if cycle.is_empty() {
+        return Some(Fault::NoCycle);
+    }
+    None
+}
 
 pub(crate) fn rule_refusal(
     rules: &IndexMap<String, KeptRule>,

@@ -1,14 +1,19 @@
 //! The rules of a machine, by name, in the order in which their names came first.
-ghost use Rattle.std.specs.Prelude.{◌≡◌, OnOk, OnErr};
+ghost use Rattle.std.specs.Prelude.{◌≡◌, IfOk, OnOk, OnErr};
 ghost use Rattle.std.specs.List.{list_all};
 ghost use Rattle.cam6_machine.specs.Effects.{with_rule};
-ghost use Rattle.cam6_machine.specs.Rules.{rules_of, place_of, wiring_of, is_rule_name, is_name_byte};
+ghost use Rattle.cam6_machine.specs.Rules.{rules_of, place_of, wiring_of, wiring_at, is_rule_name, is_name_byte};
+ghost use Rattle.cam6_machine.specs.ByTables.{IsVerdict};
 
+use crate::replies::Reply;
 use crate::texts::Text;
+use cam6_forth::{ParseFault, parse};
 use cam6_planes::NoMemory;
-use cam6_table::Code;
+use cam6_table::{Code, Table, fill};
 use cam6_wiring::Wiring;
 use indexmap::IndexMap;
+use std::alloc::Global;
+use std::marker::Model;
 
 /// Rules that a machine can keep.
 pub const MAX_RULES: usize = 16;
@@ -16,12 +21,75 @@ pub const MAX_RULES: usize = 16;
 /// Bytes that a rule's name can have.
 pub const MAX_NAME: usize = 24;
 
-/// A rule as a machine keeps it, without its name.
-#[derive(Debug, Drop)]
-pub struct KeptRule {
-    pub wiring: Wiring,
-    pub text: Text,
-    pub code: Code,
+/// A rule as a machine keeps it, without its name: what it is written for, its text, and the code
+/// that does what the words of the text mean. It stops nowhere.
+#[derive(Drop)]
+pub(crate) struct KeptRule {
+    wiring: Wiring,
+    text: Text,
+    code: Code,
+}
+
+impl Model for KeptRule {
+    ghost use Rattle.cam6_machine.specs.Rules.{Compiled};
+    ghost use Rattle.cam6_machine.specs.ByTables.{IsCodeFor};
+
+    ghost Value = { Compiled };
+
+    ghost view = { λ r. record { wiring = r.wiring; text = r.text; code = r.code } };
+
+    ghost invariant = { λ r. IsCodeFor r.wiring r.text r.code };
+}
+
+impl KeptRule {
+    ghost use Rattle.std.specs.Prelude.{◌≡◌};
+    ghost use Rattle.cam6_machine.specs.ByTables.{IsCodeFor, IsTableOf};
+
+    pub(crate) fn new(wiring: Wiring, text: Text, code: Code) -> KeptRule
+        requires { IsCodeFor wiring text code }
+        ensures { result ≡ record { wiring = wiring; text = text; code = code } }
+    {
+        KeptRule { wiring, text, code }
+    }
+
+    pub(crate) fn wiring(&self) -> Wiring
+        ensures { result ≡ self.now.wiring }
+    {
+        self.wiring
+    }
+
+    /// Fills a table with the rule's entries. It meets no fault: the rule stops nowhere.
+    pub(crate) fn fill(&self, table: &mut Table)
+        ensures { IsTableOf self.now.wiring self.now.text table.new }
+    {
+        match fill(&self.code, table) {
+            Ok(()) => {}
+            Err(_) => unreachable!(),
+        }
+    }
+}
+
+/// Reads a rule's text and tries the rule at every address: the rule, or the reply with which it is
+/// refused. The table is room for the trial.
+pub(crate) fn tried_rule(
+    alloc: Global,
+    wiring: Wiring,
+    text: Text,
+    trial: &mut Table,
+) -> Result<Result<KeptRule, Reply>, NoMemory>
+    ensures { IfOk result (λ tried. IsVerdict wiring text tried) }
+{
+    let Wiring { half, hood, minor } = wiring;
+    let rule = match parse(alloc, text.as_str(), half, hood, minor) {
+        Ok(rule) => rule,
+        Err(ParseFault::Text(fault)) => return Ok(Err(Reply::RuleText(fault))),
+        Err(ParseFault::NoMemory) => return Err(NoMemory),
+    };
+    let code = Code::of(alloc, &rule)?;
+    if let Err((address, fault)) = fill(&code, trial) {
+        return Ok(Err(Reply::RuleStops { address, fault }));
+    }
+    Ok(Ok(KeptRule::new(wiring, text, code)))
 }
 
 /// Whether a text can be a rule's name: 1 to 24 printable bytes without `"` and `\`, and not `-`.
@@ -59,9 +127,17 @@ pub(crate) fn wiring_of(rules: &IndexMap<String, KeptRule>, name: &Text) -> Opti
     ensures { result ≡ wiring_of name.now (rules_of rules.now.entries) }
 {
     match rules.get(name.as_str()) {
-        Some(rule) => Some(rule.wiring),
+        Some(rule) => Some(rule.wiring()),
         None => None,
     }
+}
+
+/// What the rule at a place is written for, if there is a place and a rule at it.
+pub(crate) fn wiring_at(rules: &IndexMap<String, KeptRule>, place: Option<usize>) -> Option<Wiring>
+    ensures { result ≡ wiring_at (rules_of rules.now.entries) place }
+{
+    let (_, rule) = rules.get_index(place?)?;
+    Some(rule.wiring())
 }
 
 /// Keeps a rule under a name, in place of the one that has it.
@@ -70,8 +146,9 @@ pub(crate) fn put(
     name: Text,
     rule: KeptRule,
 ) -> Result<(), NoMemory>
-    ensures ok { OnOk result (rules_of rules.new.entries ≡
-        with_rule (record { name = name; wiring = rule.wiring; text = rule.text }) (rules_of rules.old.entries)) }
+    ensures ok { OnOk result (rules_of rules.new.entries ≡ with_rule
+        (record { name = name; wiring = rule.wiring; text = rule.text })
+        (rules_of rules.old.entries)) }
     ensures err { OnErr result (rules.new.entries ≡ rules.old.entries) }
 {
     rules.insert(name.into_string(), rule)?;

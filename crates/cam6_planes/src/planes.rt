@@ -1,5 +1,6 @@
 //! The four planes of a machine.
 ghost use Rattle.std.specs.Prelude.{◌≡◌, ◌<◌, ◌≤◌, ℕ, slice_index_or, slice_set, [], IfOk, length};
+ghost use Rattle.std.specs.Str.{IsAscii};
 ghost use Rattle.cam6_planes.specs.Row.{column_bit, byte_column, row_text};
 ghost use Rattle.cam6_planes.specs.Cells.{cells, no_cells, with_row};
 ghost use Rattle.cam6_planes.specs.declared.row.TheConstants.{SIDE, DIGITS};
@@ -67,6 +68,7 @@ impl Planes {
         requires plane { p < 4 }
         requires row { y < SIDE }
         ensures value { result ≡ row_text DIGITS (λ x. cells self.now p x y) }
+        ensures ascii { IsAscii result }
         ensures side { self.now.side ≡ SIDE }
     {
         hex_of(&self.row_words(p, y))

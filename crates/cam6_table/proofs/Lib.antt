@@ -6,5 +6,6 @@ pub mod BodiesDo
 pub mod Correct
 pub mod LastCode
 pub mod TrueTables
+pub mod Stops
 pub mod OneMeaning
 pub mod Jumps

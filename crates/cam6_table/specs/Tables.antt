@@ -1,5 +1,5 @@
 -- What a table of entries is to a rule, and the least address at which a rule stops.
-use Rattle.std.specs.Prelude.{◌≡◌, ℕ, ◌<◌, List, slice_index, Result, Ok, Err, IsOk}
+use Rattle.std.specs.Prelude.{◌≡◌, ℕ, zero, suc, ◌<◌, List, slice_index, Option, Some, None, Result, Ok, Err, IsOk}
 use Rattle.cam6_wiring.specs.declared.wirings.Wiring.{Wiring}
 use Rattle.cam6_forth.specs.Tree.{Part}
 use Rattle.cam6_table.specs.declared.faults.RuleFault.{RuleFault}
@@ -23,3 +23,18 @@ pub record IsFirstFault (answers : Answers) (address : ℕ) (fault : RuleFault) 
 -- the table of a rule
 abbrev pub IsTrueTable : Wiring → List Part → List ℕ → Type 0
 IsTrueTable wiring parts entries = AreEntries (at_address wiring parts) entries
+
+abbrev pub or_later :
+    Result ℕ RuleFault → ℕ → Option (ℕ × RuleFault) → Option (ℕ × RuleFault)
+or_later (Ok entry) address later = later
+or_later (Err fault) address later = Some (address, fault)
+
+-- the first of so many addresses, from one on, at which any fault comes, with the fault there
+abbrev pub first_stop : Answers → ℕ → ℕ → Option (ℕ × RuleFault)
+first_stop answers zero address = None
+first_stop answers (suc n) address =
+    or_later (answers address) address (first_stop answers n (suc address))
+
+-- the least address at which any fault comes, if there is one
+unfoldable pub least_stop : Answers → Option (ℕ × RuleFault)
+least_stop answers = first_stop answers 4096 0

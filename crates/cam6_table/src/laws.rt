@@ -1,6 +1,6 @@
 //! Laws that tie trees, what they mean, and tables. Each is the contract of a function that does
 //! nothing.
-ghost use Rattle.cam6_table.specs.Laws.{TrueTableIsRule, TreesMeanTheSame};
+ghost use Rattle.cam6_table.specs.Laws.{TrueTableIsRule, TreesMeanTheSame, LeastIsFound, NoneIsFound};
 
 /// A true table, read at the address of what is seen, is the rule as a function of what is seen.
 pub fn a_true_table_is_the_rule()
@@ -10,4 +10,14 @@ pub fn a_true_table_is_the_rule()
 /// Trees of one rule mean the same, whatever is seen.
 pub fn trees_of_one_rule_mean_the_same()
     ensures law { TreesMeanTheSame }
+{}
+
+/// The least address at which a rule stops is the first that a search over all addresses finds.
+pub fn the_least_stop_is_found()
+    ensures law { LeastIsFound }
+{}
+
+/// A search over all addresses finds none where the rule stops nowhere.
+pub fn no_stop_is_found()
+    ensures law { NoneIsFound }
 {}

@@ -59,7 +59,7 @@ impl Table {
     }
 }
 
-/// Makes the table that of a rule, or names the least address at which the rule stops, and the fault
+/// Makes the table that of a rule, or names the least address at which it stops, and the fault
 /// there, also if no cell shows the address. After a fault nothing is promised of the table's
 /// entries. It takes no memory.
 pub fn fill(code: &Code, table: &mut Table) -> Result<(), (u16, RuleFault)>

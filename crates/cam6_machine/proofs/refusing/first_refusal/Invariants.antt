@@ -5,4 +5,5 @@ use Rattle.cam6_machine.proofs.refusing.first_refusal.Given as goal
 
 abbrev pub invariant-loop-entry : goal.invariant-loop-entry
 invariant-loop-entry l =
-    first_refusal (rules_of l.rules.entries) (drop l.entry-index l.entries) ≡ first_refusal (rules_of l.rules.entries) l.entries
+    first_refusal (rules_of l.rules.entries) (drop l.entry-index l.entries)
+    ≡ first_refusal (rules_of l.rules.entries) l.entries

@@ -1,0 +1,42 @@
+-- The machine alone: what it replies to each command, and what it then is.
+use Rattle.std.specs.Prelude.{ℕ, zero, suc, List, [], ◌∷◌, Option, Some, None}
+use Rattle.cam6_machine.specs.Machine.{Machine}
+use Rattle.cam6_machine.specs.Refusals.{refusal}
+use Rattle.cam6_machine.specs.Effects.{answer, effect}
+use Rattle.cam6_machine.specs.declared.commands.Command.{Command}
+use Rattle.cam6_machine.specs.declared.commands.Command.TheVariants.{Run}
+use Rattle.cam6_machine.specs.declared.commands.Direction.{Direction}
+use Rattle.cam6_machine.specs.declared.commands.Direction.TheVariants.{Forward}
+use Rattle.cam6_machine.specs.declared.replies.Reply.{Reply}
+
+-- the first where there is a refusal, and else the second
+abbrev pub if_refused : {A : Type 0} → Option Reply → (Reply → A) → A → A
+if_refused None refused accepted = accepted
+if_refused (Some r) refused accepted = refused r
+
+-- the reply to a command
+abbrev pub reply : Machine → Command → Reply
+reply m c = if_refused (refusal m c) (λ r. r) (answer m c)
+
+-- the machine after a command; one that is refused leaves it
+abbrev pub after : Machine → Command → Machine
+after m c = if_refused (refusal m c) (λ r. m) (effect m c)
+
+-- the replies to commands, in order
+abbrev pub replies : Machine → List Command → List Reply
+replies m [] = []
+replies m (c ∷ later) = reply m c ∷ replies (after m c) later
+
+-- the machine after them
+abbrev pub after_all : Machine → List Command → Machine
+after_all m [] = m
+after_all m (c ∷ later) = after_all (after m c) later
+
+abbrev pub some_steps : ℕ → Option (ℕ × Direction)
+some_steps zero = None
+some_steps (suc n) = Some (suc n, Forward)
+
+-- the steps that a command does, and their direction, if it does any
+abbrev pub work_of : Machine → Command → Option (ℕ × Direction)
+work_of m (Run n) = if_refused (refusal m (Run n)) (λ r. None) (some_steps n)
+work_of m c = None

@@ -1,0 +1,64 @@
+-- The machine that a user has, and steps along its cycle.
+use Rattle.std.specs.Prelude.{ℕ, zero, suc, ◌+◌, ◌%◌, List, [], ◌∷◌, length, Option, Some, None}
+use Rattle.std.specs.List.{slice_get}
+use Rattle.cam6_planes.specs.Cells.{Cells, cells, no_cells}
+use Rattle.cam6_machine.specs.Rules.{Rule}
+use Rattle.cam6_machine.specs.Steps.{step}
+use Rattle.cam6_machine.specs.Kept.{Kept}
+use Rattle.cam6_machine.specs.declared.cycles.Entry.{Entry}
+
+-- four planes on a torus of so many rows and columns, rules in their order, the cycle's entries
+-- with a position among them, and a colour for each of the sixteen states of a cell; no entries: no
+-- cycle is set
+pub record Machine : Type 0 where
+  pub side : ℕ
+  pub planes : Cells
+  pub rules : List Rule
+  pub cycle : List Entry
+  pub position : ℕ
+  pub colours : List ℕ
+
+-- each state has its own number as its colour
+abbrev pub own_colours : List ℕ
+own_colours =
+    0 ∷ 1 ∷ 2 ∷ 3 ∷ 4 ∷ 5 ∷ 6 ∷ 7 ∷ 8 ∷ 9 ∷ 10 ∷ 11 ∷ 12 ∷ 13 ∷ 14 ∷ 15 ∷ []
+
+-- a machine to begin with: no cell is set, and there are no rules and no cycle
+abbrev pub blank : Machine
+blank = record {
+  side = 256;
+  planes = no_cells;
+  rules = [];
+  cycle = [];
+  position = 0;
+  colours = own_colours;
+}
+
+-- one step by this entry; the position moves on by one, round the cycle
+abbrev pub stepped_by : Option Entry → Machine → Machine
+stepped_by None m = m
+stepped_by (Some entry) m =
+    record m {
+      planes = step m.side m.rules entry m.planes;
+      position = (m.position + 1) % length m.cycle;
+    }
+
+-- one step by the entry at the position
+abbrev pub stepped : Machine → Machine
+stepped m = stepped_by (slice_get m.cycle m.position) m
+
+-- so many steps
+abbrev pub steps : ℕ → Machine → Machine
+steps zero m = m
+steps (suc n) m = stepped (steps n m)
+
+-- the machine that is kept
+abbrev pub machine_of : Kept → Machine
+machine_of kept = record {
+  side = kept.planes.side;
+  planes = cells kept.planes;
+  rules = kept.rules;
+  cycle = kept.cycle;
+  position = kept.position;
+  colours = kept.colours;
+}

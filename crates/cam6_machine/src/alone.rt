@@ -1,0 +1,26 @@
+//! A machine that nobody shares.
+ghost use Rattle.std.specs.Prelude.{◌≡◌, IfOk};
+ghost use Rattle.cam6_machine.specs.Machine.{blank, machine_of};
+ghost use Rattle.cam6_machine.specs.Alone.{replies, after_all};
+
+use crate::commands::Command;
+use crate::machines::Machine;
+use crate::replies::Reply;
+use cam6_planes::NoMemory;
+use std::alloc::Global;
+
+/// The replies of a blank machine to commands, in order, and the machine after them.
+pub fn replies_alone(
+    alloc: Global,
+    commands: Vec<Command>,
+) -> Result<(Vec<Reply>, Machine), NoMemory>
+    ensures replies { IfOk result (λ done. done.0.items ≡ replies blank commands.items) }
+    ensures machine { IfOk result (λ done. machine_of done.1 ≡ after_all blank commands.items) }
+{
+    let mut machine = Machine::new(alloc)?;
+    let mut replies = Vec::with_capacity(alloc, commands.len())?;
+    for command in commands {
+        replies.push(machine.answer(command)?)?;
+    }
+    Ok((replies, machine))
+}
