@@ -6,3 +6,4 @@ pub mod Done
 pub mod MadeWords
 pub mod WrittenRows
 pub mod TrueSteps
+pub mod StepLaws

@@ -1,6 +1,7 @@
 -- In the order of reading: the rules that a machine keeps, entries of a cycle, what a cell becomes
 -- in a step, all that a machine keeps and the machine that it is, when a command is refused, what
--- it does, the machine alone, and what an answer says of it. Last, how the program steps by tables.
+-- it does, the machine alone, and what an answer says of it. Then how the program steps by tables.
+-- Last, what follows of steps.
 pub mod Faults
 pub mod Rules
 pub mod Cycles
@@ -12,3 +13,4 @@ pub mod Effects
 pub mod Alone
 pub mod Answers
 pub mod ByTables
+pub mod Laws

@@ -16,6 +16,7 @@
 mod alone;
 mod commands;
 mod cycles;
+pub mod laws;
 mod machines;
 mod refusing;
 mod replies;

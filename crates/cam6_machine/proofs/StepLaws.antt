@@ -1,0 +1,97 @@
+-- What follows of steps.
+use Rattle.std.proofs.Common.{◌≡◌, ℕ, zero, suc, ◌+◌, ◌<◌, ◌%◌, Bool, List, [], ◌∷◌, length, Option, Some, None, refl, sym, ap, ◌∙◌, arith}
+use Rattle.std.specs.List.{slice_get}
+use Rattle.std.proofs.Math.Nat.{mod-add-mod, mod-eq_of_lt, mod-lt}
+use Rattle.cam6_planes.specs.Cells.{Cells}
+use Rattle.cam6_planes.proofs.CellsAt.{torus_at}
+use Rattle.cam6_wiring.specs.Name.{plane_of}
+use Rattle.cam6_wiring.specs.declared.names.Half.{Half}
+use Rattle.cam6_wiring.specs.declared.names.Half.TheVariants.{A, B}
+use Rattle.cam6_wiring.specs.declared.names.Level.{Level}
+use Rattle.cam6_wiring.specs.declared.names.Level.TheVariants.{Lower, Upper}
+use Rattle.cam6_machine.specs.Rules.{rule_at}
+use Rattle.cam6_machine.specs.Steps.{new_cell, on_plane, place_for, setting_for}
+use Rattle.cam6_machine.specs.Machine.{Machine, stepped_by, stepped, steps}
+use Rattle.cam6_machine.specs.Laws.{KeepsItsPlanes, StepsAddUp, OnlyPlanesAndPosition, PositionGoesRound}
+use Rattle.cam6_machine.specs.declared.cycles.Entry.{Entry}
+
+plane_of-lt : (half : Half) (level : Level) → plane_of half level < 4
+plane_of-lt A Lower = omega arith
+plane_of-lt A Upper = omega arith
+plane_of-lt B Lower = omega arith
+plane_of-lt B Upper = omega arith
+
+on_plane-of : (half : Half) (level : Level) (bit : Half → Level → Bool) →
+    on_plane (plane_of half level) bit ≡ bit half level
+on_plane-of A Lower bit = refl
+on_plane-of A Upper bit = refl
+on_plane-of B Lower bit = refl
+on_plane-of B Upper bit = refl
+
+setting-half : (half : Half) (entry : Entry) → (setting_for half entry).half ≡ half
+setting-half half entry = refl
+
+pub keeps_its_planes : KeepsItsPlanes
+keeps_its_planes s rules entry f half level x y h k none =
+    let new : Cells = λ p x y. on_plane p (λ half level.
+    new_cell s f (setting_for half entry) (rule_at rules (place_for half entry)) level x y) in
+    torus_at s new (plane_of half level) x y (plane_of-lt half level) h k ∙
+    on_plane-of half level (λ half level.
+    new_cell s f (setting_for half entry) (rule_at rules (place_for half entry)) level x y) ∙
+    ap (λ place. new_cell s f (setting_for half entry) (rule_at rules place) level x y) none
+
+pub steps_add_up : StepsAddUp
+steps_add_up m first zero =
+    let none_more : first + 0 ≡ first = omega arith in ap (λ n. steps n m) none_more
+steps_add_up m first (suc later) =
+    let one_more : first + suc later ≡ suc (first + later) = omega arith in
+    ap (λ n. steps n m) one_more ∙ ap stepped (steps_add_up m first later)
+
+-- a step changes these alone
+moved : (o : Option Entry) (m : Machine) →
+    stepped_by o m ≡ record m { planes = (stepped_by o m).planes; position = (stepped_by o m).position }
+moved None m = refl
+moved (Some entry) m = refl
+
+pub only_planes_and_position : OnlyPlanesAndPosition
+only_planes_and_position m zero = refl
+only_planes_and_position m (suc n) =
+    let before = steps n m in
+    let after = stepped before in
+    moved (slice_get before.cycle before.position) before ∙
+    ap {B = Machine}
+    (λ (k : Machine). record k { planes = after.planes; position = after.position })
+    (only_planes_and_position m n)
+
+-- an entry stands at each place of the cycle
+at_place : (cycle : List Entry) (place : ℕ) → place < length cycle →
+    (entry : Entry) × (slice_get cycle place ≡ Some entry)
+at_place [] place within = absurd (omega (arith, within))
+at_place (entry ∷ cycle) zero within = (entry, refl)
+at_place (entry ∷ cycle) (suc place) within = at_place cycle place (omega (arith, within))
+
+-- the position after one step
+one_on : (m : Machine) → m.position < length m.cycle →
+    (stepped m).position ≡ (m.position + 1) % length m.cycle
+one_on m within =
+    let (entry, found) = at_place m.cycle m.position within in
+    ap (λ o. (stepped_by o m).position) found
+
+pub position_goes_round : PositionGoesRound
+position_goes_round m zero within =
+    let same : m.position + 0 ≡ m.position = omega arith in
+    sym (ap (λ p. p % length m.cycle) same ∙ mod-eq_of_lt within)
+position_goes_round m (suc n) within =
+    let before = steps n m in
+    let p = m.position in
+    let len = length m.cycle in
+    let cycle : length before.cycle ≡ len =
+    ap (λ (k : Machine). length k.cycle) (only_planes_and_position m n) in
+    let at : before.position ≡ (p + n) % len = position_goes_round m n within in
+    let inside : (p + n) % len < len = mod-lt (p + n) (omega (arith, within)) in
+    let sum : p + n + 1 ≡ p + suc n = omega arith in
+    one_on before (omega (arith, inside, at, cycle)) ∙
+    ap (λ l. (before.position + 1) % l) cycle ∙
+    ap (λ q. (q + 1) % len) at ∙
+    mod-add-mod (p + n) len 1 ∙
+    ap (λ q. q % len) sum

@@ -1,0 +1,22 @@
+//! What follows of the definition of steps. Each law is the contract of a function that does nothing.
+ghost use Rattle.cam6_machine.specs.Laws.{KeepsItsPlanes, StepsAddUp, OnlyPlanesAndPosition, PositionGoesRound};
+
+/// A half without a rule keeps its planes.
+pub fn a_half_without_a_rule_keeps_its_planes()
+    ensures law { KeepsItsPlanes }
+{}
+
+/// Some steps and then more are all of them together.
+pub fn steps_add_up()
+    ensures law { StepsAddUp }
+{}
+
+/// Steps change planes and position, and nothing else.
+pub fn steps_change_planes_and_position_alone()
+    ensures law { OnlyPlanesAndPosition }
+{}
+
+/// The position moves on by one with each step, round the cycle.
+pub fn the_position_goes_round()
+    ensures law { PositionGoesRound }
+{}
