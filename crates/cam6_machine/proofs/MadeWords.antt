@@ -1,9 +1,10 @@
 -- A word that is made column by column, from column 0, its highest bit, on.
-use Rattle.std.proofs.Common.{◌≡◌, ℕ, zero, suc, ◌+◌, ◌-◌, ◌^◌, ◌<◌, ◌==◌, Bool, true, false, List, [], ◌∷◌, length, get_or, refl, ◌∙◌, ap, arith}
+use Rattle.std.proofs.Common.{◌≡◌, ℕ, zero, suc, ◌+◌, ◌-◌, ◌^◌, ◌<◌, ◌==◌, Bool, false, List, [], ◌∷◌, length, get_or, refl, ◌∙◌, ap, arith}
 use Rattle.std.specs.Int.{bit_at}
 use Rattle.std.proofs.Math.Pow.{pow_mono}
-use Rattle.cam6_planes.specs.Row.{word_column, bit_number}
+use Rattle.cam6_planes.specs.Row.{word_column}
 use Rattle.cam6_wiring.specs.Seen.{number_of}
+use Rattle.cam6_wiring.proofs.Lines.{bit_number-one}
 use Rattle.cam6_wiring.proofs.Numbers.{number_of-lt, bit_at-number_of}
 
 -- the bits of so many columns, the last column first
@@ -20,10 +21,6 @@ get_or-columns : (n : ℕ) (row : ℕ → Bool) (i c : ℕ) → i + c + 1 ≡ n 
 get_or-columns zero row i c h = absurd (omega (arith, h))
 get_or-columns (suc n) row zero c h = let last : n ≡ c = omega (arith, h) in ap row last
 get_or-columns (suc n) row (suc i) c h = get_or-columns n row i c (omega (arith, h))
-
-bit_number-one : (b : Bool) → (bit_number b == 1) ≡ b
-bit_number-one true = refl
-bit_number-one false = refl
 
 -- the word so far has room for one more column
 pub made_lt : (n : ℕ) (row : ℕ → Bool) (word : ℕ) → n < 64 → word ≡ number_of (columns n row) →

@@ -35,4 +35,8 @@ pub use rules::MAX_RULES;
 pub use texts::Text;
 
 #[cfg(test)]
+mod command_tests;
+#[cfg(test)]
+mod plain_tests;
+#[cfg(test)]
 mod tests;

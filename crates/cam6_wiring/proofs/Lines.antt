@@ -96,7 +96,7 @@ at_line sees name (known ∷ lines) start line found =
     at_first sees name known lines start line (is_at name known) refl found
     (λ later. at_line sees name lines (start + 1) line later)
 
-bit_number-one : (b : Bool) → (bit_number b == 1) ≡ b
+pub bit_number-one : (b : Bool) → (bit_number b == 1) ≡ b
 bit_number-one true = refl
 bit_number-one false = refl
 
