@@ -2,11 +2,13 @@
 use Rattle.std.specs.Prelude.{◌≡◌, ℕ, ◌≤◌, ◌<◌, length, Option, Some, None, ⊤}
 use Rattle.cam6_machine.specs.Kept.{Kept}
 use Rattle.cam6_machine.specs.Machine.{Machine}
-use Rattle.cam6_machine.specs.Alone.{reply, after}
+use Rattle.cam6_machine.specs.Alone.{reply as reply_to, after}
 use Rattle.cam6_machine.specs.declared.commands.Command.{Command}
 use Rattle.cam6_machine.specs.declared.commands.Direction.{Direction}
 use Rattle.cam6_machine.specs.declared.commands.Now.{Now}
 use Rattle.cam6_machine.specs.declared.commands.Now.TheVariants as now
+use Rattle.cam6_machine.specs.declared.replies.Reply.{Reply}
+use Rattle.cam6_machine.specs.declared.replies.Reply.TheVariants as reply
 
 -- the steps that are left to do, and their direction, if there are any
 abbrev pub work_left : Now → Option (ℕ × Direction)
@@ -15,13 +17,26 @@ work_left (now.Work n direction) = Some (n, direction)
 
 -- a reply is the reply to the command
 abbrev pub IsReplyTo : Now → Machine → Command → Type 0
-IsReplyTo (now.Reply r) m c = r ≡ reply m c
+IsReplyTo (now.Reply r) m c = r ≡ reply_to m c
 IsReplyTo (now.Work n direction) m c = ⊤
 
 -- with a reply the command is done, and with steps left to do nothing is done yet
 abbrev pub machine_after : Now → Machine → Command → Machine
 machine_after (now.Reply r) m c = after m c
 machine_after (now.Work n direction) m c = m
+
+-- what a reply leaves, of all that is kept: everything but planes, rules, or the cycle with the
+-- position; a refusal leaves everything
+abbrev pub IsKeptBy : Reply → Kept → Kept → Type 0
+IsKeptBy reply.Set old new = new ≡ record old { planes = new.planes }
+IsKeptBy reply.Rule old new = new ≡ record old { rules = new.rules }
+IsKeptBy reply.Cycle old new = new ≡ record old { cycle = new.cycle; position = 0 }
+IsKeptBy _ old new = new ≡ old
+
+-- the same of an answer; where steps are left, nothing is done yet
+abbrev pub Keeps : Now → Kept → Kept → Type 0
+Keeps (now.Reply r) old new = IsKeptBy r old new
+Keeps (now.Work n direction) old new = new ≡ old
 
 -- steps that are left can be done: there is at least one, and there is a cycle
 abbrev pub CanWork : Now → Kept → Type 0

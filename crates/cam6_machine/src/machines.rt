@@ -62,7 +62,7 @@ impl Machine {
     ghost use Rattle.std.specs.Prelude.{◌≡◌, ◌<◌, ◌≤◌, IfOk, OnErr, length};
     ghost use Rattle.cam6_machine.specs.Machine.{blank, steps, machine_of};
     ghost use Rattle.cam6_machine.specs.Alone.{reply, after, work_of};
-    ghost use Rattle.cam6_machine.specs.Answers.{work_left, IsReplyTo, machine_after, CanWork};
+    ghost use Rattle.cam6_machine.specs.Answers.{work_left, IsReplyTo, machine_after, IsKeptBy, Keeps, CanWork};
 
     /// A machine with blank planes, no rules and no cycle.
     pub fn new(alloc: Global) -> Result<Machine, NoMemory>
@@ -93,6 +93,7 @@ impl Machine {
         ensures reply { IfOk result (λ now. IsReplyTo now (machine_of self.old) command) }
         ensures machine { IfOk result (λ now.
             machine_of self.new ≡ machine_after now (machine_of self.old) command) }
+        ensures kept { IfOk result (λ now. Keeps now self.old self.new) }
         ensures ready { IfOk result (λ now. CanWork now self.new) }
         ensures err { OnErr result (self.new ≡ self.old) }
     {
@@ -118,6 +119,7 @@ impl Machine {
         ensures reply { result ≡ reply (machine_of self.old) (Command.Set plane row bits.now) }
         ensures machine { machine_of self.new
             ≡ after (machine_of self.old) (Command.Set plane row bits.now) }
+        ensures kept { IsKeptBy result self.old self.new }
     {
         let planes = &mut self.planes;
         if let Some(fault) = set_refusal(plane, row) {
@@ -132,6 +134,7 @@ impl Machine {
             (Command.Rule name wiring.half wiring.hood wiring.minor text)) }
         ensures machine { IfOk result (λ r. machine_of self.new ≡ after (machine_of self.old)
             (Command.Rule name wiring.half wiring.hood wiring.minor text)) }
+        ensures kept { IfOk result (λ r. IsKeptBy r self.old self.new) }
         ensures err { OnErr result (self.new ≡ self.old) }
     {
         if let Some(fault) = rule_refusal(&self.rules, &self.cycle, &name) {
@@ -151,6 +154,7 @@ impl Machine {
             r ≡ reply (machine_of self.old) (Command.Cycle entries.now)) }
         ensures machine { IfOk result (λ r.
             machine_of self.new ≡ after (machine_of self.old) (Command.Cycle entries.now)) }
+        ensures kept { IfOk result (λ r. IsKeptBy r self.old self.new) }
         ensures err { OnErr result (self.new ≡ self.old) }
     {
         if let Some(fault) = cycle_refusal(&self.rules, entries) {
@@ -166,6 +170,7 @@ impl Machine {
         ensures reply { IsReplyTo result (machine_of self.now) (Command.Run n) }
         ensures machine { machine_of self.now
             ≡ machine_after result (machine_of self.now) (Command.Run n) }
+        ensures kept { Keeps result self.now self.now }
         ensures ready { CanWork result self.now }
     {
         if let Some(fault) = run_refusal(&self.cycle, n) {
@@ -183,6 +188,7 @@ impl Machine {
         ensures reply { IfOk result (λ r.
             r ≡ reply (machine_of self.now) (Command.Plane plane)) }
         ensures machine { machine_of self.now ≡ after (machine_of self.now) (Command.Plane plane) }
+        ensures kept { IfOk result (λ r. IsKeptBy r self.now self.now) }
     {
         if let Some(fault) = plane_refusal(plane) {
             return Ok(Reply::Fault(fault));
@@ -198,6 +204,8 @@ impl Machine {
         requires cycle { 0 < length self.old.cycle }
         ensures reply { result ≡ Reply.Run (steps n (machine_of self.old)).position }
         ensures machine { machine_of self.new ≡ steps n (machine_of self.old) }
+        ensures others { self.new
+            ≡ record self.old { planes = self.new.planes; position = self.new.position } }
     {
         let Direction::Forward = direction;
         fill_tables(&self.rules, &self.cycle, &mut self.tables);
