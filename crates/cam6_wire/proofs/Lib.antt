@@ -1,3 +1,9 @@
 pub mod Members
 pub mod Floats
 pub mod Saying
+pub mod Steps
+pub mod Ordered
+pub mod Exactly
+pub mod Found
+pub mod Showing
+pub mod Telling

@@ -15,7 +15,7 @@ not_long : (n : ℕ) → n ≤ 16384 → nat_lt 16384 n ≡ false
 not_long n h = grind arith
 
 -- a line within the limit says what its value says
-short_line : (line : List ℕ) → length line ≤ 16384 → command line ≡ from_value (value_of line)
+pub short_line : (line : List ℕ) → length line ≤ 16384 → command line ≡ from_value (value_of line)
 short_line line h =
     ap (λ b. cond b (Err TooLong) (from_value (value_of line))) (not_long (length line) h)
 

@@ -1,5 +1,5 @@
 -- In the order of reading: faults, what stands at a key, settings, entries, what is accepted so
--- far, commands, replies.
+-- far, commands, replies; then the values by which commands are shown, and the laws.
 pub mod Faults
 pub mod Fields
 pub mod Settings
@@ -7,3 +7,5 @@ pub mod Entries
 pub mod Fragment
 pub mod Commands
 pub mod Replies
+pub mod Shown
+pub mod Laws

@@ -14,36 +14,60 @@ use Rattle.cam6_wiring.specs.declared.blocks.Grid.{Grid}
 use Rattle.cam6_wiring.specs.declared.blocks.Grid.TheVariants.{Even, Odd}
 use Rattle.cam6_wire.specs.Fields.{text_at, ◌>>=◌}
 
--- A and B
+-- the text of a half
+abbrev pub half_text : Half → List ℕ
+half_text A = codes "A"
+half_text B = codes "B"
+
+-- the text of a neighbourhood
+abbrev pub hood_text : Hood → List ℕ
+hood_text Moore = codes "N/MOORE"
+hood_text VonNeumann = codes "N/VONN"
+hood_text Margolus = codes "N/MARG"
+hood_text MargolusPhase = codes "N/MARG-PH"
+hood_text MargolusHorzVert = codes "N/MARG-HV"
+
+-- the text of a minor assignment
+abbrev pub minor_text : Minor → List ℕ
+minor_text Centers = codes "&/CENTERS"
+minor_text Phases = codes "&/PHASES"
+minor_text HorzVert = codes "&/HV"
+
+-- the text of a grid
+abbrev pub grid_text : Grid → List ℕ
+grid_text Even = codes "EVEN"
+grid_text Odd = codes "ODD"
+
+-- the half of a text
 abbrev pub half_named : List ℕ → Option Half
 half_named text =
-    if bytes_eq text (codes "A") then Some A
-    else if bytes_eq text (codes "B") then Some B
+    if bytes_eq text (half_text A) then Some A
+    else if bytes_eq text (half_text B) then Some B
     else None
 
--- N/MOORE, N/VONN, N/MARG, N/MARG-PH, N/MARG-HV
+-- the neighbourhood of a text
 abbrev pub hood_named : List ℕ → Option Hood
 hood_named text =
-    if bytes_eq text (codes "N/MOORE") then Some Moore
-    else if bytes_eq text (codes "N/VONN") then Some VonNeumann
-    else if bytes_eq text (codes "N/MARG") then Some Margolus
-    else if bytes_eq text (codes "N/MARG-PH") then Some MargolusPhase
-    else if bytes_eq text (codes "N/MARG-HV") then Some MargolusHorzVert
+    if bytes_eq text (hood_text Moore) then Some Moore
+    else if bytes_eq text (hood_text VonNeumann) then Some VonNeumann
+    else if bytes_eq text (hood_text Margolus) then Some Margolus
+    else if bytes_eq text (hood_text MargolusPhase) then Some MargolusPhase
+    else if bytes_eq text (hood_text MargolusHorzVert) then Some MargolusHorzVert
     else None
 
--- &/CENTERS, &/PHASES, &/HV
+-- the minor assignment of a text
 abbrev pub minor_named : List ℕ → Option Minor
 minor_named text =
-    if bytes_eq text (codes "&/CENTERS") then Some Centers
-    else if bytes_eq text (codes "&/PHASES") then Some Phases
-    else if bytes_eq text (codes "&/HV") then Some HorzVert
+    if bytes_eq text (minor_text Centers) then Some Centers
+    else if bytes_eq text (minor_text Phases) then Some Phases
+    else if bytes_eq text (minor_text HorzVert) then Some HorzVert
     else None
 
--- EVEN and ODD
+-- the grid of a text
 abbrev pub grid_named : List ℕ → Option Grid
 grid_named text =
-    if bytes_eq text (codes "EVEN") then Some Even
-    else if bytes_eq text (codes "ODD") then Some Odd
+    if bytes_eq text (grid_text Even) then Some Even
+    else if bytes_eq text (grid_text Odd) then Some Odd
     else None
 
 -- what a rule is written for, of the keys half, hood and minor

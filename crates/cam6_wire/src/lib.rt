@@ -9,13 +9,14 @@
 //! `NoMemory`, and on `serde_json` and `hex`.
 //!
 //! Read next: `faults`; `fields`, what stands at a key; `settings` and `entries`; `reading`, the
-//! commands; `fragment`, those that are accepted so far; then `writing`.
+//! commands; `fragment`, those that are accepted so far; then `writing`; and `laws`.
 #![tactic(auto)]
 
 mod entries;
 mod faults;
 mod fields;
 mod fragment;
+pub mod laws;
 mod reading;
 mod settings;
 mod writing;

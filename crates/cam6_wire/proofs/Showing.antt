@@ -1,0 +1,337 @@
+-- A line that says a command has a value that shows it.
+use Rattle.std.proofs.Common.{◌≡◌, ◌≤◌, ℕ, List, [], ◌∷◌, length, Bool, true, false, cond, nat_lt, codes}
+use Rattle.std.proofs.Common.{Option, Some, None, IfSome, Result, Ok, Err, ok_or, option_map}
+use Rattle.std.proofs.Common.{option_and_then, bytes_eq, refl, ap, sym, ◌∙◌, arith}
+use Rattle.std.proofs.Common.{Ordering, Less, Equal, Greater}
+use Rattle.std.specs.Ordering.{nat_cmp, match_ordering}
+use Rattle.std.specs.Cmp.Lexicographic.{slice_cmp}
+use Rattle.std.specs.Bool.{then_some}
+use Rattle.std.proofs.lemmas.Option.{IfSome_then}
+use Rattle.std.proofs.lemmas.Slice.Eq.{bytes_eq-Decides}
+use Rattle.serde_json.specs.Data.{Data, null, boolean, number, string, array, object}
+use Rattle.serde_json.specs.Data.{Items, no_items, item, Members, no_members, member}
+use Rattle.serde_json.specs.Find.{get, get_member, as_array}
+use Rattle.cam6_wiring.specs.declared.names.Half.{Half}
+use Rattle.cam6_wiring.specs.declared.wirings.Hood.{Hood}
+use Rattle.cam6_wiring.specs.declared.wirings.Minor.{Minor}
+use Rattle.cam6_wiring.specs.declared.wirings.Wiring.{Wiring}
+use Rattle.cam6_wiring.specs.declared.blocks.Grid.{Grid}
+use Rattle.cam6_machine.specs.declared.commands.Command.{Command}
+use Rattle.cam6_machine.specs.declared.commands.Command.TheVariants.{Set, Rule, Cycle, Run, Plane}
+use Rattle.cam6_machine.specs.declared.commands.NamedEntry.{NamedEntry}
+use Rattle.cam6_wire.specs.declared.faults.LineFault.{LineFault}
+use Rattle.cam6_wire.specs.declared.faults.LineFault.TheVariants.{NoJson, NoCommand, TooLong}
+use Rattle.cam6_wire.specs.Fields.{count, number_at, text_at, bits_at, ◌>>=◌}
+use Rattle.cam6_wire.specs.Replies.{natural}
+use Rattle.cam6_wire.specs.Settings.{half_text, hood_text, minor_text, grid_text}
+use Rattle.cam6_wire.specs.Settings.{half_named, hood_named, minor_named, grid_named, wiring_in}
+use Rattle.cam6_wire.specs.Entries.{rule_named, entry_fields, entry_of, entries_of, entries_at}
+use Rattle.cam6_wire.specs.Fragment.{is_in_fragment}
+use Rattle.cam6_wire.specs.Commands.{set_fields, set_of, rule_fields, rule_of, cycle_of, run_of}
+use Rattle.cam6_wire.specs.Commands.{plane_of, by_word, command_in, command, from_value, value_of}
+use Rattle.cam6_wire.specs.Shown.{ShowsEntry, ShowsEntries, Shows}
+use Rattle.cam6_wire.specs.Laws.{SaidIsShown}
+use Rattle.cam6_wire.proofs.Steps.{of_map, of_step, of_value, of_test, of_three, of_four}
+use Rattle.cam6_wire.proofs.Ordered.{IsOrdered, AreOrdered, InOrder, HaveOrder, value_is_ordered}
+use Rattle.cam6_wire.proofs.Exactly.{AreFound, exactly}
+use Rattle.cam6_wire.proofs.Found.{number_found, text_found, AreDigits, bits_found}
+use Rattle.cam6_wire.proofs.Found.{half_found, hood_found, minor_found, grid_found, of_object}
+
+-- what holds of a value whose word at the key do is known
+abbrev HasWord : List ℕ → Data → Type 0
+HasWord word d = IsOrdered d × (get (codes "do") d ≡ Some (string word))
+
+-- an object with these members
+these : (wanted held : Members) → InOrder wanted → count held ≡ count wanted →
+    IsOrdered (object held) → AreFound wanted held → object held ≡ object wanted
+these wanted held order same given found =
+    ap object (exactly wanted held order given.0 same found)
+
+set_held : (held : Members) → count held ≡ 4 → HasWord (codes "set") (object held) →
+    IfSome (set_fields (object held)) (Shows (object held))
+set_held held same given =
+    of_three (λ plane. get (codes "plane") (object held) ≡ Some (natural plane))
+    (λ row. get (codes "row") (object held) ≡ Some (natural row))
+    (AreDigits (codes "bits") (object held)) (Shows (object held)) Set
+    (λ plane row bits at_plane at_row at_bits. (
+      at_bits.0,
+      at_bits.1,
+      these
+          (member (codes "bits") (string at_bits.0)
+          (member (codes "do") (string (codes "set"))
+          (member (codes "plane") (natural plane) (member (codes "row") (natural row) no_members))))
+          held
+          ((refl, (refl, (refl, tt))), ((refl, (refl, tt)), ((refl, tt), (tt, tt))))
+          same given.0 (at_bits.2, (given.1, (at_plane, (at_row, tt)))),
+    ))
+    (number_at (codes "plane") (object held)) (number_at (codes "row") (object held))
+    (bits_at (codes "bits") (object held))
+    (number_found (codes "plane") (object held)) (number_found (codes "row") (object held))
+    (bits_found (codes "bits") (object held))
+
+set_shown : (d : Data) → HasWord (codes "set") d → IfSome (set_of d) (Shows d)
+unfolding set_of
+set_shown d given = of_object 4 set_fields (HasWord (codes "set")) Shows set_held d given
+
+run_held : (held : Members) → count held ≡ 2 → HasWord (codes "run") (object held) →
+    IfSome (option_map Run (number_at (codes "n") (object held))) (Shows (object held))
+run_held held same given =
+    of_map (λ n. get (codes "n") (object held) ≡ Some (natural n)) (Shows (object held)) Run
+    (λ n at_n.
+    these
+    (member (codes "do") (string (codes "run")) (member (codes "n") (natural n) no_members))
+    held ((refl, tt), (tt, tt)) same given.0 (given.1, (at_n, tt)))
+    (number_at (codes "n") (object held)) (number_found (codes "n") (object held))
+
+run_shown : (d : Data) → HasWord (codes "run") d → IfSome (run_of d) (Shows d)
+unfolding run_of
+run_shown d given =
+    of_object 2 (λ x. option_map Run (number_at (codes "n") x)) (HasWord (codes "run")) Shows
+    run_held d given
+
+plane_held : (held : Members) → count held ≡ 2 → HasWord (codes "plane") (object held) →
+    IfSome (option_map Plane (number_at (codes "plane") (object held))) (Shows (object held))
+plane_held held same given =
+    of_map (λ n. get (codes "plane") (object held) ≡ Some (natural n)) (Shows (object held)) Plane
+    (λ n at_plane.
+    these
+    (member (codes "do") (string (codes "plane"))
+    (member (codes "plane") (natural n) no_members))
+    held ((refl, tt), (tt, tt)) same given.0 (given.1, (at_plane, tt)))
+    (number_at (codes "plane") (object held)) (number_found (codes "plane") (object held))
+
+plane_shown : (d : Data) → HasWord (codes "plane") d → IfSome (plane_of d) (Shows d)
+unfolding plane_of
+plane_shown d given =
+    of_object 2 (λ x. option_map Plane (number_at (codes "plane") x)) (HasWord (codes "plane"))
+    Shows plane_held d given
+
+-- the setting of a rule
+abbrev HasSetting : Data → Wiring → Type 0
+HasSetting d wiring =
+    (get (codes "half") d ≡ Some (string (half_text wiring.half))) ×
+    (get (codes "hood") d ≡ Some (string (hood_text wiring.hood))) ×
+    (get (codes "minor") d ≡ Some (string (minor_text wiring.minor)))
+
+abbrev setting : Half → Hood → Minor → Wiring
+setting half hood minor = record { half = half; hood = hood; minor = minor }
+
+wiring_found : (d : Data) → IfSome (wiring_in d) (HasSetting d)
+unfolding wiring_in
+wiring_found d =
+    of_three (λ half. get (codes "half") d ≡ Some (string (half_text half)))
+    (λ hood. get (codes "hood") d ≡ Some (string (hood_text hood)))
+    (λ minor. get (codes "minor") d ≡ Some (string (minor_text minor)))
+    (HasSetting d) setting
+    (λ half hood minor at_half at_hood at_minor. (at_half, at_hood, at_minor))
+    (text_at (codes "half") d >>= half_named) (text_at (codes "hood") d >>= hood_named)
+    (text_at (codes "minor") d >>= minor_named)
+    (half_found (codes "half") d) (hood_found (codes "hood") d) (minor_found (codes "minor") d)
+
+abbrev rule_in : List ℕ → Wiring → List ℕ → Command
+rule_in name wiring text = Rule name wiring.half wiring.hood wiring.minor text
+
+rule_held : (held : Members) → count held ≡ 6 → HasWord (codes "rule") (object held) →
+    IfSome (rule_fields (object held)) (Shows (object held))
+rule_held held same given =
+    of_three (λ name. get (codes "name") (object held) ≡ Some (string name))
+    (HasSetting (object held))
+    (λ text. get (codes "text") (object held) ≡ Some (string text)) (Shows (object held)) rule_in
+    (λ name wiring text at_name has at_text.
+    these
+    (member (codes "do") (string (codes "rule"))
+    (member (codes "half") (string (half_text wiring.half))
+    (member (codes "hood") (string (hood_text wiring.hood))
+    (member (codes "minor") (string (minor_text wiring.minor))
+    (member (codes "name") (string name) (member (codes "text") (string text) no_members))))))
+    held (
+      (refl, (refl, (refl, (refl, (refl, tt))))),
+      (
+        (refl, (refl, (refl, (refl, tt)))),
+        ((refl, (refl, (refl, tt))), ((refl, (refl, tt)), ((refl, tt), (tt, tt)))),
+      ),
+    )
+    same given.0 (given.1, (has.0, (has.1, (has.2, (at_name, (at_text, tt)))))))
+    (text_at (codes "name") (object held)) (wiring_in (object held))
+    (text_at (codes "text") (object held))
+    (text_found (codes "name") (object held)) (wiring_found (object held))
+    (text_found (codes "text") (object held))
+
+rule_shown : (d : Data) → HasWord (codes "rule") d → IfSome (rule_of d) (Shows d)
+unfolding rule_of
+rule_shown d given = of_object 6 rule_fields (HasWord (codes "rule")) Shows rule_held d given
+
+abbrev entry_in : List ℕ → List ℕ → Grid → ℕ → NamedEntry
+entry_in a b grid phase =
+    record { a = rule_named a; b = rule_named b; grid = grid; phase = phase }
+
+entry_held : (held : Members) → count held ≡ 4 → IsOrdered (object held) →
+    IfSome (entry_fields (object held)) (ShowsEntry (object held))
+entry_held held same given =
+    of_four (λ a. get (codes "a") (object held) ≡ Some (string a))
+    (λ b. get (codes "b") (object held) ≡ Some (string b))
+    (λ grid. get (codes "grid") (object held) ≡ Some (string (grid_text grid)))
+    (λ phase. get (codes "phase") (object held) ≡ Some (natural phase))
+    (ShowsEntry (object held)) entry_in
+    (λ a b grid phase at_a at_b at_grid at_phase. (
+      a,
+      b,
+      refl,
+      refl,
+      these
+          (member (codes "a") (string a)
+          (member (codes "b") (string b)
+          (member (codes "grid") (string (grid_text grid))
+          (member (codes "phase") (natural phase) no_members))))
+          held
+          ((refl, (refl, (refl, tt))), ((refl, (refl, tt)), ((refl, tt), (tt, tt))))
+          same given (at_a, (at_b, (at_grid, (at_phase, tt)))),
+    ))
+    (text_at (codes "a") (object held)) (text_at (codes "b") (object held))
+    (text_at (codes "grid") (object held) >>= grid_named) (number_at (codes "phase") (object held))
+    (text_found (codes "a") (object held)) (text_found (codes "b") (object held))
+    (grid_found (codes "grid") (object held)) (number_found (codes "phase") (object held))
+
+entry_shown : (d : Data) → IsOrdered d → IfSome (entry_of d) (ShowsEntry d)
+unfolding entry_of
+entry_shown d given = of_object 4 entry_fields IsOrdered ShowsEntry entry_held d given
+
+entries_shown : (items : Items) → AreOrdered items →
+    IfSome (entries_of items) (ShowsEntries items)
+entries_shown no_items given = tt
+entries_shown (item d items) given =
+    of_step (ShowsEntry d) (ShowsEntries (item d items))
+    (λ entry. entries_of items >>= λ entries. Some (entry ∷ entries))
+    (λ entry shows.
+    of_step (ShowsEntries items) (ShowsEntries (item d items)) (λ entries. Some (entry ∷ entries))
+    (λ entries show. (shows, show)) (entries_of items) (entries_shown items given.1))
+    (entry_of d) (entry_shown d given.0)
+
+ordered_or : (o : Ordering) (x : Option Data) (e : Data) → IfSome x IsOrdered → IsOrdered e →
+    IfSome (match_ordering o x (Some e) x) IsOrdered
+ordered_or Less x e later here = later
+ordered_or Equal x e later here = here
+ordered_or Greater x e later here = later
+
+-- what stands at a key of an ordered object
+ordered_at : (key : List ℕ) (held : Members) → HaveOrder held →
+    IfSome (get_member key held) IsOrdered
+ordered_at key no_members given = tt
+ordered_at key (member next e held) given =
+    ordered_or (slice_cmp nat_cmp key next) (get_member key held) e (ordered_at key held given.1)
+    given.0
+
+and_is : (o : Option Data) → IfSome o IsOrdered → IfSome o (λ d. (o ≡ Some d) × IsOrdered d)
+and_is None given = tt
+and_is (Some d) given = (refl, given)
+
+abbrev HasEntries : Data → List NamedEntry → Type 0
+HasEntries d entries =
+    (items : Items) × ShowsEntries items entries ×
+    (get (codes "entries") d ≡ Some (array items))
+
+entries_in : (found : Option Data) (d : Data) → (found ≡ Some d) × IsOrdered d →
+    IfSome (as_array d >>= λ items. entries_of items)
+    (λ entries. (items : Items) × ShowsEntries items entries × (found ≡ Some (array items)))
+entries_in found null given = tt
+entries_in found (boolean b) given = tt
+entries_in found (number n) given = tt
+entries_in found (string s) given = tt
+entries_in found (object held) given = tt
+entries_in found (array items) given =
+    IfSome_then (entries_of items) (entries_shown items given.1)
+    (λ entries show. (items, show, given.0))
+
+entries_found : (held : Members) → HaveOrder held →
+    IfSome (entries_at (codes "entries") (object held)) (HasEntries (object held))
+entries_found held given =
+    of_step (λ d. (get_member (codes "entries") held ≡ Some d) × IsOrdered d)
+    (HasEntries (object held)) (λ d. as_array d >>= λ items. entries_of items)
+    (λ d given. entries_in (get_member (codes "entries") held) d given)
+    (get_member (codes "entries") held)
+    (and_is (get_member (codes "entries") held) (ordered_at (codes "entries") held given))
+
+cycle_held : (held : Members) → count held ≡ 2 → HasWord (codes "cycle") (object held) →
+    IfSome (option_map Cycle (entries_at (codes "entries") (object held))) (Shows (object held))
+cycle_held held same given =
+    of_map (HasEntries (object held)) (Shows (object held)) Cycle
+    (λ entries has. (
+      has.0,
+      has.1,
+      these
+          (member (codes "do") (string (codes "cycle"))
+          (member (codes "entries") (array has.0) no_members))
+          held ((refl, tt), (tt, tt)) same given.0 (given.1, (has.2, tt)),
+    ))
+    (entries_at (codes "entries") (object held)) (entries_found held given.0.1)
+
+cycle_shown : (d : Data) → HasWord (codes "cycle") d → IfSome (cycle_of d) (Shows d)
+unfolding cycle_of
+cycle_shown d given =
+    of_object 2 (λ x. option_map Cycle (entries_at (codes "entries") x)) (HasWord (codes "cycle"))
+    Shows cycle_held d given
+
+-- one word after another
+of_word : (word key : List ℕ) (d : Data) (x y : Option Command) →
+    IsOrdered d → get (codes "do") d ≡ Some (string word) →
+    (HasWord key d → IfSome x (Shows d)) → IfSome y (Shows d) →
+    IfSome (cond (bytes_eq word key) x y) (Shows d)
+of_word word key d x y ordered at here later =
+    of_test (Shows d) (bytes_eq word key) x y
+    (λ is. here (ordered, at ∙ ap (λ w. Some (string w)) ((bytes_eq-Decides word key).0 is))) later
+
+word_shown : (word : List ℕ) (d : Data) → IsOrdered d →
+    get (codes "do") d ≡ Some (string word) → IfSome (by_word word d) (Shows d)
+word_shown word d ordered at =
+    of_word word (codes "set") d (set_of d) _ ordered at (set_shown d)
+    (of_word word (codes "rule") d (rule_of d) _ ordered at (rule_shown d)
+    (of_word word (codes "cycle") d (cycle_of d) _ ordered at (cycle_shown d)
+    (of_word word (codes "run") d (run_of d) _ ordered at (run_shown d)
+    (of_word word (codes "plane") d (plane_of d) _ ordered at (plane_shown d) tt))))
+
+-- a command that is accepted so far
+abbrev IsAccepted : Data → Command → Type 0
+IsAccepted d c = Shows d c × (is_in_fragment c ≡ true)
+
+accepted : (d : Data) (c : Command) (b : Bool) → is_in_fragment c ≡ b → Shows d c →
+    IfSome (then_some b c) (IsAccepted d)
+accepted d c true is shows = (shows, is)
+accepted d c false is shows = tt
+
+pub command_shown : (d : Data) → IsOrdered d → IfSome (command_in d) (IsAccepted d)
+command_shown d ordered =
+    of_step (λ word. get (codes "do") d ≡ Some (string word)) (IsAccepted d)
+    (λ word. by_word word d >>= λ c. then_some (is_in_fragment c) c)
+    (λ word at.
+    of_step (Shows d) (IsAccepted d) (λ c. then_some (is_in_fragment c) c)
+    (λ c shows. accepted d c (is_in_fragment c) refl shows) (by_word word d)
+    (word_shown word d ordered at))
+    (text_at (codes "do") d) (text_found (codes "do") d)
+
+-- a line that says a command isn't too long
+not_too_long : (n : ℕ) (said : Result Command LineFault) (c : Command) (b : Bool) →
+    nat_lt 16384 n ≡ b → cond b (Err TooLong) said ≡ Ok c → (n ≤ 16384) × (said ≡ Ok c)
+not_too_long n said c true is e = let never : ⊥ = cc in absurd never
+not_too_long n said c false is e = (grind arith, e)
+
+-- it has a value, which is a command
+has_command : (o : Option Command) (c : Command) → ok_or o NoCommand ≡ Ok c → o ≡ Some c
+has_command None c e = let never : ⊥ = cc in absurd never
+has_command (Some x) c e = let same : x ≡ c = cc in ap Some same
+
+has_value : (o : Option Data) (c : Command) → from_value o ≡ Ok c →
+    (d : Data) × (o ≡ Some d) × (command_in d ≡ Some c)
+has_value None c e = let never : ⊥ = cc in absurd never
+has_value (Some d) c e = (d, refl, has_command (command_in d) c e)
+
+pub said_is_shown : SaidIsShown
+said_is_shown line c said =
+    let short =
+    not_too_long (length line) (from_value (value_of line)) c (nat_lt 16384 (length line)) refl
+    said in
+    let value = has_value (value_of line) c short.1 in
+    let ordered = of_value IsOrdered (value_of line) value.0 (value_is_ordered line) value.1 in
+    let is =
+    of_value (IsAccepted value.0) (command_in value.0) c (command_shown value.0 ordered) value.2
+    in
+    (short.0, (value.0, value.1, is.0), is.1)

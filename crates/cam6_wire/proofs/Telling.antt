@@ -1,0 +1,200 @@
+-- A line whose value shows a command says it.
+use Rattle.std.proofs.Common.{◌≡◌, ◌≤◌, ℕ, List, [], ◌∷◌, length, Bool, true, false, codes}
+use Rattle.std.proofs.Common.{Option, Some, None, Result, Ok, ok_or, option_and_then, option_map}
+use Rattle.std.proofs.Common.{refl, ap, sym, ◌∙◌, subst}
+use Rattle.std.specs.Bool.{then_some}
+use Rattle.std.specs.Result.{result_ok}
+use Rattle.hex.specs.Hex.{decode_sized}
+use Rattle.serde_json.specs.Data.{Data, string, array, object}
+use Rattle.serde_json.specs.Data.{Items, no_items, item, Members, no_members, member}
+use Rattle.cam6_wiring.specs.declared.names.Half.{Half}
+use Rattle.cam6_wiring.specs.declared.names.Half.TheVariants.{A, B}
+use Rattle.cam6_wiring.specs.declared.wirings.Hood.{Hood}
+use Rattle.cam6_wiring.specs.declared.wirings.Hood.TheVariants.{Moore, VonNeumann, Margolus}
+use Rattle.cam6_wiring.specs.declared.wirings.Hood.TheVariants.{MargolusPhase, MargolusHorzVert}
+use Rattle.cam6_wiring.specs.declared.wirings.Minor.{Minor}
+use Rattle.cam6_wiring.specs.declared.wirings.Minor.TheVariants.{Centers, Phases, HorzVert}
+use Rattle.cam6_wiring.specs.declared.wirings.Wiring.{Wiring}
+use Rattle.cam6_wiring.specs.declared.blocks.Grid.{Grid}
+use Rattle.cam6_wiring.specs.declared.blocks.Grid.TheVariants.{Even, Odd}
+use Rattle.cam6_machine.specs.declared.commands.Command.{Command}
+use Rattle.cam6_machine.specs.declared.commands.Command.TheVariants.{Set, Rule, Cycle, Run, Plane}
+use Rattle.cam6_machine.specs.declared.commands.NamedEntry.{NamedEntry}
+use Rattle.cam6_wire.specs.declared.faults.LineFault.TheVariants.{NoCommand}
+use Rattle.cam6_wire.specs.Fields.{text_at, ◌>>=◌}
+use Rattle.cam6_wire.specs.Replies.{natural}
+use Rattle.cam6_wire.specs.Settings.{half_text, hood_text, minor_text, grid_text}
+use Rattle.cam6_wire.specs.Settings.{half_named, hood_named, minor_named, grid_named, wiring_in}
+use Rattle.cam6_wire.specs.Entries.{rule_named, entry_of, entries_of}
+use Rattle.cam6_wire.specs.Fragment.{is_in_fragment}
+use Rattle.cam6_wire.specs.Commands.{set_of, rule_of, cycle_of, run_of, plane_of}
+use Rattle.cam6_wire.specs.Commands.{by_word, command_in, from_value}
+use Rattle.cam6_wire.specs.Shown.{ShowsEntry, ShowsEntries, Shows}
+use Rattle.cam6_wire.specs.Laws.{ShownIsSaid}
+use Rattle.cam6_wire.proofs.Saying.{short_line}
+
+half_of_text : (half : Half) → half_named (half_text half) ≡ Some half
+half_of_text A = refl
+half_of_text B = refl
+
+hood_of_text : (hood : Hood) → hood_named (hood_text hood) ≡ Some hood
+hood_of_text Moore = refl
+hood_of_text VonNeumann = refl
+hood_of_text Margolus = refl
+hood_of_text MargolusPhase = refl
+hood_of_text MargolusHorzVert = refl
+
+minor_of_text : (minor : Minor) → minor_named (minor_text minor) ≡ Some minor
+minor_of_text Centers = refl
+minor_of_text Phases = refl
+minor_of_text HorzVert = refl
+
+grid_of_text : (grid : Grid) → grid_named (grid_text grid) ≡ Some grid
+grid_of_text Even = refl
+grid_of_text Odd = refl
+
+-- three steps that all give a value
+three_steps : {A B C D : Type 0} (x : Option A) (y : Option B) (z : Option C)
+    (make : A → B → C → D) (a : A) (b : B) (c : C) → x ≡ Some a → y ≡ Some b → z ≡ Some c →
+    (x >>= λ a. y >>= λ b. z >>= λ c. Some (make a b c)) ≡ Some (make a b c)
+three_steps x y z make a b c is_a is_b is_c =
+    ap (λ x. x >>= λ a. y >>= λ b. z >>= λ c. Some (make a b c)) is_a ∙
+    ap (λ y. y >>= λ b. z >>= λ c. Some (make a b c)) is_b ∙
+    ap (λ z. z >>= λ c. Some (make a b c)) is_c
+
+set_said : (plane row : ℕ) (bits digits : List ℕ) → decode_sized digits 32 ≡ Ok bits →
+    set_of
+    (object
+    (member (codes "bits") (string digits)
+    (member (codes "do") (string (codes "set"))
+    (member (codes "plane") (natural plane) (member (codes "row") (natural row) no_members)))))
+    ≡ Some (Set plane row bits)
+unfolding set_of
+set_said plane row bits digits is =
+    ap (λ r. option_and_then (λ bits. Some (Set plane row bits)) (result_ok r)) is
+
+wiring_said : (half : Half) (hood : Hood) (minor : Minor) (name text : List ℕ) →
+    wiring_in
+    (object
+    (member (codes "do") (string (codes "rule"))
+    (member (codes "half") (string (half_text half))
+    (member (codes "hood") (string (hood_text hood))
+    (member (codes "minor") (string (minor_text minor))
+    (member (codes "name") (string name) (member (codes "text") (string text) no_members)))))))
+    ≡ Some (record { half = half; hood = hood; minor = minor })
+unfolding wiring_in
+wiring_said half hood minor name text =
+    three_steps (half_named (half_text half)) (hood_named (hood_text hood))
+    (minor_named (minor_text minor))
+    (λ half hood minor. record { half = half; hood = hood; minor = minor }) half hood minor
+    (half_of_text half) (hood_of_text hood) (minor_of_text minor)
+
+rule_said : (half : Half) (hood : Hood) (minor : Minor) (name text : List ℕ) →
+    rule_of
+    (object
+    (member (codes "do") (string (codes "rule"))
+    (member (codes "half") (string (half_text half))
+    (member (codes "hood") (string (hood_text hood))
+    (member (codes "minor") (string (minor_text minor))
+    (member (codes "name") (string name) (member (codes "text") (string text) no_members)))))))
+    ≡ Some (Rule name half hood minor text)
+unfolding rule_of
+rule_said half hood minor name text =
+    ap
+    (option_and_then
+    (λ (wiring : Wiring). Some (Rule name wiring.half wiring.hood wiring.minor text)))
+    (wiring_said half hood minor name text)
+
+entry_said : (entry : NamedEntry) (a b : List ℕ) → rule_named a ≡ entry.a →
+    rule_named b ≡ entry.b →
+    entry_of
+    (object
+    (member (codes "a") (string a)
+    (member (codes "b") (string b)
+    (member (codes "grid") (string (grid_text entry.grid))
+    (member (codes "phase") (natural entry.phase) no_members)))))
+    ≡ Some entry
+unfolding entry_of
+entry_said entry a b is_a is_b =
+    ap
+    (option_and_then
+    (λ grid. Some (record { a = rule_named a; b = rule_named b; grid = grid; phase = entry.phase })))
+    (grid_of_text entry.grid) ∙
+    ap
+    (λ name. Some (record { a = name; b = rule_named b; grid = entry.grid; phase = entry.phase }))
+    is_a ∙
+    ap (λ name. Some (record { a = entry.a; b = name; grid = entry.grid; phase = entry.phase })) is_b
+
+entries_said : (items : Items) (entries : List NamedEntry) → ShowsEntries items entries →
+    entries_of items ≡ Some entries
+entries_said no_items [] show = refl
+entries_said (item d items) [] show = absurd show
+entries_said no_items (entry ∷ entries) show = absurd show
+entries_said (item d items) (entry ∷ entries) show =
+    ap (λ x. entry_of x >>= λ entry. entries_of items >>= λ entries. Some (entry ∷ entries))
+    show.0.4 ∙
+    ap (λ x. x >>= λ entry. entries_of items >>= λ entries. Some (entry ∷ entries))
+    (entry_said entry show.0.0 show.0.1 show.0.2 show.0.3) ∙
+    ap (λ x. x >>= λ entries. Some (entry ∷ entries)) (entries_said items entries show.1)
+
+cycle_said : (items : Items) (entries : List NamedEntry) → ShowsEntries items entries →
+    cycle_of
+    (object
+    (member (codes "do") (string (codes "cycle"))
+    (member (codes "entries") (array items) no_members)))
+    ≡ Some (Cycle entries)
+unfolding cycle_of
+cycle_said items entries show = ap (option_map Cycle) (entries_said items entries show)
+
+run_said : (n : ℕ) →
+    run_of
+    (object
+    (member (codes "do") (string (codes "run")) (member (codes "n") (natural n) no_members)))
+    ≡ Some (Run n)
+unfolding run_of
+run_said n = refl
+
+plane_said : (n : ℕ) →
+    plane_of
+    (object
+    (member (codes "do") (string (codes "plane"))
+    (member (codes "plane") (natural n) no_members)))
+    ≡ Some (Plane n)
+unfolding plane_of
+plane_said n = refl
+
+-- an accepted command is what a value says by its word
+by_its_word : (d : Data) (word : List ℕ) (c : Command) → text_at (codes "do") d ≡ Some word →
+    by_word word d ≡ Some c → is_in_fragment c ≡ true → command_in d ≡ Some c
+by_its_word d word c at is accepted =
+    ap (λ o. o >>= λ word. by_word word d >>= λ c. then_some (is_in_fragment c) c) at ∙
+    ap (λ o. o >>= λ c. then_some (is_in_fragment c) c) is ∙ ap (λ b. then_some b c) accepted
+
+-- the same of a value that is another one
+of_same : (d e : Data) (c : Command) → d ≡ e → command_in e ≡ Some c → command_in d ≡ Some c
+of_same d e c same is = ap command_in same ∙ is
+
+shown_in : (d : Data) (c : Command) → Shows d c → is_in_fragment c ≡ true →
+    command_in d ≡ Some c
+shown_in d (Set plane row bits) shows accepted =
+    of_same d _ (Set plane row bits) shows.2
+    (by_its_word _ (codes "set") (Set plane row bits) refl
+    (set_said plane row bits shows.0 shows.1) accepted)
+shown_in d (Rule name half hood minor text) shows accepted =
+    of_same d _ (Rule name half hood minor text) shows
+    (by_its_word _ (codes "rule") (Rule name half hood minor text) refl
+    (rule_said half hood minor name text) accepted)
+shown_in d (Cycle entries) shows accepted =
+    of_same d _ (Cycle entries) shows.2
+    (by_its_word _ (codes "cycle") (Cycle entries) refl (cycle_said shows.0 entries shows.1)
+    accepted)
+shown_in d (Run n) shows accepted =
+    of_same d _ (Run n) shows (by_its_word _ (codes "run") (Run n) refl (run_said n) accepted)
+shown_in d (Plane n) shows accepted =
+    of_same d _ (Plane n) shows
+    (by_its_word _ (codes "plane") (Plane n) refl (plane_said n) accepted)
+
+pub shown_is_said : ShownIsSaid
+shown_is_said line d c short is shows accepted =
+    short_line line short ∙ ap from_value is ∙
+    ap (λ o. ok_or o NoCommand) (shown_in d c shows accepted)

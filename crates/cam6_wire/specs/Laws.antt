@@ -1,0 +1,20 @@
+-- The laws that tie what a line says to the values that commands are shown by.
+use Rattle.std.specs.Prelude.{◌≡◌, ◌≤◌, ℕ, List, length, true, Some, Ok}
+use Rattle.serde_json.specs.Data.{Data}
+use Rattle.cam6_machine.specs.declared.commands.Command.{Command}
+use Rattle.cam6_wire.specs.Fragment.{is_in_fragment}
+use Rattle.cam6_wire.specs.Commands.{command, value_of}
+use Rattle.cam6_wire.specs.Shown.{Shows}
+
+-- a line whose value shows a command that is accepted so far says it
+abbrev pub ShownIsSaid : Type 0
+ShownIsSaid =
+    (line : List ℕ) (d : Data) (c : Command) → length line ≤ 16384 → value_of line ≡ Some d →
+    Shows d c → is_in_fragment c ≡ true → command line ≡ Ok c
+
+-- a line says no other command
+abbrev pub SaidIsShown : Type 0
+SaidIsShown =
+    (line : List ℕ) (c : Command) → command line ≡ Ok c →
+    (length line ≤ 16384) × ((d : Data) × (value_of line ≡ Some d) × Shows d c) ×
+    (is_in_fragment c ≡ true)

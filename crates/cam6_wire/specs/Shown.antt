@@ -1,0 +1,76 @@
+-- The JSON value of each command, its keys in byte order.
+use Rattle.std.specs.Prelude.{◌≡◌, ℕ, List, [], ◌∷◌, codes, Ok, ⊤}
+use Rattle.hex.specs.Hex.{decode_sized}
+use Rattle.serde_json.specs.Data.{Data, string, array, object}
+use Rattle.serde_json.specs.Data.{Items, no_items, item, no_members, member}
+use Rattle.cam6_machine.specs.declared.commands.Command.{Command}
+use Rattle.cam6_machine.specs.declared.commands.Command.TheVariants.{Set, Rule, Cycle, Run, Plane}
+use Rattle.cam6_machine.specs.declared.commands.NamedEntry.{NamedEntry}
+use Rattle.cam6_wire.specs.Replies.{natural}
+use Rattle.cam6_wire.specs.Settings.{half_text, hood_text, minor_text, grid_text}
+use Rattle.cam6_wire.specs.Entries.{rule_named}
+
+-- {"a":n,"b":n,"grid":g,"phase":f}
+abbrev pub ShowsEntry : Data → NamedEntry → Type 0
+ShowsEntry d entry =
+    (a b : List ℕ) × (rule_named a ≡ entry.a) × (rule_named b ≡ entry.b) ×
+    (d
+    ≡ object
+    (member (codes "a") (string a)
+    (member (codes "b") (string b)
+    (member (codes "grid") (string (grid_text entry.grid))
+    (member (codes "phase") (natural entry.phase)
+    no_members)))))
+
+-- one after another
+abbrev pub ShowsEntries : Items → List NamedEntry → Type 0
+ShowsEntries no_items [] = ⊤
+ShowsEntries (item d ds) (entry ∷ entries) = ShowsEntry d entry × ShowsEntries ds entries
+ShowsEntries no_items (entry ∷ entries) = ⊥
+ShowsEntries (item d ds) [] = ⊥
+
+-- the value shows the command
+abbrev pub Shows : Data → Command → Type 0
+-- {"bits":"64 digits","do":"set","plane":p,"row":y}
+Shows d (Set plane row bits) =
+    (digits : List ℕ) × (decode_sized digits 32 ≡ Ok bits) ×
+    (d
+    ≡ object
+    (member (codes "bits") (string digits)
+    (member (codes "do") (string (codes "set"))
+    (member (codes "plane") (natural plane)
+    (member (codes "row") (natural row)
+    no_members)))))
+-- {"do":"rule","half":h,"hood":o,"minor":m,"name":n,"text":t}
+Shows d (Rule name half hood minor text) =
+    d
+    ≡ object
+    (member (codes "do") (string (codes "rule"))
+    (member (codes "half") (string (half_text half))
+    (member (codes "hood") (string (hood_text hood))
+    (member (codes "minor") (string (minor_text minor))
+    (member (codes "name") (string name)
+    (member (codes "text") (string text)
+    no_members))))))
+-- {"do":"cycle","entries":[{"a":n,"b":n,"grid":g,"phase":f},..]}
+Shows d (Cycle entries) =
+    (items : Items) × ShowsEntries items entries ×
+    (d
+    ≡ object
+    (member (codes "do") (string (codes "cycle"))
+    (member (codes "entries") (array items)
+    no_members)))
+-- {"do":"run","n":k}
+Shows d (Run n) =
+    d
+    ≡ object
+    (member (codes "do") (string (codes "run"))
+    (member (codes "n") (natural n)
+    no_members))
+-- {"do":"plane","plane":p}
+Shows d (Plane plane) =
+    d
+    ≡ object
+    (member (codes "do") (string (codes "plane"))
+    (member (codes "plane") (natural plane)
+    no_members))

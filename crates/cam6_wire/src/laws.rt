@@ -1,0 +1,13 @@
+//! Laws that tie what a line says to the values that commands are shown by. Each is the contract of a
+//! function that does nothing.
+ghost use Rattle.cam6_wire.specs.Laws.{ShownIsSaid, SaidIsShown};
+
+/// A line whose value shows a command that is accepted so far says it.
+pub fn a_shown_command_is_said()
+    ensures law { ShownIsSaid }
+{}
+
+/// A line that says a command has a value that shows it: its keys, and no others.
+pub fn a_said_command_is_shown()
+    ensures law { SaidIsShown }
+{}
