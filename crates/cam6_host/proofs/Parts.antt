@@ -6,7 +6,8 @@ use Rattle.std.proofs.lemmas.List.Elements.{All-append}
 use Rattle.std.proofs.KnownBytes.{Consumes-trans}
 use Rattle.std.specs.Io.KnownBytes.{Consumes}
 use Rattle.cam6_host.specs.Held.{Held, Holds, is_empty}
-use Rattle.cam6_host.specs.Reading.{HasNoLf, Reads, ReadsLine, TakesPart}
+use Rattle.cam6_wire.specs.OneLine.{HasNoLf}
+use Rattle.cam6_host.specs.Reading.{Reads, ReadsLine, TakesPart}
 use Rattle.cam6_host.specs.declared.lines.Line.TheVariants.{Ended, Last, EndOfInput}
 use Rattle.cam6_host.specs.declared.lines.Line.TheVariants.{ReadFault}
 use Rattle.cam6_host.specs.declared.lines.Part.TheVariants.{More, Newline, AtEnd, Fault}

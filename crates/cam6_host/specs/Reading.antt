@@ -1,15 +1,13 @@
 -- What reading a line takes from a reader, whose bytes may not be known, and what it keeps.
-use Rattle.std.specs.Prelude.{◌≡◌, ◌≢◌, ◌<◌, ℕ, List, [], ◌∷◌, ◌++◌, All, Option, Some, IfSome}
+use Rattle.std.specs.Prelude.{◌≡◌, ◌≢◌, ◌<◌, ℕ, List, [], ◌∷◌, ◌++◌, Option, Some, IfSome}
 use Rattle.std.specs.Io.KnownBytes.{Consumes, IsAtEnd}
+use Rattle.cam6_wire.specs.OneLine.{HasNoLf}
 use Rattle.cam6_host.specs.Held.{Held, Holds, Grows}
 use Rattle.cam6_host.specs.declared.lines.Part.{Part}
 use Rattle.cam6_host.specs.declared.lines.Part.TheVariants.{More, Newline, AtEnd, Fault}
 use Rattle.cam6_host.specs.declared.lines.Line.{Line}
 use Rattle.cam6_host.specs.declared.lines.Line.TheVariants.{Ended, Last, EndOfInput}
 use Rattle.cam6_host.specs.declared.lines.Line.TheVariants.{ReadFault, TurnBound}
-
-abbrev pub HasNoLf : List ℕ → Type 0
-HasNoLf = All (λ x. x ≢ 10)
 
 -- what a look takes behind its part of the line
 abbrev pub mark : Part → List ℕ

@@ -1,7 +1,8 @@
 //! The lines of a stream of bytes.
 ghost use Rattle.std.specs.Prelude.{◌≡◌, ◌<◌, ◌≤◌, if◌then◌else◌, length, take, slice_index};
 ghost use Rattle.cam6_host.specs.Held.{is_empty};
-ghost use Rattle.cam6_host.specs.Reading.{HasNoLf, Reads, TakesPart, Turns};
+ghost use Rattle.cam6_wire.specs.OneLine.{HasNoLf};
+ghost use Rattle.cam6_host.specs.Reading.{Reads, TakesPart, Turns};
 
 use crate::line_buffer::LineBuf;
 use std::io::BufRead;

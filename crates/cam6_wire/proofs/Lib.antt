@@ -1,5 +1,6 @@
 pub mod Members
 pub mod Floats
+pub mod Flat
 pub mod Saying
 pub mod Steps
 pub mod Ordered
@@ -7,3 +8,4 @@ pub mod Exactly
 pub mod Found
 pub mod Showing
 pub mod Telling
+pub mod Plain

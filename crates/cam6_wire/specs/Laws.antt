@@ -1,9 +1,14 @@
--- The laws that tie what a line says to the values that commands are shown by.
+-- The laws that tie what a line says to the values that commands are shown by, and that answers are
+-- lines.
 use Rattle.std.specs.Prelude.{◌≡◌, ◌≤◌, ℕ, List, length, true, Some, Ok}
 use Rattle.serde_json.specs.Data.{Data}
 use Rattle.cam6_machine.specs.declared.commands.Command.{Command}
+use Rattle.cam6_machine.specs.declared.replies.Reply.{Reply}
+use Rattle.cam6_wire.specs.declared.faults.LineFault.{LineFault}
 use Rattle.cam6_wire.specs.Fragment.{is_in_fragment}
 use Rattle.cam6_wire.specs.Commands.{command, value_of}
+use Rattle.cam6_wire.specs.Replies.{reply_bytes, fault_bytes}
+use Rattle.cam6_wire.specs.OneLine.{HasNoLf}
 use Rattle.cam6_wire.specs.Shown.{Shows}
 
 -- a line whose value shows a command that is accepted so far says it
@@ -18,3 +23,11 @@ SaidIsShown =
     (line : List ℕ) (c : Command) → command line ≡ Ok c →
     (length line ≤ 16384) × ((d : Data) × (value_of line ≡ Some d) × Shows d c) ×
     (is_in_fragment c ≡ true)
+
+-- the text of a reply is one line, whatever stands in it
+abbrev pub ReplyIsLine : Type 0
+ReplyIsLine = (reply : Reply) → HasNoLf (reply_bytes reply)
+
+-- and that of a line's fault
+abbrev pub FaultIsLine : Type 0
+FaultIsLine = (fault : LineFault) → HasNoLf (fault_bytes fault)

@@ -1,5 +1,6 @@
 -- In the order of reading: faults, what stands at a key, settings, entries, what is accepted so
--- far, commands, replies; then the values by which commands are shown, and the laws.
+-- far, commands, replies; then texts of one line, the values by which commands are shown, and the
+-- laws.
 pub mod Faults
 pub mod Fields
 pub mod Settings
@@ -7,5 +8,6 @@ pub mod Entries
 pub mod Fragment
 pub mod Commands
 pub mod Replies
+pub mod OneLine
 pub mod Shown
 pub mod Laws

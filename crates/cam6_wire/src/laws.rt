@@ -1,6 +1,6 @@
-//! Laws that tie what a line says to the values that commands are shown by. Each is the contract of a
-//! function that does nothing.
-ghost use Rattle.cam6_wire.specs.Laws.{ShownIsSaid, SaidIsShown};
+//! Laws that tie what a line says to the values that commands are shown by, and that answers are
+//! lines. Each is the contract of a function that does nothing.
+ghost use Rattle.cam6_wire.specs.Laws.{ShownIsSaid, SaidIsShown, ReplyIsLine, FaultIsLine};
 
 /// A line whose value shows a command that is accepted so far says it.
 pub fn a_shown_command_is_said()
@@ -10,4 +10,14 @@ pub fn a_shown_command_is_said()
 /// A line that says a command has a value that shows it: its keys, and no others.
 pub fn a_said_command_is_shown()
     ensures law { SaidIsShown }
+{}
+
+/// The text of a reply is one line, whatever stands in it.
+pub fn a_reply_is_one_line()
+    ensures law { ReplyIsLine }
+{}
+
+/// The text of a line's fault is one line.
+pub fn a_fault_is_one_line()
+    ensures law { FaultIsLine }
 {}

@@ -26,4 +26,12 @@ pub use reading::{LINE_LIMIT, read_command};
 pub use writing::{fault_text, reply_text};
 
 #[cfg(test)]
+mod command_tests;
+#[cfg(test)]
+mod fault_tests;
+#[cfg(test)]
+mod limit_tests;
+#[cfg(test)]
+mod reply_tests;
+#[cfg(test)]
 mod tests;

@@ -1,7 +1,8 @@
 //! Replies and the faults of lines as lines of JSON.
-ghost use Rattle.std.specs.Prelude.{◌≡◌, ◌≢◌, IfOk, string_bytes};
+ghost use Rattle.std.specs.Prelude.{◌≡◌, ◌≢◌, Some, IfOk, string_bytes};
 ghost use Rattle.std.specs.Str.{IsAscii};
 ghost use Rattle.serde_json.specs.Data.{array};
+ghost use Rattle.serde_json.specs.Read.{read};
 ghost use Rattle.serde_json.specs.View.{view};
 ghost use Rattle.cam6_wire.specs.Replies.{texts, reply_data, reply_bytes, fault_bytes};
 
@@ -13,7 +14,8 @@ use std::alloc::{AllocError, Global};
 
 /// The line that answers a command, without its LF.
 pub fn reply_text(alloc: Global, reply: &Reply) -> Result<String, NoMemory>
-    ensures { IfOk result (λ text. string_bytes text ≡ reply_bytes reply.now) }
+    ensures text { IfOk result (λ text. string_bytes text ≡ reply_bytes reply.now) }
+    ensures value { IfOk result (λ text. read (string_bytes text) ≡ Some (reply_data reply.now)) }
 {
     Ok(reply_value(alloc, reply)?.to_string(alloc)?)
 }

@@ -1,5 +1,5 @@
 use Rattle.std.proofs.Common.{take}
-use Rattle.cam6_host.specs.Reading.{HasNoLf}
+use Rattle.cam6_wire.specs.OneLine.{HasNoLf}
 use Rattle.cam6_host.proofs.lines.line_len.Given as goal
 
 abbrev pub invariant-loop-i : goal.invariant-loop-i
