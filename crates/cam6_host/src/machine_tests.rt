@@ -152,6 +152,46 @@ fn a_refused_rule_changes_nothing(rt: HostRuntime) -> Result<(), Fail> {
     Ok(())
 }
 
+const HOSTILE_LINES: &str = r#"{"do":"run","n":18446744073709551615}
+{"do":"run","n":18446744073709551616}
+{"do":"run","n":-1}
+{"do":"run","n":1.0}
+{"do":"run","n":1e999}
+{"do":"run","n":0,"n":65536}
+{"\u0064o":"r\u0075n","\u006e":0}
+  { "n" : 0 , "do" : "run" }
+{"do":"run","n":0,"x":0}
+{"do":"\ud800"}
+
+{"do":"fly"}
+{"do":"set","plane":9,"row":0,"bits":"00"}
+{"do":"ru"#;
+
+const THEIR_FAULTS: &str = r#"{"fault":65}
+{"fault":3}
+{"fault":3}
+{"fault":3}
+{"fault":2}
+{"fault":65}
+{"fault":63}
+{"fault":63}
+{"fault":3}
+{"fault":2}
+{"fault":2}
+{"fault":3}
+{"fault":3}
+{"fault":2}
+"#;
+
+// Numbers at their edges, repeated keys, escapes and spaces, and lines that are no commands.
+#[test]
+fn hostile_lines(rt: HostRuntime) -> Result<(), Fail> {
+    let mut machine = Machine::new(rt.alloc())?;
+    let got = answer(rt.alloc(), &mut machine, HOSTILE_LINES);
+    assert_eq!(rt; got.as_slice(), THEIR_FAULTS.as_bytes());
+    Ok(())
+}
+
 // Sixteen names, one of them again, and then a seventeenth, whose text isn't looked at.
 #[test]
 fn sixteen_rules(rt: HostRuntime) -> Result<(), Fail> {

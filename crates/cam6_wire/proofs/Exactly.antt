@@ -2,13 +2,13 @@
 use Rattle.std.proofs.Common.{◌≡◌, ◌≤◌, ◌+◌, ℕ, List, Option, Some, None}
 use Rattle.std.proofs.Common.{Ordering, Less, Equal, Greater, refl, sym, ap, ◌∙◌, subst, arith}
 use Rattle.std.specs.Prelude.{⊤}
-use Rattle.std.specs.Ordering.{nat_cmp, match_ordering, ordering_reverse}
+use Rattle.std.specs.Ordering.{nat_cmp, match_ordering}
 use Rattle.std.specs.Cmp.Lexicographic.{slice_cmp}
 use Rattle.std.proofs.lemmas.Map.Lookups.{exact_bytes}
-use Rattle.serde_json.specs.Data.{Data, Members, no_members, member}
+use Rattle.serde_json.specs.Data.{Data, object, Members, no_members, member}
 use Rattle.serde_json.specs.Find.{get_member}
 use Rattle.cam6_wire.specs.Fields.{count}
-use Rattle.cam6_wire.proofs.Ordered.{IsBefore, InOrder, before_later, turned}
+use Rattle.cam6_wire.proofs.Ordered.{IsBefore, InOrder, IsOrdered, before_later, turned}
 
 -- each of these members is found
 abbrev pub AreFound : Members → Members → Type 0
@@ -134,3 +134,9 @@ exactly (member key d wanted) (member next e held) order also same found =
     same_by key next d e wanted held (slice_cmp nat_cmp key next) refl order also
     (omega (arith, same)) found
     (λ found. exactly wanted held order.1 also.1 (omega (arith, same)) found)
+
+-- an object with these members
+pub these : (wanted held : Members) → InOrder wanted → count held ≡ count wanted →
+    IsOrdered (object held) → AreFound wanted held → object held ≡ object wanted
+these wanted held order same given found =
+    ap object (exactly wanted held order given.0 same found)

@@ -6,6 +6,7 @@ pub mod Steps
 pub mod Ordered
 pub mod Exactly
 pub mod Found
+pub mod ShownEntries
 pub mod Showing
 pub mod Telling
 pub mod Plain

@@ -1,6 +1,6 @@
 -- Of what is read, each object has its keys in byte order, each once.
 use Rattle.std.proofs.Common.{◌≡◌, ℕ, List, Bool, Option, Some, None, option_map, option_and_then, cond, true, false}
-use Rattle.std.proofs.Common.{Ordering, Less, Equal, Greater, refl, sym, ap, ◌∙◌, subst}
+use Rattle.std.proofs.Common.{Ordering, Less, Equal, Greater, refl, ap, ◌∙◌}
 use Rattle.std.specs.Prelude.{⊤}
 use Rattle.std.specs.Option.{IfSome}
 use Rattle.std.specs.Str.{is_utf8}
@@ -9,7 +9,6 @@ use Rattle.std.specs.Cmp.{IsTotalOrder}
 use Rattle.std.specs.Cmp.Lexicographic.{slice_cmp}
 use Rattle.std.proofs.lemmas.Cmp.{nat_list_cmp_total}
 use Rattle.json.specs.Json as json
-use Rattle.json.specs.Token.{Token}
 use Rattle.json.specs.Lex.{tokens}
 use Rattle.serde_json.specs.Data.{Num, Data, null, boolean, number, string, array, object, put}
 use Rattle.serde_json.specs.Data.{Items, no_items, item, Members, no_members, member}

@@ -1,51 +1,39 @@
 -- A line that says a command has a value that shows it.
-use Rattle.std.proofs.Common.{◌≡◌, ◌≤◌, ℕ, List, [], ◌∷◌, length, Bool, true, false, cond, nat_lt, codes}
+use Rattle.std.proofs.Common.{◌≡◌, ◌≤◌, ℕ, List, length, Bool, true, false, cond, nat_lt, codes}
 use Rattle.std.proofs.Common.{Option, Some, None, IfSome, Result, Ok, Err, ok_or, option_map}
-use Rattle.std.proofs.Common.{option_and_then, bytes_eq, refl, ap, sym, ◌∙◌, arith}
-use Rattle.std.proofs.Common.{Ordering, Less, Equal, Greater}
-use Rattle.std.specs.Ordering.{nat_cmp, match_ordering}
-use Rattle.std.specs.Cmp.Lexicographic.{slice_cmp}
+use Rattle.std.proofs.Common.{bytes_eq, refl, ap, ◌∙◌, arith}
 use Rattle.std.specs.Bool.{then_some}
-use Rattle.std.proofs.lemmas.Option.{IfSome_then}
 use Rattle.std.proofs.lemmas.Slice.Eq.{bytes_eq-Decides}
-use Rattle.serde_json.specs.Data.{Data, null, boolean, number, string, array, object}
-use Rattle.serde_json.specs.Data.{Items, no_items, item, Members, no_members, member}
-use Rattle.serde_json.specs.Find.{get, get_member, as_array}
+use Rattle.serde_json.specs.Data.{Data, string, array, object, Members, no_members, member}
+use Rattle.serde_json.specs.Find.{get}
 use Rattle.cam6_wiring.specs.declared.names.Half.{Half}
 use Rattle.cam6_wiring.specs.declared.wirings.Hood.{Hood}
 use Rattle.cam6_wiring.specs.declared.wirings.Minor.{Minor}
 use Rattle.cam6_wiring.specs.declared.wirings.Wiring.{Wiring}
-use Rattle.cam6_wiring.specs.declared.blocks.Grid.{Grid}
 use Rattle.cam6_machine.specs.declared.commands.Command.{Command}
 use Rattle.cam6_machine.specs.declared.commands.Command.TheVariants.{Set, Rule, Cycle, Run, Plane}
-use Rattle.cam6_machine.specs.declared.commands.NamedEntry.{NamedEntry}
 use Rattle.cam6_wire.specs.declared.faults.LineFault.{LineFault}
-use Rattle.cam6_wire.specs.declared.faults.LineFault.TheVariants.{NoJson, NoCommand, TooLong}
+use Rattle.cam6_wire.specs.declared.faults.LineFault.TheVariants.{NoCommand, TooLong}
 use Rattle.cam6_wire.specs.Fields.{count, number_at, text_at, bits_at, ◌>>=◌}
 use Rattle.cam6_wire.specs.Replies.{natural}
-use Rattle.cam6_wire.specs.Settings.{half_text, hood_text, minor_text, grid_text}
-use Rattle.cam6_wire.specs.Settings.{half_named, hood_named, minor_named, grid_named, wiring_in}
-use Rattle.cam6_wire.specs.Entries.{rule_named, entry_fields, entry_of, entries_of, entries_at}
+use Rattle.cam6_wire.specs.Settings.{half_text, hood_text, minor_text}
+use Rattle.cam6_wire.specs.Settings.{half_named, hood_named, minor_named, wiring_in}
+use Rattle.cam6_wire.specs.Entries.{entries_at}
 use Rattle.cam6_wire.specs.Fragment.{is_in_fragment}
 use Rattle.cam6_wire.specs.Commands.{set_fields, set_of, rule_fields, rule_of, cycle_of, run_of}
-use Rattle.cam6_wire.specs.Commands.{plane_of, by_word, command_in, command, from_value, value_of}
-use Rattle.cam6_wire.specs.Shown.{ShowsEntry, ShowsEntries, Shows}
+use Rattle.cam6_wire.specs.Commands.{plane_of, by_word, command_in, from_value, value_of}
+use Rattle.cam6_wire.specs.Shown.{Shows}
 use Rattle.cam6_wire.specs.Laws.{SaidIsShown}
-use Rattle.cam6_wire.proofs.Steps.{of_map, of_step, of_value, of_test, of_three, of_four}
-use Rattle.cam6_wire.proofs.Ordered.{IsOrdered, AreOrdered, InOrder, HaveOrder, value_is_ordered}
-use Rattle.cam6_wire.proofs.Exactly.{AreFound, exactly}
+use Rattle.cam6_wire.proofs.Steps.{of_map, of_step, of_value, of_test, of_three}
+use Rattle.cam6_wire.proofs.Ordered.{IsOrdered, value_is_ordered}
+use Rattle.cam6_wire.proofs.Exactly.{these}
 use Rattle.cam6_wire.proofs.Found.{number_found, text_found, AreDigits, bits_found}
-use Rattle.cam6_wire.proofs.Found.{half_found, hood_found, minor_found, grid_found, of_object}
+use Rattle.cam6_wire.proofs.Found.{half_found, hood_found, minor_found, of_object}
+use Rattle.cam6_wire.proofs.ShownEntries.{HasEntries, entries_found}
 
 -- what holds of a value whose word at the key do is known
 abbrev HasWord : List ℕ → Data → Type 0
 HasWord word d = IsOrdered d × (get (codes "do") d ≡ Some (string word))
-
--- an object with these members
-these : (wanted held : Members) → InOrder wanted → count held ≡ count wanted →
-    IsOrdered (object held) → AreFound wanted held → object held ≡ object wanted
-these wanted held order same given found =
-    ap object (exactly wanted held order given.0 same found)
 
 set_held : (held : Members) → count held ≡ 4 → HasWord (codes "set") (object held) →
     IfSome (set_fields (object held)) (Shows (object held))
@@ -160,96 +148,6 @@ rule_held held same given =
 rule_shown : (d : Data) → HasWord (codes "rule") d → IfSome (rule_of d) (Shows d)
 unfolding rule_of
 rule_shown d given = of_object 6 rule_fields (HasWord (codes "rule")) Shows rule_held d given
-
-abbrev entry_in : List ℕ → List ℕ → Grid → ℕ → NamedEntry
-entry_in a b grid phase =
-    record { a = rule_named a; b = rule_named b; grid = grid; phase = phase }
-
-entry_held : (held : Members) → count held ≡ 4 → IsOrdered (object held) →
-    IfSome (entry_fields (object held)) (ShowsEntry (object held))
-entry_held held same given =
-    of_four (λ a. get (codes "a") (object held) ≡ Some (string a))
-    (λ b. get (codes "b") (object held) ≡ Some (string b))
-    (λ grid. get (codes "grid") (object held) ≡ Some (string (grid_text grid)))
-    (λ phase. get (codes "phase") (object held) ≡ Some (natural phase))
-    (ShowsEntry (object held)) entry_in
-    (λ a b grid phase at_a at_b at_grid at_phase. (
-      a,
-      b,
-      refl,
-      refl,
-      these
-          (member (codes "a") (string a)
-          (member (codes "b") (string b)
-          (member (codes "grid") (string (grid_text grid))
-          (member (codes "phase") (natural phase) no_members))))
-          held
-          ((refl, (refl, (refl, tt))), ((refl, (refl, tt)), ((refl, tt), (tt, tt))))
-          same given (at_a, (at_b, (at_grid, (at_phase, tt)))),
-    ))
-    (text_at (codes "a") (object held)) (text_at (codes "b") (object held))
-    (text_at (codes "grid") (object held) >>= grid_named) (number_at (codes "phase") (object held))
-    (text_found (codes "a") (object held)) (text_found (codes "b") (object held))
-    (grid_found (codes "grid") (object held)) (number_found (codes "phase") (object held))
-
-entry_shown : (d : Data) → IsOrdered d → IfSome (entry_of d) (ShowsEntry d)
-unfolding entry_of
-entry_shown d given = of_object 4 entry_fields IsOrdered ShowsEntry entry_held d given
-
-entries_shown : (items : Items) → AreOrdered items →
-    IfSome (entries_of items) (ShowsEntries items)
-entries_shown no_items given = tt
-entries_shown (item d items) given =
-    of_step (ShowsEntry d) (ShowsEntries (item d items))
-    (λ entry. entries_of items >>= λ entries. Some (entry ∷ entries))
-    (λ entry shows.
-    of_step (ShowsEntries items) (ShowsEntries (item d items)) (λ entries. Some (entry ∷ entries))
-    (λ entries show. (shows, show)) (entries_of items) (entries_shown items given.1))
-    (entry_of d) (entry_shown d given.0)
-
-ordered_or : (o : Ordering) (x : Option Data) (e : Data) → IfSome x IsOrdered → IsOrdered e →
-    IfSome (match_ordering o x (Some e) x) IsOrdered
-ordered_or Less x e later here = later
-ordered_or Equal x e later here = here
-ordered_or Greater x e later here = later
-
--- what stands at a key of an ordered object
-ordered_at : (key : List ℕ) (held : Members) → HaveOrder held →
-    IfSome (get_member key held) IsOrdered
-ordered_at key no_members given = tt
-ordered_at key (member next e held) given =
-    ordered_or (slice_cmp nat_cmp key next) (get_member key held) e (ordered_at key held given.1)
-    given.0
-
-and_is : (o : Option Data) → IfSome o IsOrdered → IfSome o (λ d. (o ≡ Some d) × IsOrdered d)
-and_is None given = tt
-and_is (Some d) given = (refl, given)
-
-abbrev HasEntries : Data → List NamedEntry → Type 0
-HasEntries d entries =
-    (items : Items) × ShowsEntries items entries ×
-    (get (codes "entries") d ≡ Some (array items))
-
-entries_in : (found : Option Data) (d : Data) → (found ≡ Some d) × IsOrdered d →
-    IfSome (as_array d >>= λ items. entries_of items)
-    (λ entries. (items : Items) × ShowsEntries items entries × (found ≡ Some (array items)))
-entries_in found null given = tt
-entries_in found (boolean b) given = tt
-entries_in found (number n) given = tt
-entries_in found (string s) given = tt
-entries_in found (object held) given = tt
-entries_in found (array items) given =
-    IfSome_then (entries_of items) (entries_shown items given.1)
-    (λ entries show. (items, show, given.0))
-
-entries_found : (held : Members) → HaveOrder held →
-    IfSome (entries_at (codes "entries") (object held)) (HasEntries (object held))
-entries_found held given =
-    of_step (λ d. (get_member (codes "entries") held ≡ Some d) × IsOrdered d)
-    (HasEntries (object held)) (λ d. as_array d >>= λ items. entries_of items)
-    (λ d given. entries_in (get_member (codes "entries") held) d given)
-    (get_member (codes "entries") held)
-    (and_is (get_member (codes "entries") held) (ordered_at (codes "entries") held given))
 
 cycle_held : (held : Members) → count held ≡ 2 → HasWord (codes "cycle") (object held) →
     IfSome (option_map Cycle (entries_at (codes "entries") (object held))) (Shows (object held))

@@ -1,12 +1,12 @@
 -- A line whose value shows a command says it.
-use Rattle.std.proofs.Common.{◌≡◌, ◌≤◌, ℕ, List, [], ◌∷◌, length, Bool, true, false, codes}
-use Rattle.std.proofs.Common.{Option, Some, None, Result, Ok, ok_or, option_and_then, option_map}
-use Rattle.std.proofs.Common.{refl, ap, sym, ◌∙◌, subst}
+use Rattle.std.proofs.Common.{◌≡◌, ℕ, List, [], ◌∷◌, true, codes}
+use Rattle.std.proofs.Common.{Option, Some, Ok, ok_or, option_and_then, option_map}
+use Rattle.std.proofs.Common.{refl, ap, ◌∙◌}
 use Rattle.std.specs.Bool.{then_some}
 use Rattle.std.specs.Result.{result_ok}
 use Rattle.hex.specs.Hex.{decode_sized}
 use Rattle.serde_json.specs.Data.{Data, string, array, object}
-use Rattle.serde_json.specs.Data.{Items, no_items, item, Members, no_members, member}
+use Rattle.serde_json.specs.Data.{Items, no_items, item, no_members, member}
 use Rattle.cam6_wiring.specs.declared.names.Half.{Half}
 use Rattle.cam6_wiring.specs.declared.names.Half.TheVariants.{A, B}
 use Rattle.cam6_wiring.specs.declared.wirings.Hood.{Hood}
@@ -29,7 +29,7 @@ use Rattle.cam6_wire.specs.Entries.{rule_named, entry_of, entries_of}
 use Rattle.cam6_wire.specs.Fragment.{is_in_fragment}
 use Rattle.cam6_wire.specs.Commands.{set_of, rule_of, cycle_of, run_of, plane_of}
 use Rattle.cam6_wire.specs.Commands.{by_word, command_in, from_value}
-use Rattle.cam6_wire.specs.Shown.{ShowsEntry, ShowsEntries, Shows}
+use Rattle.cam6_wire.specs.Shown.{ShowsEntries, Shows}
 use Rattle.cam6_wire.specs.Laws.{ShownIsSaid}
 use Rattle.cam6_wire.proofs.Saying.{short_line}
 

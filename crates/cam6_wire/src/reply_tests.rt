@@ -45,6 +45,27 @@ fn replies(rt: HostRuntime) -> Result<(), Fail> {
             r#"{"address":12,"fault":42}"#,
         ),
         (
+            Reply::RuleText(TextFault {
+                number: 27,
+                token: 8193,
+            }),
+            r#"{"fault":27,"token":8193}"#,
+        ),
+        (
+            Reply::RuleStops {
+                address: 0,
+                fault: RuleFault::FullStack,
+            },
+            r#"{"address":0,"fault":41}"#,
+        ),
+        (
+            Reply::RuleStops {
+                address: 4,
+                fault: RuleFault::Range,
+            },
+            r#"{"address":4,"fault":43}"#,
+        ),
+        (
             Reply::RuleStops {
                 address: 4095,
                 fault: RuleFault::MissingValue,

@@ -1,0 +1,110 @@
+-- A list that is read as a cycle's entries shows them.
+use Rattle.std.proofs.Common.{◌≡◌, ℕ, List, ◌∷◌, codes, Option, Some, None, IfSome, refl}
+use Rattle.std.proofs.Common.{Ordering, Less, Equal, Greater}
+use Rattle.std.specs.Ordering.{nat_cmp, match_ordering}
+use Rattle.std.specs.Cmp.Lexicographic.{slice_cmp}
+use Rattle.std.proofs.lemmas.Option.{IfSome_then}
+use Rattle.serde_json.specs.Data.{Data, null, boolean, number, string, array, object}
+use Rattle.serde_json.specs.Data.{Items, no_items, item, Members, no_members, member}
+use Rattle.serde_json.specs.Find.{get, get_member, as_array}
+use Rattle.cam6_wiring.specs.declared.blocks.Grid.{Grid}
+use Rattle.cam6_machine.specs.declared.commands.NamedEntry.{NamedEntry}
+use Rattle.cam6_wire.specs.Fields.{count, number_at, text_at, ◌>>=◌}
+use Rattle.cam6_wire.specs.Replies.{natural}
+use Rattle.cam6_wire.specs.Settings.{grid_text, grid_named}
+use Rattle.cam6_wire.specs.Entries.{rule_named, entry_fields, entry_of, entries_of, entries_at}
+use Rattle.cam6_wire.specs.Shown.{ShowsEntry, ShowsEntries}
+use Rattle.cam6_wire.proofs.Steps.{of_step, of_four}
+use Rattle.cam6_wire.proofs.Ordered.{IsOrdered, AreOrdered, HaveOrder}
+use Rattle.cam6_wire.proofs.Exactly.{these}
+use Rattle.cam6_wire.proofs.Found.{number_found, text_found, grid_found, of_object}
+
+abbrev entry_in : List ℕ → List ℕ → Grid → ℕ → NamedEntry
+entry_in a b grid phase =
+    record { a = rule_named a; b = rule_named b; grid = grid; phase = phase }
+
+entry_held : (held : Members) → count held ≡ 4 → IsOrdered (object held) →
+    IfSome (entry_fields (object held)) (ShowsEntry (object held))
+entry_held held same given =
+    of_four (λ a. get (codes "a") (object held) ≡ Some (string a))
+    (λ b. get (codes "b") (object held) ≡ Some (string b))
+    (λ grid. get (codes "grid") (object held) ≡ Some (string (grid_text grid)))
+    (λ phase. get (codes "phase") (object held) ≡ Some (natural phase))
+    (ShowsEntry (object held)) entry_in
+    (λ a b grid phase at_a at_b at_grid at_phase. (
+      a,
+      b,
+      refl,
+      refl,
+      these
+          (member (codes "a") (string a)
+          (member (codes "b") (string b)
+          (member (codes "grid") (string (grid_text grid))
+          (member (codes "phase") (natural phase) no_members))))
+          held
+          ((refl, (refl, (refl, tt))), ((refl, (refl, tt)), ((refl, tt), (tt, tt))))
+          same given (at_a, (at_b, (at_grid, (at_phase, tt)))),
+    ))
+    (text_at (codes "a") (object held)) (text_at (codes "b") (object held))
+    (text_at (codes "grid") (object held) >>= grid_named) (number_at (codes "phase") (object held))
+    (text_found (codes "a") (object held)) (text_found (codes "b") (object held))
+    (grid_found (codes "grid") (object held)) (number_found (codes "phase") (object held))
+
+entry_shown : (d : Data) → IsOrdered d → IfSome (entry_of d) (ShowsEntry d)
+unfolding entry_of
+entry_shown d given = of_object 4 entry_fields IsOrdered ShowsEntry entry_held d given
+
+entries_shown : (items : Items) → AreOrdered items →
+    IfSome (entries_of items) (ShowsEntries items)
+entries_shown no_items given = tt
+entries_shown (item d items) given =
+    of_step (ShowsEntry d) (ShowsEntries (item d items))
+    (λ entry. entries_of items >>= λ entries. Some (entry ∷ entries))
+    (λ entry shows.
+    of_step (ShowsEntries items) (ShowsEntries (item d items)) (λ entries. Some (entry ∷ entries))
+    (λ entries show. (shows, show)) (entries_of items) (entries_shown items given.1))
+    (entry_of d) (entry_shown d given.0)
+
+ordered_or : (o : Ordering) (x : Option Data) (e : Data) → IfSome x IsOrdered → IsOrdered e →
+    IfSome (match_ordering o x (Some e) x) IsOrdered
+ordered_or Less x e later here = later
+ordered_or Equal x e later here = here
+ordered_or Greater x e later here = later
+
+-- what stands at a key of an ordered object
+ordered_at : (key : List ℕ) (held : Members) → HaveOrder held →
+    IfSome (get_member key held) IsOrdered
+ordered_at key no_members given = tt
+ordered_at key (member next e held) given =
+    ordered_or (slice_cmp nat_cmp key next) (get_member key held) e (ordered_at key held given.1)
+    given.0
+
+and_is : (o : Option Data) → IfSome o IsOrdered → IfSome o (λ d. (o ≡ Some d) × IsOrdered d)
+and_is None given = tt
+and_is (Some d) given = (refl, given)
+
+abbrev pub HasEntries : Data → List NamedEntry → Type 0
+HasEntries d entries =
+    (items : Items) × ShowsEntries items entries ×
+    (get (codes "entries") d ≡ Some (array items))
+
+entries_in : (found : Option Data) (d : Data) → (found ≡ Some d) × IsOrdered d →
+    IfSome (as_array d >>= λ items. entries_of items)
+    (λ entries. (items : Items) × ShowsEntries items entries × (found ≡ Some (array items)))
+entries_in found null given = tt
+entries_in found (boolean b) given = tt
+entries_in found (number n) given = tt
+entries_in found (string s) given = tt
+entries_in found (object held) given = tt
+entries_in found (array items) given =
+    IfSome_then (entries_of items) (entries_shown items given.1)
+    (λ entries show. (items, show, given.0))
+
+pub entries_found : (held : Members) → HaveOrder held →
+    IfSome (entries_at (codes "entries") (object held)) (HasEntries (object held))
+entries_found held given =
+    of_step (λ d. (get_member (codes "entries") held ≡ Some d) × IsOrdered d)
+    (HasEntries (object held)) (λ d. as_array d >>= λ items. entries_of items)
+    (λ d given. entries_in (get_member (codes "entries") held) d given)
+    (get_member (codes "entries") held)
+    (and_is (get_member (codes "entries") held) (ordered_at (codes "entries") held given))
