@@ -31,7 +31,7 @@ ShowsEntries (item d ds) [] = ⊥
 
 -- the value shows the command
 abbrev pub Shows : Data → Command → Type 0
--- {"bits":"64 digits","do":"set","plane":p,"row":y}
+-- {"bits":"64 digits","do":"set","plane":p,"row":y}, the digits of either case
 Shows d (Set plane row bits) =
     (digits : List ℕ) × (decode_sized digits 32 ≡ Ok bits) ×
     (d
