@@ -100,7 +100,8 @@ named_at : {A : Type 0} (shown : A → List ℕ) (named : List ℕ → Option A)
     ((text : List ℕ) → IfSome (named text) (λ a. text ≡ shown a)) → (key : List ℕ) (d : Data) →
     IfSome (text_at key d >>= named) (λ a. get key d ≡ Some (string (shown a)))
 named_at shown named holds key d =
-    of_step (λ text. get key d ≡ Some (string text)) (λ a. get key d ≡ Some (string (shown a))) named
+    of_step (λ text. get key d ≡ Some (string text))
+    (λ a. get key d ≡ Some (string (shown a))) named
     (λ text found. IfSome_then (named text) (holds text)
     (λ a is. found ∙ ap (λ s. Some (string s)) is))
     (text_at key d) (text_found key d)

@@ -118,12 +118,15 @@ unfolding entry_of
 entry_said entry a b is_a is_b =
     ap
     (option_and_then
-    (λ grid. Some (record { a = rule_named a; b = rule_named b; grid = grid; phase = entry.phase })))
+    (λ grid.
+    Some (record { a = rule_named a; b = rule_named b; grid = grid; phase = entry.phase })))
     (grid_of_text entry.grid) ∙
     ap
     (λ name. Some (record { a = name; b = rule_named b; grid = entry.grid; phase = entry.phase }))
     is_a ∙
-    ap (λ name. Some (record { a = entry.a; b = name; grid = entry.grid; phase = entry.phase })) is_b
+    ap
+    (λ name. Some (record { a = entry.a; b = name; grid = entry.grid; phase = entry.phase }))
+    is_b
 
 entries_said : (items : Items) (entries : List NamedEntry) → ShowsEntries items entries →
     entries_of items ≡ Some entries

@@ -15,6 +15,8 @@ fn runs_and_planes(rt: HostRuntime) -> Result<(), Fail> {
     for (digits, want) in [
         ("0", 0),
         ("1", 1),
+        ("3", 3),
+        ("4", 4),
         ("65535", 65_535),
         ("65536", 65_536),
         ("9223372036854775807", 9_223_372_036_854_775_807),
@@ -76,7 +78,7 @@ fn sets(rt: HostRuntime) -> Result<(), Fail> {
     Ok(())
 }
 
-// From the table of commands: a name and a text are read as JSON has them, and judged by the machine.
+// From the table of commands: a name and a text are read as JSON has them; the machine judges them.
 #[test]
 fn rules(rt: HostRuntime) -> Result<(), Fail> {
     let alloc = rt.alloc();

@@ -74,6 +74,11 @@ fn cycles_of_other_entries(rt: HostRuntime) -> Result<(), Fail> {
         (r#"{"a":"P","b":"-","grid":"EVEN","phase":"0"}"#, 1),
         (r#"{"a":"P","b":"-","grid":"even","phase":0}"#, 1),
         (r#"{"a":"P","b":"-","grid":"EVEN"}"#, 1),
+        (r#"{"a":"P","b":"-","phase":0}"#, 1),
+        (r#"{"a":"P","grid":"EVEN","phase":0}"#, 1),
+        (r#"{"b":"-","grid":"EVEN","phase":0}"#, 1),
+        (r#"{"a":"P","b":"-","grid":0,"phase":0}"#, 1),
+        (r#"{"a":"P","b":false,"grid":"EVEN","phase":0}"#, 1),
         (r#"{"a":"P","b":"-","grid":"EVEN","phase":0,"x":0}"#, 1),
         (r#"{"a":null,"b":"-","grid":"EVEN","phase":0}"#, 1),
         ("7", 1),
@@ -88,8 +93,20 @@ fn cycles_of_other_entries(rt: HostRuntime) -> Result<(), Fail> {
     Ok(())
 }
 
-/// Lines of one JSON value that is no command: other values, unknown words, a key too few, a key too
-/// many, a value of a wrong type.
+const ROW_WITHOUT_PLANE: &str =
+    r#"{"do":"set","row":0,"bits":"0000000000000000000000000000000000000000000000000000000000000000"}"#;
+
+const ROW_WITHOUT_ROW: &str =
+    r#"{"do":"set","plane":0,"bits":"0000000000000000000000000000000000000000000000000000000000000000"}"#;
+
+const ROW_OF_TEXT: &str =
+    r#"{"do":"set","plane":0,"row":"0","bits":"0000000000000000000000000000000000000000000000000000000000000000"}"#;
+
+const ROW_WITH_MORE: &str =
+    r#"{"do":"set","plane":0,"row":0,"x":0,"bits":"0000000000000000000000000000000000000000000000000000000000000000"}"#;
+
+/// Lines of one JSON value that is no command: other values, unknown words, a key too few, a key
+/// too many, a value of a wrong type.
 const NO_COMMANDS: &[&str] = &[
     "null",
     "true",
@@ -118,6 +135,11 @@ const NO_COMMANDS: &[&str] = &[
     r#"{"do":"plane","plane":0,"row":0}"#,
     r#"{"do":"set","plane":0,"row":0}"#,
     r#"{"do":"set","plane":0,"row":0,"bits":0}"#,
+    r#"{"do":"set","plane":0,"row":0,"bits":["00"]}"#,
+    ROW_WITHOUT_PLANE,
+    ROW_WITHOUT_ROW,
+    ROW_OF_TEXT,
+    ROW_WITH_MORE,
     r#"{"do":"rule","name":"P","half":"A","hood":"N/VONN","minor":"&/CENTERS"}"#,
     r#"{"do":"rule","name":"P","half":"A","hood":"N/VONN","text":""}"#,
     r#"{"do":"rule","name":"P","half":"A","minor":"&/CENTERS","text":""}"#,
@@ -144,8 +166,8 @@ fn no_commands(rt: HostRuntime) {
     }
 }
 
-// From the table of faults: numbers for which `as_u64` gives none, and texts that are no JSON numbers
-// or too large for any.
+// From the table of faults: numbers for which `as_u64` gives none, and texts that are no JSON
+// numbers or too large for any.
 #[test]
 fn numbers(rt: HostRuntime) -> Result<(), Fail> {
     let alloc = rt.alloc();
@@ -227,8 +249,8 @@ fn no_json(rt: HostRuntime) {
     }
 }
 
-/// Bytes that are no UTF-8, in a text and outside one: no first byte, an overlong NUL, a cut letter, a
-/// surrogate, a number above the last.
+/// Bytes that are no UTF-8, in a text and outside one: no first byte, an overlong NUL, a cut letter,
+/// a surrogate, a number above the last.
 const NO_UTF8: &[&[u8]] = &[
     &[0x22, 0xFF, 0x22],
     &[0x22, 0x80, 0x22],

@@ -9,4 +9,5 @@ returns-in_default c =
 pub returns : goal.returns
 returns c =
     reads_value c.args.line.now _ c.in_ok-command_in.field-0 c.ok_or.result
-    c.if-line-gt-LINE_LIMIT.false c.in-Ok.ensures.ok c.in_ok-command_in.ensures c.ok_or.ensures.value
+    c.if-line-gt-LINE_LIMIT.false c.in-Ok.ensures.ok c.in_ok-command_in.ensures
+    c.ok_or.ensures.value
