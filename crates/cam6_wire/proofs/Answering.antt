@@ -1,0 +1,47 @@
+-- Lines are answered one after another.
+use Rattle.std.proofs.Common.{◌≡◌, ℕ, List, [], ◌∷◌, ◌++◌, Result, Ok, Err, refl, sym, ap, ◌∙◌}
+use Rattle.std.proofs.Common.{append_assoc, append-nil}
+use Rattle.std.specs.Prelude.{map}
+use Rattle.cam6_machine.specs.Machine.{Machine}
+use Rattle.cam6_machine.specs.Alone.{replies, after_all}
+use Rattle.cam6_machine.specs.declared.commands.Command.{Command}
+use Rattle.cam6_wire.specs.declared.faults.LineFault.{LineFault}
+use Rattle.cam6_wire.specs.Commands.{command}
+use Rattle.cam6_wire.specs.Answers.{text_to, machine_after, answer, answers, after_line, after_lines}
+use Rattle.cam6_wire.specs.Answers.{commands, texts_of}
+use Rattle.cam6_wire.specs.Laws.{AnswersAreReplies}
+
+-- one more line is answered by the machine after those before it
+pub answers_to_more : (m : Machine) (done : List (List ℕ)) (line : List ℕ)
+    → answers m (done ++ line ∷ []) ≡ answers m done ++ answer (after_lines m done) line
+answers_to_more m [] line = append-nil (answer m line)
+answers_to_more m (first ∷ done) line =
+    ap (λ t. answer m first ++ t) (answers_to_more (after_line m first) done line)
+    ∙ sym (append_assoc (answer m first) _ _)
+
+pub after_more : (m : Machine) (done : List (List ℕ)) (line : List ℕ)
+    → after_lines m (done ++ line ∷ []) ≡ after_line (after_lines m done) line
+after_more m [] line = refl
+after_more m (first ∷ done) line = after_more (after_line m first) done line
+
+-- what was said is answered, and then the rest as the replies go on
+texts_go_on : (m : Machine) (said : Result Command LineFault)
+    (later : List (Result Command LineFault))
+    → texts_of (said ∷ later) (replies m (commands (said ∷ later)))
+    ≡ (text_to m said ++ 10 ∷ []) ++ texts_of later (replies (machine_after m said) (commands later))
+texts_go_on m (Ok c) later = sym (append_assoc (text_to m (Ok c)) (10 ∷ []) _)
+texts_go_on m (Err fault) later = sym (append_assoc (text_to m (Err fault)) (10 ∷ []) _)
+
+machine_goes_on : (m : Machine) (said : Result Command LineFault)
+    (later : List (Result Command LineFault))
+    → after_all m (commands (said ∷ later)) ≡ after_all (machine_after m said) (commands later)
+machine_goes_on m (Ok c) later = refl
+machine_goes_on m (Err fault) later = refl
+
+pub answers_are_replies : AnswersAreReplies
+answers_are_replies m [] = (refl, refl)
+answers_are_replies m (line ∷ later) =
+    let rest = answers_are_replies (after_line m line) later in (
+      ap (λ t. answer m line ++ t) rest.0 ∙ sym (texts_go_on m (command line) (map command later)),
+      rest.1 ∙ sym (machine_goes_on m (command line) (map command later)),
+    )

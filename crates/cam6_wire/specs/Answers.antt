@@ -1,0 +1,49 @@
+-- What a machine answers to lines.
+use Rattle.std.specs.Prelude.{ℕ, List, [], ◌∷◌, ◌++◌, Result, Ok, Err}
+use Rattle.cam6_machine.specs.Machine.{Machine}
+use Rattle.cam6_machine.specs.Alone.{reply, after}
+use Rattle.cam6_machine.specs.declared.commands.Command.{Command}
+use Rattle.cam6_machine.specs.declared.replies.Reply.{Reply}
+use Rattle.cam6_wire.specs.declared.faults.LineFault.{LineFault}
+use Rattle.cam6_wire.specs.Commands.{command}
+use Rattle.cam6_wire.specs.Replies.{reply_bytes, fault_bytes}
+
+-- the text of what a machine answers to what a line says: its reply, or the line's fault
+abbrev pub text_to : Machine → Result Command LineFault → List ℕ
+text_to m (Ok c) = reply_bytes (reply m c)
+text_to m (Err fault) = fault_bytes fault
+
+-- the machine after it; a fault leaves it
+abbrev pub machine_after : Machine → Result Command LineFault → Machine
+machine_after m (Ok c) = after m c
+machine_after m (Err fault) = m
+
+-- the text that answers a line, with its LF
+abbrev pub answer : Machine → List ℕ → List ℕ
+answer m line = text_to m (command line) ++ 10 ∷ []
+
+abbrev pub after_line : Machine → List ℕ → Machine
+after_line m line = machine_after m (command line)
+
+-- the answers to lines, one after another
+abbrev pub answers : Machine → List (List ℕ) → List ℕ
+answers m [] = []
+answers m (line ∷ later) = answer m line ++ answers (after_line m line) later
+
+-- the machine after them
+abbrev pub after_lines : Machine → List (List ℕ) → Machine
+after_lines m [] = m
+after_lines m (line ∷ later) = after_lines (after_line m line) later
+
+-- the commands among what lines say
+abbrev pub commands : List (Result Command LineFault) → List Command
+commands [] = []
+commands (Ok c ∷ later) = c ∷ commands later
+commands (Err fault ∷ later) = commands later
+
+-- one text for each thing said: the next reply to a command, the fault of a line that says none
+abbrev pub texts_of : List (Result Command LineFault) → List Reply → List ℕ
+texts_of [] replies = []
+texts_of (Err fault ∷ later) replies = fault_bytes fault ++ 10 ∷ texts_of later replies
+texts_of (Ok c ∷ later) [] = []
+texts_of (Ok c ∷ later) (r ∷ replies) = reply_bytes r ++ 10 ∷ texts_of later replies
