@@ -1,3 +1,6 @@
 pub mod Parts
 pub mod Refusals
+pub mod Runs
+pub mod Known
+pub mod Fronts
 pub mod Writes

@@ -1,5 +1,8 @@
--- In the order of reading: Held, Reading, Front, CommandLine.
+-- In the order of reading: Held, Reading, Front, Responding, Sessions, Alone, CommandLine.
 pub mod Held
 pub mod Reading
 pub mod Front
+pub mod Responding
+pub mod Sessions
+pub mod Alone
 pub mod CommandLine

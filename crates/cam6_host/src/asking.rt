@@ -3,13 +3,36 @@
 use cam6_machine::{Command, Machine, Reply};
 use cam6_planes::NoMemory;
 
-/// Something that answers commands as a machine does.
+/// Something that stands at a machine, and answers commands as that machine does.
 pub trait Ask {
-    /// Does the command, or finds no memory for it and stays as it was.
-    fn ask(&mut self, command: Command) -> Result<Reply, NoMemory>;
+    ghost use Rattle.std.specs.Prelude.{◌≡◌, IfOk, OnOk, OnErr};
+    ghost use Rattle.cam6_machine.specs.Machine.{Machine};
+    ghost use Rattle.cam6_machine.specs.Alone.{reply, after};
+
+    /// The machine at which it stands.
+    ghost stands_at: { Self → Machine };
+
+    /// Whether it may be asked.
+    ghost is_ready: { Self → Type 0 };
+
+    /// Does the command and replies, or finds no memory for it and stays where it stood.
+    fn ask(&mut self, command: Command) -> Result<Reply, NoMemory>
+        requires { is_ready self.old }
+        ensures reply { IfOk result (λ r. r ≡ reply (stands_at self.old) command) }
+        ensures machine { OnOk result (stands_at self.new ≡ after (stands_at self.old) command) }
+        ensures err { OnErr result (stands_at self.new ≡ stands_at self.old) }
+        ensures ready { is_ready self.new };
 }
 
 impl Ask for Machine {
+    ghost use Rattle.std.specs.Prelude.{⊤};
+    ghost use Rattle.cam6_machine.specs.Machine.{machine_of};
+
+    ghost stands_at = { λ m. machine_of m };
+
+    // A machine may always be asked.
+    ghost is_ready = { λ _. ⊤ };
+
     fn ask(&mut self, command: Command) -> Result<Reply, NoMemory> {
         self.answer(command)
     }

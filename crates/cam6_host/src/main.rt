@@ -1,15 +1,18 @@
 //! The program `cam6`: command lines on standard input, one reply line for each on standard output.
 //!
 //! Contract: `next_line` takes one line, or says why it stopped (`specs/Reading.antt`); `send`
-//! writes a text and its LF, or a front of them (`specs/Front.antt`); `options` reads the words as
-//! `clap` takes them (`specs/CommandLine.antt`). `serve` joins the first two, and returns.
+//! writes a text and its LF, or a front of them (`specs/Front.antt`). `serve` joins them: for each
+//! end, which lines it took, what it wrote, and at which machine the one it asked then stands
+//! (`specs/Sessions.antt`); `serve_alone` is that over a blank machine (`specs/Alone.antt`).
+//! `options` reads the words as `clap` takes them (`specs/CommandLine.antt`).
 //!
 //! Stands on: `cam6_planes`, `cam6_machine`, `cam6_wire`, `clap`, `thiserror`.
 //!
-//! Read next: `line_buffer`, then `lines`, `asking`, `writing` and `serving`; `modes` and `words`
-//! for the command line.
+//! Read next: `line_buffer`, then `lines`, `asking`, `writing`, `serving` and `alone`; `modes` and
+//! `words` for the command line.
 #![tactic(auto)]
 
+mod alone;
 mod asking;
 mod line_buffer;
 mod lines;
@@ -25,9 +28,8 @@ mod tests;
 mod words;
 mod writing;
 
-use cam6_machine::Machine;
+use alone::serve_alone;
 use modes::{Options, Refused};
-use serving::serve;
 use statuses::{NO_MEMORY, REFUSED_WORDS, WRITE_FAILED, failure_of};
 use std::alloc::Global;
 use std::io;
@@ -39,7 +41,7 @@ const TURNS: u64 = 1_099_511_627_776;
 
 fn main(rt: HostRuntime) -> ExitCode {
     match options_given(&rt) {
-        Ok(Options::Alone) => alone(&rt),
+        Ok(Options::Alone) => over_standard_streams(&rt),
         Err(Refused::Help(text)) => match rt.print(text.as_str()) {
             Ok(()) => ExitCode::SUCCESS,
             Err(_) => failed(&rt, WRITE_FAILED, "cam6: write failed\n"),
@@ -72,18 +74,14 @@ fn unreadable(alloc: Global, kind: ErrorKind) -> Refused {
     }
 }
 
-/// Serves one machine.
-fn alone<R: Input + Print + Eprint + Alloc<A = Global>>(rt: &R) -> ExitCode {
+/// Serves one machine over standard input and output.
+fn over_standard_streams<R: Input + Print + Eprint + Alloc<A = Global>>(rt: &R) -> ExitCode {
     let alloc = rt.alloc();
-    let Ok(mut machine) = Machine::new(alloc) else {
-        return failed(rt, NO_MEMORY, "cam6: no memory\n");
-    };
     let Ok(mut reader) = BufReader::new(alloc, rt.reader()) else {
         return failed(rt, NO_MEMORY, "cam6: no memory\n");
     };
     let mut writer = io::writer(rt);
-    let end = serve(alloc, &mut reader, &mut writer, &mut machine, TURNS);
-    match failure_of(end) {
+    match failure_of(serve_alone(alloc, &mut reader, &mut writer, TURNS)) {
         Some((status, text)) => failed(rt, status, text),
         None => ExitCode::SUCCESS,
     }

@@ -1,5 +1,10 @@
 //! A stream of command lines, each answered by one line.
-ghost use Rattle.std.specs.Prelude.{◌≡◌, if◌then◌else◌};
+ghost use Rattle.std.specs.Prelude.{List, ℕ, Ok};
+ghost use Rattle.cam6_machine.specs.Machine.{Machine};
+ghost use Rattle.cam6_wire.specs.Commands.{command as what_is_said, Fails, Reads};
+ghost use Rattle.cam6_host.specs.Held.{Holds};
+ghost use Rattle.cam6_host.specs.Responding.{Responds};
+ghost use Rattle.cam6_host.specs.Sessions.{Served};
 
 use crate::asking::Ask;
 use crate::line_buffer::LineBuf;
@@ -36,7 +41,13 @@ pub fn serve<R: BufRead, W: Write, D: Ask>(
     writer: &mut W,
     desk: &mut D,
     turns: u64,
-) -> End {
+) -> End
+    requires { D.is_ready desk.old }
+    ensures ready { D.is_ready desk.new }
+    ensures served { Served result (R.remaining reader.old) (R.remaining reader.new)
+        (W.contents writer.old) (W.contents writer.new)
+        (D.stands_at desk.old) (D.stands_at desk.new) }
+{
     let Ok(mut line) = LineBuf::new(alloc) else {
         return End::NoMemory { done: false };
     };
@@ -62,7 +73,13 @@ fn respond<W: Write, D: Ask>(
     line: &LineBuf,
     writer: &mut W,
     desk: &mut D,
-) -> Option<End> {
+) -> Option<End>
+    requires { D.is_ready desk.old }
+    ensures ready { D.is_ready desk.new }
+    ensures responds { (l : List ℕ) → Holds line.now l → Responds result (what_is_said l)
+        (W.contents writer.old) (W.contents writer.new)
+        (D.stands_at desk.old) (D.stands_at desk.new) }
+{
     match said(alloc, line) {
         Ok(command) => respond_to(alloc, command, writer, desk),
         Err(fault) => respond_fault(fault, writer),
@@ -70,7 +87,9 @@ fn respond<W: Write, D: Ask>(
 }
 
 /// What a line says.
-fn said(alloc: Global, line: &LineBuf) -> Result<Command, LineFault> {
+fn said(alloc: Global, line: &LineBuf) -> Result<Command, LineFault>
+    ensures { (l : List ℕ) → Holds line.now l → Reads result (what_is_said l) }
+{
     if line.is_long() {
         return Err(LineFault::TooLong);
     }
@@ -82,25 +101,35 @@ fn respond_to<W: Write, D: Ask>(
     command: Command,
     writer: &mut W,
     desk: &mut D,
-) -> Option<End> {
+) -> Option<End>
+    requires { D.is_ready desk.old }
+    ensures ready { D.is_ready desk.new }
+    ensures responds { Responds result (Ok command) (W.contents writer.old) (W.contents writer.new)
+        (D.stands_at desk.old) (D.stands_at desk.new) }
+{
     let Ok(reply) = desk.ask(command) else {
         return Some(End::NoMemory { done: false });
     };
     let Ok(text) = reply_text(alloc, &reply) else {
         return Some(End::NoMemory { done: true });
     };
-    sent(send(writer, text.as_bytes()))
+    if !send(writer, text.as_bytes()) {
+        return Some(End::WriteFault);
+    }
+    None
 }
 
-fn respond_fault<W: Write>(fault: LineFault, writer: &mut W) -> Option<End> {
+fn respond_fault<W: Write>(fault: LineFault, writer: &mut W) -> Option<End>
+    ensures { (l : List ℕ) (m : Machine) → Fails fault (what_is_said l) → Responds result
+        (what_is_said l) (W.contents writer.old) (W.contents writer.new) m m }
+{
     match fault {
         LineFault::NoMemory => Some(End::NoMemory { done: false }),
-        _ => sent(send(writer, fault_text(fault).as_bytes())),
+        _ => {
+            if !send(writer, fault_text(fault).as_bytes()) {
+                return Some(End::WriteFault);
+            }
+            None
+        }
     }
-}
-
-fn sent(done: bool) -> Option<End>
-    ensures { result ≡ (if done then None else Some End.WriteFault) }
-{
-    if done { None } else { Some(End::WriteFault) }
 }

@@ -11,13 +11,20 @@ use Rattle.cam6_wire.specs.Answers.{text_to, machine_after, answer, answers, aft
 use Rattle.cam6_wire.specs.Answers.{commands, texts_of}
 use Rattle.cam6_wire.specs.Laws.{AnswersAreReplies}
 
--- one more line is answered by the machine after those before it
+-- lines are answered by the machine after those before them
+pub answers_to_both : (m : Machine) (done later : List (List ℕ))
+    → answers m (done ++ later) ≡ answers m done ++ answers (after_lines m done) later
+answers_to_both m [] later = refl
+answers_to_both m (first ∷ done) later =
+    ap (λ t. answer m first ++ t) (answers_to_both (after_line m first) done later)
+    ∙ sym (append_assoc (answer m first) _ _)
+
+-- and so is one more line
 pub answers_to_more : (m : Machine) (done : List (List ℕ)) (line : List ℕ)
     → answers m (done ++ line ∷ []) ≡ answers m done ++ answer (after_lines m done) line
-answers_to_more m [] line = append-nil (answer m line)
-answers_to_more m (first ∷ done) line =
-    ap (λ t. answer m first ++ t) (answers_to_more (after_line m first) done line)
-    ∙ sym (append_assoc (answer m first) _ _)
+answers_to_more m done line =
+    answers_to_both m done (line ∷ [])
+    ∙ ap (λ t. answers m done ++ t) (append-nil (answer (after_lines m done) line))
 
 pub after_more : (m : Machine) (done : List (List ℕ)) (line : List ℕ)
     → after_lines m (done ++ line ∷ []) ≡ after_line (after_lines m done) line

@@ -1,8 +1,8 @@
 -- A text is split at its LFs, from the front.
-use Rattle.std.proofs.Common.{◌≡◌, ◌≢◌, ℕ, List, [], ◌∷◌, ◌++◌, refl, sym, ap, ◌∙◌}
-use Rattle.std.proofs.Common.{append_assoc, append-nil, ne_eqb}
+use Rattle.std.proofs.Common.{◌≡◌, ◌≢◌, ℕ, List, [], ◌∷◌, ◌++◌, Bool, true, false, cond, refl}
+use Rattle.std.proofs.Common.{sym, ap, ◌∙◌, append_assoc, append-nil, ne_eqb}
 use Rattle.std.proofs.lemmas.List.Elements.{All-head, All-tail}
-use Rattle.std.specs.Prelude.{All}
+use Rattle.std.specs.Prelude.{All, ◌==◌}
 use Rattle.cam6_wire.specs.OneLine.{HasNoLf}
 use Rattle.cam6_wire.specs.Lines.{lines, ended_lines, begin_line, grow_line, joined}
 use Rattle.cam6_wire.specs.Laws.{LinesAreFound}
@@ -36,6 +36,15 @@ no_ended_line (b ∷ line) free =
     rw (ne_eqb b 10 (All-head (λ x. x ≢ 10) b line free))
     (ap (grow_line b) (no_ended_line line (All-tail (λ x. x ≢ 10) b line free)))
 
+-- one more line behind joined lines
+pub joined_more : (done : List (List ℕ)) (line rest : List ℕ)
+    → joined (done ++ line ∷ []) ++ rest ≡ joined done ++ (line ++ 10 ∷ rest)
+joined_more [] line rest = append_assoc line (10 ∷ []) rest
+joined_more (first ∷ done) line rest =
+    append_assoc first (10 ∷ joined (done ++ line ∷ [])) rest
+    ∙ ap (λ l. first ++ 10 ∷ l) (joined_more done line rest)
+    ∙ sym (append_assoc first (10 ∷ joined done) (line ++ 10 ∷ rest))
+
 -- the lines of joined lines with something behind them
 pub lines_joined : (done : List (List ℕ)) (rest : List ℕ) → All HasNoLf done
     → lines (joined done ++ rest) ≡ done ++ lines rest
@@ -52,6 +61,26 @@ ended_lines_joined (line ∷ later) rest free =
     ap ended_lines (append_assoc line (10 ∷ joined later) rest)
     ∙ first_ended_line line (joined later ++ rest) (All-head HasNoLf line later free)
     ∙ ap (λ ls. line ∷ ls) (ended_lines_joined later rest (All-tail HasNoLf line later free))
+
+-- lines that an LF ends stay the first ones, whatever stands behind them
+begin_lines : (b : ℕ) (ended more : List (List ℕ))
+    → (later : List (List ℕ)) × (begin_line b (ended ++ more) ≡ grow_line b ended ++ later)
+begin_lines b [] more = (begin_line b more, refl)
+begin_lines b (line ∷ ended) more = (more, refl)
+
+first_begins : (b : ℕ) (is_lf : Bool) (all ended more : List (List ℕ)) → all ≡ ended ++ more
+    → (later : List (List ℕ)) ×
+    (cond is_lf ([] ∷ all) (begin_line b all) ≡ cond is_lf ([] ∷ ended) (grow_line b ended) ++ later)
+first_begins b true all ended more are = (more, ap (λ ls. [] ∷ ls) are)
+first_begins b false all ended more are =
+    let begun = begin_lines b ended more in (begun.0, ap (begin_line b) are ∙ begun.1)
+
+pub ended_lines_are_first : (taken left : List ℕ)
+    → (more : List (List ℕ)) × (lines (taken ++ left) ≡ ended_lines taken ++ more)
+ended_lines_are_first [] left = (lines left, refl)
+ended_lines_are_first (b ∷ taken) left =
+    let rest = ended_lines_are_first taken left in
+    first_begins b (b == 10) (lines (taken ++ left)) (ended_lines taken) rest.0 rest.1
 
 pub lines_are_found : LinesAreFound
 lines_are_found done free = (
