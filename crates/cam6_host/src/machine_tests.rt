@@ -1,7 +1,6 @@
 //! A machine asked by lines: each numbered refusal, and faults of rules.
 
 use crate::serving::{End, serve};
-use crate::statuses::failure_of;
 use cam6_machine::Machine;
 use std::alloc::{AllocError, Global};
 use std::test::Fail;
@@ -124,7 +123,7 @@ fn used_rules_stay(rt: HostRuntime) -> Result<(), Fail> {
     Ok(())
 }
 
-const REFUSED_RULE: &str =
+pub(crate) const REFUSED_RULE: &str =
     r#"{"do":"rule","name":"P","half":"A","hood":"N/VONN","minor":"&/CENTERS","text":": P CENTER NORTH XOR SOUTH XOR WEST XOR EAST XOR >PLN0 ;"}
 {"do":"cycle","entries":[{"a":"P","b":"-","grid":"EVEN","phase":0}]}
 {"do":"set","plane":0,"row":0,"bits":"8000000000000000000000000000000000000000000000000000000000000000"}
@@ -152,7 +151,7 @@ fn a_refused_rule_changes_nothing(rt: HostRuntime) -> Result<(), Fail> {
     Ok(())
 }
 
-const HOSTILE_LINES: &str = r#"{"do":"run","n":18446744073709551615}
+pub(crate) const HOSTILE_LINES: &str = r#"{"do":"run","n":18446744073709551615}
 {"do":"run","n":18446744073709551616}
 {"do":"run","n":-1}
 {"do":"run","n":1.0}
@@ -207,21 +206,4 @@ fn sixteen_rules(rt: HostRuntime) -> Result<(), Fail> {
     let got = answer(alloc, &mut machine, &line);
     assert_eq!(rt; got.as_slice(), b"{\"fault\":62}\n".as_slice());
     Ok(())
-}
-
-#[test]
-fn statuses_of_ends(rt: HostRuntime) {
-    for (end, want) in [
-        (End::EndOfInput, None),
-        (End::ReadFault, Some((3, "cam6: read failed\n"))),
-        (End::WriteFault, Some((4, "cam6: write failed\n"))),
-        (End::NoMemory { done: true }, Some((5, "cam6: no memory\n"))),
-        (
-            End::NoMemory { done: false },
-            Some((5, "cam6: no memory\n")),
-        ),
-        (End::TurnBound, Some((6, "cam6: turn bound reached\n"))),
-    ] {
-        assert!(rt; failure_of(end) == want, "{end:?}");
-    }
 }

@@ -17,15 +17,21 @@ mod asking;
 mod line_buffer;
 mod lines;
 #[cfg(test)]
+mod lines_tests;
+#[cfg(test)]
 mod machine_tests;
 mod modes;
 #[cfg(test)]
 mod rule_text_tests;
 mod serving;
+#[cfg(test)]
+mod session_tests;
 mod statuses;
 #[cfg(test)]
 mod tests;
 mod words;
+#[cfg(test)]
+mod words_tests;
 mod writing;
 
 use alone::serve_alone;
