@@ -95,7 +95,8 @@ module _ (m : Machine) (all out : List ℕ) (unread after new : Option (List ℕ
         joined run.done ++ part,
         left,
         answers m run.done,
-        run.taken ∙ ap (λ l. joined run.done ++ l) is ∙ sym (append_assoc (joined run.done) part left),
+        run.taken ∙ ap (λ l. joined run.done ++ l) is
+        ∙ sym (append_assoc (joined run.done) part left),
         leaves,
         run.writes,
         (ap (answers m) are, run.stands ∙ ap (after_lines m) are),
@@ -126,7 +127,8 @@ module _ (m : Machine) (all out : List ℕ) (unread after new : Option (List ℕ
       ∙ lines_done (line ++ 10 ∷ rest)
       ∙ ap (λ ls. run.done ++ ls) (first_line line rest at.2.1)
       ∙ sym (append_assoc run.done (line ∷ []) (lines rest)) in
-      let are = ap lines (sym (append-nil taken)) ∙ behind [] ∙ append-nil (run.done ++ line ∷ []) in
+      let are = ap lines (sym (append-nil taken)) ∙ behind []
+      ∙ append-nil (run.done ++ line ∷ []) in
       record {
         taken = taken;
         left = at.0;

@@ -1,4 +1,5 @@
--- In the order of reading: Held, Reading, Front, Responding, Sessions, Alone, CommandLine.
+-- In the order of reading: Held, Reading, Front, Responding, Sessions, Alone, CommandLine,
+-- Statuses.
 pub mod Held
 pub mod Reading
 pub mod Front
@@ -6,3 +7,4 @@ pub mod Responding
 pub mod Sessions
 pub mod Alone
 pub mod CommandLine
+pub mod Statuses

@@ -1,4 +1,5 @@
--- How serving ends: which lines were taken, what was written, and at which machine the desk stands.
+-- How serving ends: which lines were taken, what was written, and at which machine n the one that
+-- is asked stands then; it stood at m.
 use Rattle.std.specs.Prelude.{◌≡◌, ℕ, List, [], ◌∷◌, ◌++◌, Option, Some, IfSome, true, false, ◌⊎◌}
 use Rattle.cam6_machine.specs.Machine.{Machine}
 use Rattle.cam6_wire.specs.Lines.{lines, ended_lines}
@@ -7,18 +8,18 @@ use Rattle.cam6_host.specs.declared.serving.End.{End}
 use Rattle.cam6_host.specs.declared.serving.End.TheVariants.{EndOfInput, ReadFault, TurnBound}
 use Rattle.cam6_host.specs.declared.serving.End.TheVariants.{WriteFault, NoMemory}
 
--- a machine's answers to these lines are what was written, and another is the machine after them
+-- what was written is the answers of m to these lines, and n is the machine after them
 abbrev pub Answered : Machine → List (List ℕ) → List ℕ → Machine → Type 0
 Answered m done written n = (written ≡ answers m done) × (n ≡ after_lines m done)
 
--- whole lines were taken, the last of them the one at which serving stops
+-- whole lines were taken, the last of them the one at which serving stops; the others are left
 pub record StopsAt (taken left : List ℕ) : Type 0 where
   pub done : List (List ℕ)
   pub line : List ℕ
   pub are : lines taken ≡ done ++ line ∷ []
   pub whole : lines (taken ++ left) ≡ lines taken ++ lines left
 
--- the lines before it were answered, and then a front of its answer was written; its command is done
+-- the lines before it were answered, and a front of its answer was written; its command is done
 abbrev pub StopsWriting : Machine → List ℕ → List ℕ → List ℕ → Machine → Type 0
 StopsWriting m taken left written n =
     (stop : StopsAt taken left) × (front rest : List ℕ) ×
@@ -37,7 +38,7 @@ StopsUndone m taken left written n =
     ((taken ≡ []) × Answered m [] written n) ⊎
     ((stop : StopsAt taken left) × Answered m stop.done written n)
 
--- each way in which serving ends, by the bytes taken, those that are left, and those written
+-- for each end, by the bytes taken, those that are left, and those written
 abbrev pub Serves : End → Machine → List ℕ → List ℕ → List ℕ → Machine → Type 0
 Serves EndOfInput m taken left written n = (left ≡ []) × Answered m (lines taken) written n
 Serves ReadFault m taken left written n = Answered m (ended_lines taken) written n

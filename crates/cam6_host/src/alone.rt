@@ -6,8 +6,8 @@ use cam6_machine::Machine;
 use std::alloc::Global;
 use std::io::{BufRead, Write};
 
-/// Answers each line of the reader by one line, as a blank machine does that gets all commands among
-/// them. Each look at the reader takes a turn.
+/// Answers each line of the reader by one line, as a blank machine does that gets all commands
+/// among them. Each look at the reader takes a turn.
 pub fn serve_alone<R: BufRead, W: Write>(
     alloc: Global,
     reader: &mut R,

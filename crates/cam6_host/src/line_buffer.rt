@@ -24,7 +24,7 @@ impl Model for LineBuf {
 }
 
 impl LineBuf {
-    ghost use Rattle.std.specs.Prelude.{◌≡◌, [], IfOk};
+    ghost use Rattle.std.specs.Prelude.{◌≡◌, [], IfOk, None, Some, option_map, if◌then◌else◌};
     ghost use Rattle.cam6_host.specs.Held.{Holds, Grows, is_empty};
 
     /// An empty line, with room for all that will be kept of any line.
@@ -56,13 +56,6 @@ impl LineBuf {
         }
     }
 
-    /// Whether the line is above the limit.
-    pub fn is_long(&self) -> bool
-        ensures { result ≡ self.now.is_long }
-    {
-        self.is_long
-    }
-
     /// Whether the line has no byte.
     pub fn is_empty(&self) -> bool
         ensures { result ≡ is_empty self.now }
@@ -70,10 +63,15 @@ impl LineBuf {
         !self.is_long && self.bytes.is_empty()
     }
 
-    /// The line, where it isn't above the limit.
-    pub fn bytes(&self) -> &[u8]
-        ensures { result.now ≡ self.now.bytes }
+    /// The line, unless it is above the limit.
+    pub fn bytes(&self) -> Option<&[u8]>
+        ensures { option_map (λ bytes. bytes.now) result
+            ≡ (if self.now.is_long then None else Some self.now.bytes) }
     {
-        self.bytes.as_slice()
+        if self.is_long {
+            None
+        } else {
+            Some(self.bytes.as_slice())
+        }
     }
 }

@@ -90,10 +90,10 @@ fn respond<W: Write, D: Ask>(
 fn said(alloc: Global, line: &LineBuf) -> Result<Command, LineFault>
     ensures { (l : List ℕ) → Holds line.now l → Reads result (what_is_said l) }
 {
-    if line.is_long() {
+    let Some(bytes) = line.bytes() else {
         return Err(LineFault::TooLong);
-    }
-    read_command(alloc, line.bytes())
+    };
+    read_command(alloc, bytes)
 }
 
 fn respond_to<W: Write, D: Ask>(

@@ -8,9 +8,9 @@ use cam6_planes::NoMemory;
 use std::alloc::Global;
 use std::test::Fail;
 
-// A session of four lines, the last without its LF, and the answers of the profile: no cycle is set,
-// no JSON, a cycle, and then a run of no steps. With their LFs the lines end behind 19, 24, 93 and
-// 111 bytes, the answers behind 13, 25, 40 and 66.
+// A session of four lines, the last without its LF, and the answers of the profile: no cycle is
+// set, no JSON, a cycle, and then a run of no steps. With their LFs the lines end behind 19, 24, 93
+// and 111 bytes, the answers behind 13, 25, 40 and 66.
 const LINES: &[u8] =
     b"{\"do\":\"run\",\"n\":0}\nnope\n{\"do\":\"cycle\",\"entries\":[{\"a\":\"-\",\"b\":\"-\",\"grid\":\"EVEN\",\"phase\":0}]}\n{\"do\":\"run\",\"n\":0}";
 
@@ -54,8 +54,8 @@ fn session(alloc: Global, mut reader: Shown, turns: u64) -> Result<(End, Vec<u8>
     Ok((end, writer, desk))
 }
 
-// By hand: each line takes a look for each of its bytes, or for every three and what is left of them,
-// the LF among them; the last takes one more, which shows the input's end.
+// By hand: each line takes a look for each of its bytes, or for every three and what is left of
+// them, the LF among them; the last takes one more, which shows the input's end.
 #[test]
 fn readers_fail_at_each_call(rt: HostRuntime) -> Result<(), Fail> {
     let alloc = rt.alloc();
@@ -89,7 +89,8 @@ fn readers_fail_at_each_call(rt: HostRuntime) -> Result<(), Fail> {
     Ok(())
 }
 
-/// The bytes that so many calls write, each byte by a call of its own and each answer flushed by one.
+/// The bytes that so many calls write, each byte by a call of its own and each answer flushed by
+/// one.
 fn bytes_of(calls: usize) -> usize {
     match calls {
         0..14 => calls.min(13),

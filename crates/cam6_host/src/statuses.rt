@@ -1,4 +1,6 @@
 //! The exit statuses of the program.
+ghost use Rattle.std.specs.Prelude.{◌≡◌, option_map};
+ghost use Rattle.cam6_host.specs.Statuses.{failure};
 
 use crate::serving::End;
 
@@ -14,7 +16,9 @@ pub const NO_MEMORY: u8 = 5;
 pub const TURN_BOUND_REACHED: u8 = 6;
 
 /// The status of a session that failed, with its line for standard error.
-pub fn failure_of(end: End) -> Option<(u8, &'static str)> {
+pub fn failure_of(end: End) -> Option<(u8, &'static str)>
+    ensures { option_map (λ f. (f.0, f.1.now)) result ≡ failure end }
+{
     match end {
         End::EndOfInput => None,
         End::ReadFault => Some((READ_FAILED, "cam6: read failed\n")),

@@ -1,5 +1,5 @@
-//! Readers and writers that fail at one of their calls, and one that stands at a machine and finds no
-//! memory at one of its calls.
+//! Readers and writers that fail at one of their calls, and one that stands at a machine and finds
+//! no memory at one of its calls.
 
 use crate::asking::Ask;
 use cam6_machine::{Command, Machine, Reply};

@@ -69,8 +69,8 @@ begin_lines b [] more = (begin_line b more, refl)
 begin_lines b (line ∷ ended) more = (more, refl)
 
 first_begins : (b : ℕ) (is_lf : Bool) (all ended more : List (List ℕ)) → all ≡ ended ++ more
-    → (later : List (List ℕ)) ×
-    (cond is_lf ([] ∷ all) (begin_line b all) ≡ cond is_lf ([] ∷ ended) (grow_line b ended) ++ later)
+    → (later : List (List ℕ)) × (cond is_lf ([] ∷ all) (begin_line b all)
+    ≡ cond is_lf ([] ∷ ended) (grow_line b ended) ++ later)
 first_begins b true all ended more are = (more, ap (λ ls. [] ∷ ls) are)
 first_begins b false all ended more are =
     let begun = begin_lines b ended more in (begun.0, ap (begin_line b) are ∙ begun.1)

@@ -1,6 +1,7 @@
 -- The laws that tie what a line says to the values that commands are shown by, that answers are
 -- lines, and that lines are answered as the machine alone replies.
-use Rattle.std.specs.Prelude.{◌≡◌, ◌≢◌, ◌≤◌, ℕ, List, [], ◌∷◌, ◌++◌, length, map, All, true, Some, Ok}
+use Rattle.std.specs.Prelude.{◌≡◌, ◌≢◌, ◌≤◌, ℕ, List, [], ◌∷◌, ◌++◌, length, map, All, true}
+use Rattle.std.specs.Prelude.{Some, Ok}
 use Rattle.serde_json.specs.Data.{Data}
 use Rattle.cam6_machine.specs.Machine.{Machine}
 use Rattle.cam6_machine.specs.Alone.{replies, after_all}
@@ -53,3 +54,10 @@ AnswersAreReplies =
     (answers m taken
     ≡ texts_of (map command taken) (replies m (commands (map command taken)))) ×
     (after_lines m taken ≡ after_all m (commands (map command taken)))
+
+-- lines are answered as others before them left the machine, so a session can be taken up again
+abbrev pub AnswersGoOn : Type 0
+AnswersGoOn =
+    (m : Machine) (done later : List (List ℕ)) →
+    (answers m (done ++ later) ≡ answers m done ++ answers (after_lines m done) later) ×
+    (after_lines m (done ++ later) ≡ after_lines (after_lines m done) later)

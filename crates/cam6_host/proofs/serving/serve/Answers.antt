@@ -7,15 +7,18 @@ returns-in_default-clause-served g c = serves_none _ _ _
 
 pub returns-in-EndOfInput-clause-served : goal.returns-in-EndOfInput-clause-served
 returns-in-EndOfInput-clause-served g c =
-    serves_all _ _ _ _ _ _ _ c.next_line.new.line c.loop-line.invariant.runs c.in-EndOfInput.ensures.line
+    serves_all _ _ _ _ _ _ _ c.next_line.new.line c.loop-line.invariant.runs
+    c.in-EndOfInput.ensures.line
 
 pub returns-in-ReadFault-clause-served : goal.returns-in-ReadFault-clause-served
 returns-in-ReadFault-clause-served g c =
-    serves_until_fault _ _ _ _ _ _ _ c.next_line.new.line c.loop-line.invariant.runs c.in-ReadFault.ensures.line
+    serves_until_fault _ _ _ _ _ _ _ c.next_line.new.line c.loop-line.invariant.runs
+    c.in-ReadFault.ensures.line
 
 pub returns-in-TurnBound-clause-served : goal.returns-in-TurnBound-clause-served
 returns-in-TurnBound-clause-served g c =
-    serves_until_bound _ _ _ _ _ _ _ c.next_line.new.line c.loop-line.invariant.runs c.in-TurnBound.ensures.line
+    serves_until_bound _ _ _ _ _ _ _ c.next_line.new.line c.loop-line.invariant.runs
+    c.in-TurnBound.ensures.line
 
 pub returns-in-Some-clause-served : goal.returns-in-Some-clause-served
 returns-in-Some-clause-served g c =

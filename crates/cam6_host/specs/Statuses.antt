@@ -1,0 +1,13 @@
+-- The exit status of a session that failed, and the line for standard error.
+use Rattle.std.specs.Prelude.{ℕ, List, Option, None, Some, codes}
+use Rattle.cam6_host.specs.declared.serving.End.{End}
+use Rattle.cam6_host.specs.declared.serving.End.TheVariants.{EndOfInput, ReadFault, TurnBound}
+use Rattle.cam6_host.specs.declared.serving.End.TheVariants.{WriteFault, NoMemory}
+
+-- none at the end of input, where the program succeeds
+abbrev pub failure : End → Option (ℕ × List ℕ)
+failure EndOfInput = None
+failure ReadFault = Some (3, codes "cam6: read failed\n")
+failure WriteFault = Some (4, codes "cam6: write failed\n")
+failure (NoMemory done) = Some (5, codes "cam6: no memory\n")
+failure TurnBound = Some (6, codes "cam6: turn bound reached\n")
