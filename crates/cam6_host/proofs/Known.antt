@@ -1,5 +1,5 @@
 -- The same of a reader and a writer of which it isn't known whether they tell their bytes.
-use Rattle.std.proofs.Common.{◌≡◌, ℕ, List, [], Option, None, Some, refl, sym, ap, inl, append-nil}
+use Rattle.std.proofs.Common.{ℕ, List, [], Option, None, Some, refl, sym, ap, inl, append-nil}
 use Rattle.std.proofs.Common.{false}
 use Rattle.std.proofs.lemmas.List.Elements.{All-nil}
 use Rattle.std.specs.Prelude.{IfSome}

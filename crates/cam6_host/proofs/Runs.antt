@@ -1,19 +1,18 @@
 -- A session so far: the lines that it took, each answered, and how it goes on or ends from there.
-use Rattle.std.proofs.Common.{◌≡◌, ◌≢◌, ℕ, List, [], ◌∷◌, ◌++◌, Option, None, Some, refl, sym, ap}
-use Rattle.std.proofs.Common.{◌∙◌, subst, inl, inr, append-nil, append_assoc, true, false}
-use Rattle.std.proofs.lemmas.List.Elements.{All-nil, All-push}
-use Rattle.std.specs.Prelude.{All, IfSome}
+use Rattle.std.proofs.Common.{◌≡◌, ℕ, List, [], ◌∷◌, ◌++◌, Option, None, Some, refl, sym, ap}
+use Rattle.std.proofs.Common.{◌∙◌, subst, inr, append-nil, append_assoc, true, false}
+use Rattle.std.proofs.lemmas.List.Elements.{All-push}
+use Rattle.std.specs.Prelude.{All}
 use Rattle.std.specs.Io.KnownBytes.{Appends, Keeps}
 use Rattle.cam6_machine.specs.Machine.{Machine}
 use Rattle.cam6_wire.specs.Commands.{command}
 use Rattle.cam6_wire.specs.Lines.{lines, ended_lines, joined}
-use Rattle.cam6_wire.specs.Answers.{text_to, answer, answers, after_line, after_lines}
+use Rattle.cam6_wire.specs.Answers.{answer, answers, after_line, after_lines}
 use Rattle.cam6_wire.specs.OneLine.{HasNoLf}
 use Rattle.cam6_wire.proofs.Splitting.{lines_joined, ended_lines_joined, joined_more, only_line}
 use Rattle.cam6_wire.proofs.Splitting.{first_line, no_ended_line}
 use Rattle.cam6_wire.proofs.Answering.{answers_to_more, after_more}
 use Rattle.cam6_host.specs.Held.{Held, Holds}
-use Rattle.cam6_host.specs.Front.{WritesSome}
 use Rattle.cam6_host.specs.Reading.{Reads}
 use Rattle.cam6_host.specs.Responding.{Responds}
 use Rattle.cam6_host.specs.Sessions.{StopsAt, Served, Serves}
@@ -96,7 +95,7 @@ module _ (m : Machine) (all out : List ℕ) (unread after new : Option (List ℕ
         left,
         answers m run.done,
         run.taken ∙ ap (λ l. joined run.done ++ l) is
-        ∙ sym (append_assoc (joined run.done) part left),
+            ∙ sym (append_assoc (joined run.done) part left),
         leaves,
         run.writes,
         (ap (answers m) are, run.stands ∙ ap (after_lines m) are),

@@ -87,7 +87,7 @@ lines_are_found done free = (
   ap lines (sym (append-nil (joined done))) ∙ lines_joined done [] free ∙ append-nil done,
   λ last one. (
     ended_lines_joined done last free
-    ∙ ap (λ ls. done ++ ls) (no_ended_line last one) ∙ append-nil done,
+        ∙ ap (λ ls. done ++ ls) (no_ended_line last one) ∙ append-nil done,
     λ some. lines_joined done last free ∙ ap (λ ls. done ++ ls) (only_line last one some),
   ),
 )
