@@ -1,6 +1,1 @@
-pub mod Parts
 pub mod Refusals
-pub mod Runs
-pub mod Known
-pub mod Fronts
-pub mod Writes

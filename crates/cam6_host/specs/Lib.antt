@@ -1,10 +1,3 @@
--- In the order of reading: Held, Reading, Front, Responding, Sessions, Alone, CommandLine,
--- Statuses.
-pub mod Held
-pub mod Reading
-pub mod Front
-pub mod Responding
-pub mod Sessions
-pub mod Alone
+-- In the order of reading: CommandLine, Statuses.
 pub mod CommandLine
 pub mod Statuses

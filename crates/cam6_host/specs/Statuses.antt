@@ -1,8 +1,8 @@
 -- The exit status of a session that failed, and the line for standard error.
 use Rattle.std.specs.Prelude.{ℕ, List, Option, None, Some, codes}
-use Rattle.cam6_host.specs.declared.serving.End.{End}
-use Rattle.cam6_host.specs.declared.serving.End.TheVariants.{EndOfInput, ReadFault, TurnBound}
-use Rattle.cam6_host.specs.declared.serving.End.TheVariants.{WriteFault, NoMemory}
+use Rattle.cam6_session.specs.declared.serving.End.{End}
+use Rattle.cam6_session.specs.declared.serving.End.TheVariants.{EndOfInput, ReadFault, TurnBound}
+use Rattle.cam6_session.specs.declared.serving.End.TheVariants.{WriteFault, NoMemory}
 
 -- none at the end of input, where the program succeeds
 abbrev pub failure : End → Option (ℕ × List ℕ)

@@ -1,40 +1,21 @@
 //! The program `cam6`: command lines on standard input, one reply line for each on standard output.
 //!
-//! Contract: `next_line` takes one line, or says why it stopped (`specs/Reading.antt`); `send`
-//! writes a text and its LF, or a front of them (`specs/Front.antt`). `serve` joins them: for each
-//! end, which lines it took, what it wrote, and at which machine the one it asked then stands
-//! (`specs/Sessions.antt`); `serve_alone` is that over a blank machine (`specs/Alone.antt`).
-//! `options` reads the words as `clap` takes them (`specs/CommandLine.antt`).
+//! Contract: `options` reads the words as `clap` takes them (`specs/CommandLine.antt`), and
+//! `failure_of` is each end's exit status (`specs/Statuses.antt`). What is written for what is read
+//! is the contract of `serve_alone` in `cam6_session`.
 //!
-//! Stands on: `cam6_planes`, `cam6_machine`, `cam6_wire`, `clap`, `thiserror`.
+//! Stands on: `cam6_session`, `clap`, `thiserror`.
 //!
-//! Read next: `line_buffer`, then `lines`, `asking`, `writing`, `serving` and `alone`; `modes` and
-//! `words` for the command line.
+//! Read next: `modes` and `words`, the command line; then `statuses`.
 #![tactic(auto)]
 
-mod alone;
-mod asking;
-mod line_buffer;
-mod lines;
-#[cfg(test)]
-mod lines_tests;
-#[cfg(test)]
-mod machine_tests;
 mod modes;
-#[cfg(test)]
-mod rule_text_tests;
-mod serving;
-#[cfg(test)]
-mod session_tests;
 mod statuses;
-#[cfg(test)]
-mod tests;
 mod words;
 #[cfg(test)]
 mod words_tests;
-mod writing;
 
-use alone::serve_alone;
+use cam6_session::serve_alone;
 use modes::{Options, Refused};
 use statuses::{NO_MEMORY, REFUSED_WORDS, WRITE_FAILED, failure_of};
 use std::alloc::Global;

@@ -2,7 +2,7 @@
 ghost use Rattle.std.specs.Prelude.{◌≡◌, option_map};
 ghost use Rattle.cam6_host.specs.Statuses.{failure};
 
-use crate::serving::End;
+use cam6_session::End;
 
 /// Words that are refused.
 pub const REFUSED_WORDS: u8 = 2;

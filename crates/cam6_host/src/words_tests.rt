@@ -1,7 +1,7 @@
 //! The words of the command line, and the status of each end.
 
 use crate::modes::{Options, Refused};
-use crate::serving::End;
+use cam6_session::End;
 use crate::statuses::failure_of;
 use crate::words::options;
 use std::alloc::Global;

@@ -1,0 +1,5 @@
+pub mod Parts
+pub mod Runs
+pub mod Known
+pub mod Fronts
+pub mod Writes

@@ -1,0 +1,55 @@
+-- Writes one after another make one front.
+use Rattle.std.proofs.Common.{◌≡◌, [], ◌∷◌, ◌++◌, ◌-◌, ◌≤◌, ℕ, List, Option, Bool, true, false}
+use Rattle.std.proofs.Common.{length, take, drop, sym, ap, ◌∙◌, append-nil, append_assoc, arith}
+use Rattle.std.proofs.Common.{take-append-drop, take_all, length-drop}
+use Rattle.std.proofs.KnownBytes.{Appends-trans, Appends-kept}
+use Rattle.std.specs.Io.KnownBytes.{Appends, Keeps}
+use Rattle.cam6_session.specs.Front.{WritesSome, WritesFront}
+
+-- of these bytes all but a rest have been written
+pub record Written (old new : Option (List ℕ)) (bytes rest : List ℕ) : Type 0 where
+  pub part : List ℕ
+  pub whole : bytes ≡ part ++ rest
+  pub appends : Appends old new part
+
+-- the rest is written as the code has it: what stands behind the n bytes
+pub more_is_written : (old now new : Option (List ℕ)) (bytes rest : List ℕ) (n : ℕ)
+    → n ≤ length rest → Written old now bytes rest → Appends now new (take n rest)
+    → Written old new bytes (take (length rest - n) (drop n rest))
+more_is_written old now new bytes rest n within before more =
+    let front = before.part ++ take n rest in
+    let behind : take (length rest - n) (drop n rest) ≡ drop n rest =
+    take_all (length rest - n) (drop n rest) (omega (arith, length-drop n rest)) in
+    record {
+      part = front;
+      whole = before.whole
+          ∙ ap (λ l. before.part ++ l) (sym (take-append-drop n rest))
+          ∙ sym (append_assoc before.part (take n rest) (drop n rest))
+          ∙ ap (λ l. front ++ l) (sym behind);
+      appends = Appends-trans old now new before.part (take n rest) before.appends more;
+    }
+
+module _ (old : Option (List ℕ)) (text : List ℕ) where
+  pub front_of_text : (new : Option (List ℕ)) → WritesSome old new text
+      → WritesSome old new (text ++ 10 ∷ [])
+  front_of_text new front =
+      let is = ap (λ l. l ++ 10 ∷ []) front.2 ∙ append_assoc front.0 front.1 (10 ∷ []) in
+      (front.0, front.1 ++ 10 ∷ [], is, front.3)
+
+  pub text_and_front : (now new : Option (List ℕ)) → Appends old now text
+      → WritesSome now new (10 ∷ []) → WritesSome old new (text ++ 10 ∷ [])
+  text_and_front now new first front =
+      let is = ap (λ l. text ++ l) front.2 ∙ sym (append_assoc text front.0 front.1) in
+      (text ++ front.0, front.1, is, Appends-trans old now new text front.0 first front.3)
+
+  pub text_and_newline : (now then new : Option (List ℕ)) (ok : Bool) → Appends old now text
+      → Appends now then (10 ∷ []) → Keeps then new → WritesFront ok old new (text ++ 10 ∷ [])
+  text_and_newline now then new ok first newline kept = go ok
+    where
+      whole : Appends old new (text ++ 10 ∷ [])
+      whole = Appends-kept old then new (text ++ 10 ∷ [])
+          (Appends-trans old now then text (10 ∷ []) first newline) kept
+
+      go : (ok : Bool) → WritesFront ok old new (text ++ 10 ∷ [])
+      go true = whole
+      go false = (text ++ 10 ∷ [], [], sym (append-nil (text ++ 10 ∷ [])), whole)

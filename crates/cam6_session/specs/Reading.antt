@@ -1,0 +1,48 @@
+-- What reading a line takes from a reader, whose bytes may not be known, and what it keeps.
+use Rattle.std.specs.Prelude.{◌≡◌, ◌≢◌, ◌<◌, ℕ, List, [], ◌∷◌, ◌++◌, Option, Some, IfSome}
+use Rattle.std.specs.Io.KnownBytes.{Consumes, IsAtEnd}
+use Rattle.cam6_wire.specs.OneLine.{HasNoLf}
+use Rattle.cam6_session.specs.Held.{Held, Holds, Grows}
+use Rattle.cam6_session.specs.declared.lines.Part.{Part}
+use Rattle.cam6_session.specs.declared.lines.Part.TheVariants.{More, Newline, AtEnd, Fault}
+use Rattle.cam6_session.specs.declared.lines.Line.{Line}
+use Rattle.cam6_session.specs.declared.lines.Line.TheVariants.{Ended, Last, EndOfInput}
+use Rattle.cam6_session.specs.declared.lines.Line.TheVariants.{ReadFault, TurnBound}
+
+-- what a look takes behind its part of the line
+abbrev pub mark : Part → List ℕ
+mark More = []
+mark Newline = 10 ∷ []
+mark AtEnd = []
+mark Fault = []
+
+-- one look at the reader took this part of a line
+pub record TakesPart (result : Part) (old new : Option (List ℕ)) (held kept : Held) : Type 0 where
+  pub part : List ℕ
+  pub free : HasNoLf part
+  pub grows : Grows held kept part
+  pub taken : Consumes old new (part ++ mark result)
+  pub at_end : result ≡ AtEnd → (part ≡ []) × IsAtEnd old
+
+-- of these bytes a line was taken, or a part of one, and those are left
+abbrev pub ReadsLine : Line → List ℕ → List ℕ → Held → Type 0
+ReadsLine Ended all left held =
+    (line : List ℕ) × HasNoLf line × (all ≡ line ++ 10 ∷ left) × Holds held line
+ReadsLine Last all left held =
+    (line : List ℕ) × HasNoLf line × (line ≢ []) × (all ≡ line) × (left ≡ []) × Holds held line
+ReadsLine EndOfInput all left held = (all ≡ []) × (left ≡ [])
+ReadsLine ReadFault all left held = (part : List ℕ) × HasNoLf part × (all ≡ part ++ left)
+ReadsLine TurnBound all left held = (part : List ℕ) × HasNoLf part × (all ≡ part ++ left)
+
+-- the same where the reader tells its bytes; then it tells those that are left
+abbrev pub Reads : Line → Option (List ℕ) → Option (List ℕ) → Held → Type 0
+Reads result old new held =
+    IfSome old (λ all. (left : List ℕ) × (new ≡ Some left) × ReadsLine result all left held)
+
+-- a line takes a turn or more, and the bound is met where none is left
+abbrev pub Turns : Line → ℕ → ℕ → Type 0
+Turns Ended old new = new < old
+Turns Last old new = new < old
+Turns EndOfInput old new = new < old
+Turns ReadFault old new = new < old
+Turns TurnBound old new = new ≡ 0

@@ -1,0 +1,27 @@
+//! A session with a machine that nobody shares.
+ghost use Rattle.cam6_session.specs.Alone.{ServedAlone, WritesAlone};
+
+use crate::serving::{End, serve};
+use cam6_machine::Machine;
+use std::alloc::Global;
+use std::io::{BufRead, Write};
+
+/// Answers each line of the reader by one line, as a blank machine does that gets all commands
+/// among them. Each look at the reader takes a turn.
+pub fn serve_alone<R: BufRead, W: Write>(
+    alloc: Global,
+    reader: &mut R,
+    writer: &mut W,
+    turns: u64,
+) -> End
+    ensures served { ServedAlone result (R.remaining reader.old) (R.remaining reader.new)
+        (W.contents writer.old) (W.contents writer.new) }
+    // What was written is the replies of the machine alone and the faults of lines, in their order.
+    ensures replies { WritesAlone result (R.remaining reader.old)
+        (W.contents writer.old) (W.contents writer.new) }
+{
+    let Ok(mut machine) = Machine::new(alloc) else {
+        return End::NoMemory { done: false };
+    };
+    serve(alloc, reader, writer, &mut machine, turns)
+}

@@ -1,0 +1,29 @@
+//! Sessions: streams of command lines, each answered by one line.
+//!
+//! Contract: for each end of `serve`, which lines it took, what it wrote, and at which machine the
+//! one it asked then stands (`specs/Sessions.antt`); `serve_alone` is that over a blank machine, in
+//! the replies of the machine alone (`specs/Alone.antt`).
+//!
+//! Stands on: `cam6_planes`, `cam6_machine`, `cam6_wire`.
+//!
+//! Read next: `serving` and `alone`; then `line_buffer`, `lines`, `asking` and `writing`, the parts.
+#![tactic(auto)]
+
+mod alone;
+mod asking;
+mod line_buffer;
+mod lines;
+#[cfg(test)]
+mod lines_tests;
+mod serving;
+#[cfg(test)]
+mod session_tests;
+#[cfg(test)]
+mod tests;
+mod writing;
+
+pub use alone::serve_alone;
+pub use asking::Ask;
+pub use line_buffer::LineBuf;
+pub use lines::{Line, next_line};
+pub use serving::{End, serve};

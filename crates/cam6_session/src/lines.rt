@@ -1,0 +1,97 @@
+//! The lines of a stream of bytes.
+ghost use Rattle.std.specs.Prelude.{◌≡◌, ◌<◌, ◌≤◌, if◌then◌else◌, length, take, slice_index};
+ghost use Rattle.cam6_session.specs.Held.{is_empty};
+ghost use Rattle.cam6_wire.specs.OneLine.{HasNoLf};
+ghost use Rattle.cam6_session.specs.Reading.{Reads, TakesPart, Turns};
+
+use crate::line_buffer::LineBuf;
+use std::io::BufRead;
+
+/// How reading a line ended.
+#[derive(Clone, Copy, Debug, PartialEq, Eq)]
+pub enum Line {
+    /// An LF ended the line, which the buffer has.
+    Ended,
+    /// The input ended the line, which the buffer has. Nothing is left to be read.
+    Last,
+    /// The input ended where a line would begin.
+    EndOfInput,
+    /// The reader failed. What was read of a line is given up.
+    ReadFault,
+    /// The turns ran out. What was read of a line is given up.
+    TurnBound,
+}
+
+/// What one look at the reader showed of a line.
+#[derive(Clone, Copy)]
+enum Part {
+    More,
+    Newline,
+    AtEnd,
+    Fault,
+}
+
+/// Reads one line. Each look at the reader takes a turn.
+pub fn next_line<R: BufRead>(reader: &mut R, line: &mut LineBuf, turns: &mut u64) -> Line
+    ensures line { Reads result (R.remaining reader.old) (R.remaining reader.new) line.new }
+    ensures turns { Turns result turns.old turns.new }
+{
+    line.clear();
+    while *turns > 0 {
+        *turns -= 1;
+        match take_part(reader, line) {
+            Part::More => {}
+            Part::Newline => return Line::Ended,
+            Part::AtEnd => return last(line),
+            Part::Fault => return Line::ReadFault,
+        }
+    }
+    Line::TurnBound
+}
+
+/// What the end of the input makes of the line.
+fn last(line: &LineBuf) -> Line
+    ensures { result ≡ (if is_empty line.now then Line.EndOfInput else Line.Last) }
+{
+    if line.is_empty() {
+        Line::EndOfInput
+    } else {
+        Line::Last
+    }
+}
+
+/// Looks once at the reader, and takes what it shows up to the line's LF.
+fn take_part<R: BufRead>(reader: &mut R, line: &mut LineBuf) -> Part
+    ensures { TakesPart result (R.remaining reader.old) (R.remaining reader.new) line.old line.new }
+{
+    let shown = match reader.fill_buf() {
+        Ok(shown) => shown,
+        Err(_) => return Part::Fault,
+    };
+    if shown.is_empty() {
+        return Part::AtEnd;
+    }
+    let len = line_len(shown);
+    line.add(&shown[..len]);
+    if len < shown.len() {
+        reader.consume(len + 1);
+        Part::Newline
+    } else {
+        reader.consume(len);
+        Part::More
+    }
+}
+
+/// The number of bytes before the first LF.
+fn line_len(bytes: &[u8]) -> usize
+    ensures within { result ≤ length bytes.now }
+    ensures before { HasNoLf (take result bytes.now) }
+    ensures at { result < length bytes.now → slice_index bytes.now result ≡ 10 }
+{
+    for (i, x) in bytes.iter().enumerate() {
+        if *x == b'\n' {
+            return i;
+        }
+    }
+    bytes.len()
+}
