@@ -28,8 +28,8 @@ impl From<AllocError> for Unreadable {
 ///
 /// An empty line says nothing, and neither does one that begins with `#`. `> LINE` is a line sent,
 /// `< LINE` one that must come back. `< plane` stands for the reply to `plane`, whose rows follow
-/// from the first on as `= ROW DIGITS`, with `*` for as many zeros as are left out; a row that isn't
-/// there is all zeros.
+/// from the first on as `= ROW DIGITS`, with `*` for as many zeros as are left out; a row that
+/// isn't there is all zeros.
 pub fn read_example(alloc: Global, text: &str) -> Result<Example, Unreadable> {
     let mut example = Example {
         sent: Vec::new(alloc),

@@ -1,3 +1,4 @@
--- In the order of reading: CommandLine, Statuses.
+-- In the order of reading: CommandLine, Unreadable, Statuses.
 pub mod CommandLine
+pub mod Unreadable
 pub mod Statuses

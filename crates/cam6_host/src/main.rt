@@ -9,7 +9,13 @@
 //! Read next: `modes` and `words`, the command line; then `statuses`.
 #![tactic(auto)]
 
+ghost use Rattle.std.specs.Prelude.{◌≡◌};
+ghost use Rattle.std.specs.Process.{exit_status};
+ghost use Rattle.cam6_host.specs.Unreadable.{IsUnreadable};
+
 mod modes;
+#[cfg(test)]
+mod run_tests;
 mod statuses;
 mod words;
 #[cfg(test)]
@@ -19,6 +25,7 @@ use cam6_session::serve_alone;
 use modes::{Options, Refused};
 use statuses::{NO_MEMORY, REFUSED_WORDS, WRITE_FAILED, failure_of};
 use std::alloc::Global;
+use std::env::Env;
 use std::io;
 use std::io::{BufReader, ErrorKind};
 use std::process::ExitCode;
@@ -27,18 +34,23 @@ use std::process::ExitCode;
 const TURNS: u64 = 1_099_511_627_776;
 
 fn main(rt: HostRuntime) -> ExitCode {
-    match options_given(&rt) {
-        Ok(Options::Alone) => over_standard_streams(&rt),
+    run(&rt)
+}
+
+/// Reads the words, and does what they ask for.
+fn run<R: Env + Input + Print + Eprint + AllocGlobal>(rt: &R) -> ExitCode {
+    match options_given(rt) {
+        Ok(Options::Alone) => over_standard_streams(rt),
         Err(Refused::Help(text)) => match rt.print(text.as_str()) {
             Ok(()) => ExitCode::SUCCESS,
-            Err(_) => failed(&rt, WRITE_FAILED, "cam6: write failed\n"),
+            Err(_) => failed(rt, WRITE_FAILED, "cam6: write failed\n"),
         },
-        Err(Refused::Words(text)) => failed(&rt, REFUSED_WORDS, text.as_str()),
-        Err(Refused::NoMemory) => failed(&rt, NO_MEMORY, "cam6: no memory\n"),
+        Err(Refused::Words(text)) => failed(rt, REFUSED_WORDS, text.as_str()),
+        Err(Refused::NoMemory) => failed(rt, NO_MEMORY, "cam6: no memory\n"),
     }
 }
 
-fn options_given(rt: &HostRuntime) -> Result<Options, Refused> {
+fn options_given<R: Env + AllocGlobal>(rt: &R) -> Result<Options, Refused> {
     let alloc = rt.alloc();
     let args = match std::env::args(rt) {
         Ok(args) => args,
@@ -51,7 +63,9 @@ fn options_given(rt: &HostRuntime) -> Result<Options, Refused> {
 }
 
 /// Why the words could not be had.
-fn unreadable(alloc: Global, kind: ErrorKind) -> Refused {
+fn unreadable(alloc: Global, kind: ErrorKind) -> Refused
+    ensures { IsUnreadable result kind }
+{
     match kind {
         ErrorKind::OutOfMemory => Refused::NoMemory,
         _ => match String::from_str(alloc, "cam6: a word is not UTF-8\n") {
@@ -62,7 +76,7 @@ fn unreadable(alloc: Global, kind: ErrorKind) -> Refused {
 }
 
 /// Serves one machine over standard input and output.
-fn over_standard_streams<R: Input + Print + Eprint + Alloc<A = Global>>(rt: &R) -> ExitCode {
+fn over_standard_streams<R: Input + Print + Eprint + AllocGlobal>(rt: &R) -> ExitCode {
     let alloc = rt.alloc();
     let Ok(mut reader) = BufReader::new(alloc, rt.reader()) else {
         return failed(rt, NO_MEMORY, "cam6: no memory\n");
@@ -75,7 +89,9 @@ fn over_standard_streams<R: Input + Print + Eprint + Alloc<A = Global>>(rt: &R) 
 }
 
 /// Ends with a status, and a text on standard error.
-fn failed(rt: &impl Eprint, status: u8, text: &str) -> ExitCode {
+fn failed(rt: &impl Eprint, status: u8, text: &str) -> ExitCode
+    ensures { exit_status result ≡ status }
+{
     // Standard error is the last place to tell of a fault, so a fault of its own isn't told.
     let _ = rt.eprint(text);
     ExitCode::from(status)

@@ -1,9 +1,9 @@
 //! The words of the command line, and the status of each end.
 
 use crate::modes::{Options, Refused};
-use cam6_session::End;
 use crate::statuses::failure_of;
 use crate::words::options;
+use cam6_session::End;
 use std::alloc::Global;
 use std::test::Fail;
 

@@ -6,7 +6,8 @@
 //!
 //! Stands on: `cam6_planes`, `cam6_machine`, `cam6_wire`.
 //!
-//! Read next: `serving` and `alone`; then `line_buffer`, `lines`, `asking` and `writing`, the parts.
+//! Read next: `serving` and `alone`; then their parts, `line_buffer`, `lines`, `asking` and
+//! `writing`.
 #![tactic(auto)]
 
 mod alone;

@@ -1,0 +1,230 @@
+//! The program over streams of its own: what it writes to each, and the status it ends with.
+
+use crate::run;
+use std::alloc::{Allocator, Global};
+use std::cell::RefCell;
+use std::env::{Env, FillError};
+use std::fmt::Display;
+use std::io;
+use std::io::{BufRead, ErrorKind, Lines, Read};
+use std::process::ExitCode;
+
+/// Some input, and whether reading fails behind it.
+#[derive(Clone, Copy, Drop)]
+struct Given {
+    bytes: &'static [u8],
+    fails: bool,
+}
+
+impl Read for Given {
+    fn read(&mut self, buf: &mut [u8]) -> io::Result<usize> {
+        let n = self.bytes.len().min(buf.len());
+        if n == 0 && self.fails {
+            return Err(io::Error::from(ErrorKind::Other));
+        }
+        buf[..n].copy_from_slice(&self.bytes[..n]);
+        self.bytes = &self.bytes[n..];
+        Ok(n)
+    }
+}
+
+impl BufRead for Given {
+    fn fill_buf(&mut self) -> io::Result<&[u8]> {
+        Ok(self.bytes)
+    }
+
+    fn consume(&mut self, amount: usize) {
+        self.bytes = &self.bytes[amount.min(self.bytes.len())..];
+    }
+}
+
+/// Words and standard streams in memory.
+#[derive(Drop)]
+struct Streams<'a> {
+    alloc: Global,
+    words: &'a [&'static [u8]],
+    input: Given,
+    output: RefCell<Vec<u8>>,
+    output_fails: bool,
+    errors: RefCell<Vec<u8>>,
+}
+
+impl Env for Streams<'_> {
+    fn arg(&self, i: usize, buf: &mut [u8]) -> Result<usize, FillError> {
+        let Some(word) = self.words.get(i) else {
+            return Err(FillError::NotPresent);
+        };
+        if word.len() > buf.len() {
+            return Err(FillError::TooLong);
+        }
+        buf[..word.len()].copy_from_slice(word);
+        Ok(word.len())
+    }
+
+    fn var(&self, _name: &str, _buf: &mut [u8]) -> Result<usize, FillError> {
+        Err(FillError::NotPresent)
+    }
+
+    fn var_at(&self, _i: usize, _buf: &mut [u8]) -> Result<usize, FillError> {
+        Err(FillError::NotPresent)
+    }
+}
+
+impl Input for Streams<'_> {
+    type Reader = Given;
+
+    fn read_line<A: Allocator + Clone>(&self, _buf: &mut String<A>) -> io::Result<usize> {
+        Err(io::Error::from(ErrorKind::Unsupported))
+    }
+
+    fn lines<A: Allocator>(&self, alloc: A) -> Lines<Given, A> {
+        self.input.lines(alloc)
+    }
+
+    fn reader(&self) -> Given {
+        self.input
+    }
+}
+
+impl Alloc for Streams<'_> {
+    type A = Global;
+
+    fn alloc(&self) -> Global {
+        self.alloc
+    }
+}
+
+/// Puts bytes at a stream's end.
+fn add(stream: &RefCell<Vec<u8>>, bytes: &[u8]) -> io::Result<()> {
+    match stream.try_borrow_mut() {
+        Ok(mut stream) => Ok(stream.extend_from_slice(bytes)?),
+        Err(_) => Err(io::Error::from(ErrorKind::Other)),
+    }
+}
+
+impl Print for Streams<'_> {
+    fn print<D: Display + Drop>(&self, value: D) -> io::Result<()> {
+        let text = value.to_string(self.alloc)?;
+        self.write_all(text.as_bytes())
+    }
+
+    fn println<D: Display + Drop>(&self, value: D) -> io::Result<()> {
+        self.print(value)?;
+        self.write_all(b"\n")
+    }
+
+    fn write_all(&self, bytes: &[u8]) -> io::Result<()> {
+        if self.output_fails {
+            return Err(io::Error::from(ErrorKind::BrokenPipe));
+        }
+        add(&self.output, bytes)
+    }
+}
+
+impl Eprint for Streams<'_> {
+    fn eprint<D: Display + Drop>(&self, value: D) -> io::Result<()> {
+        let text = value.to_string(self.alloc)?;
+        add(&self.errors, text.as_bytes())
+    }
+
+    fn eprintln<D: Display + Drop>(&self, value: D) -> io::Result<()> {
+        self.eprint(value)?;
+        add(&self.errors, b"\n")
+    }
+}
+
+const LINES: &[u8] = b"nope\n{\"do\":\"run\",\"n\":1}";
+
+const ANSWERS: &[u8] = b"{\"fault\":2}\n{\"fault\":63}\n";
+
+/// What fails in a run.
+#[derive(Clone, Copy, Debug, PartialEq, Eq)]
+enum Fault {
+    None,
+    Read,
+    Write,
+}
+
+/// A run over these words and the lines above: its status, its output and its errors.
+fn run_with(alloc: Global, words: &[&'static [u8]], fault: Fault) -> (ExitCode, Vec<u8>, Vec<u8>) {
+    let streams = Streams {
+        alloc,
+        words,
+        input: Given {
+            bytes: LINES,
+            fails: fault == Fault::Read,
+        },
+        output: RefCell::new(Vec::new(alloc)),
+        output_fails: fault == Fault::Write,
+        errors: RefCell::new(Vec::new(alloc)),
+    };
+    let status = run(&streams);
+    (
+        status,
+        streams.output.into_inner(),
+        streams.errors.into_inner(),
+    )
+}
+
+// From the profile's list of statuses: answers on standard output, one line on standard error.
+#[test]
+fn ends_have_their_status(rt: HostRuntime) {
+    let cam6 = b"cam6".as_slice();
+    for (words, fault, status, output, errors) in [
+        ([cam6, b"alone"], Fault::None, 0, ANSWERS, b"".as_slice()),
+        (
+            [cam6, b"alone"],
+            Fault::Read,
+            3,
+            &ANSWERS[..12],
+            b"cam6: read failed\n",
+        ),
+        (
+            [cam6, b"alone"],
+            Fault::Write,
+            4,
+            b"",
+            b"cam6: write failed\n",
+        ),
+        (
+            [cam6, b"--help"],
+            Fault::Write,
+            4,
+            b"",
+            b"cam6: write failed\n",
+        ),
+        (
+            [cam6, b"\xff"],
+            Fault::None,
+            2,
+            b"",
+            b"cam6: a word is not UTF-8\n",
+        ),
+    ] {
+        let got = run_with(rt.alloc(), &words, fault);
+        assert_eq!(rt; got.0, ExitCode::from(status), "{words:?} {fault:?}");
+        assert_eq!(rt; got.1.as_slice(), output, "{words:?} {fault:?}");
+        assert_eq!(rt; got.2.as_slice(), errors, "{words:?} {fault:?}");
+    }
+    let got = run_with(rt.alloc(), &[cam6], Fault::None);
+    assert_eq!(rt; got.0, ExitCode::SUCCESS);
+    assert_eq!(rt; got.1.as_slice(), ANSWERS);
+}
+
+// Help goes to standard output with status 0, and refused words to standard error with 2. Their
+// texts are clap's. Neither reads the input.
+#[test]
+fn words_have_their_status(rt: HostRuntime) {
+    for (word, status) in [
+        (b"--help".as_slice(), 0),
+        (b"help", 0),
+        (b"fly", 2),
+        (b"replay", 2),
+        (b"serve", 2),
+    ] {
+        let got = run_with(rt.alloc(), &[b"cam6", word], Fault::None);
+        assert_eq!(rt; got.0, ExitCode::from(status), "{word:?}");
+        assert_eq!(rt; got.1.is_empty(), status != 0, "{word:?}");
+        assert_eq!(rt; got.2.is_empty(), status == 0, "{word:?}");
+    }
+}
