@@ -1,5 +1,7 @@
 -- The rules of a map, looked up by name.
-use Rattle.std.proofs.Common.{◌≡◌, ℕ, ◌+◌, List, [], ◌∷◌, Bool, true, false, cond, Some, None, String, Global, refl, sym, ap, ◌∙◌, map, string_bytes, option_map, slice_get}
+use Rattle.std.proofs.Common.{◌≡◌, ℕ, ◌+◌, List, [], ◌∷◌, Bool, true, false, cond}
+use Rattle.std.proofs.Common.{Some, None, String, Global, refl, sym, ap, ◌∙◌, map}
+use Rattle.std.proofs.Common.{string_bytes, option_map, slice_get}
 use Rattle.std.specs.Map.{lookup}
 use Rattle.std.specs.List.{position, position_from}
 use Rattle.std.specs.Str.{bytes_eq}

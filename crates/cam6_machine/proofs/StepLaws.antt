@@ -1,5 +1,6 @@
 -- What follows of steps.
-use Rattle.std.proofs.Common.{◌≡◌, ℕ, zero, suc, ◌+◌, ◌<◌, ◌%◌, Bool, List, [], ◌∷◌, length, Option, Some, None, refl, sym, ap, ◌∙◌, arith}
+use Rattle.std.proofs.Common.{◌≡◌, ℕ, zero, suc, ◌+◌, ◌<◌, ◌%◌, Bool, List, [], ◌∷◌, length}
+use Rattle.std.proofs.Common.{Option, Some, None, refl, sym, ap, ◌∙◌, arith}
 use Rattle.std.specs.List.{slice_get}
 use Rattle.std.proofs.Math.Nat.{mod-add-mod, mod-eq_of_lt, mod-lt}
 use Rattle.cam6_planes.specs.Cells.{Cells}
@@ -12,7 +13,8 @@ use Rattle.cam6_wiring.specs.declared.names.Level.TheVariants.{Lower, Upper}
 use Rattle.cam6_machine.specs.Rules.{rule_at}
 use Rattle.cam6_machine.specs.Steps.{new_cell, on_plane, place_for, setting_for}
 use Rattle.cam6_machine.specs.Machine.{Machine, stepped_by, stepped, steps}
-use Rattle.cam6_machine.specs.Laws.{KeepsItsPlanes, StepsAddUp, OnlyPlanesAndPosition, PositionGoesRound}
+use Rattle.cam6_machine.specs.Laws.{KeepsItsPlanes, StepsAddUp}
+use Rattle.cam6_machine.specs.Laws.{OnlyPlanesAndPosition, PositionGoesRound}
 use Rattle.cam6_machine.specs.declared.cycles.Entry.{Entry}
 
 plane_of-lt : (half : Half) (level : Level) → plane_of half level < 4
@@ -49,7 +51,8 @@ steps_add_up m first (suc later) =
 
 -- a step changes these alone
 moved : (o : Option Entry) (m : Machine) →
-    stepped_by o m ≡ record m { planes = (stepped_by o m).planes; position = (stepped_by o m).position }
+    stepped_by o m
+    ≡ record m { planes = (stepped_by o m).planes; position = (stepped_by o m).position }
 moved None m = refl
 moved (Some entry) m = refl
 

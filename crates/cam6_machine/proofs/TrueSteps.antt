@@ -1,5 +1,6 @@
 -- A step by true tables is the step by the rules' words.
-use Rattle.std.proofs.Common.{◌≡◌, ℕ, zero, suc, ◌<◌, Bool, List, Option, Some, None, refl, sym, ◌∙◌, ap, arith}
+use Rattle.std.proofs.Common.{◌≡◌, ℕ, zero, suc, ◌<◌, Bool, List}
+use Rattle.std.proofs.Common.{Option, Some, None, refl, sym, ◌∙◌, ap, arith}
 use Rattle.cam6_planes.specs.Stored.{Stored}
 use Rattle.cam6_planes.specs.Cells.{Cells, cells, torus, stored_bit}
 use Rattle.cam6_planes.proofs.CellsAt.{torus_at, torus_same}

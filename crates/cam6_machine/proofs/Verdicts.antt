@@ -1,5 +1,6 @@
 -- What the reading of a text and the trial of its rule's code say of the verdict.
-use Rattle.std.proofs.Common.{◌≡◌, ℕ, List, slice_index, Some, None, Option, Result, Ok, IsOk, refl, sym, ap, subst, ◌∙◌}
+use Rattle.std.proofs.Common.{◌≡◌, ℕ, List, slice_index, Some, None, Option, Result, Ok}
+use Rattle.std.proofs.Common.{IsOk, refl, sym, ap, subst, ◌∙◌}
 use Rattle.cam6_wiring.specs.declared.wirings.Wiring.{Wiring}
 use Rattle.cam6_forth.specs.Defined.{RuleWords}
 use Rattle.cam6_forth.specs.Outcome.{Answers, IsAccepted}

@@ -1,5 +1,6 @@
 -- How the plain program steps: by the tables of the rules.
-use Rattle.std.specs.Prelude.{◌≡◌, ℕ, Bool, List, ◌<◌, slice_index, Option, Some, None, Result, Ok, Err, IsOk, ⊤}
+use Rattle.std.specs.Prelude.{◌≡◌, ℕ, Bool, List, ◌<◌, slice_index}
+use Rattle.std.specs.Prelude.{Option, Some, None, Result, Ok, Err, IsOk, ⊤}
 use Rattle.std.specs.List.{slice_get}
 use Rattle.cam6_planes.specs.Cells.{Cells}
 use Rattle.cam6_wiring.specs.Name.{plane_of}

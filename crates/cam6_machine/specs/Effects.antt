@@ -8,7 +8,8 @@ use Rattle.cam6_machine.specs.Rules.{Rule}
 use Rattle.cam6_machine.specs.Cycles.{placed_entry}
 use Rattle.cam6_machine.specs.Machine.{Machine, steps}
 use Rattle.cam6_machine.specs.declared.commands.Command.{Command}
-use Rattle.cam6_machine.specs.declared.commands.Command.TheVariants.{Set, Rule as SetRule, Cycle, Run, Plane}
+use Rattle.cam6_machine.specs.declared.commands.Command.TheVariants.{Set, Rule as SetRule}
+use Rattle.cam6_machine.specs.declared.commands.Command.TheVariants.{Cycle, Run, Plane}
 use Rattle.cam6_machine.specs.declared.replies.Reply.{Reply}
 use Rattle.cam6_machine.specs.declared.replies.Reply.TheVariants as reply
 

@@ -1,5 +1,6 @@
 -- What a cell becomes by the words of its rule, and one step of all cells.
-use Rattle.std.specs.Prelude.{ℕ, zero, suc, ◌/◌, Bool, false, List, Option, Some, None, Result, Ok, Err}
+use Rattle.std.specs.Prelude.{ℕ, zero, suc, ◌/◌, Bool, false, List}
+use Rattle.std.specs.Prelude.{Option, Some, None, Result, Ok, Err}
 use Rattle.cam6_planes.specs.Cells.{Cells, torus}
 use Rattle.cam6_wiring.specs.Name.{plane_of}
 use Rattle.cam6_wiring.specs.Seen.{Sees, seen}

@@ -1,5 +1,7 @@
-//! What follows of the definition of steps. Each law is the contract of a function that does nothing.
-ghost use Rattle.cam6_machine.specs.Laws.{KeepsItsPlanes, StepsAddUp, OnlyPlanesAndPosition, PositionGoesRound};
+//! What follows of the definition of steps. Each law is the contract of a function that does
+//! nothing.
+ghost use Rattle.cam6_machine.specs.Laws.{KeepsItsPlanes, StepsAddUp};
+ghost use Rattle.cam6_machine.specs.Laws.{OnlyPlanesAndPosition, PositionGoesRound};
 
 /// A half without a rule keeps its planes.
 pub fn a_half_without_a_rule_keeps_its_planes()

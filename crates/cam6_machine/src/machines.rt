@@ -62,7 +62,8 @@ impl Machine {
     ghost use Rattle.std.specs.Prelude.{◌≡◌, ◌<◌, ◌≤◌, IfOk, OnErr, length};
     ghost use Rattle.cam6_machine.specs.Machine.{blank, steps, machine_of};
     ghost use Rattle.cam6_machine.specs.Alone.{reply, after, work_of};
-    ghost use Rattle.cam6_machine.specs.Answers.{work_left, IsReplyTo, machine_after, IsKeptBy, Keeps, CanWork};
+    ghost use Rattle.cam6_machine.specs.Answers.{work_left, IsReplyTo, machine_after};
+    ghost use Rattle.cam6_machine.specs.Answers.{IsKeptBy, Keeps, CanWork};
 
     /// A machine with blank planes, no rules and no cycle.
     pub fn new(alloc: Global) -> Result<Machine, NoMemory>

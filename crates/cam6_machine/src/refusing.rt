@@ -4,7 +4,10 @@ ghost use Rattle.std.specs.Bool.{OnTrue};
 ghost use Rattle.cam6_planes.specs.declared.row.TheConstants.{SIDE};
 ghost use Rattle.cam6_machine.specs.declared.cycles.TheConstants.{MAX_ENTRIES};
 ghost use Rattle.cam6_machine.specs.Rules.{rules_of};
-ghost use Rattle.cam6_machine.specs.Refusals.{set_refusal, plane_refusal, run_refusal, rule_refusal, cycle_refusal, is_cycle, have_phases, first_refusal, entry_refusal, half_refusal, uses, is_used};
+ghost use Rattle.cam6_machine.specs.Refusals.{set_refusal, plane_refusal, run_refusal};
+ghost use Rattle.cam6_machine.specs.Refusals.{rule_refusal, cycle_refusal, is_cycle, have_phases};
+ghost use Rattle.cam6_machine.specs.Refusals.{first_refusal, entry_refusal, half_refusal};
+ghost use Rattle.cam6_machine.specs.Refusals.{uses, is_used};
 
 use crate::commands::{NamedEntries, NamedEntry};
 use crate::cycles::{Entry, MAX_ENTRIES};

@@ -2,7 +2,8 @@
 ghost use Rattle.std.specs.Prelude.{◌≡◌, IfOk, OnOk, OnErr};
 ghost use Rattle.std.specs.List.{list_all};
 ghost use Rattle.cam6_machine.specs.Effects.{with_rule};
-ghost use Rattle.cam6_machine.specs.Rules.{rules_of, place_of, wiring_of, wiring_at, is_rule_name, is_name_byte};
+ghost use Rattle.cam6_machine.specs.Rules.{rules_of, place_of, wiring_of, wiring_at};
+ghost use Rattle.cam6_machine.specs.Rules.{is_rule_name, is_name_byte};
 ghost use Rattle.cam6_machine.specs.ByTables.{IsVerdict};
 
 use crate::replies::Reply;
