@@ -1,5 +1,6 @@
 -- What a line says: the JSON value that it is, and the command that the value is.
-use Rattle.std.specs.Prelude.{◌≡◌, ℕ, List, length, codes, nat_lt, if◌then◌else◌, Option, Some, None}
+use Rattle.std.specs.Prelude.{◌≡◌, ℕ, List, length, codes, nat_lt}
+use Rattle.std.specs.Prelude.{if◌then◌else◌, Option, Some, None}
 use Rattle.std.specs.Prelude.{option_map, ok_or, Result, Ok, Err, ⊤}
 use Rattle.std.specs.Bool.{then_some}
 use Rattle.std.specs.Str.{bytes_eq, is_utf8}
@@ -8,7 +9,8 @@ use Rattle.serde_json.specs.Read.{read}
 use Rattle.cam6_machine.specs.declared.commands.Command.{Command}
 use Rattle.cam6_machine.specs.declared.commands.Command.TheVariants.{Set, Rule, Cycle, Run, Plane}
 use Rattle.cam6_wire.specs.declared.faults.LineFault.{LineFault}
-use Rattle.cam6_wire.specs.declared.faults.LineFault.TheVariants.{NoMemory, TooLong, NoJson, NoCommand}
+use Rattle.cam6_wire.specs.declared.faults.LineFault.TheVariants.{NoMemory, TooLong}
+use Rattle.cam6_wire.specs.declared.faults.LineFault.TheVariants.{NoJson, NoCommand}
 use Rattle.cam6_wire.specs.Fields.{has_size, number_at, text_at, bits_at, ◌>>=◌}
 use Rattle.cam6_wire.specs.Settings.{wiring_in}
 use Rattle.cam6_wire.specs.Entries.{entries_at}

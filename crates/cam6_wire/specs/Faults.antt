@@ -1,7 +1,8 @@
 -- The numbers of the faults of lines.
 use Rattle.std.specs.Prelude.{ℕ}
 use Rattle.cam6_wire.specs.declared.faults.LineFault.{LineFault}
-use Rattle.cam6_wire.specs.declared.faults.LineFault.TheVariants.{NoMemory, TooLong, NoJson, NoCommand}
+use Rattle.cam6_wire.specs.declared.faults.LineFault.TheVariants.{NoMemory, TooLong}
+use Rattle.cam6_wire.specs.declared.faults.LineFault.TheVariants.{NoJson, NoCommand}
 
 -- 1 for a line that is too long, 2 for no JSON, 3 for no command; want of memory has no reply
 abbrev pub fault_number : LineFault → ℕ

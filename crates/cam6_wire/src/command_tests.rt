@@ -99,7 +99,8 @@ fn rules(rt: HostRuntime) -> Result<(), Fail> {
         ),
     ] {
         let line = format!(in alloc;
-            r#"{{"do":"rule","half":"A","hood":"N/VONN","minor":"&/CENTERS","name":"{name}","text":"{text}"}}"#
+            "{{\"do\":\"rule\",\"half\":\"A\",\"hood\":\"N/VONN\",\"minor\":\"&/CENTERS\",\
+            \"name\":\"{name}\",\"text\":\"{text}\"}}"
         )?;
         assert_eq!(rt;
             shown(&read_command(alloc, line.as_bytes())),
@@ -209,7 +210,8 @@ fn entries_of_both_halves(rt: HostRuntime) -> Result<(), Fail> {
     let alloc = rt.alloc();
     let value = Value::from_str(
         alloc,
-        r#"{"":[{"a":"-","b":"Q","grid":"ODD","phase":4},{"a":"P","b":"-","grid":"EVEN","phase":3}]}"#,
+        r#"{"":[{"a":"-","b":"Q","grid":"ODD","phase":4},
+            {"a":"P","b":"-","grid":"EVEN","phase":3}]}"#,
     )?;
     let entries = entries_at(alloc, &value, "")?;
     assert!(rt; entries.is_some());

@@ -93,17 +93,17 @@ fn cycles_of_other_entries(rt: HostRuntime) -> Result<(), Fail> {
     Ok(())
 }
 
-const ROW_WITHOUT_PLANE: &str =
-    r#"{"do":"set","row":0,"bits":"0000000000000000000000000000000000000000000000000000000000000000"}"#;
+const ROW_WITHOUT_PLANE: &str = "{\"do\":\"set\",\"row\":0,\
+    \"bits\":\"0000000000000000000000000000000000000000000000000000000000000000\"}";
 
-const ROW_WITHOUT_ROW: &str =
-    r#"{"do":"set","plane":0,"bits":"0000000000000000000000000000000000000000000000000000000000000000"}"#;
+const ROW_WITHOUT_ROW: &str = "{\"do\":\"set\",\"plane\":0,\
+    \"bits\":\"0000000000000000000000000000000000000000000000000000000000000000\"}";
 
-const ROW_OF_TEXT: &str =
-    r#"{"do":"set","plane":0,"row":"0","bits":"0000000000000000000000000000000000000000000000000000000000000000"}"#;
+const ROW_OF_TEXT: &str = "{\"do\":\"set\",\"plane\":0,\"row\":\"0\",\
+    \"bits\":\"0000000000000000000000000000000000000000000000000000000000000000\"}";
 
-const ROW_WITH_MORE: &str =
-    r#"{"do":"set","plane":0,"row":0,"x":0,"bits":"0000000000000000000000000000000000000000000000000000000000000000"}"#;
+const ROW_WITH_MORE: &str = "{\"do\":\"set\",\"plane\":0,\"row\":0,\"x\":0,\
+    \"bits\":\"0000000000000000000000000000000000000000000000000000000000000000\"}";
 
 /// Lines of one JSON value that is no command: other values, unknown words, a key too few, a key
 /// too many, a value of a wrong type.
@@ -249,8 +249,8 @@ fn no_json(rt: HostRuntime) {
     }
 }
 
-/// Bytes that are no UTF-8, in a text and outside one: no first byte, an overlong NUL, a cut letter,
-/// a surrogate, a number above the last.
+/// Bytes that are no UTF-8, in a text and outside one: no first byte, an overlong NUL, a cut
+/// letter, a surrogate, a number above the last.
 const NO_UTF8: &[&[u8]] = &[
     &[0x22, 0xFF, 0x22],
     &[0x22, 0x80, 0x22],

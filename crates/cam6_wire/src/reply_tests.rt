@@ -7,7 +7,7 @@ use cam6_table::RuleFault;
 use std::alloc::{AllocError, Global};
 use std::test::Fail;
 
-// From the table of replies, and the lists of fault replies below it.
+// From the table of replies, and the list of the machine's faults below it.
 #[test]
 fn replies(rt: HostRuntime) -> Result<(), Fail> {
     let alloc = rt.alloc();
@@ -23,6 +23,18 @@ fn replies(rt: HostRuntime) -> Result<(), Fail> {
         (Reply::Fault(Fault::NoCycle), r#"{"fault":63}"#),
         (Reply::Fault(Fault::OutOfRange), r#"{"fault":65}"#),
         (Reply::Fault(Fault::WrongHalf), r#"{"fault":66}"#),
+    ] {
+        let text = reply_text(alloc, &reply)?;
+        assert_eq!(rt; text.as_str(), want);
+    }
+    Ok(())
+}
+
+// From the lists of fault replies: a text fault with its token, a rule fault with its address.
+#[test]
+fn faults_of_rules(rt: HostRuntime) -> Result<(), Fail> {
+    let alloc = rt.alloc();
+    for (reply, want) in [
         (
             Reply::RuleText(TextFault {
                 number: 20,

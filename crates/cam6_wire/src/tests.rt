@@ -90,7 +90,7 @@ pub(crate) fn rule(
     minor: &str,
 ) -> Result<String, AllocError> {
     format!(in alloc;
-        r#"{{"do":"rule","name":"a b","half":"{half}","hood":"{hood}","minor":"{minor}","text":""}}"#
+        r#"{{"do":"rule","name":" ","half":"{half}","hood":"{hood}","minor":"{minor}","text":""}}"#
     )
 }
 
