@@ -21,8 +21,8 @@ pub fn a_text_has_one_fault()
     ensures law { HasOneFault }
 {}
 
-/// Tokens that have no fault so far can be completed to the tokens of a rule. A text's limit of bytes
-/// is of the whole text, and not of its tokens.
+/// Tokens that have no fault so far can be completed to the tokens of a rule. A text's limit of
+/// bytes is of the whole text, and not of its tokens.
 pub fn tokens_without_a_fault_begin_a_rule()
     ensures law { CanBeCompleted }
 {}

@@ -22,7 +22,8 @@ bit_number true = 1
 -- the four columns from x on as a number, the first of them the highest bit
 abbrev pub four_columns : (ℕ → Bool) → ℕ → ℕ
 four_columns row x =
-    8 * bit_number (row x) + 4 * bit_number (row (x + 1)) + 2 * bit_number (row (x + 2)) + bit_number (row (x + 3))
+    8 * bit_number (row x) + 4 * bit_number (row (x + 1))
+    + 2 * bit_number (row (x + 2)) + bit_number (row (x + 3))
 
 -- the lower case hexadecimal digit of columns 4k to 4k+3
 abbrev pub digit_at : (ℕ → Bool) → ℕ → ℕ

@@ -1,7 +1,7 @@
-//! Bit planes: what a machine's 256 by 256 cells hold, one bit a plane, packed 64 columns to a word.
+//! Bit planes: what a machine's 256 by 256 cells hold, a bit a plane, packed 64 columns to a word.
 //!
-//! Contract: contracts see planes as `cells`, a truth value at each plane, column and row of a torus
-//! (`specs/Cells.antt`). A write changes one row of one plane and nothing else.
+//! Contract: contracts see planes as `cells`, a truth value at each plane, column and row of a
+//! torus (`specs/Cells.antt`). A write changes one row of one plane and nothing else.
 //!
 //! Stands on: nothing. Column 0 is the highest bit of a row's first word, of its first byte and of
 //! its first hexadecimal digit.

@@ -19,8 +19,8 @@ pub const DIGITS: usize = 64;
 /// The bits of one row of one plane. Column 0 is the highest bit of the first word.
 pub type Row = [u64; WORDS];
 
-/// At each column of the answer, the bit that the row has to the west of it; west of column 0 is the
-/// last column.
+/// At each column of the answer, the bit that the row has to the west of it; west of column 0 is
+/// the last column.
 pub fn west(row: &Row) -> Row
     ensures { (x : ℕ) → x < SIDE → column_bit result x ≡ column_bit row.now (west_of SIDE x) }
 {
@@ -32,8 +32,8 @@ pub fn west(row: &Row) -> Row
     shifted
 }
 
-/// At each column of the answer, the bit that the row has to the east of it; east of the last column
-/// is column 0.
+/// At each column of the answer, the bit that the row has to the east of it; east of the last
+/// column is column 0.
 pub fn east(row: &Row) -> Row
     ensures { (x : ℕ) → x < SIDE → column_bit result x ≡ column_bit row.now (east_of SIDE x) }
 {

@@ -6,8 +6,8 @@ ghost use Rattle.cam6_planes.specs.declared.row.TheConstants.{SIDE};
 use crate::names::{Compass, Turn};
 use cam6_planes::SIDE;
 
-/// Where a block's upper left cell lies: at even coordinates, or at odd ones. The last blocks of the
-/// odd grid join the last column with column 0, and the last row with row 0.
+/// Where a block's upper left cell lies: at even coordinates, or at odd ones. The last blocks of
+/// the odd grid join the last column with column 0, and the last row with row 0.
 #[derive(Clone, Copy, Debug, PartialEq, Eq)]
 pub enum Grid {
     Even,

@@ -1,12 +1,13 @@
-//! Wiring: which name stands on each of a half's twelve address lines, and what a cell sees under it.
+//! Wiring: which name stands on each of a half's twelve address lines, and what a cell sees there.
 //!
 //! Contract: `address_at` is the number whose bits are what the cell sees under the name of each
 //! line, and 0 at lines without a name (`specs/Seen.antt`).
 //!
 //! Stands on: `cam6_planes`.
 //!
-//! Read next: `names`, the names and what they read; `wirings`, the names by address line; `blocks`,
-//! the Margolus grids; then `neighbours`. `laws` has the law that ties what is seen to the address.
+//! Read next: `names`, the names and what they read; `wirings`, the names by address line;
+//! `blocks`, the Margolus grids; then `neighbours`. `laws` has the law that ties what is seen to the
+//! address.
 #![tactic(auto)]
 
 mod blocks;

@@ -19,8 +19,8 @@ pub struct Setting {
     pub phase: Phase,
 }
 
-/// The number that the cell at column `x` of row `y` shows on its twelve address lines; bit 0 is the
-/// lowest. A line without a name shows 0.
+/// The number that the cell at column `x` of row `y` shows on its twelve address lines; bit 0 is
+/// the lowest. A line without a name shows 0.
 pub fn address_at(
     planes: &Planes,
     half: Half,
