@@ -14,6 +14,10 @@ use Rattle.cam6_table.specs.Words.{pushed, on_stack}
 use Rattle.cam6_table.specs.Outputs.{begin, written, entry_of, is_odd}
 use Rattle.cam6_table.specs.Meaning.{then_do, with_stack, with_top, at_zero, at_address}
 
+-- the most instructions that a rule's code has, and so the most turns that it takes
+abbrev pub max_turns : ℕ
+max_turns = 4096
+
 -- the last so many instructions
 abbrev pub last_of : ℕ → List Instruction → List Instruction
 last_of behind code = drop (length code - behind) code
@@ -56,7 +60,8 @@ abbrev pub exec : Lines → List Instruction → ℕ → Option ℕ → State �
 exec shows [] passed index s = Ok s
 exec shows (instruction ∷ code) (suc passed) index s = exec shows code passed index s
 exec shows (instruction ∷ code) zero index s =
-    then_do (act shows index instruction s) (λ done. exec shows code done.1.passed done.1.word done.0)
+    then_do (act shows index instruction s)
+    (λ done. exec shows code done.1.passed done.1.word done.0)
 
 -- so many instructions, unless there was a fault
 abbrev pub turns_after : Result (State × Next) RuleFault → (State × Next → ℕ) → ℕ

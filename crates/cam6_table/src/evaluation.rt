@@ -4,7 +4,7 @@ ghost use Rattle.cam6_planes.specs.Row.{bit_number};
 ghost use Rattle.cam6_wiring.specs.Seen.{shown};
 ghost use Rattle.cam6_table.specs.declared.evaluation.TheConstants.{MAX_TURNS};
 ghost use Rattle.cam6_table.specs.Words.{Does};
-ghost use Rattle.cam6_table.specs.Codes.{act, exec, turns_of, answer, turns_at, at_head, Acts};
+ghost use Rattle.cam6_table.specs.Codes.{max_turns, act, exec, turns_of, answer, turns_at, at_head, Acts};
 
 use crate::codes::{Code, Instruction, Instructions};
 use crate::faults::RuleFault;
@@ -16,11 +16,12 @@ pub const MAX_TURNS: u32 = 4096;
 /// The entry of the rule's table at an address, or the fault at which the rule stops there. Bit 0
 /// is the new lower plane, bit 1 the new upper plane. Each turn does one instruction.
 pub fn eval(code: &Code, address: u16, turns: &mut u32) -> Result<u8, RuleFault>
-    requires turns { MAX_TURNS ≤ turns.old }
+    requires turns { max_turns ≤ turns.old }
     ensures answer { result ≡ answer code.now address }
     ensures within { IfOk result (λ entry. entry < 4) }
     ensures turns { turns.old ≡ turns.new + turns_at code.now address }
-    ensures limit { turns.old ≤ turns.new + MAX_TURNS }
+    ensures limit { turns.old ≤ turns.new + max_turns }
+    ensures constant { MAX_TURNS ≡ max_turns }
 {
     let mut state = begin();
     run(code.instructions(), address, &mut state, turns)?;

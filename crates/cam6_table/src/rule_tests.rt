@@ -98,8 +98,8 @@ fn tables_of_rules(rt: HostRuntime) -> Result<(), Fail> {
     Ok(())
 }
 
-/// Parity at sixteen addresses, worked out by hand. CENTER is bit 0, CENTER' bit 1, NORTH, SOUTH, WEST
-/// and EAST are bits 2 to 5.
+/// Parity at sixteen addresses, worked out by hand. CENTER is bit 0, CENTER' bit 1, NORTH, SOUTH,
+/// WEST and EAST are bits 2 to 5.
 fn parity(address: u16) -> Option<u8> {
     match address {
         0 | 5 | 60 | 64 | 4092 => Some(0),
