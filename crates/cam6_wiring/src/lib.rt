@@ -22,4 +22,8 @@ pub use neighbours::{Setting, address_at, seen};
 pub use wirings::{Hood, LINES, Minor, Wiring, line_of};
 
 #[cfg(test)]
+mod address_tests;
+#[cfg(test)]
+mod corner_tests;
+#[cfg(test)]
 mod tests;
