@@ -36,7 +36,19 @@ digits-ascii = IsAscii-below (codes "0123456789abcdef") (
               lit< tt,
               (
                 lit< tt,
-                (lit< tt, (lit< tt, (lit< tt, (lit< tt, (lit< tt, (lit< tt, (lit< tt, (lit< tt, tt)))))))),
+                (
+                  lit< tt,
+                  (
+                    lit< tt,
+                    (
+                      lit< tt,
+                      (
+                        lit< tt,
+                        (lit< tt, (lit< tt, (lit< tt, (lit< tt, tt)))),
+                      ),
+                    ),
+                  ),
+                ),
               ),
             ),
           ),

@@ -1,5 +1,6 @@
 -- Words that are 0 show no cell.
-use Rattle.std.proofs.Common.{◌≡◌, ℕ, ◌-◌, ◌/◌, ◌%◌, ◌<◌, ◌∙◌, [], false, nat_eq, nat_lt, get_or, ap, arith, replicate, ◌&&◌, Bool, true, refl}
+use Rattle.std.proofs.Common.{◌≡◌, ℕ, ◌-◌, ◌/◌, ◌%◌, ◌<◌, ◌∙◌, [], false, nat_eq, nat_lt}
+use Rattle.std.proofs.Common.{get_or, ap, arith, replicate, ◌&&◌, Bool, true, refl}
 use Rattle.std.proofs.lemmas.List.{get_or-replicate, get_or_past, length-replicate}
 use Rattle.std.proofs.lemmas.Nat.Bits.{bit_at-zero}
 use Rattle.std.proofs.Math.Path.{fun_ext}
@@ -16,7 +17,8 @@ column_bit-zeros n x =
     let word : get_or (replicate n 0) (x / 64) 0 ≡ 0 =
     elim (dec_lt (x / 64) n) [
       | Prim.yes lt ↦ get_or-replicate n (x / 64) 0 0 lt
-      | Prim.no ge ↦ get_or_past (replicate n 0) (x / 64) 0 (omega (arith, length-replicate {A = ℕ} n 0))
+      | Prim.no ge ↦ get_or_past (replicate n 0) (x / 64) 0
+          (omega (arith, length-replicate {A = ℕ} n 0))
     ] in
     ap (λ n. nat_eq n 1) (ap (λ w. bit_at w (63 - x % 64)) word ∙ bit_at-zero (63 - x % 64))
 
@@ -25,10 +27,12 @@ and_false true = refl
 and_false false = refl
 
 -- s rows of four planes of n zero words
-pub stored_bit-zeros : (s n : ℕ) → 0 < s → torus s (stored_bit (replicate s (replicate 4 (replicate n 0)))) ≡ no_cells
+pub stored_bit-zeros : (s n : ℕ) → 0 < s →
+    torus s (stored_bit (replicate s (replicate 4 (replicate n 0)))) ≡ no_cells
 stored_bit-zeros s n some =
     torus_same s (stored_bit (replicate s (replicate 4 (replicate n 0)))) no_cells some
     (λ p x y h k l.
-    ap (λ r. column_bit (get_or r p []) x) (get_or-replicate s y (replicate 4 (replicate n 0)) [] l) ∙
+    ap (λ r. column_bit (get_or r p []) x)
+    (get_or-replicate s y (replicate 4 (replicate n 0)) [] l) ∙
     ap (λ r. column_bit r x) (get_or-replicate 4 p (replicate n 0) [] h) ∙ column_bit-zeros n x) ∙
     fun_ext (λ p. fun_ext (λ x. fun_ext (λ y. and_false (nat_lt p 4))))

@@ -1,5 +1,6 @@
 -- Within the side, coordinates stand for themselves.
-use Rattle.std.proofs.Common.{◌≡◌, ℕ, ◌<◌, ◌%◌, ◌∙◌, [], List, Bool, true, false, ◌&&◌, nat_lt, get_or, set, length, ap, refl, arith, if◌then◌else◌, ◌==◌}
+use Rattle.std.proofs.Common.{◌≡◌, ℕ, ◌<◌, ◌%◌, ◌∙◌, [], List, Bool, true, false, ◌&&◌, nat_lt}
+use Rattle.std.proofs.Common.{get_or, set, length, ap, refl, arith, if◌then◌else◌, ◌==◌}
 use Rattle.std.proofs.lemmas.Bool.{ltb-true, lt-ltb}
 use Rattle.std.proofs.lemmas.Grind.{common_steps}
 use Rattle.std.proofs.Math.Path.{fun_ext}
@@ -11,7 +12,8 @@ use Rattle.cam6_planes.specs.Cells.{Cells, torus, cells, stored_bit, with_row}
 -- within the side, a torus has what its function says
 pub torus_at : (s : ℕ) (f : Cells) (p x y : ℕ) → p < 4 → x < s → y < s → torus s f p x y ≡ f p x y
 torus_at s f p x y h k l =
-    ap (λ b. b && f p (x % s) (y % s)) (lt-ltb p 4 h) ∙ ap (λ u. f p u (y % s)) (mod-eq_of_lt k) ∙ ap (f p x) (mod-eq_of_lt l)
+    ap (λ b. b && f p (x % s) (y % s)) (lt-ltb p 4 h) ∙ ap (λ u. f p u (y % s)) (mod-eq_of_lt k) ∙
+    ap (f p x) (mod-eq_of_lt l)
 
 -- values behind a test, where they agree if it holds
 guarded : (b c d : Bool) → (b ≡ true → c ≡ d) → (b && c) ≡ (b && d)
@@ -19,38 +21,51 @@ guarded true c d h = h refl
 guarded false c d h = refl
 
 -- tori whose functions agree within the side are the same
-pub torus_same : (s : ℕ) (f g : Cells) → 0 < s → ((p x y : ℕ) → p < 4 → x < s → y < s → f p x y ≡ g p x y) → torus s f ≡ torus s g
+pub torus_same : (s : ℕ) (f g : Cells) → 0 < s →
+    ((p x y : ℕ) → p < 4 → x < s → y < s → f p x y ≡ g p x y) → torus s f ≡ torus s g
 torus_same s f g some h =
     fun_ext (λ p. fun_ext (λ x. fun_ext (λ y.
     guarded (nat_lt p 4) (f p (x % s) (y % s)) (g p (x % s) (y % s))
     (λ e. h p (x % s) (y % s) (ltb-true p 4 e) (mod-lt x some) (mod-lt y some)))))
 
 -- within the side, planes show the bit that their words hold
-pub cells_at : (v : Stored) (p x y : ℕ) → p < 4 → x < v.side → y < v.side → cells v p x y ≡ column_bit (get_or (get_or v.rows y []) p []) x
+pub cells_at : (v : Stored) (p x y : ℕ) → p < 4 → x < v.side → y < v.side →
+    cells v p x y ≡ column_bit (get_or (get_or v.rows y []) p []) x
 cells_at v = torus_at v.side (stored_bit v.rows)
 
 -- coordinates may be reduced first
-pub cells_wrapped : (v : Stored) (p x y : ℕ) → 0 < v.side → cells v p (x % v.side) (y % v.side) ≡ cells v p x y
+pub cells_wrapped : (v : Stored) (p x y : ℕ) → 0 < v.side →
+    cells v p (x % v.side) (y % v.side) ≡ cells v p x y
 cells_wrapped v p x y h =
-    ap (λ u. nat_lt p 4 && stored_bit v.rows p u (y % v.side % v.side)) (mod-eq_of_lt (mod-lt x h)) ∙
+    ap (λ u. nat_lt p 4 && stored_bit v.rows p u (y % v.side % v.side))
+    (mod-eq_of_lt (mod-lt x h)) ∙
     ap (λ u. nat_lt p 4 && stored_bit v.rows p (x % v.side) u) (mod-eq_of_lt (mod-lt y h))
 
 -- the bits that are kept once row y of plane p is written
-stored_bit-set : (s : ℕ) (rows : List (List (List ℕ))) (p y : ℕ) (w : List ℕ) (q u v : ℕ) → y < length rows → p < length (get_or rows y []) → q < 4 → u < s → v < s →
-    stored_bit (set rows y (set (get_or rows y []) p w)) q u v ≡ (if (q == p) && (v == y) then column_bit w u else torus s (stored_bit rows) q u v)
+stored_bit-set : (s : ℕ) (rows : List (List (List ℕ))) (p y : ℕ) (w : List ℕ) (q u v : ℕ) →
+    y < length rows → p < length (get_or rows y []) → q < 4 → u < s → v < s →
+    stored_bit (set rows y (set (get_or rows y []) p w)) q u v
+    ≡ (if (q == p) && (v == y) then column_bit w u else torus s (stored_bit rows) q u v)
 stored_bit-set s rows p y w q u v h k l m n =
-    let old : torus s (stored_bit rows) q u v ≡ stored_bit rows q u v = torus_at s (stored_bit rows) q u v l m n in
+    let old : torus s (stored_bit rows) q u v ≡ stored_bit rows q u v =
+    torus_at s (stored_bit rows) q u v l m n in
     rw old (grind (arith, common_steps))
 
 -- the cells that are shown then
-pub cells-set : (s : ℕ) (rows : List (List (List ℕ))) (p y : ℕ) (w : List ℕ) → 0 < s → y < length rows → p < length (get_or rows y []) →
-    torus s (stored_bit (set rows y (set (get_or rows y []) p w))) ≡ with_row s (torus s (stored_bit rows)) p y (column_bit w)
+pub cells-set : (s : ℕ) (rows : List (List (List ℕ))) (p y : ℕ) (w : List ℕ) → 0 < s →
+    y < length rows → p < length (get_or rows y []) →
+    torus s (stored_bit (set rows y (set (get_or rows y []) p w)))
+    ≡ with_row s (torus s (stored_bit rows)) p y (column_bit w)
 cells-set s rows p y w some h k =
-    torus_same s (stored_bit (set rows y (set (get_or rows y []) p w))) (λ q u v. if (q == p) && (v == y) then column_bit w u else torus s (stored_bit rows) q u v) some
+    torus_same s (stored_bit (set rows y (set (get_or rows y []) p w)))
+    (λ q u v. if (q == p) && (v == y) then column_bit w u
+    else torus s (stored_bit rows) q u v) some
     (λ q u v l m n. stored_bit-set s rows p y w q u v h k l m n)
 
 -- cells with a row depend on that row's columns alone
-pub with_row-same : (s : ℕ) (f : Cells) (p y : ℕ) (row other : ℕ → Bool) → 0 < s → ((x : ℕ) → x < s → row x ≡ other x) → with_row s f p y row ≡ with_row s f p y other
+pub with_row-same : (s : ℕ) (f : Cells) (p y : ℕ) (row other : ℕ → Bool) → 0 < s →
+    ((x : ℕ) → x < s → row x ≡ other x) → with_row s f p y row ≡ with_row s f p y other
 with_row-same s f p y row other some h =
-    torus_same s (λ q u v. if (q == p) && (v == y) then row u else f q u v) (λ q u v. if (q == p) && (v == y) then other u else f q u v) some
+    torus_same s (λ q u v. if (q == p) && (v == y) then row u else f q u v)
+    (λ q u v. if (q == p) && (v == y) then other u else f q u v) some
     (λ q u v l m n. ap (λ b. if (q == p) && (v == y) then b else f q u v) (h u m))

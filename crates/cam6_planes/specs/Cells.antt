@@ -1,5 +1,6 @@
 -- Planes as a set of cells: a truth value at each plane, column and row, wrapped round both ways.
-use Rattle.std.specs.Prelude.{ℕ, ◌%◌, Bool, false, List, [], slice_index_or, nat_lt, ◌==◌, ◌&&◌, if◌then◌else◌}
+use Rattle.std.specs.Prelude.{ℕ, ◌%◌, Bool, false, List, [], slice_index_or}
+use Rattle.std.specs.Prelude.{nat_lt, ◌==◌, ◌&&◌, if◌then◌else◌}
 use Rattle.cam6_planes.specs.Row.{column_bit}
 use Rattle.cam6_planes.specs.Stored.{Stored}
 

@@ -1,5 +1,6 @@
 -- The bits of a row in words, in bytes and in hexadecimal digits, and the columns beside a column.
-use Rattle.std.specs.Prelude.{ℕ, ◌+◌, ◌-◌, ◌*◌, ◌/◌, ◌%◌, Bool, true, false, List, map, codes, slice_index, ◌==◌}
+use Rattle.std.specs.Prelude.{ℕ, ◌+◌, ◌-◌, ◌*◌, ◌/◌, ◌%◌, Bool, true}
+use Rattle.std.specs.Prelude.{false, List, map, codes, slice_index, ◌==◌}
 use Rattle.std.specs.List.{range_with_len}
 use Rattle.std.specs.Int.{bit_at}
 

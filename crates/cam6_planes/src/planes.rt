@@ -161,6 +161,27 @@ mod tests {
         Ok(())
     }
 
+    // The rows beside it, and the same row of other planes, stay.
+    #[test]
+    fn a_row_takes_the_place_of_one(rt: HostRuntime) -> Result<(), Fail> {
+        let mut planes = Planes::blank(rt.alloc())?;
+        for (plane, row) in [(1, 255), (2, 0), (2, 254), (2, 255), (3, 255)] {
+            planes.set_row_words(plane, row, ROW);
+        }
+        planes.set_row_words(2, 255, [0, 7, 0, 0]);
+        for (plane, row, want) in [
+            (0, 255, [0; WORDS]),
+            (1, 255, ROW),
+            (2, 0, ROW),
+            (2, 254, ROW),
+            (2, 255, [0, 7, 0, 0]),
+            (3, 255, ROW),
+        ] {
+            assert_eq!(rt; planes.row_words(plane, row), want, "row {row} of {plane}");
+        }
+        Ok(())
+    }
+
     #[test]
     fn copies(rt: HostRuntime) -> Result<(), Fail> {
         let mut planes = Planes::blank(rt.alloc())?;

@@ -129,14 +129,65 @@ mod tests {
     fn lone_columns_move(rt: HostRuntime) {
         for (column, its_east, its_west) in [
             (0, 1, 255),
+            (1, 2, 0),
             (63, 64, 62),
             (64, 65, 63),
             (100, 101, 99),
+            (127, 128, 126),
+            (128, 129, 127),
+            (191, 192, 190),
+            (192, 193, 191),
+            (254, 255, 253),
             (255, 0, 254),
         ] {
             let row = lone(column);
             assert_eq!(rt; west(&row), lone(its_east), "column {column}");
             assert_eq!(rt; east(&row), lone(its_west), "column {column}");
+        }
+    }
+
+    // Every digit, and the first and the last column of the last word.
+    const ROW: Row = [
+        0x0123_4567_89AB_CDEF,
+        0xFEDC_BA98_7654_3210,
+        0,
+        0x8000_0000_0000_0001,
+    ];
+
+    const TEXT: [u8; DIGITS] = *b"0123456789abcdeffedcba987654321000000000000000008000000000000001";
+
+    const FIRST_BYTES: [u8; 16] = [
+        0x01, 0x23, 0x45, 0x67, 0x89, 0xAB, 0xCD, 0xEF, 0xFE, 0xDC, 0xBA, 0x98, 0x76, 0x54, 0x32,
+        0x10,
+    ];
+
+    // By hand: a digit is four columns, a byte eight and a word 64, the first the highest bit.
+    #[test]
+    fn digits_bytes_and_words(rt: HostRuntime) {
+        let mut bytes = [0; BYTES];
+        for (byte, first) in bytes.iter_mut().zip(FIRST_BYTES) {
+            *byte = first;
+        }
+        bytes[24] = 0x80;
+        bytes[31] = 0x01;
+        assert_eq!(rt; hex_of(&ROW), TEXT);
+        assert_eq!(rt; row_of_bytes(&bytes), ROW);
+        assert_eq!(rt; bytes_of_row(&ROW), bytes);
+    }
+
+    // By hand: the digits 0, 1, 2 and 3 are columns 0 to 15, f and e columns 64 to 71.
+    #[test]
+    fn columns_of_digits(rt: HostRuntime) {
+        for (first, columns) in [
+            (0u8, b"0000000100100011".as_slice()),
+            (64, b"11111110"),
+            (188, b"000010"),
+            (248, b"00000001"),
+        ] {
+            for (place, digit) in columns.iter().enumerate() {
+                let column = (usize::from(first) + place % 16) % SIDE;
+                assert_eq!(rt; is_set(&ROW, column), *digit == b'1', "column {column}");
+            }
         }
     }
 

@@ -4,4 +4,6 @@ use Rattle.cam6_planes.proofs.Bytes.{byte_of_word-at}
 use Rattle.cam6_planes.proofs.row.byte_of_word.Goals as goal
 
 pub returns : goal.returns
-returns c = λ k h. ap (λ bytes. nat_eq (bit_at (get_or bytes c.args.k 0) (7 - k)) 1) c.to_be_bytes.ensures ∙ byte_of_word-at c.args.word c.args.k k (omega arith) h
+returns c =
+    λ k h. ap (λ bytes. nat_eq (bit_at (get_or bytes c.args.k 0) (7 - k)) 1) c.to_be_bytes.ensures ∙
+    byte_of_word-at c.args.word c.args.k k (omega arith) h

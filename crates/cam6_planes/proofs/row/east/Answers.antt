@@ -13,6 +13,9 @@ loop-i-preserved c =
       | else-i-eq-WORDS w ↦ east_of-lt (64 * n) (64 * c.loop-i.i + 63) (omega arith) ∙ omega arith
     ] in (
       length-set _ _ _ ∙ c.loop-i.invariant.0,
-      row_more (λ x. column_bit c.args.row.now (east_of (64 * n) x)) c.loop-i.shifted c.loop-i.i c.moved_west.result (omega (arith, c.loop-i.invariant.0)) c.loop-i.invariant.1
-          (east_here c.args.row.now n c.loop-i.i c.if-i-eq-WORDS.after c.moved_west.result (omega arith) e c.moved_west.ensures.last c.moved_west.ensures.others),
+      row_more (λ x. column_bit c.args.row.now (east_of (64 * n) x))
+          c.loop-i.shifted c.loop-i.i c.moved_west.result
+          (omega (arith, c.loop-i.invariant.0)) c.loop-i.invariant.1
+          (east_here c.args.row.now n c.loop-i.i c.if-i-eq-WORDS.after c.moved_west.result
+          (omega arith) e c.moved_west.ensures.last c.moved_west.ensures.others),
     )

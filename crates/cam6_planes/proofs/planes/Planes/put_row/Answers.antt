@@ -7,4 +7,5 @@ use Rattle.cam6_planes.proofs.planes.Planes.put_row.Goals as goal
 pub returns-clause-cells : goal.returns-clause-cells
 returns-clause-cells c =
     c.set_row_words.ensures.cells ∙
-    with_row-same 256 (cells c.args.self.now) c.args.p c.args.y (column_bit c.row_of_bytes.result) (byte_column c.args.bits.now) (omega arith) c.row_of_bytes.ensures
+    with_row-same 256 (cells c.args.self.now) c.args.p c.args.y (column_bit c.row_of_bytes.result)
+    (byte_column c.args.bits.now) (omega arith) c.row_of_bytes.ensures

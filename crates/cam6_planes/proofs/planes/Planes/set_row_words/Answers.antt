@@ -10,8 +10,12 @@ returns-clause-cells c =
     let rows = c.self.inside.rows in
     let s : ℕ = 256 in
     let long : s ≤ length rows.items = omega (arith, rows.ok.0) in
-    let read : c.index_mut.result.now ≡ get_or rows.items c.args.y [] = get_or_read rows.items c.args.y c.index_mut.result.now (omega arith) c.index_mut.ensures.value [] in
-    let planes : c.args.p < length (get_or rows.items c.args.y []) = rw (← read) (omega (arith, c.set_plane_row.ensures.planes)) in
-    ap (λ r. torus s (stored_bit (set rows.items c.args.y r))) (c.set_plane_row.ensures.value ∙ ap (λ r. set r c.args.p c.args.words) read) ∙
+    let read : c.index_mut.result.now ≡ get_or rows.items c.args.y [] =
+    get_or_read rows.items c.args.y c.index_mut.result.now
+    (omega arith) c.index_mut.ensures.value [] in
+    let planes : c.args.p < length (get_or rows.items c.args.y []) =
+    rw (← read) (omega (arith, c.set_plane_row.ensures.planes)) in
+    ap (λ r. torus s (stored_bit (set rows.items c.args.y r))) (c.set_plane_row.ensures.value ∙
+    ap (λ r. set r c.args.p c.args.words) read) ∙
     cells-set s rows.items c.args.p c.args.y c.args.words (omega arith) (omega arith) planes ∙
     ap (λ v. with_row s (cells v) c.args.p c.args.y (column_bit c.args.words)) c.self.view_is
