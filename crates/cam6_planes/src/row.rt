@@ -128,7 +128,7 @@ mod tests {
     #[test]
     fn lone_columns_move(rt: HostRuntime) {
         for (column, its_east, its_west) in [
-            (0, 1, 255),
+            (0u8, 1, 255),
             (1, 2, 0),
             (63, 64, 62),
             (64, 65, 63),
@@ -191,9 +191,8 @@ mod tests {
         }
     }
 
-    fn lone(column: usize) -> Row
-        requires { column < SIDE }
-    {
+    fn lone(column: u8) -> Row {
+        let column = usize::from(column);
         let mut row = [0; WORDS];
         row[column / 64] = 1 << (63 - column % 64);
         row
