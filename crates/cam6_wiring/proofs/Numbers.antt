@@ -1,5 +1,7 @@
 -- A number by its bits.
-use Rattle.std.proofs.Common.{◌≡◌, ℕ, zero, suc, ◌+◌, ◌-◌, ◌*◌, ◌/◌, ◌^◌, ◌<◌, ◌≤◌, List, [], ◌∷◌, Bool, true, false, map, length, get_or, drop, refl, sym, ◌∙◌, ap, arith, drop-cons, length-drop}
+use Rattle.std.proofs.Common.{◌≡◌, ℕ, zero, suc, ◌+◌, ◌-◌, ◌*◌, ◌/◌, ◌^◌, ◌<◌, ◌≤◌}
+use Rattle.std.proofs.Common.{List, [], ◌∷◌, Bool, true, false, map, length, get_or}
+use Rattle.std.proofs.Common.{drop, refl, sym, ◌∙◌, ap, arith, drop-cons, length-drop}
 use Rattle.std.specs.Int.{bit_at}
 use Rattle.std.proofs.lemmas.Nat.Bits.{bit_at-zero, bit_at-suc, bit_at_lowest}
 use Rattle.std.proofs.lemmas.List.{length-map}
@@ -9,7 +11,8 @@ use Rattle.cam6_planes.specs.Row.{bit_number}
 use Rattle.cam6_wiring.specs.Seen.{number_of}
 use Rattle.cam6_wiring.specs.Wiring.{names_of}
 use Rattle.cam6_wiring.specs.declared.wirings.Hood.{Hood}
-use Rattle.cam6_wiring.specs.declared.wirings.Hood.TheVariants.{Moore, VonNeumann, Margolus, MargolusPhase, MargolusHorzVert}
+use Rattle.cam6_wiring.specs.declared.wirings.Hood.TheVariants.{Moore, VonNeumann, Margolus}
+use Rattle.cam6_wiring.specs.declared.wirings.Hood.TheVariants.{MargolusPhase, MargolusHorzVert}
 use Rattle.cam6_wiring.specs.declared.wirings.Minor.{Minor}
 use Rattle.cam6_wiring.specs.declared.wirings.Minor.TheVariants.{Centers, Phases, HorzVert}
 

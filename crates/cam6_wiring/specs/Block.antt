@@ -6,9 +6,12 @@ use Rattle.std.specs.Prelude.{ℕ, zero, suc, ◌+◌, ◌%◌}
 use Rattle.cam6_wiring.specs.declared.blocks.Grid.{Grid}
 use Rattle.cam6_wiring.specs.declared.blocks.Grid.TheVariants.{Even, Odd}
 use Rattle.cam6_wiring.specs.declared.blocks.Corner.{Corner}
-use Rattle.cam6_wiring.specs.declared.blocks.Corner.TheVariants.{UpperLeft, UpperRight, LowerRight, LowerLeft}
+use Rattle.cam6_wiring.specs.declared.blocks.Corner.TheVariants.{UpperLeft, UpperRight}
+use Rattle.cam6_wiring.specs.declared.blocks.Corner.TheVariants.{LowerRight, LowerLeft}
 use Rattle.cam6_wiring.specs.declared.names.Compass.{Compass}
-use Rattle.cam6_wiring.specs.declared.names.Compass.TheVariants.{North, South, West, East, NorthWest, NorthEast, SouthWest, SouthEast}
+use Rattle.cam6_wiring.specs.declared.names.Compass.TheVariants.{North, South, West, East}
+use Rattle.cam6_wiring.specs.declared.names.Compass.TheVariants.{NorthWest, NorthEast}
+use Rattle.cam6_wiring.specs.declared.names.Compass.TheVariants.{SouthWest, SouthEast}
 use Rattle.cam6_wiring.specs.declared.names.Turn.{Turn}
 use Rattle.cam6_wiring.specs.declared.names.Turn.TheVariants.{Clockwise, Opposite, CounterClockwise}
 

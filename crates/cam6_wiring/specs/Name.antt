@@ -1,7 +1,9 @@
 -- Names: the planes and bits that they read, and when two are the same.
 use Rattle.std.specs.Prelude.{ℕ, Bool, true, false, ◌&&◌}
 use Rattle.cam6_wiring.specs.declared.names.Compass.{Compass}
-use Rattle.cam6_wiring.specs.declared.names.Compass.TheVariants.{Center, North, South, West, East, NorthWest, NorthEast, SouthWest, SouthEast}
+use Rattle.cam6_wiring.specs.declared.names.Compass.TheVariants.{Center, North, South, West}
+use Rattle.cam6_wiring.specs.declared.names.Compass.TheVariants.{East, NorthWest, NorthEast}
+use Rattle.cam6_wiring.specs.declared.names.Compass.TheVariants.{SouthWest, SouthEast}
 use Rattle.cam6_wiring.specs.declared.names.Turn.{Turn}
 use Rattle.cam6_wiring.specs.declared.names.Turn.TheVariants.{Clockwise, Opposite, CounterClockwise}
 use Rattle.cam6_wiring.specs.declared.names.Half.{Half}

@@ -1,6 +1,7 @@
 -- What a cell sees, and the address that it shows. The planes f are a torus of side s, so a
 -- coordinate past the edge wraps round; s - 1 further on is one back.
-use Rattle.std.specs.Prelude.{ℕ, ◌+◌, ◌-◌, ◌*◌, ◌==◌, Bool, false, List, [], ◌∷◌, map, Option, Some, None}
+use Rattle.std.specs.Prelude.{ℕ, ◌+◌, ◌-◌, ◌*◌, ◌==◌, Bool, false}
+use Rattle.std.specs.Prelude.{List, [], ◌∷◌, map, Option, Some, None}
 use Rattle.std.specs.Int.{bit_at}
 use Rattle.cam6_planes.specs.Row.{bit_number}
 use Rattle.cam6_planes.specs.Cells.{Cells}
@@ -14,7 +15,9 @@ use Rattle.cam6_wiring.specs.declared.blocks.Grid.{Grid}
 use Rattle.cam6_wiring.specs.declared.wirings.Hood.{Hood}
 use Rattle.cam6_wiring.specs.declared.wirings.Minor.{Minor}
 use Rattle.cam6_wiring.specs.declared.names.Compass.{Compass}
-use Rattle.cam6_wiring.specs.declared.names.Compass.TheVariants.{Center, North, South, West, East, NorthWest, NorthEast, SouthWest, SouthEast}
+use Rattle.cam6_wiring.specs.declared.names.Compass.TheVariants.{Center, North, South, West}
+use Rattle.cam6_wiring.specs.declared.names.Compass.TheVariants.{East, NorthWest, NorthEast}
+use Rattle.cam6_wiring.specs.declared.names.Compass.TheVariants.{SouthWest, SouthEast}
 use Rattle.cam6_wiring.specs.declared.names.Turn.{Turn}
 
 -- the bit of plane p that the cell at column x of row y sees beside it

@@ -13,17 +13,43 @@ fn corners_of_cells(rt: HostRuntime) {
     for (grid, x, y, want) in [
         (Grid::Even, 0, 0, Corner::UpperLeft),
         (Grid::Even, 255, 0, Corner::UpperRight),
+        (Grid::Even, 0, 255, Corner::LowerLeft),
         (Grid::Even, 255, 255, Corner::LowerRight),
         (Grid::Odd, 0, 0, Corner::LowerRight),
         (Grid::Odd, 255, 0, Corner::LowerLeft),
+        (Grid::Odd, 0, 255, Corner::UpperRight),
         (Grid::Odd, 255, 255, Corner::UpperLeft),
     ] {
         assert_eq!(rt; corner_of(grid, x, y), want, "{grid:?} {x} {y}");
     }
-    assert_eq!(rt;
-        in_block(Corner::LowerLeft, Turn::Clockwise),
-        Compass::North
-    );
+}
+
+// From the picture of a block: the places run clockwise from the upper left one.
+#[test]
+fn turns_in_a_block(rt: HostRuntime) {
+    let turns = [Turn::Clockwise, Turn::Opposite, Turn::CounterClockwise];
+    for (corner, places) in [
+        (
+            Corner::UpperLeft,
+            [Compass::East, Compass::SouthEast, Compass::South],
+        ),
+        (
+            Corner::UpperRight,
+            [Compass::South, Compass::SouthWest, Compass::West],
+        ),
+        (
+            Corner::LowerRight,
+            [Compass::West, Compass::NorthWest, Compass::North],
+        ),
+        (
+            Corner::LowerLeft,
+            [Compass::North, Compass::NorthEast, Compass::East],
+        ),
+    ] {
+        for (turn, want) in turns.into_iter().zip(places) {
+            assert_eq!(rt; in_block(corner, turn), want, "{corner:?} {turn:?}");
+        }
+    }
 }
 
 // From the profile's tables of address bits.
