@@ -1,5 +1,7 @@
 -- The code of a body does what the body means.
-use Rattle.std.proofs.Common.{◌≡◌, ◌≤◌, ◌<◌, ℕ, zero, suc, Bool, true, false, List, [], ◌∷◌, ◌++◌, length, refl, sym, ap, ◌∙◌, append_assoc, arith, Some, None, Err, cond, nat_lt, length-append}
+use Rattle.std.proofs.Common.{◌≡◌, ◌≤◌, ◌<◌, ℕ, zero, suc, Bool, true, false, List}
+use Rattle.std.proofs.Common.{[], ◌∷◌, ◌++◌, length, refl, sym, ap, ◌∙◌, append_assoc}
+use Rattle.std.proofs.Common.{arith, Some, None, Err, cond, nat_lt, length-append}
 use Rattle.std.specs.Result.{IsOk}
 use Rattle.std.proofs.lemmas.Bool.{ltb-true, ltb-false}
 use Rattle.cam6_planes.specs.Row.{bit_number}
@@ -9,7 +11,8 @@ use Rattle.cam6_forth.specs.Tokens.{Token}
 use Rattle.cam6_forth.specs.SingleWords.{IsSingle}
 use Rattle.cam6_forth.proofs.Singles.{known_is_single}
 use Rattle.cam6_forth.specs.Defined.{Defined}
-use Rattle.cam6_forth.specs.Tree.{Body, End, Says, Choice, Either, Cases, Part, word_at, word_in, size_in, defined, AreWords, IsKnown, AreDefinitions}
+use Rattle.cam6_forth.specs.Tree.{Body, End, Says, Choice, Either, Cases, Part, word_at}
+use Rattle.cam6_forth.specs.Tree.{word_in, size_in, defined, AreWords, IsKnown, AreDefinitions}
 use Rattle.cam6_forth.specs.declared.words.Word.{Word}
 use Rattle.cam6_forth.specs.declared.words.Word.TheVariants as word
 use Rattle.cam6_table.specs.declared.codes.Instruction.TheVariants.{Case}
@@ -17,11 +20,14 @@ use Rattle.cam6_table.specs.declared.faults.RuleFault.TheVariants.{CaseIndex}
 use Rattle.cam6_table.specs.declared.outputs.State.{State}
 use Rattle.cam6_table.specs.Words.{pushed, on_stack}
 use Rattle.cam6_table.specs.Outputs.{written}
-use Rattle.cam6_table.specs.Meaning.{Meaning, then_do, with_stack, with_top, word_means, case_means, means, meanings}
+use Rattle.cam6_table.specs.Meaning.{Meaning, then_do, with_stack, with_top}
+use Rattle.cam6_table.specs.Meaning.{word_means, case_means, means, meanings}
 use Rattle.cam6_table.specs.Codes.{Lines, go, exec}
 use Rattle.cam6_table.specs.Emitting.{Instructions, word_code, line_code}
-use Rattle.cam6_table.proofs.BodyCodes.{token_code, case_code, body_code, tree_codes, IsCode, AreCodes, Agree}
-use Rattle.cam6_table.proofs.Segments.{then_do-assoc, then_do-same, on_next, leads, runs, below_of, exec-pass, exec-over, then_is, choice_is, either_is}
+use Rattle.cam6_table.proofs.BodyCodes.{token_code, case_code, body_code}
+use Rattle.cam6_table.proofs.BodyCodes.{tree_codes, IsCode, AreCodes, Agree}
+use Rattle.cam6_table.proofs.Segments.{then_do-assoc, then_do-same, on_next, leads, runs, below_of}
+use Rattle.cam6_table.proofs.Segments.{exec-pass, exec-over, then_is, choice_is, either_is}
 
 module _ (wiring : Wiring) (sees : Sees) (shows : Lines) (agree : Agree wiring sees shows) where
   module _ (known : List Defined) (codes : List Instructions) (done : List Meaning)

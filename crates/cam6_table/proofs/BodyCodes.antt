@@ -6,8 +6,10 @@ use Rattle.cam6_wiring.specs.declared.wirings.Wiring.{Wiring}
 use Rattle.cam6_wiring.specs.declared.names.Name.{Name}
 use Rattle.cam6_forth.specs.Tokens.{Token}
 use Rattle.cam6_forth.specs.Defined.{Defined}
-use Rattle.cam6_forth.specs.Tree.{Body, End, Says, Choice, Either, Cases, Part, word_at, word_in, defined}
-use Rattle.cam6_table.specs.declared.codes.Instruction.TheVariants.{SkipIfZero, Skip, Case, CaseWord}
+use Rattle.cam6_forth.specs.Tree.{Body, End, Says, Choice, Either, Cases}
+use Rattle.cam6_forth.specs.Tree.{Part, word_at, word_in, defined}
+use Rattle.cam6_table.specs.declared.codes.Instruction.TheVariants.{SkipIfZero, Skip}
+use Rattle.cam6_table.specs.declared.codes.Instruction.TheVariants.{Case, CaseWord}
 use Rattle.cam6_table.specs.declared.outputs.State.{State}
 use Rattle.cam6_table.specs.Meaning.{Meaning, then_do, meaning_at}
 use Rattle.cam6_table.specs.Codes.{Lines, exec}

@@ -1,5 +1,6 @@
 -- The code of a rule does what the rule means.
-use Rattle.std.proofs.Common.{◌≡◌, ◌-◌, ◌/◌, ◌==◌, ℕ, List, [], length, refl, sym, ap, ◌∙◌, append-nil, None, Result, Ok, Err}
+use Rattle.std.proofs.Common.{◌≡◌, ◌-◌, ◌/◌, ◌==◌, ℕ, List, [], length, refl}
+use Rattle.std.proofs.Common.{sym, ap, ◌∙◌, append-nil, None, Result, Ok, Err}
 use Rattle.std.proofs.lemmas.Nat.Bits.{bit_at-suc, bit_at_lowest}
 use Rattle.cam6_wiring.specs.Seen.{Sees, shown, environment, shown_under}
 use Rattle.cam6_wiring.specs.declared.wirings.Wiring.{Wiring}
@@ -11,7 +12,8 @@ use Rattle.cam6_forth.specs.Tree.{Part, IsRule}
 use Rattle.cam6_table.specs.declared.faults.RuleFault.{RuleFault}
 use Rattle.cam6_table.specs.declared.outputs.State.{State}
 use Rattle.cam6_table.specs.Outputs.{begin, entry_of, is_odd}
-use Rattle.cam6_table.specs.Meaning.{meaning_at, meanings, last_meaning, entry_in, meaning, at_address}
+use Rattle.cam6_table.specs.Meaning.{meaning_at, meanings, last_meaning}
+use Rattle.cam6_table.specs.Meaning.{entry_in, meaning, at_address}
 use Rattle.cam6_table.specs.Codes.{Lines, exec, entry_at, answer}
 use Rattle.cam6_table.specs.Emitting.{Instructions, code_at}
 use Rattle.cam6_table.proofs.BodyCodes.{tree_codes, Agree}

@@ -1,14 +1,20 @@
 -- The code of a body's words in a row is the code of the body.
-use Rattle.std.proofs.Common.{◌≡◌, ℕ, suc, ◌+◌, ◌-◌, Bool, true, false, List, [], ◌∷◌, ◌++◌, length, sym, ap, ◌∙◌, refl, append_assoc, append-nil, length-append, arith, Some, None}
+use Rattle.std.proofs.Common.{◌≡◌, ℕ, suc, ◌+◌, ◌-◌, Bool, true, false, List, []}
+use Rattle.std.proofs.Common.{◌∷◌, ◌++◌, length, sym, ap, ◌∙◌, refl, append_assoc}
+use Rattle.std.proofs.Common.{append-nil, length-append, arith, Some, None}
 use Rattle.std.specs.Result.{IsOk}
 use Rattle.cam6_wiring.specs.declared.wirings.Wiring.{Wiring}
 use Rattle.cam6_forth.specs.declared.words.Word.{Word}
 use Rattle.cam6_forth.specs.declared.words.Word.TheVariants as word
 use Rattle.cam6_forth.specs.Tokens.{Token}
 use Rattle.cam6_forth.specs.Defined.{Defined}
-use Rattle.cam6_forth.specs.Tree.{Body, End, Says, Choice, Either, Cases, Part, word_at, word_in, words_of, case_words, AreWords, IsKnown, defined, meant, AreDefinitions, IsRule}
-use Rattle.cam6_table.specs.declared.codes.Instruction.TheVariants.{SkipIfZero, Skip, Case, CaseWord}
-use Rattle.cam6_table.specs.Emitting.{Instructions, Emitted, word_code, emit, emit_word, emit_all, words_code, all_codes}
+use Rattle.cam6_forth.specs.Tree.{Body, End, Says, Choice, Either, Cases, Part}
+use Rattle.cam6_forth.specs.Tree.{word_at, word_in, words_of, case_words, AreWords}
+use Rattle.cam6_forth.specs.Tree.{IsKnown, defined, meant, AreDefinitions, IsRule}
+use Rattle.cam6_table.specs.declared.codes.Instruction.TheVariants.{SkipIfZero, Skip}
+use Rattle.cam6_table.specs.declared.codes.Instruction.TheVariants.{Case, CaseWord}
+use Rattle.cam6_table.specs.Emitting.{Instructions, Emitted, word_code, emit}
+use Rattle.cam6_table.specs.Emitting.{emit_word, emit_all, words_code, all_codes}
 use Rattle.cam6_table.proofs.BodyCodes.{token_code, case_code, body_code, tree_codes}
 
 -- code with open IFs, outside a case

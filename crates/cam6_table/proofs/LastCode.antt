@@ -1,5 +1,6 @@
 -- The last code of a rule's definitions is the rule's code.
-use Rattle.std.proofs.Common.{◌≡◌, ℕ, ◌+◌, ◌-◌, ◌<◌, ◌≤◌, List, [], ◌∷◌, length, refl, ap, ◌∙◌, arith, Option, Some, None, MatchOption, slice_index_or}
+use Rattle.std.proofs.Common.{◌≡◌, ℕ, ◌+◌, ◌-◌, ◌<◌, ◌≤◌, List, [], ◌∷◌, length, refl, ap}
+use Rattle.std.proofs.Common.{◌∙◌, arith, Option, Some, None, MatchOption, slice_index_or}
 use Rattle.std.specs.Option.{unwrap_or}
 use Rattle.cam6_wiring.specs.declared.wirings.Wiring.{Wiring}
 use Rattle.cam6_forth.specs.Defined.{Defined, RuleWords}

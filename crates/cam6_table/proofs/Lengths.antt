@@ -1,5 +1,7 @@
 -- Code is no longer than its size allows.
-use Rattle.std.proofs.Common.{◌≡◌, ℕ, zero, suc, ◌+◌, ◌≤◌, Bool, true, false, List, [], ◌∷◌, ◌++◌, length, refl, ap, subst, length-append, arith, Option, Some, None, cond}
+use Rattle.std.proofs.Common.{◌≡◌, ℕ, zero, suc, ◌+◌, ◌≤◌, Bool, true, false}
+use Rattle.std.proofs.Common.{List, [], ◌∷◌, ◌++◌, length, refl, ap, subst}
+use Rattle.std.proofs.Common.{length-append, arith, Option, Some, None, cond}
 use Rattle.std.specs.Str.{bytes_eq}
 use Rattle.cam6_wiring.specs.declared.wirings.Wiring.{Wiring}
 use Rattle.cam6_wiring.specs.Wiring.{line_of}
@@ -9,7 +11,9 @@ use Rattle.cam6_forth.specs.Tokens.{Token}
 use Rattle.cam6_forth.specs.Limits.{max_size}
 use Rattle.cam6_forth.specs.Defined.{Defined}
 use Rattle.cam6_forth.specs.SingleWords.{place_from, place_of}
-use Rattle.cam6_forth.specs.Tree.{Body, End, Says, Choice, Either, Cases, Part, word_at, word_in, size_in, size_of, case_size, defined, meant, AreDefinitions, IsRule}
+use Rattle.cam6_forth.specs.Tree.{Body, End, Says, Choice, Either, Cases, Part}
+use Rattle.cam6_forth.specs.Tree.{word_at, word_in, size_in, size_of, case_size}
+use Rattle.cam6_forth.specs.Tree.{defined, meant, AreDefinitions, IsRule}
 use Rattle.cam6_table.specs.declared.codes.Instruction.TheVariants.{Skip}
 use Rattle.cam6_table.specs.Emitting.{Instructions, line_code, word_code, code_at}
 use Rattle.cam6_table.proofs.BodyCodes.{token_code, case_code, body_code, tree_codes}

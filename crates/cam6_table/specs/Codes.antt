@@ -1,11 +1,14 @@
 -- What flat code does, instruction by instruction. Jumps lead forward alone.
-use Rattle.std.specs.Prelude.{◌≡◌, MatchResult, ℕ, zero, suc, ◌-◌, drop, length, ◌/◌, Bool, List, [], ◌∷◌, Option, Some, None, Result, Ok, Err, nat_lt, if◌then◌else◌}
+use Rattle.std.specs.Prelude.{◌≡◌, MatchResult, ℕ, zero, suc, ◌-◌, drop, length, ◌/◌, Bool, List}
+use Rattle.std.specs.Prelude.{[], ◌∷◌, Option, Some, None, Result, Ok, Err, nat_lt, if◌then◌else◌}
 use Rattle.cam6_planes.specs.Row.{bit_number}
 use Rattle.cam6_wiring.specs.Seen.{shown}
 use Rattle.cam6_forth.specs.Defined.{RuleWords}
 use Rattle.cam6_forth.specs.Tree.{Part, IsRule, rule_of}
 use Rattle.cam6_table.specs.declared.codes.Instruction.{Instruction}
-use Rattle.cam6_table.specs.declared.codes.Instruction.TheVariants.{Literal, Line, Stack, Output, SkipIfZero, Skip, Case, CaseWord}
+use Rattle.cam6_table.specs.declared.codes.Instruction.TheVariants.{Literal, Line, Stack}
+use Rattle.cam6_table.specs.declared.codes.Instruction.TheVariants.{Output, SkipIfZero}
+use Rattle.cam6_table.specs.declared.codes.Instruction.TheVariants.{Skip, Case, CaseWord}
 use Rattle.cam6_table.specs.declared.evaluation.Next.{Next}
 use Rattle.cam6_table.specs.declared.faults.RuleFault.{RuleFault}
 use Rattle.cam6_table.specs.declared.faults.RuleFault.TheVariants.{CaseIndex}

@@ -1,7 +1,8 @@
 -- The numbers of the faults of a rule that runs.
 use Rattle.std.specs.Prelude.{ℕ}
 use Rattle.cam6_table.specs.declared.faults.RuleFault.{RuleFault}
-use Rattle.cam6_table.specs.declared.faults.RuleFault.TheVariants.{MissingValue, FullStack, CaseIndex, Range}
+use Rattle.cam6_table.specs.declared.faults.RuleFault.TheVariants.{MissingValue, FullStack}
+use Rattle.cam6_table.specs.declared.faults.RuleFault.TheVariants.{CaseIndex, Range}
 
 abbrev pub fault_number : RuleFault → ℕ
 fault_number MissingValue = 40

@@ -1,5 +1,6 @@
 -- The state of a rule that runs, what an output word writes, and the table's entry at the end.
-use Rattle.std.specs.Prelude.{ℕ, ◌+◌, ◌*◌, ◌/◌, ◌%◌, Bool, List, [], ◌∷◌, Some, None, unwrap_or, Result, Ok, Err, ◌==◌}
+use Rattle.std.specs.Prelude.{ℕ, ◌+◌, ◌*◌, ◌/◌, ◌%◌, Bool, List, [], ◌∷◌}
+use Rattle.std.specs.Prelude.{Some, None, unwrap_or, Result, Ok, Err, ◌==◌}
 use Rattle.cam6_planes.specs.Row.{bit_number}
 use Rattle.cam6_forth.specs.declared.words.Target.{Target}
 use Rattle.cam6_forth.specs.declared.words.Target.TheVariants.{Lower, Upper, Both}

@@ -1,6 +1,8 @@
 -- What a word does to the stack, of which the top value stands first, or the fault that it stops
 -- at.
-use Rattle.std.specs.Prelude.{◌≡◌, ℕ, ◌+◌, ◌-◌, ◌*◌, List, [], ◌∷◌, length, Result, Ok, Err, MatchResult, nat_lt, nat_le, bit_and, bit_or, bit_xor, if◌then◌else◌, ◌==◌}
+use Rattle.std.specs.Prelude.{◌≡◌, ℕ, ◌+◌, ◌-◌, ◌*◌, List, [], ◌∷◌, length}
+use Rattle.std.specs.Prelude.{Result, Ok, Err, MatchResult, nat_lt, nat_le}
+use Rattle.std.specs.Prelude.{bit_and, bit_or, bit_xor, if◌then◌else◌, ◌==◌}
 use Rattle.cam6_planes.specs.Row.{bit_number}
 use Rattle.cam6_forth.specs.declared.words.StackWord.{StackWord}
 use Rattle.cam6_forth.specs.declared.words.StackWord.TheVariants as word

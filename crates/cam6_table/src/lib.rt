@@ -31,3 +31,5 @@ mod rule_tests;
 mod stack_tests;
 #[cfg(test)]
 mod tests;
+#[cfg(test)]
+mod word_tests;

@@ -7,7 +7,17 @@ use std::alloc::Global;
 use std::test::Fail;
 
 pub(crate) fn code(alloc: Global, text: &str, hood: Hood, minor: Minor) -> Result<Code, Fail> {
-    match parse(alloc, text, Half::A, hood, minor) {
+    code_for(alloc, text, Half::A, hood, minor)
+}
+
+pub(crate) fn code_for(
+    alloc: Global,
+    text: &str,
+    half: Half,
+    hood: Hood,
+    minor: Minor,
+) -> Result<Code, Fail> {
+    match parse(alloc, text, half, hood, minor) {
         Ok(rule) => Ok(Code::of(alloc, &rule)?),
         Err(ParseFault::NoMemory) => Err("no memory")?,
         Err(ParseFault::Text(fault)) => {
