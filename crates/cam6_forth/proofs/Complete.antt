@@ -1,17 +1,23 @@
 -- What is spelled is read.
-use Rattle.std.proofs.Common.{◌≡◌, ◌<◌, ◌≤◌, ◌+◌, ℕ, List, [], ◌∷◌, ◌++◌, length, refl, ap, ◌∙◌, append_assoc, arith, Result, Ok, codes, length-append, zero-add}
+use Rattle.std.proofs.Common.{◌≡◌, ◌<◌, ◌≤◌, ◌+◌, ℕ, List, [], ◌∷◌, ◌++◌, length, refl, ap, ◌∙◌}
+use Rattle.std.proofs.Common.{append_assoc, arith, Result, Ok, codes, length-append, zero-add}
 use Rattle.cam6_wiring.specs.declared.wirings.Wiring.{Wiring}
 use Rattle.cam6_forth.specs.declared.words.Word.TheVariants as word
 use Rattle.cam6_forth.specs.Tokens.{Token}
 use Rattle.cam6_forth.specs.Limits.{max_definitions}
 use Rattle.cam6_forth.specs.Defined.{Defined}
-use Rattle.cam6_forth.specs.Tree.{Part, spell_body, spell, words_of, size_of, case_words, case_size, defined, AreDefinitions, meant}
-use Rattle.cam6_forth.specs.Unfinished.{Opened, Unfinished, Whole, Unnamed, Within, Braced, spell_open_ifs, spell_opened, spell_unfinished, open_size, opened_size, IsOpened, AreBefore, IsSound}
+use Rattle.cam6_forth.specs.Tree.{Part, spell_body, spell, words_of, size_of}
+use Rattle.cam6_forth.specs.Tree.{case_words, case_size, defined, AreDefinitions, meant}
+use Rattle.cam6_forth.specs.Unfinished.{Opened, Unfinished, Whole, Unnamed, Within, Braced}
+use Rattle.cam6_forth.specs.Unfinished.{spell_open_ifs, spell_opened, spell_unfinished}
+use Rattle.cam6_forth.specs.Unfinished.{open_size, opened_size, IsOpened, AreBefore, IsSound}
 use Rattle.cam6_forth.specs.Reading.{State, begin}
-use Rattle.cam6_forth.proofs.States.{after_all, after_colon, in_body, in_braces, open_words, open_flags, opened_words, state_of}
+use Rattle.cam6_forth.proofs.States.{after_all, after_colon, in_body, in_braces}
+use Rattle.cam6_forth.proofs.States.{open_words, open_flags, opened_words, state_of}
 use Rattle.cam6_forth.proofs.Runs.{run, ok_state, then_run, append_run, length-meant}
 use Rattle.cam6_forth.proofs.FaultsOfSteps.{length-flags}
-use Rattle.cam6_forth.proofs.Steps.{same_braces, step-open, step-name, step-colon, step-end, after_end}
+use Rattle.cam6_forth.proofs.Steps.{same_braces, step-open, step-name}
+use Rattle.cam6_forth.proofs.Steps.{step-colon, step-end, after_end}
 use Rattle.cam6_forth.proofs.CompleteBodies.{run-cases, run-body, run-open_ifs}
 
 -- definitions

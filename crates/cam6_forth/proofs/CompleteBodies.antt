@@ -1,17 +1,22 @@
 -- What is spelled in a body is read.
-use Rattle.std.proofs.Common.{◌≡◌, ◌≤◌, ◌+◌, ℕ, Bool, true, false, List, [], ◌∷◌, ◌++◌, length, refl, sym, ◌∙◌, append_assoc, arith, Option, None, Some, Ok, MatchOption, codes, append-nil, is_some}
+use Rattle.std.proofs.Common.{◌≡◌, ◌≤◌, ◌+◌, ℕ, Bool, true, false, List, [], ◌∷◌, ◌++◌}
+use Rattle.std.proofs.Common.{length, refl, sym, ◌∙◌, append_assoc, arith, Option}
+use Rattle.std.proofs.Common.{None, Some, Ok, MatchOption, codes, append-nil, is_some}
 use Rattle.cam6_wiring.specs.declared.wirings.Wiring.{Wiring}
 use Rattle.cam6_forth.specs.declared.words.Word.{Word}
 use Rattle.cam6_forth.specs.declared.words.Word.TheVariants as word
 use Rattle.cam6_forth.specs.Tokens.{Token}
 use Rattle.cam6_forth.specs.Limits.{max_size, max_open_ifs}
 use Rattle.cam6_forth.specs.Defined.{Defined}
-use Rattle.cam6_forth.specs.Tree.{Body, End, Says, Choice, Either, Cases, spell_body, words_of, size_of, depth_of, IsKnown, AreWords, case_words, case_size}
-use Rattle.cam6_forth.specs.Unfinished.{OpenIf, spell_first, spell_open_ifs, first_size, open_size, FitsAt, AreOpenIfs}
+use Rattle.cam6_forth.specs.Tree.{Body, End, Says, Choice, Either, Cases, spell_body, words_of}
+use Rattle.cam6_forth.specs.Tree.{size_of, depth_of, IsKnown, AreWords, case_words, case_size}
+use Rattle.cam6_forth.specs.Unfinished.{OpenIf, spell_first, spell_open_ifs}
+use Rattle.cam6_forth.specs.Unfinished.{first_size, open_size, FitsAt, AreOpenIfs}
 use Rattle.cam6_forth.proofs.States.{in_body, in_braces, first_words, open_words, open_flags}
 use Rattle.cam6_forth.proofs.Runs.{run, then_run, append_run}
 use Rattle.cam6_forth.proofs.FaultsOfSteps.{length-flags}
-use Rattle.cam6_forth.proofs.Steps.{same_body, same_braces, said_by, size_by, step-word, step-case, step-if, step-else, step-then, step-open, step-close}
+use Rattle.cam6_forth.proofs.Steps.{same_body, same_braces, said_by, size_by, step-word, step-case}
+use Rattle.cam6_forth.proofs.Steps.{step-if, step-else, step-then, step-open, step-close}
 
 module _ (wiring : Wiring) (done : List Defined) (name : Token) where
   -- words between braces

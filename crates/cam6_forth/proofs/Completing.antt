@@ -1,5 +1,6 @@
 -- Tokens that were read without a fault can be completed to a rule.
-use Rattle.std.proofs.Common.{◌≡◌, ◌<◌, ◌+◌, ℕ, Bool, true, false, List, [], ◌∷◌, ◌++◌, length, refl, sym, ap, ◌∙◌, length-append, arith, codes, subst, Ok}
+use Rattle.std.proofs.Common.{◌≡◌, ◌<◌, ◌+◌, ℕ, Bool, true, false, List, [], ◌∷◌, ◌++◌, length}
+use Rattle.std.proofs.Common.{refl, sym, ap, ◌∙◌, length-append, arith, codes, subst, Ok}
 use Rattle.cam6_wiring.specs.declared.wirings.Wiring.{Wiring}
 use Rattle.cam6_forth.specs.declared.words.Word.{Word}
 use Rattle.cam6_forth.specs.declared.words.Word.TheVariants as word
@@ -10,7 +11,8 @@ use Rattle.cam6_forth.specs.Tree.{case_words, case_size, meant}
 use Rattle.cam6_forth.specs.Texts.{Begins}
 use Rattle.cam6_forth.specs.Unfinished.{opened_size, Unfinished, Whole, Unnamed, Within, Braced}
 use Rattle.cam6_forth.specs.Reading.{State, begin, step, read, numbered}
-use Rattle.cam6_forth.proofs.States.{after_all, after_colon, in_body, in_braces, open_flags, opened_words, state_of}
+use Rattle.cam6_forth.proofs.States.{after_all, after_colon, in_body, in_braces}
+use Rattle.cam6_forth.proofs.States.{open_flags, opened_words, state_of}
 use Rattle.cam6_forth.proofs.Runs.{ok_state, run, then_run, append_run, length-all}
 use Rattle.cam6_forth.proofs.Counting.{read-run}
 use Rattle.cam6_forth.proofs.Steps.{step-then, step-close, step-name, step-colon, step-end, some-is}

@@ -1,5 +1,7 @@
 -- A step refuses a token with the fault that the token has after what is being written.
-use Rattle.std.proofs.Common.{◌≡◌, ◌+◌, ℕ, Bool, true, false, List, [], ◌∷◌, length, refl, ap, ◌∙◌, arith, Option, Some, None, is_some, Result, Ok, Err, cond, nat_lt, nat_le, suc}
+use Rattle.std.proofs.Common.{◌≡◌, ◌+◌, ℕ, Bool, true, false, List, [], ◌∷◌}
+use Rattle.std.proofs.Common.{length, refl, ap, ◌∙◌, arith, Option, Some, None}
+use Rattle.std.proofs.Common.{is_some, Result, Ok, Err, cond, nat_lt, nat_le, suc}
 use Rattle.cam6_wiring.specs.declared.wirings.Wiring.{Wiring}
 use Rattle.cam6_forth.specs.declared.words.Word.{Word}
 use Rattle.cam6_forth.specs.declared.words.Word.TheVariants as word
@@ -7,13 +9,18 @@ use Rattle.cam6_forth.specs.declared.kinds.Kind.{Kind}
 use Rattle.cam6_forth.specs.declared.kinds.Kind.TheVariants as kind
 use Rattle.cam6_forth.specs.declared.reader.Place.TheVariants as place
 use Rattle.cam6_forth.specs.Tokens.{Token}
-use Rattle.cam6_forth.specs.Limits.{max_size, max_open_ifs, max_definitions, too_large, too_many_ifs, not_definable, out_of_place}
+use Rattle.cam6_forth.specs.Limits.{max_size, max_open_ifs, max_definitions, too_large}
+use Rattle.cam6_forth.specs.Limits.{too_many_ifs, not_definable, out_of_place}
 use Rattle.cam6_forth.specs.Defined.{Defined}
 use Rattle.cam6_forth.specs.SingleWords.{word_of, place_of}
 use Rattle.cam6_forth.specs.Tree.{Part, meant}
 use Rattle.cam6_forth.specs.Unfinished.{OpenIf, Opened, Unfinished, Whole, Unnamed, Within, Braced}
-use Rattle.cam6_forth.specs.Faults.{size_fault, word_fault, fault_outside, fault_naming, end_of_body_fault, if_fault, else_fault, then_fault, fault_inside, fault_braced, token_fault, end_fault}
-use Rattle.cam6_forth.specs.Reading.{State, grown, grown_by, outside, naming, inside, braces, with_if, with_else, with_then, with_end, step_at, finish, some_definition}
+use Rattle.cam6_forth.specs.Faults.{size_fault, word_fault, fault_outside, fault_naming}
+use Rattle.cam6_forth.specs.Faults.{end_of_body_fault, if_fault, else_fault, then_fault}
+use Rattle.cam6_forth.specs.Faults.{fault_inside, fault_braced, token_fault, end_fault}
+use Rattle.cam6_forth.specs.Reading.{State, grown, grown_by, outside, naming}
+use Rattle.cam6_forth.specs.Reading.{inside, braces, with_if, with_else, with_then}
+use Rattle.cam6_forth.specs.Reading.{with_end, step_at, finish, some_definition}
 use Rattle.cam6_forth.proofs.States.{open_flags, state_of}
 use Rattle.cam6_forth.proofs.Runs.{length-all}
 

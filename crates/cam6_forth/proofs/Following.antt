@@ -1,12 +1,15 @@
 -- Tokens with comments, and what is being written by them.
-use Rattle.std.proofs.Common.{◌≡◌, ◌⊎◌, inl, inr, ℕ, Bool, true, false, not, List, [], ◌∷◌, ◌++◌, refl, sym, ap, ◌∙◌, append_assoc, append-nil, Result, Ok, Err, cond}
+use Rattle.std.proofs.Common.{◌≡◌, ◌⊎◌, inl, inr, ℕ, Bool, true, false, not, List, [], ◌∷◌, ◌++◌}
+use Rattle.std.proofs.Common.{refl, sym, ap, ◌∙◌, append_assoc, append-nil, Result, Ok, Err, cond}
 use Rattle.cam6_wiring.specs.declared.wirings.Wiring.{Wiring}
 use Rattle.cam6_forth.specs.declared.kinds.Kind.{Kind}
 use Rattle.cam6_forth.specs.declared.kinds.Kind.TheVariants as kind
 use Rattle.cam6_forth.specs.Tokens.{Token}
 use Rattle.cam6_forth.specs.Kinds.{kind_of, ends_comment}
-use Rattle.cam6_forth.specs.Comments.{Mode, Plain, AfterColon, InComment, mode_after_kind, next_mode, is_comment, with_token, uncommented, mode_after}
-use Rattle.cam6_forth.specs.Unfinished.{Unfinished, Whole, Unnamed, Within, Braced, spell_unfinished, IsSound}
+use Rattle.cam6_forth.specs.Comments.{Mode, Plain, AfterColon, InComment, mode_after_kind}
+use Rattle.cam6_forth.specs.Comments.{next_mode, is_comment, with_token, uncommented, mode_after}
+use Rattle.cam6_forth.specs.Unfinished.{Unfinished, Whole, Unnamed, Within}
+use Rattle.cam6_forth.specs.Unfinished.{Braced, spell_unfinished, IsSound}
 use Rattle.cam6_forth.specs.Reading.{State, step, step_at}
 use Rattle.cam6_forth.proofs.States.{state_of}
 use Rattle.cam6_forth.proofs.Runs.{ok_state, ok-same, and_then, run, then_run}

@@ -1,10 +1,12 @@
 -- There is always a name that isn't taken.
-use Rattle.std.proofs.Common.{◌≡◌, ◌<◌, ◌+◌, ℕ, Bool, true, false, List, [], ◌∷◌, ◌++◌, length, refl, ap, arith, Some, None, cond, length-append}
+use Rattle.std.proofs.Common.{◌≡◌, ◌<◌, ◌+◌, ℕ, Bool, true, false, List, [], ◌∷◌, ◌++◌}
+use Rattle.std.proofs.Common.{length, refl, ap, arith, Some, None, cond, length-append}
 use Rattle.std.specs.Str.{bytes_eq}
 use Rattle.std.proofs.lemmas.Slice.Eq.{bytes_eq-Decides}
 use Rattle.cam6_forth.specs.declared.kinds.Kind.TheVariants as kind
 use Rattle.cam6_forth.specs.Tokens.{Token}
-use Rattle.cam6_forth.specs.Spellings.{stack_word, output_word, neighbour_name, plain_name, primed_name, block_name, added_name, minor_name}
+use Rattle.cam6_forth.specs.Spellings.{stack_word, output_word, neighbour_name, plain_name}
+use Rattle.cam6_forth.specs.Spellings.{primed_name, block_name, added_name, minor_name}
 use Rattle.cam6_forth.specs.Kinds.{kind_of, mark}
 use Rattle.cam6_forth.specs.Defined.{Defined}
 use Rattle.cam6_forth.specs.SingleWords.{place_of, place_from}

@@ -1,5 +1,7 @@
 -- What is being written grows by each token that a step reads.
-use Rattle.std.proofs.Common.{◌≡◌, ◌<◌, ℕ, List, [], ◌∷◌, ◌++◌, length, refl, sym, ap, ◌∙◌, append_assoc, zero-add, length-append, arith, Option, Some, None, is_some, Err, cond, nat_lt, codes}
+use Rattle.std.proofs.Common.{◌≡◌, ◌<◌, ℕ, List, [], ◌∷◌, ◌++◌, length, refl, sym}
+use Rattle.std.proofs.Common.{ap, ◌∙◌, append_assoc, zero-add, length-append, arith}
+use Rattle.std.proofs.Common.{Option, Some, None, is_some, Err, cond, nat_lt, codes}
 use Rattle.std.proofs.lemmas.Bool.{ltb-true}
 use Rattle.cam6_wiring.specs.declared.wirings.Wiring.{Wiring}
 use Rattle.cam6_forth.specs.declared.kinds.Kind.{Kind}
@@ -11,14 +13,17 @@ use Rattle.cam6_forth.specs.Limits.{max_definitions, not_definable, out_of_place
 use Rattle.cam6_forth.specs.Defined.{Defined}
 use Rattle.cam6_forth.specs.SingleWords.{word_of, place_of}
 use Rattle.cam6_forth.specs.Tree.{Body, End, Part, spell, words_of, size_of, meant}
-use Rattle.cam6_forth.specs.Unfinished.{OpenIf, Opened, Unfinished, Whole, Unnamed, Within, Braced, IsSound}
-use Rattle.cam6_forth.specs.Reading.{State, grown_by, outside, naming, inside, braces, with_end, step_at}
+use Rattle.cam6_forth.specs.Unfinished.{OpenIf, Opened, Unfinished, Whole}
+use Rattle.cam6_forth.specs.Unfinished.{Unnamed, Within, Braced, IsSound}
+use Rattle.cam6_forth.specs.Reading.{State, grown_by, outside, naming}
+use Rattle.cam6_forth.specs.Reading.{inside, braces, with_end, step_at}
 use Rattle.cam6_forth.proofs.States.{after_all, after_colon, in_body, open_flags, state_of}
 use Rattle.cam6_forth.proofs.Runs.{ok_state, ok-same, length-all}
 use Rattle.cam6_forth.proofs.Joined.{spell-more, meant-more, definitions-more}
 use Rattle.cam6_forth.proofs.Marks.{kind_is}
 use Rattle.cam6_forth.proofs.Grows.{mode_of, Grows, if_ok, opened}
-use Rattle.cam6_forth.proofs.GrowingBodies.{if_grows, else_grows, then_grows, brace_grows, word_grows, case_grows, cases_grow}
+use Rattle.cam6_forth.proofs.GrowingBodies.{if_grows, else_grows, then_grows, brace_grows}
+use Rattle.cam6_forth.proofs.GrowingBodies.{word_grows, case_grows, cases_grow}
 
 module _ (w : Wiring) (parts : List Part) where
   abbrev done : List Defined

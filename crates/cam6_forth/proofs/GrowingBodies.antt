@@ -1,5 +1,7 @@
 -- What is being written grows by each token that a step reads in a body or between braces.
-use Rattle.std.proofs.Common.{◌≡◌, ◌<◌, ◌+◌, true, false, List, [], ◌∷◌, ◌++◌, length, refl, sym, ◌∙◌, append_assoc, append-nil, arith, Option, Some, None, is_some, Err, nat_lt, codes}
+use Rattle.std.proofs.Common.{◌≡◌, ◌<◌, ◌+◌, true, false, List, [], ◌∷◌, ◌++◌}
+use Rattle.std.proofs.Common.{length, refl, sym, ◌∙◌, append_assoc, append-nil}
+use Rattle.std.proofs.Common.{arith, Option, Some, None, is_some, Err, nat_lt, codes}
 use Rattle.std.proofs.lemmas.Bool.{ltb-true}
 use Rattle.cam6_wiring.specs.declared.wirings.Wiring.{Wiring}
 use Rattle.cam6_forth.specs.declared.words.Word.TheVariants as word
@@ -14,9 +16,11 @@ use Rattle.cam6_forth.specs.Reading.{State, grown, grown_by, with_if, with_else,
 use Rattle.cam6_forth.proofs.States.{open_flags, state_of}
 use Rattle.cam6_forth.proofs.Runs.{ok_state, ok-same}
 use Rattle.cam6_forth.specs.Trees.{join}
-use Rattle.cam6_forth.proofs.Joined.{spell_body-join, depth_of-join, words_of-join, size_of-join, known-join, case_words-more, case_size-more, words-more}
+use Rattle.cam6_forth.proofs.Joined.{spell_body-join, depth_of-join, words_of-join, size_of-join}
+use Rattle.cam6_forth.proofs.Joined.{known-join, case_words-more, case_size-more, words-more}
 use Rattle.cam6_forth.proofs.FaultsOfSteps.{length-flags}
-use Rattle.cam6_forth.proofs.Grows.{Grows, if_then_ok, grown_ok, grown_by_ok, opened, same_body, same_braces}
+use Rattle.cam6_forth.proofs.Grows.{Grows, if_then_ok, grown_ok, grown_by_ok}
+use Rattle.cam6_forth.proofs.Grows.{opened, same_body, same_braces}
 
 module _ (w : Wiring) (parts : List Part) where
   abbrev done : List Defined

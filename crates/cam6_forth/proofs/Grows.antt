@@ -1,5 +1,6 @@
 -- What it means that what is being written grows by a token.
-use Rattle.std.proofs.Common.{◌≡◌, ◌≤◌, ◌+◌, ℕ, Bool, true, false, List, [], ◌∷◌, ◌++◌, refl, ap, ◌∙◌, Result, Ok, Err, cond, nat_le}
+use Rattle.std.proofs.Common.{◌≡◌, ◌≤◌, ◌+◌, ℕ, Bool, true, false, List, [], ◌∷◌}
+use Rattle.std.proofs.Common.{◌++◌, refl, ap, ◌∙◌, Result, Ok, Err, cond, nat_le}
 use Rattle.std.specs.Result.{IsOk}
 use Rattle.std.proofs.lemmas.Bool.{leb-true}
 use Rattle.cam6_wiring.specs.declared.wirings.Wiring.{Wiring}
@@ -9,7 +10,8 @@ use Rattle.cam6_forth.specs.Comments.{Mode, Plain, AfterColon}
 use Rattle.cam6_forth.specs.Limits.{max_size, too_large}
 use Rattle.cam6_forth.specs.Defined.{Defined}
 use Rattle.cam6_forth.specs.Tree.{Body, word_in, size_in}
-use Rattle.cam6_forth.specs.Unfinished.{OpenIf, Opened, Unfinished, Unnamed, spell_unfinished, IsSound}
+use Rattle.cam6_forth.specs.Unfinished.{OpenIf, Opened, Unfinished}
+use Rattle.cam6_forth.specs.Unfinished.{Unnamed, spell_unfinished, IsSound}
 use Rattle.cam6_forth.specs.Reading.{State, grown, grown_by}
 use Rattle.cam6_forth.proofs.States.{in_body, in_braces, state_of}
 use Rattle.cam6_forth.proofs.Runs.{ok_state, ok-same}

@@ -3,7 +3,10 @@ use Rattle.std.proofs.Common.{◌≡◌, ◌+◌, List, [], ◌∷◌, ◌++◌,
 use Rattle.cam6_wiring.specs.declared.wirings.Wiring.{Wiring}
 use Rattle.cam6_forth.specs.Tokens.{Token}
 use Rattle.cam6_forth.specs.Defined.{Defined}
-use Rattle.cam6_forth.specs.Tree.{Body, End, Says, Choice, Either, Cases, Part, spell_body, spell, words_of, size_of, depth_of, IsKnown, AreWords, case_words, case_size, defined, IsDefinition, AreDefinitions, meant, word_at, word_in, size_in}
+use Rattle.cam6_forth.specs.Tree.{Body, End, Says, Choice, Either, Cases, Part}
+use Rattle.cam6_forth.specs.Tree.{spell_body, spell, words_of, size_of, depth_of, IsKnown}
+use Rattle.cam6_forth.specs.Tree.{AreWords, case_words, case_size, defined, IsDefinition}
+use Rattle.cam6_forth.specs.Tree.{AreDefinitions, meant, word_at, word_in, size_in}
 use Rattle.cam6_forth.specs.Trees.{join}
 
 -- the spelling of both

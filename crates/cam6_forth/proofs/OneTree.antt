@@ -1,5 +1,6 @@
 -- What spells a tree is read as that tree.
-use Rattle.std.proofs.Common.{◌≡◌, List, [], ◌∷◌, ◌++◌, refl, sym, ap, ◌∙◌, append_assoc, append-nil, codes, None, Some}
+use Rattle.std.proofs.Common.{◌≡◌, List, [], ◌∷◌, ◌++◌, refl, sym, ap, ◌∙◌}
+use Rattle.std.proofs.Common.{append_assoc, append-nil, codes, None, Some}
 use Rattle.std.specs.Result.{IsOk}
 use Rattle.cam6_wiring.specs.declared.wirings.Wiring.{Wiring}
 use Rattle.cam6_forth.specs.declared.kinds.Kind.{Kind}
@@ -8,11 +9,13 @@ use Rattle.cam6_forth.specs.Tokens.{Token}
 use Rattle.cam6_forth.specs.Kinds.{kind_of}
 use Rattle.cam6_forth.specs.Defined.{Defined}
 use Rattle.cam6_forth.specs.SingleWords.{word_of}
-use Rattle.cam6_forth.specs.Tree.{Body, End, Says, Choice, Either, Cases, Part, spell_body, spell, IsKnown, AreWords, AreDefinitions, defined}
+use Rattle.cam6_forth.specs.Tree.{Body, End, Says, Choice, Either, Cases, Part, spell_body}
+use Rattle.cam6_forth.specs.Tree.{spell, IsKnown, AreWords, AreDefinitions, defined}
 use Rattle.cam6_forth.specs.Laws.{HasOneTree, TreeIsRead}
 use Rattle.cam6_forth.specs.Unfinished.{OpenIf, Unfinished, Whole, Within, Braced}
 use Rattle.cam6_forth.specs.Trees.{join, longer, written_on, parts_of, tree_of}
-use Rattle.cam6_forth.proofs.Steps.{kind-if, kind-else, kind-then, kind-open_brace, kind-close_brace, kind-semicolon}
+use Rattle.cam6_forth.proofs.Steps.{kind-if, kind-else, kind-then, kind-open_brace}
+use Rattle.cam6_forth.proofs.Steps.{kind-close_brace, kind-semicolon}
 
 abbrev after : List Part → Token → List OpenIf → Body → Unfinished
 after parts name open_ifs said =

@@ -1,5 +1,6 @@
 -- What is read is the rule of a tree, or a fault of what is being written; and the other way round.
-use Rattle.std.proofs.Common.{◌≡◌, ◌<◌, ◌+◌, ◌⊎◌, inl, inr, ℕ, Bool, true, false, not, List, [], ◌∷◌, length, refl, sym, ap, ◌∙◌, arith, Some, Result, Ok, Err, cond}
+use Rattle.std.proofs.Common.{◌≡◌, ◌<◌, ◌+◌, ◌⊎◌, inl, inr, ℕ, Bool, true, false, not, List, []}
+use Rattle.std.proofs.Common.{◌∷◌, length, refl, sym, ap, ◌∙◌, arith, Some, Result, Ok, Err, cond}
 use Rattle.cam6_wiring.specs.declared.wirings.Wiring.{Wiring}
 use Rattle.cam6_forth.specs.Tokens.{Token}
 use Rattle.cam6_forth.specs.Kinds.{kind_of, ends_comment}
@@ -8,13 +9,16 @@ use Rattle.cam6_forth.specs.Defined.{Defined}
 use Rattle.cam6_forth.specs.Comments.{Plain, is_comment, uncommented, mode_after}
 use Rattle.cam6_forth.specs.Tree.{Part, meant}
 use Rattle.cam6_forth.specs.Texts.{AreTokensOf}
-use Rattle.cam6_forth.specs.Unfinished.{Unfinished, Whole, Unnamed, Within, Braced, spell_unfinished, IsSound}
-use Rattle.cam6_forth.specs.Faults.{token_fault, end_fault, AreSoundTokens, HasTokenFault, HasEndFault}
+use Rattle.cam6_forth.specs.Unfinished.{Unfinished, Whole, Unnamed, Within}
+use Rattle.cam6_forth.specs.Unfinished.{Braced, spell_unfinished, IsSound}
+use Rattle.cam6_forth.specs.Faults.{token_fault, end_fault, AreSoundTokens}
+use Rattle.cam6_forth.specs.Faults.{HasTokenFault, HasEndFault}
 use Rattle.cam6_forth.specs.Reading.{State, begin, step, finish, some_definition, read, numbered}
 use Rattle.cam6_forth.proofs.States.{after_all, state_of}
 use Rattle.cam6_forth.proofs.Runs.{ok_state, run, length-all}
 use Rattle.cam6_forth.proofs.FaultsOfSteps.{fault_in, step-fault, finish-fault}
-use Rattle.cam6_forth.proofs.Following.{with_comment, plain_state, step_plain, follows, with_comments, Follows}
+use Rattle.cam6_forth.proofs.Following.{with_comment, plain_state, step_plain}
+use Rattle.cam6_forth.proofs.Following.{follows, with_comments, Follows}
 use Rattle.cam6_forth.proofs.Complete.{run-unfinished}
 use Rattle.cam6_forth.proofs.Steps.{some-is}
 use Rattle.cam6_forth.proofs.Counting.{read-run, read-stops, read-ok, read-fault}

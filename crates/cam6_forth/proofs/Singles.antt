@@ -1,5 +1,6 @@
 -- What a known token says by itself.
-use Rattle.std.proofs.Common.{◌≡◌, ℕ, ◌+◌, Bool, true, false, List, [], ◌∷◌, ◌++◌, length, max, refl, ap, arith, Option, Some, None, Result, Ok, Err, cond}
+use Rattle.std.proofs.Common.{◌≡◌, ℕ, ◌+◌, Bool, true, false, List, [], ◌∷◌, ◌++◌, length}
+use Rattle.std.proofs.Common.{max, refl, ap, arith, Option, Some, None, Result, Ok, Err, cond}
 use Rattle.std.specs.Result.{IsOk}
 use Rattle.std.specs.Option.{is_some}
 use Rattle.std.proofs.lemmas.Option.{same_Some}
@@ -16,7 +17,8 @@ use Rattle.cam6_forth.specs.Tokens.{Token}
 use Rattle.cam6_forth.specs.Kinds.{kind_of}
 use Rattle.cam6_forth.specs.Limits.{other_half, unknown_word}
 use Rattle.cam6_forth.specs.Defined.{Defined}
-use Rattle.cam6_forth.specs.SingleWords.{place_from, place_of, is_same_half, literal_word, defined_word, word_of, IsSingle}
+use Rattle.cam6_forth.specs.SingleWords.{place_from, place_of, is_same_half}
+use Rattle.cam6_forth.specs.SingleWords.{literal_word, defined_word, word_of, IsSingle}
 use Rattle.cam6_forth.specs.Tree.{word_in, size_in}
 use Rattle.cam6_forth.specs.Laws.{KnownIsSingle}
 

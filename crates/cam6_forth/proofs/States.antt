@@ -7,7 +7,8 @@ use Rattle.cam6_forth.specs.declared.reader.Place.TheVariants as place
 use Rattle.cam6_forth.specs.Tokens.{Token}
 use Rattle.cam6_forth.specs.Defined.{Defined}
 use Rattle.cam6_forth.specs.Tree.{Body, words_of, case_words, case_size, meant}
-use Rattle.cam6_forth.specs.Unfinished.{OpenIf, Opened, opened_size, Unfinished, Whole, Unnamed, Within, Braced}
+use Rattle.cam6_forth.specs.Unfinished.{OpenIf, Opened, opened_size, Unfinished}
+use Rattle.cam6_forth.specs.Unfinished.{Whole, Unnamed, Within, Braced}
 use Rattle.cam6_forth.specs.Reading.{State, begin}
 
 -- outside definitions

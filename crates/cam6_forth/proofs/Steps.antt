@@ -1,5 +1,6 @@
 -- Each token that is spelled is read.
-use Rattle.std.proofs.Common.{◌≡◌, ◌<◌, ◌≤◌, ◌+◌, ℕ, Bool, true, false, List, [], ◌∷◌, ◌++◌, length, refl, ap, ◌∙◌, arith, None, Result, Ok, Err, cond, codes, is_some}
+use Rattle.std.proofs.Common.{◌≡◌, ◌<◌, ◌≤◌, ◌+◌, ℕ, Bool, true, false, List, [], ◌∷◌, ◌++◌, length}
+use Rattle.std.proofs.Common.{refl, ap, ◌∙◌, arith, None, Result, Ok, Err, cond, codes, is_some}
 use Rattle.std.specs.Result.{IsOk}
 use Rattle.std.proofs.lemmas.Bool.{le-leb, lt-ltb, false≢true}
 use Rattle.cam6_wiring.specs.declared.wirings.Wiring.{Wiring}
@@ -9,11 +10,13 @@ use Rattle.cam6_forth.specs.declared.kinds.Kind.{Kind}
 use Rattle.cam6_forth.specs.declared.kinds.Kind.TheVariants as kind
 use Rattle.cam6_forth.specs.Tokens.{Token}
 use Rattle.cam6_forth.specs.Kinds.{kind_of, mark}
-use Rattle.cam6_forth.specs.Limits.{max_definitions, max_size, max_open_ifs, not_definable, too_large, too_many_ifs, too_long}
+use Rattle.cam6_forth.specs.Limits.{max_definitions, max_size, max_open_ifs}
+use Rattle.cam6_forth.specs.Limits.{not_definable, too_large, too_many_ifs, too_long}
 use Rattle.cam6_forth.specs.Defined.{Defined}
 use Rattle.cam6_forth.specs.SingleWords.{word_of, place_of}
 use Rattle.cam6_forth.specs.Tree.{word_at, word_in, size_in}
-use Rattle.cam6_forth.specs.Reading.{State, step, grown, grown_by, outside, naming, inside, braces, some_definition}
+use Rattle.cam6_forth.specs.Reading.{State, step, grown, grown_by, outside}
+use Rattle.cam6_forth.specs.Reading.{naming, inside, braces, some_definition}
 use Rattle.cam6_forth.proofs.States.{after_all, after_colon, in_body, in_braces}
 use Rattle.cam6_forth.proofs.Runs.{ok_state}
 

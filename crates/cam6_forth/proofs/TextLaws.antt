@@ -1,5 +1,7 @@
 -- The laws that tie texts, trees and faults.
-use Rattle.std.proofs.Common.{◌≡◌, ◌<◌, ◌≤◌, ◌-◌, ◌⊎◌, inl, inr, ℕ, Bool, true, false, List, [], ◌∷◌, ◌++◌, length, take, refl, sym, ap, ◌∙◌, append_assoc, length-append, arith, Result, Ok, Err, cond, nat_lt, subst}
+use Rattle.std.proofs.Common.{◌≡◌, ◌<◌, ◌≤◌, ◌-◌, ◌⊎◌, inl, inr, ℕ, Bool, true, false, List}
+use Rattle.std.proofs.Common.{[], ◌∷◌, ◌++◌, length, take, refl, sym, ap, ◌∙◌, append_assoc}
+use Rattle.std.proofs.Common.{length-append, arith, Result, Ok, Err, cond, nat_lt, subst}
 use Rattle.std.proofs.Math.Seq.{take-append_seam}
 use Rattle.std.proofs.lemmas.Bool.{ltb-false, ltb-true, le-ltb, lt-ltb}
 use Rattle.cam6_wiring.specs.declared.wirings.Wiring.{Wiring}
@@ -13,8 +15,10 @@ use Rattle.cam6_forth.specs.Texts.{AreTokensOf, IsTextOf, Begins}
 use Rattle.cam6_forth.specs.Faults.{HasTokenFault, HasFault}
 use Rattle.cam6_forth.specs.Reading.{begin, read, read_text}
 use Rattle.cam6_forth.specs.Outcome.{Answers, Gives, GivesFault, IsAccepted, IsRefused}
-use Rattle.cam6_forth.specs.Laws.{HasAnswer, HasOneFault, CanBeCompleted, FaultStays, FaultIsFirst, EndIsTooEarly}
-use Rattle.cam6_forth.proofs.Readings.{sound_run, token_fault_read, end_fault_read, rule_read, rule_back, fault_back}
+use Rattle.cam6_forth.specs.Laws.{HasAnswer, HasOneFault, CanBeCompleted}
+use Rattle.cam6_forth.specs.Laws.{FaultStays, FaultIsFirst, EndIsTooEarly}
+use Rattle.cam6_forth.proofs.Readings.{sound_run, token_fault_read, end_fault_read}
+use Rattle.cam6_forth.proofs.Readings.{rule_read, rule_back, fault_back}
 use Rattle.cam6_forth.proofs.Completing.{run_begins}
 
 -- what a text is read as

@@ -1,5 +1,6 @@
 -- The value of digits.
-use Rattle.std.proofs.Common.{◌≡◌, ◌<◌, ◌≤◌, ◌+◌, ◌*◌, ◌-◌, ℕ, List, [], ◌∷◌, drop, length, get_or, refl, add-one, arith, drop-cons}
+use Rattle.std.proofs.Common.{◌≡◌, ◌<◌, ◌≤◌, ◌+◌, ◌*◌, ◌-◌, ℕ, List, [], ◌∷◌, drop}
+use Rattle.std.proofs.Common.{length, get_or, refl, add-one, arith, drop-cons}
 use Rattle.cam6_forth.specs.Kinds.{value_from}
 
 -- more digits make no value smaller

@@ -1,17 +1,23 @@
 -- The fault that a token has after the tokens before it, and the one that the end of a text has.
-use Rattle.std.specs.Prelude.{◌≡◌, ◌<◌, ◌≤◌, ◌⊎◌, ℕ, ◌+◌, false, List, [], ◌∷◌, ◌++◌, length, Option, Some, None, is_some, Result, Ok, Err, if◌then◌else◌, nat_lt, nat_le}
+use Rattle.std.specs.Prelude.{◌≡◌, ◌<◌, ◌≤◌, ◌⊎◌, ℕ, ◌+◌, false, List, []}
+use Rattle.std.specs.Prelude.{◌∷◌, ◌++◌, length, Option, Some, None, is_some}
+use Rattle.std.specs.Prelude.{Result, Ok, Err, if◌then◌else◌, nat_lt, nat_le}
 use Rattle.cam6_wiring.specs.declared.wirings.Wiring.{Wiring}
 use Rattle.cam6_forth.specs.declared.words.Word.{Word}
 use Rattle.cam6_forth.specs.declared.kinds.Kind.{Kind}
-use Rattle.cam6_forth.specs.declared.kinds.Kind.TheVariants.{Colon, Semicolon, Open, OpenBrace, CloseBrace, If, Else, Then, Other}
+use Rattle.cam6_forth.specs.declared.kinds.Kind.TheVariants.{Colon, Semicolon, Open, OpenBrace}
+use Rattle.cam6_forth.specs.declared.kinds.Kind.TheVariants.{CloseBrace, If, Else, Then, Other}
 use Rattle.cam6_forth.specs.Tokens.{Token, tokens}
 use Rattle.cam6_forth.specs.Kinds.{kind_of}
 use Rattle.cam6_forth.specs.Comments.{Plain, is_comment, uncommented, mode_after}
-use Rattle.cam6_forth.specs.Limits.{max_text, max_definitions, max_size, max_open_ifs, not_definable, out_of_place, too_large, too_many_ifs, no_definition, too_long}
+use Rattle.cam6_forth.specs.Limits.{max_text, max_definitions, max_size}
+use Rattle.cam6_forth.specs.Limits.{max_open_ifs, not_definable, out_of_place}
+use Rattle.cam6_forth.specs.Limits.{too_large, too_many_ifs, no_definition, too_long}
 use Rattle.cam6_forth.specs.Defined.{Defined}
 use Rattle.cam6_forth.specs.SingleWords.{word_of, place_of}
 use Rattle.cam6_forth.specs.Tree.{Part, case_size, meant}
-use Rattle.cam6_forth.specs.Unfinished.{OpenIf, Opened, opened_size, Unfinished, Whole, Unnamed, Within, Braced, spell_unfinished, IsSound}
+use Rattle.cam6_forth.specs.Unfinished.{OpenIf, Opened, opened_size, Unfinished, Whole}
+use Rattle.cam6_forth.specs.Unfinished.{Unnamed, Within, Braced, spell_unfinished, IsSound}
 
 -- a definition that would grow to this size
 abbrev pub size_fault : ℕ → Option ℕ

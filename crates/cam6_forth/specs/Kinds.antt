@@ -1,5 +1,6 @@
 -- What a token is, wherever it stands.
-use Rattle.std.specs.Prelude.{slice_index, length, ◌-◌, ◌+◌, ◌*◌, ℕ, Bool, [], ◌∷◌, ◌==◌, ◌&&◌, nat_le, codes, Option, Some, None, if◌then◌else◌}
+use Rattle.std.specs.Prelude.{slice_index, length, ◌-◌, ◌+◌, ◌*◌, ℕ, Bool, [], ◌∷◌, ◌==◌}
+use Rattle.std.specs.Prelude.{◌&&◌, nat_le, codes, Option, Some, None, if◌then◌else◌}
 use Rattle.std.specs.Option.{option_map, option_or, unwrap_or}
 use Rattle.std.specs.List.{list_all}
 use Rattle.std.specs.Char.{is_ascii_digit}

@@ -1,16 +1,20 @@
 -- How a text is read, token by token: a fault is of the token at which it comes, by what stands
 -- before it.
-use Rattle.std.specs.Prelude.{ℕ, ◌+◌, Bool, true, false, not, List, [], ◌∷◌, ◌++◌, length, is_some, Result, Ok, Err, if◌then◌else◌, nat_lt, nat_le}
+use Rattle.std.specs.Prelude.{ℕ, ◌+◌, Bool, true, false, not, List, [], ◌∷◌, ◌++◌, length}
+use Rattle.std.specs.Prelude.{is_some, Result, Ok, Err, if◌then◌else◌, nat_lt, nat_le}
 use Rattle.cam6_wiring.specs.declared.wirings.Wiring.{Wiring}
 use Rattle.cam6_forth.specs.declared.words.Word.{Word}
 use Rattle.cam6_forth.specs.declared.words.Word.TheVariants as word
 use Rattle.cam6_forth.specs.declared.kinds.Kind.{Kind}
-use Rattle.cam6_forth.specs.declared.kinds.Kind.TheVariants.{Colon, Semicolon, Open, OpenBrace, CloseBrace, If, Else, Then, Other}
+use Rattle.cam6_forth.specs.declared.kinds.Kind.TheVariants.{Colon, Semicolon, Open, OpenBrace}
+use Rattle.cam6_forth.specs.declared.kinds.Kind.TheVariants.{CloseBrace, If, Else, Then, Other}
 use Rattle.cam6_forth.specs.declared.reader.Place.{Place}
 use Rattle.cam6_forth.specs.declared.reader.Place.TheVariants.{Outside, Naming, Inside, Braces}
 use Rattle.cam6_forth.specs.Tokens.{Token, tokens}
 use Rattle.cam6_forth.specs.Kinds.{kind_of, ends_comment}
-use Rattle.cam6_forth.specs.Limits.{max_text, max_definitions, max_size, max_open_ifs, not_definable, out_of_place, too_large, too_many_ifs, no_definition, too_long}
+use Rattle.cam6_forth.specs.Limits.{max_text, max_definitions, max_size}
+use Rattle.cam6_forth.specs.Limits.{max_open_ifs, not_definable, out_of_place}
+use Rattle.cam6_forth.specs.Limits.{too_large, too_many_ifs, no_definition, too_long}
 use Rattle.cam6_forth.specs.Defined.{Defined}
 use Rattle.cam6_forth.specs.SingleWords.{word_of, place_of}
 

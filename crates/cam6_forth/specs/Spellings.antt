@@ -2,12 +2,16 @@
 use Rattle.std.specs.Prelude.{codes, List, [], ◌∷◌, Option, Some, None, if◌then◌else◌}
 use Rattle.std.specs.Option.{option_or}
 use Rattle.std.specs.Str.{bytes_eq}
-use Rattle.cam6_wiring.specs.declared.names.Compass.TheVariants.{Center, North, South, West, East, NorthWest, NorthEast, SouthWest, SouthEast}
+use Rattle.cam6_wiring.specs.declared.names.Compass.TheVariants.{Center, North, South, West}
+use Rattle.cam6_wiring.specs.declared.names.Compass.TheVariants.{East, NorthWest, NorthEast}
+use Rattle.cam6_wiring.specs.declared.names.Compass.TheVariants.{SouthWest, SouthEast}
 use Rattle.cam6_wiring.specs.declared.names.Turn.TheVariants.{Clockwise, Opposite, CounterClockwise}
 use Rattle.cam6_wiring.specs.declared.names.Half.TheVariants.{A, B}
 use Rattle.cam6_wiring.specs.declared.names.Level.TheVariants as level
 use Rattle.cam6_wiring.specs.declared.names.Name.{Name}
-use Rattle.cam6_wiring.specs.declared.names.Name.TheVariants.{Beside, InBlock, Phase, Horz, Vert, MinorCenter, MinorPhase, MinorHorz, MinorVert}
+use Rattle.cam6_wiring.specs.declared.names.Name.TheVariants.{Beside, InBlock, Phase, Horz}
+use Rattle.cam6_wiring.specs.declared.names.Name.TheVariants.{Vert, MinorCenter, MinorPhase}
+use Rattle.cam6_wiring.specs.declared.names.Name.TheVariants.{MinorHorz, MinorVert}
 use Rattle.cam6_forth.specs.declared.words.StackWord.{StackWord}
 use Rattle.cam6_forth.specs.declared.words.StackWord.TheVariants as stack
 use Rattle.cam6_forth.specs.declared.words.Target.TheVariants as target

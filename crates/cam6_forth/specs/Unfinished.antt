@@ -1,5 +1,6 @@
 -- A rule that is being written: what stands open, and how all of it is spelled.
-use Rattle.std.specs.Prelude.{◌≡◌, ℕ, ◌+◌, ◌<◌, ◌≤◌, List, [], ◌∷◌, ◌++◌, length, codes, Option, Some, None, MatchOption}
+use Rattle.std.specs.Prelude.{◌≡◌, ℕ, ◌+◌, ◌<◌, ◌≤◌, List, [], ◌∷◌, ◌++◌}
+use Rattle.std.specs.Prelude.{length, codes, Option, Some, None, MatchOption}
 use Rattle.cam6_wiring.specs.declared.wirings.Wiring.{Wiring}
 use Rattle.cam6_forth.specs.declared.kinds.Kind.TheVariants as kind
 use Rattle.cam6_forth.specs.Tokens.{Token}
@@ -7,7 +8,8 @@ use Rattle.cam6_forth.specs.Kinds.{kind_of}
 use Rattle.cam6_forth.specs.Limits.{max_definitions, max_size, max_open_ifs}
 use Rattle.cam6_forth.specs.Defined.{Defined}
 use Rattle.cam6_forth.specs.SingleWords.{place_of}
-use Rattle.cam6_forth.specs.Tree.{Body, Part, spell_body, spell, size_of, case_size, depth_of, IsKnown, AreWords, AreDefinitions, meant}
+use Rattle.cam6_forth.specs.Tree.{Body, Part, spell_body, spell, size_of, case_size}
+use Rattle.cam6_forth.specs.Tree.{depth_of, IsKnown, AreWords, AreDefinitions, meant}
 
 -- an IF that is open: the items before it in its own body, and its first body where its ELSE has
 -- come
