@@ -1,6 +1,8 @@
 //! Settings and phases, refusals with all that they leave, rules that are redefined, long cycles.
 
-use crate::tests::{Ask, P, PARITY, Want, first_wrong};
+use crate::rules::is_rule_name;
+use crate::tests::{Ask, P, PARITY, Want, command, first_wrong, is_as_known, text};
+use crate::{Machine, Now};
 use cam6_table::RuleFault;
 use cam6_wiring::{Grid, Half, Hood, Minor};
 use std::test::Fail;
@@ -194,6 +196,33 @@ fn cycles_of_many_entries(rt: HostRuntime) -> Result<(), Fail> {
     Ok(())
 }
 
+// By hand: a run that isn't refused leaves its steps to be done, and any other command is answered.
+// None of them is done here, so the position stays.
+#[test]
+fn steps_are_left(rt: HostRuntime) -> Result<(), Fail> {
+    let mut machine = Machine::new(rt.alloc())?;
+    for (ask, want) in [
+        (Ask::Run(1), None),
+        (Ask::Cycle(&[NONE; 3]), None),
+        (Ask::Run(0), None),
+        (Ask::Run(1), Some(1)),
+        (Ask::Run(65_535), Some(65_535)),
+        (Ask::Run(65_536), None),
+        (Ask::Plane(4), None),
+    ] {
+        let left = match machine.now(command(rt.alloc(), ask)?)? {
+            Now::Reply(_) => None,
+            Now::Work(steps, _) => Some(steps),
+        };
+        assert_eq!(rt; left, want);
+    }
+    match machine.now(command(rt.alloc(), Ask::Run(0))?)? {
+        Now::Reply(reply) => assert!(rt; is_as_known(&reply, Want::At(0))),
+        Now::Work(_, _) => return Err(Fail::new("no steps")),
+    }
+    Ok(())
+}
+
 // A new name has no place among sixteen, whatever its text; a name that is there can be redefined.
 #[test]
 fn sixteen_rules(rt: HostRuntime) -> Result<(), Fail> {
@@ -210,5 +239,37 @@ fn sixteen_rules(rt: HostRuntime) -> Result<(), Fail> {
         Want::Fault(62),
     );
     assert_eq!(rt; first_wrong(rt.alloc(), &asks)?, None);
+    Ok(())
+}
+
+// By hand: 1 to 24 bytes of 0x21 to 0x7E, without a double quote and a backslash, and not `-`.
+#[test]
+fn names_of_rules(rt: HostRuntime) -> Result<(), Fail> {
+    for (name, want) in [
+        ("", false),
+        ("-", false),
+        ("--", true),
+        ("-P", true),
+        ("P-", true),
+        (" ", false),
+        ("!", true),
+        ("\"", false),
+        ("#", true),
+        ("[", true),
+        ("\\", false),
+        ("]", true),
+        ("~", true),
+        ("\u{7f}", false),
+        ("\u{e9}", false),
+        ("P Q", false),
+        ("P\"Q", false),
+        ("PQ\\", false),
+        ("P\n", false),
+        ("ABCDEFGHIJKLMNOPQRSTUVWX", true),
+        ("ABCDEFGHIJKLMNOPQRSTUVWXY", false),
+    ] {
+        let name = text(rt.alloc(), name)?;
+        assert_eq!(rt; is_rule_name(&name), want, "{}", name.as_str());
+    }
     Ok(())
 }

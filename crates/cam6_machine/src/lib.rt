@@ -38,6 +38,8 @@ pub use texts::Text;
 #[cfg(test)]
 mod command_tests;
 #[cfg(test)]
+mod patch_tests;
+#[cfg(test)]
 mod plain_tests;
 #[cfg(test)]
 mod tests;

@@ -35,7 +35,7 @@ pub(crate) enum Want {
     Stripes(u8, u8),
 }
 
-fn text(alloc: Global, text: &str) -> Result<Text, AllocError> {
+pub(crate) fn text(alloc: Global, text: &str) -> Result<Text, AllocError> {
     Ok(Text::new(String::from_str(alloc, text)?))
 }
 
@@ -94,7 +94,7 @@ fn row_text(first: u16, last: u8) -> [u8; 64] {
     row
 }
 
-fn are_rows(rows: &[[u8; 64]], known: &[(usize, u16, u8)]) -> bool {
+pub(crate) fn are_rows(rows: &[[u8; 64]], known: &[(usize, u16, u8)]) -> bool {
     let mut all = rows.len() == 256;
     for (y, row) in rows.iter().enumerate() {
         let mut want = [b'0'; 64];
@@ -117,7 +117,7 @@ fn are_stripes(rows: &[[u8; 64]], even: u8, odd: u8) -> bool {
     all
 }
 
-fn is_as_known(reply: &Reply, want: Want) -> bool {
+pub(crate) fn is_as_known(reply: &Reply, want: Want) -> bool {
     match (reply, want) {
         (Reply::Set | Reply::Rule | Reply::Cycle, Want::Done) => true,
         (Reply::Run { position }, Want::At(place)) => *position == place,
@@ -224,7 +224,8 @@ fn brians_brain(rt: HostRuntime) -> Result<(), Fail> {
     Ok(())
 }
 
-const BALLS: &str = ": S4 CENTER CW + CCW + OPP + ; : D CENTER OPP = IF CW ELSE CENTER THEN ; \
+pub(crate) const BALLS: &str =
+    ": S4 CENTER CW + CCW + OPP + ; : D CENTER OPP = IF CW ELSE CENTER THEN ; \
     : B S4 { CENTER OPP D CENTER CENTER } >PLN0 ;";
 
 // The ball crosses a block at each step, by both grids in turn.
