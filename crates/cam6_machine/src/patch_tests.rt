@@ -62,8 +62,8 @@ fn check_step(
 }
 
 // By hand, cell by cell: the cell and its four neighbours before are counted, and it is set after
-// where the count is odd. Row 255, from column 254 on: its EAST alone, 1; itself and SOUTH, 2; SOUTH,
-// WEST and EAST, 3; itself alone, 1; its WEST alone, 1.
+// where the count is odd. Row 255, from column 254 on: its EAST alone, 1; itself and SOUTH, 2;
+// SOUTH, WEST and EAST, 3; itself alone, 1; its WEST alone, 1.
 #[test]
 fn parity_round_the_corner(rt: HostRuntime) -> Result<(), Fail> {
     let rule = Ask::Rule("P", Half::A, Hood::VonNeumann, Minor::Centers, PARITY);
@@ -87,7 +87,7 @@ fn rows_of_a_picture(rt: HostRuntime) {
 }
 
 // By hand: how many of the eight neighbours are set before, row by row from 254 on, is 1 1 2 1 1,
-// 2 2 4 1 1, 2 3 5 4 2, 1 3 3 2 1 and 0 1 2 2 1. A set cell stays at 2 and 3, a blank one is set at 3.
+// 2 2 4 1 1, 2 3 5 4 2, 1 3 3 2 1 and 0 1 2 2 1. A set cell stays at 2 and 3, others are set at 3.
 #[test]
 fn life_round_the_corner(rt: HostRuntime) -> Result<(), Fail> {
     let rule = Ask::Rule("L", Half::A, Hood::Moore, Minor::Centers, LIFE);
@@ -101,8 +101,8 @@ fn life_round_the_corner(rt: HostRuntime) -> Result<(), Fail> {
     check_step(&rt, rt.alloc(), 0, rule, entry, after)
 }
 
-// By hand: on the odd grid four blocks are not blank, with their upper left cells at (255, 255), (1,
-// 255), (255, 1) and (1, 1). The first has three balls and stays, the others one each, which crosses.
+// By hand: on the odd grid four blocks are not blank, with their upper left cells at (255, 255),
+// (1, 255), (255, 1) and (1, 1). The first has three balls and stays, the others one that crosses.
 #[test]
 fn balls_round_the_corner(rt: HostRuntime) -> Result<(), Fail> {
     let rule = Ask::Rule("B", Half::A, Hood::Margolus, Minor::Phases, BALLS);
@@ -125,8 +125,8 @@ const TURN: Ask = Ask::Rule(
 );
 
 // By hand: each block turns by one place against the clock, since a cell takes the bit of the place
-// that comes next clockwise. The odd grid's blocks are those above; the even grid's have their upper
-// left cells at (254, 254), (0, 254), (254, 0) and (0, 0).
+// that comes next clockwise. The odd grid's blocks are those above; the even grid's have their
+// upper left cells at (254, 254), (0, 254), (254, 0) and (0, 0).
 #[test]
 fn blocks_turn_round_the_corner(rt: HostRuntime) -> Result<(), Fail> {
     let odd = Ask::Cycle(&[("T", "-", Grid::Odd, 0)]);

@@ -1,5 +1,5 @@
-//! What the words of rules do, by hand from the profile's tables: outputs, choices, cases, names, and
-//! the faults in the order in which a word tries them.
+//! What the words of rules do, by hand from the profile's tables: outputs, choices, cases, names,
+//! and the faults in the order in which a word tries them.
 
 use crate::tests::{code, code_for};
 use crate::{MAX_TURNS, RuleFault, eval};
@@ -8,8 +8,8 @@ use std::alloc::Global;
 use std::process::Abort;
 use std::test::Fail;
 
-/// A rule of this body leaves these entries where CENTER and CENTER' show 0 and 0, 1 and 0, 0 and 1,
-/// 1 and 1, and every other line shows 0.
+/// A rule of this body leaves these entries where CENTER and CENTER' show 0 and 0, 1 and 0, 0 and
+/// 1, 1 and 1, and every other line shows 0.
 fn check_entries(
     rt: &impl Abort,
     alloc: Global,

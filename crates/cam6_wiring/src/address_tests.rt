@@ -1,5 +1,5 @@
-//! The addresses that the four cells round the corner of the torus show, for each neighbourhood with
-//! each minor assignment. They see nothing but columns and rows 254, 255, 0 and 1.
+//! The addresses that the four cells round the corner of the torus show, for each neighbourhood
+//! with each minor assignment. They see nothing but columns and rows 254, 255, 0 and 1.
 
 use crate::corner_tests::CELLS;
 use crate::{Grid, Half, Hood, Minor, Phase, Setting, address_at};

@@ -184,7 +184,7 @@ fn check_blank(
     }
 }
 
-// By hand: HORZ is 1 in a block's right column, VERT in its lower row; PHASE is the phase's low bit.
+// By hand: HORZ is 1 in a block's right column, VERT in its lower row; PHASE is the low bit.
 #[test]
 fn names_that_read_no_plane(rt: HostRuntime) -> Result<(), Fail> {
     let planes = Planes::blank(rt.alloc())?;
