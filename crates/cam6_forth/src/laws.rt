@@ -1,5 +1,7 @@
 //! Laws that tie texts, trees and faults. Each is the contract of a function that does nothing.
-ghost use Rattle.cam6_forth.specs.Laws.{HasOneTree, TreeIsRead, HasAnswer, HasOneFault, CanBeCompleted, FaultStays, FaultIsFirst, EndIsTooEarly, KnownIsSingle};
+ghost use Rattle.cam6_forth.specs.Laws.{HasOneTree, TreeIsRead, HasAnswer, HasOneFault};
+ghost use Rattle.cam6_forth.specs.Laws.{CanBeCompleted, FaultStays, FaultIsFirst, EndIsTooEarly};
+ghost use Rattle.cam6_forth.specs.Laws.{KnownIsSingle};
 
 /// Trees that are spelled alike are one tree.
 pub fn trees_spelled_alike_are_one()

@@ -1,9 +1,9 @@
 //! CAM Forth: a rule's text, and the rule or the first fault that it is read as.
 //!
 //! Contract: `parse` accepts a text exactly where its tokens, comments left out, spell a
-//! well-formed tree (`specs/Texts.antt`), and gives that tree's rule; any other text is refused with
-//! the number and the token of its first fault (`specs/Faults.antt`). Either may give way to want of
-//! memory.
+//! well-formed tree (`specs/Texts.antt`), and gives that tree's rule; any other text is refused
+//! with the number and the token of its first fault (`specs/Faults.antt`). Either may give way to
+//! want of memory.
 //!
 //! Stands on: `cam6_wiring`.
 //!

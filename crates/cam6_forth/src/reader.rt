@@ -58,7 +58,9 @@ impl Model for Reader {
 
 impl Reader {
     ghost use Rattle.cam6_forth.specs.SingleWords.{word_of};
-    ghost use Rattle.cam6_forth.specs.Reading.{begin, step, grown, outside, naming, with_if, with_else, with_then, with_end, inside, braces, finish};
+    ghost use Rattle.cam6_forth.specs.Reading.{begin, step, grown, outside, naming, with_if};
+    ghost use Rattle.cam6_forth.specs.Reading.{with_else, with_then, with_end, inside, braces};
+    ghost use Rattle.cam6_forth.specs.Reading.{finish};
     ghost use Rattle.cam6_forth.specs.Outcome.{Steps, Finishes};
 
     pub(crate) fn new(alloc: Global) -> Self

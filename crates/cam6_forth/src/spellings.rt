@@ -1,6 +1,7 @@
 //! How the words are spelled.
 ghost use Rattle.std.specs.Prelude.{◌≡◌};
-ghost use Rattle.cam6_forth.specs.Spellings.{stack_word, output_word, neighbour_name, plain_name, primed_name, block_name, added_name, minor_name};
+ghost use Rattle.cam6_forth.specs.Spellings.{stack_word, output_word, neighbour_name, plain_name};
+ghost use Rattle.cam6_forth.specs.Spellings.{primed_name, block_name, added_name, minor_name};
 
 use crate::words::{Output, StackWord, Target};
 use cam6_wiring::{Compass, Half, Level, Name, Turn};

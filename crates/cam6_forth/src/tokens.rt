@@ -1,5 +1,6 @@
 //! A text is cut into tokens.
-ghost use Rattle.std.specs.Prelude.{◌≡◌, ◌<◌, [], ◌∷◌, ◌≤◌, MatchOption, length, take, drop, slice_index, true, false};
+ghost use Rattle.std.specs.Prelude.{◌≡◌, ◌<◌, [], ◌∷◌, ◌≤◌, MatchOption, length, take, drop};
+ghost use Rattle.std.specs.Prelude.{slice_index, true, false};
 ghost use Rattle.std.specs.List.{slice_split};
 ghost use Rattle.cam6_forth.specs.Tokens.{is_space, tokens, with_front};
 

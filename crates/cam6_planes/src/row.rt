@@ -1,7 +1,8 @@
 //! One packed row, its text and bytes, and its shifts by one column round the torus.
 ghost use Rattle.std.specs.Prelude.{◌≡◌, ◌<◌, ◌+◌, ◌-◌, ◌*◌, ◌==◌, ℕ};
 ghost use Rattle.std.specs.Int.{bit_at};
-ghost use Rattle.cam6_planes.specs.Row.{word_column, column_bit, byte_column, row_text, west_of, east_of};
+ghost use Rattle.cam6_planes.specs.Row.{word_column, column_bit, byte_column, row_text, west_of};
+ghost use Rattle.cam6_planes.specs.Row.{east_of};
 ghost use Rattle.cam6_planes.specs.declared.row.TheConstants.{SIDE, DIGITS};
 
 /// Columns of a row, and rows of a plane.

@@ -98,7 +98,9 @@ impl Model for Emitter {
 }
 
 impl Emitter {
-    ghost use Rattle.cam6_table.specs.Emitting.{emit, emit_then, emit_else, emit_if, emit_end_cases, emit_cases, emit_word, with_head, word_code};
+    ghost use Rattle.cam6_table.specs.Emitting.{emit, emit_then, emit_else, emit_if};
+    ghost use Rattle.cam6_table.specs.Emitting.{emit_end_cases, emit_cases, emit_word, with_head};
+    ghost use Rattle.cam6_table.specs.Emitting.{word_code};
 
     /// One more word in front.
     fn emit(&mut self, wiring: Wiring, word: Word, codes: &[Instructions]) -> Result<(), NoMemory>

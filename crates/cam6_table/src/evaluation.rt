@@ -4,7 +4,8 @@ ghost use Rattle.cam6_planes.specs.Row.{bit_number};
 ghost use Rattle.cam6_wiring.specs.Seen.{shown};
 ghost use Rattle.cam6_table.specs.declared.evaluation.TheConstants.{MAX_TURNS};
 ghost use Rattle.cam6_table.specs.Words.{Does};
-ghost use Rattle.cam6_table.specs.Codes.{max_turns, act, exec, turns_of, answer, turns_at, at_head, Acts};
+ghost use Rattle.cam6_table.specs.Codes.{max_turns, act, exec, turns_of, answer, turns_at, at_head};
+ghost use Rattle.cam6_table.specs.Codes.{Acts};
 
 use crate::codes::{Code, Instruction, Instructions};
 use crate::faults::RuleFault;

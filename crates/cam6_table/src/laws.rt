@@ -1,6 +1,7 @@
 //! Laws that tie trees, what they mean, and tables. Each is the contract of a function that does
 //! nothing.
-ghost use Rattle.cam6_table.specs.Laws.{TrueTableIsRule, TreesMeanTheSame, LeastIsFound, NoneIsFound};
+ghost use Rattle.cam6_table.specs.Laws.{TrueTableIsRule, TreesMeanTheSame, LeastIsFound};
+ghost use Rattle.cam6_table.specs.Laws.{NoneIsFound};
 
 /// A true table, read at the address of what is seen, is the rule as a function of what is seen.
 pub fn a_true_table_is_the_rule()

@@ -6,8 +6,8 @@
 //! Stands on: `cam6_planes`.
 //!
 //! Read next: `names`, the names and what they read; `wirings`, the names by address line;
-//! `blocks`, the Margolus grids; then `neighbours`. `laws` has the law that ties what is seen to the
-//! address.
+//! `blocks`, the Margolus grids; then `neighbours`. `laws` has the law that ties what is seen to
+//! the address.
 #![tactic(auto)]
 
 mod blocks;

@@ -1,7 +1,8 @@
 //! Which name stands on which of a half's twelve address lines.
 ghost use Rattle.std.specs.Prelude.{◌≡◌, ◌<◌, IfSome};
 ghost use Rattle.cam6_wiring.specs.declared.wirings.TheConstants.{LINES};
-ghost use Rattle.cam6_wiring.specs.Wiring.{lower, upper, block_names, hood_names, minor_names, names_of, is_at, line_of};
+ghost use Rattle.cam6_wiring.specs.Wiring.{lower, upper, block_names, hood_names, minor_names};
+ghost use Rattle.cam6_wiring.specs.Wiring.{names_of, is_at, line_of};
 
 use crate::names::{Compass, Half, Level, Name, Turn};
 
