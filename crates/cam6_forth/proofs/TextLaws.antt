@@ -14,7 +14,7 @@ use Rattle.cam6_forth.specs.Tree.{Part, meant, rule_of, IsOfTree}
 use Rattle.cam6_forth.specs.Texts.{AreTokensOf, IsTextOf, Begins}
 use Rattle.cam6_forth.specs.Faults.{HasTokenFault, HasFault}
 use Rattle.cam6_forth.specs.Reading.{begin, read, read_text}
-use Rattle.cam6_forth.specs.Outcome.{Answers, Gives, GivesFault, IsAccepted, IsRefused}
+use Rattle.cam6_forth.specs.Outcome.{Answers, IsThisRule, IsThisFault, IsAccepted, IsRefused}
 use Rattle.cam6_forth.specs.Laws.{HasAnswer, HasOneFault, CanBeCompleted}
 use Rattle.cam6_forth.specs.Laws.{FaultStays, FaultIsFirst, EndIsTooEarly}
 use Rattle.cam6_forth.proofs.Readings.{sound_run, token_fault_read, end_fault_read}
@@ -151,7 +151,7 @@ module _ (w : Wiring) (text : List ℕ) where
   refused_from (Err (parse_fault.Text fault)) e = read_fault_of fault.number fault.token e
 
   pub rule_from : (result : Result RuleWords ParseFault) → Answers (read_text w text) w result →
-      (parts : List Part) → IsTextOf w parts text → Gives (rule_of w parts) result
+      (parts : List Part) → IsTextOf w parts text → IsThisRule (rule_of w parts) result
   rule_from (Ok rule) e parts it =
       same_rule rule w (meant w [] parts) e.1
       (same_done rule.definitions (meant w [] parts) (sym e.0 ∙ text_read parts it))
@@ -162,7 +162,7 @@ module _ (w : Wiring) (text : List ℕ) where
 
   pub fault_from : (result : Result RuleWords ParseFault) → Answers (read_text w text) w result →
       (number token_number : ℕ) → HasFault w text number token_number →
-      GivesFault number token_number result
+      IsThisFault number token_number result
   fault_from (Ok rule) e number token_number fault =
       let g : fault_out number token_number ≡ ok_out rule.definitions =
       sym (fault_read number token_number fault) ∙ e.0 in cc g

@@ -43,14 +43,14 @@ IsRefused wiring text (Err (parse_fault.Text fault)) =
 IsRefused wiring text _ = Unit {0}
 
 -- the answer is this rule, unless memory runs out
-abbrev pub Gives : RuleWords → Result RuleWords ParseFault → Type 0
-Gives rule (Ok given) = given ≡ rule
-Gives rule (Err parse_fault.NoMemory) = Unit {0}
-Gives rule (Err (parse_fault.Text fault)) = ⊥
+abbrev pub IsThisRule : RuleWords → Result RuleWords ParseFault → Type 0
+IsThisRule rule (Ok given) = given ≡ rule
+IsThisRule rule (Err parse_fault.NoMemory) = Unit {0}
+IsThisRule rule (Err (parse_fault.Text fault)) = ⊥
 
 -- the answer is this fault, unless memory runs out
-abbrev pub GivesFault : ℕ → ℕ → Result RuleWords ParseFault → Type 0
-GivesFault number token_number (Ok given) = ⊥
-GivesFault number token_number (Err parse_fault.NoMemory) = Unit {0}
-GivesFault number token_number (Err (parse_fault.Text fault)) =
+abbrev pub IsThisFault : ℕ → ℕ → Result RuleWords ParseFault → Type 0
+IsThisFault number token_number (Ok given) = ⊥
+IsThisFault number token_number (Err parse_fault.NoMemory) = Unit {0}
+IsThisFault number token_number (Err (parse_fault.Text fault)) =
     (fault.number ≡ number) × (fault.token ≡ token_number)

@@ -5,7 +5,7 @@ ghost use Rattle.cam6_forth.specs.Reading.{read_text};
 ghost use Rattle.cam6_forth.specs.Tree.{Part, rule_of};
 ghost use Rattle.cam6_forth.specs.Texts.{IsTextOf};
 ghost use Rattle.cam6_forth.specs.Faults.{HasFault};
-ghost use Rattle.cam6_forth.specs.Outcome.{Answers, IsAccepted, IsRefused, Gives, GivesFault};
+ghost use Rattle.cam6_forth.specs.Outcome.{Answers, IsAccepted, IsRefused, IsThisRule, IsThisFault};
 
 use crate::faults::{MAX_TEXT, ParseFault, StepFault, TOO_LONG, TextFault};
 use crate::reader::Reader;
@@ -31,11 +31,11 @@ pub fn parse(
     // memory runs out.
     ensures rule { (parts : List Part) →
         IsTextOf (record { half = half; hood = hood; minor = minor }) parts text.now →
-        Gives (rule_of (record { half = half; hood = hood; minor = minor }) parts) result }
+        IsThisRule (rule_of (record { half = half; hood = hood; minor = minor }) parts) result }
     ensures fault { (number token_number : ℕ) →
         HasFault (record { half = half; hood = hood; minor = minor }) text.now
         number token_number →
-        GivesFault number token_number result }
+        IsThisFault number token_number result }
     // The same as a function of the text.
     ensures exact { Answers
         (read_text (record { half = half; hood = hood; minor = minor }) text.now)

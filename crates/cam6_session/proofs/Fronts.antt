@@ -6,8 +6,8 @@ use Rattle.cam6_wire.specs.Lines.{lines}
 use Rattle.cam6_wire.specs.Answers.{answer, answers, after_line, after_lines}
 use Rattle.cam6_wire.proofs.Splitting.{ended_lines_are_first}
 use Rattle.cam6_wire.proofs.Answering.{answers_to_both, answers_are_replies}
-use Rattle.cam6_session.specs.Sessions.{StopsAt, Serves, Served}
-use Rattle.cam6_session.specs.Alone.{WritesAlone}
+use Rattle.cam6_session.specs.Sessions.{StopsAt, AnswersUntil, AnswersReader}
+use Rattle.cam6_session.specs.Alone.{WritesRepliesAlone}
 use Rattle.cam6_session.specs.declared.serving.End.{End}
 use Rattle.cam6_session.specs.declared.serving.End.TheVariants as end
 
@@ -64,7 +64,7 @@ module _ (m : Machine) (taken left written : List ℕ) (stop : StopsAt taken lef
       }
 
 is_front : (e : End) (m n : Machine) (taken left written : List ℕ)
-    → Serves e m taken left written n → IsFront e m (taken ++ left) written
+    → AnswersUntil e m taken left written n → IsFront e m (taken ++ left) written
 is_front end.EndOfInput m n taken left written serves =
     let are : lines (taken ++ left) ≡ lines taken ++ [] =
     ap (λ l. lines (taken ++ l)) serves.0 ∙ ap lines (append-nil taken)
@@ -90,7 +90,7 @@ is_front (end.NoMemory false) m n taken left written (inr stopped) =
     front_before m taken left written stopped.0 (end.NoMemory false) (λ same. cc) stopped.1.0
 
 writes_from_blank : (e : End) (read unread old new : Option (List ℕ)) (n : Machine)
-    → Served e read unread old new blank n → WritesAlone e read old new
+    → AnswersReader e read unread old new blank n → WritesRepliesAlone e read old new
 writes_from_blank e None unread old new n served = tt
 writes_from_blank e (Some all) unread None new n served = tt
 writes_from_blank e (Some all) unread (Some out) new n served =
@@ -101,7 +101,7 @@ writes_from_blank e (Some all) unread (Some out) new n served =
     (written, front.missing, are, served.5, front.whole)
 
 pub writes_alone : (e : End) (read unread old new : Option (List ℕ)) (m n : Machine) → m ≡ blank
-    → Served e read unread old new m n → WritesAlone e read old new
+    → AnswersReader e read unread old new m n → WritesRepliesAlone e read old new
 writes_alone e read unread old new m n is served =
     writes_from_blank e read unread old new n
-    (subst (λ x. Served e read unread old new x n) is served)
+    (subst (λ x. AnswersReader e read unread old new x n) is served)

@@ -8,7 +8,7 @@ use Rattle.cam6_machine.specs.Machine.{Machine}
 use Rattle.cam6_wire.specs.OneLine.{HasNoLf}
 use Rattle.cam6_session.specs.Held.{Held}
 use Rattle.cam6_session.specs.Reading.{Reads}
-use Rattle.cam6_session.specs.Sessions.{Served}
+use Rattle.cam6_session.specs.Sessions.{AnswersReader}
 use Rattle.cam6_session.specs.declared.lines.Line.TheVariants as read
 use Rattle.cam6_session.specs.declared.serving.End.{End}
 use Rattle.cam6_session.specs.declared.serving.End.TheVariants as end
@@ -44,7 +44,7 @@ runs_at_first (Some all) (Some out) m = record {
 
 -- without a buffer no line is taken
 pub serves_none : (read old : Option (List ℕ)) (m : Machine)
-    → Served (end.NoMemory false) read read old old m m
+    → AnswersReader (end.NoMemory false) read read old old m m
 serves_none None old m = tt
 serves_none (Some all) None m = tt
 serves_none (Some all) (Some out) m =
@@ -56,21 +56,21 @@ module _ (first now last old new : Option (List ℕ)) (m n : Machine) (held : He
   Now all out = HasRun m all out now new n
 
   pub serves_all : Reads read.EndOfInput now last held
-      → Served end.EndOfInput first last old new m n
+      → AnswersReader end.EndOfInput first last old new m n
   serves_all reads =
-      known Now (λ all out. Served end.EndOfInput (Some all) last (Some out) new m n)
+      known Now (λ all out. AnswersReader end.EndOfInput (Some all) last (Some out) new m n)
       (λ all out run. ends_input m all out now last new n held run reads) first old runs
 
   pub serves_until_fault : Reads read.ReadFault now last held
-      → Served end.ReadFault first last old new m n
+      → AnswersReader end.ReadFault first last old new m n
   serves_until_fault reads =
-      known Now (λ all out. Served end.ReadFault (Some all) last (Some out) new m n)
+      known Now (λ all out. AnswersReader end.ReadFault (Some all) last (Some out) new m n)
       (λ all out run. fails_reading m all out now last new n held run reads) first old runs
 
   pub serves_until_bound : Reads read.TurnBound now last held
-      → Served end.TurnBound first last old new m n
+      → AnswersReader end.TurnBound first last old new m n
   serves_until_bound reads =
-      known Now (λ all out. Served end.TurnBound (Some all) last (Some out) new m n)
+      known Now (λ all out. AnswersReader end.TurnBound (Some all) last (Some out) new m n)
       (λ all out run. meets_bound m all out now last new n held run reads) first old runs
 
   module _ (then : Option (List ℕ)) (p : Machine) where
@@ -82,23 +82,23 @@ module _ (first now last old new : Option (List ℕ)) (m n : Machine) (held : He
         runs
 
     pub serves_until : (e : End) → Reads read.Ended now last held
-        → RespondsTo (Some e) held new then n p → Served e first last old then m p
+        → RespondsTo (Some e) held new then n p → AnswersReader e first last old then m p
     serves_until e reads responds =
-        known Now (λ all out. Served e (Some all) last (Some out) then m p)
+        known Now (λ all out. AnswersReader e (Some all) last (Some out) then m p)
         (λ all out run.
         stops m all out last new then n p held
         (takes_ended m all out now last new n held run reads) e responds) first old runs
 
     pub serves_last : (e : Option End) → Reads read.Last now last held
         → RespondsTo e held new then n p
-        → Served (unwrap_or e end.EndOfInput) first last old then m p
+        → AnswersReader (unwrap_or e end.EndOfInput) first last old then m p
     serves_last None reads responds =
-        known Now (λ all out. Served end.EndOfInput (Some all) last (Some out) then m p)
+        known Now (λ all out. AnswersReader end.EndOfInput (Some all) last (Some out) then m p)
         (λ all out run.
         let t = takes_last m all out now last new n held run reads in
         answers_last m all out last new then n p held t.0 t.1 responds) first old runs
     serves_last (Some e) reads responds =
-        known Now (λ all out. Served e (Some all) last (Some out) then m p)
+        known Now (λ all out. AnswersReader e (Some all) last (Some out) then m p)
         (λ all out run.
         let t = takes_last m all out now last new n held run reads in
         stops m all out last new then n p held t.0 e responds) first old runs

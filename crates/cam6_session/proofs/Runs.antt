@@ -15,7 +15,7 @@ use Rattle.cam6_wire.proofs.Answering.{answers_to_more, after_more}
 use Rattle.cam6_session.specs.Held.{Held, Holds}
 use Rattle.cam6_session.specs.Reading.{Reads}
 use Rattle.cam6_session.specs.Responding.{Responds}
-use Rattle.cam6_session.specs.Sessions.{StopsAt, Served, Serves}
+use Rattle.cam6_session.specs.Sessions.{StopsAt, AnswersReader, AnswersUntil}
 use Rattle.cam6_session.specs.declared.lines.Line.TheVariants as read
 use Rattle.cam6_session.specs.declared.serving.End.{End}
 use Rattle.cam6_session.specs.declared.serving.End.TheVariants as end
@@ -70,7 +70,7 @@ module _ (m : Machine) (all out : List ℕ) (unread after new : Option (List ℕ
 
   -- the reader ended, or failed, or the turns ran out
   pub ends_input : Reads read.EndOfInput unread after held
-      → Served end.EndOfInput (Some all) after (Some out) new m n
+      → AnswersReader end.EndOfInput (Some all) after (Some out) new m n
   ends_input reads =
       let at = subst (λ u. Reads read.EndOfInput u after held) run.leaves reads in
       let are : run.done ≡ lines (joined run.done) =
@@ -86,7 +86,7 @@ module _ (m : Machine) (all out : List ℕ) (unread after new : Option (List ℕ
       )
 
   pub gives_up : (left part : List ℕ) → after ≡ Some left → HasNoLf part
-      → run.left ≡ part ++ left → Served end.ReadFault (Some all) after (Some out) new m n
+      → run.left ≡ part ++ left → AnswersReader end.ReadFault (Some all) after (Some out) new m n
   gives_up left part leaves free is =
       let are : run.done ≡ ended_lines (joined run.done ++ part) =
       sym (append-nil run.done) ∙ ap (λ ls. run.done ++ ls) (sym (no_ended_line part free))
@@ -102,13 +102,13 @@ module _ (m : Machine) (all out : List ℕ) (unread after new : Option (List ℕ
       )
 
   pub fails_reading : Reads read.ReadFault unread after held
-      → Served end.ReadFault (Some all) after (Some out) new m n
+      → AnswersReader end.ReadFault (Some all) after (Some out) new m n
   fails_reading reads =
       let at = subst (λ u. Reads read.ReadFault u after held) run.leaves reads in
       gives_up at.0 at.2.0 at.1 at.2.1 at.2.2
 
   pub meets_bound : Reads read.TurnBound unread after held
-      → Served end.TurnBound (Some all) after (Some out) new m n
+      → AnswersReader end.TurnBound (Some all) after (Some out) new m n
   meets_bound reads =
       let at = subst (λ u. Reads read.TurnBound u after held) run.leaves reads in
       gives_up at.0 at.2.0 at.1 at.2.1 at.2.2
@@ -201,11 +201,12 @@ module _ (m : Machine) (all out : List ℕ) (after new then : Option (List ℕ))
       is ∙ ap (λ x. after_line x t.stop.line) t.stands ∙ sym (after_more m t.stop.done t.stop.line)
 
   served : (e : End) (written : List ℕ) → then ≡ Some (out ++ written)
-      → Serves e m t.taken t.left written p → Served e (Some all) after (Some out) then m p
+      → AnswersUntil e m t.taken t.left written p
+      → AnswersReader e (Some all) after (Some out) then m p
   served e written is serves = (t.taken, t.left, written, t.is, t.leaves, is, serves)
 
   fails_writing : RespondsTo (Some end.WriteFault) held new then n p
-      → Served end.WriteFault (Some all) after (Some out) then m p
+      → AnswersReader end.WriteFault (Some all) after (Some out) then m p
   fails_writing responds =
       let at = responds t.stop.line t.holds in
       let front = at.0.0 in
@@ -216,14 +217,14 @@ module _ (m : Machine) (all out : List ℕ) (after new then : Option (List ℕ))
       (t.stop, front, at.0.1, is, refl, stands_after at.1)
 
   finds_none_done : RespondsTo (Some (end.NoMemory true)) held new then n p
-      → Served (end.NoMemory true) (Some all) after (Some out) then m p
+      → AnswersReader (end.NoMemory true) (Some all) after (Some out) then m p
   finds_none_done responds =
       let at = responds t.stop.line t.holds in
       served (end.NoMemory true) (answers m t.stop.done) (kept new then _ t.writes at.0)
       (t.stop, refl, stands_after at.1)
 
   finds_none_undone : RespondsTo (Some (end.NoMemory false)) held new then n p
-      → Served (end.NoMemory false) (Some all) after (Some out) then m p
+      → AnswersReader (end.NoMemory false) (Some all) after (Some out) then m p
   finds_none_undone responds =
       let at = responds t.stop.line t.holds in
       served (end.NoMemory false) (answers m t.stop.done) (kept new then _ t.writes at.0)
@@ -231,7 +232,7 @@ module _ (m : Machine) (all out : List ℕ) (after new then : Option (List ℕ))
 
   -- a line was taken, and the session stops at it
   pub stops : (e : End) → RespondsTo (Some e) held new then n p
-      → Served e (Some all) after (Some out) then m p
+      → AnswersReader e (Some all) after (Some out) then m p
   stops end.WriteFault responds = fails_writing responds
   stops (end.NoMemory true) responds = finds_none_done responds
   stops (end.NoMemory false) responds = finds_none_undone responds
@@ -241,7 +242,7 @@ module _ (m : Machine) (all out : List ℕ) (after new then : Option (List ℕ))
 
   -- or nothing is left behind it
   pub answers_last : t.left ≡ [] → RespondsTo None held new then n p
-      → Served end.EndOfInput (Some all) after (Some out) then m p
+      → AnswersReader end.EndOfInput (Some all) after (Some out) then m p
   answers_last none responds =
       let at = responds t.stop.line t.holds in
       let written = subst (λ x. Appends new then (answer x t.stop.line)) t.stands at.0 in

@@ -7,7 +7,7 @@ use Rattle.cam6_wire.specs.declared.faults.LineFault.{LineFault}
 use Rattle.cam6_wire.specs.Commands.{command}
 use Rattle.cam6_wire.specs.Lines.{lines}
 use Rattle.cam6_wire.specs.Answers.{commands, texts_of}
-use Rattle.cam6_session.specs.Sessions.{Served}
+use Rattle.cam6_session.specs.Sessions.{AnswersReader}
 use Rattle.cam6_session.specs.declared.serving.End.{End}
 use Rattle.cam6_session.specs.declared.serving.End.TheVariants.{EndOfInput}
 
@@ -21,13 +21,14 @@ abbrev pub answers_alone : List ℕ → List ℕ
 answers_alone all = texts_of (said_in all) (replies blank (commands (said_in all)))
 
 -- these were written, or a front of them; all of them where the input's end was met
-abbrev pub WritesAlone : End → Option (List ℕ) → Option (List ℕ) → Option (List ℕ) → Type 0
-WritesAlone end read old new =
+abbrev pub WritesRepliesAlone : End → Option (List ℕ) → Option (List ℕ) → Option (List ℕ) → Type 0
+WritesRepliesAlone end read old new =
     IfSome read (λ all. IfSome old (λ out.
     (written missing : List ℕ) × (answers_alone all ≡ written ++ missing) ×
     (new ≡ Some (out ++ written)) × (end ≡ EndOfInput → missing ≡ [])))
 
 -- the session ends as one over a blank machine does, at some machine
-abbrev pub ServedAlone : End → Option (List ℕ) → Option (List ℕ) → Option (List ℕ)
+abbrev pub AnswersReaderAlone : End → Option (List ℕ) → Option (List ℕ) → Option (List ℕ)
     → Option (List ℕ) → Type 0
-ServedAlone end read unread old new = (n : Machine) × Served end read unread old new blank n
+AnswersReaderAlone end read unread old new =
+    (n : Machine) × AnswersReader end read unread old new blank n

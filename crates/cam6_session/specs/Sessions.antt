@@ -9,8 +9,8 @@ use Rattle.cam6_session.specs.declared.serving.End.TheVariants.{EndOfInput, Read
 use Rattle.cam6_session.specs.declared.serving.End.TheVariants.{WriteFault, NoMemory}
 
 -- what was written is the answers of m to these lines, and n is the machine after them
-abbrev pub Answered : Machine → List (List ℕ) → List ℕ → Machine → Type 0
-Answered m done written n = (written ≡ answers m done) × (n ≡ after_lines m done)
+abbrev pub AreAnswered : Machine → List (List ℕ) → List ℕ → Machine → Type 0
+AreAnswered m done written n = (written ≡ answers m done) × (n ≡ after_lines m done)
 
 -- whole lines were taken, the last of them the one at which serving stops; the others are left
 pub record StopsAt (taken left : List ℕ) : Type 0 where
@@ -35,22 +35,22 @@ StopsDone m taken left written n =
 -- the lines before it were answered, and its command isn't done; or no line was taken
 abbrev pub StopsUndone : Machine → List ℕ → List ℕ → List ℕ → Machine → Type 0
 StopsUndone m taken left written n =
-    ((taken ≡ []) × Answered m [] written n) ⊎
-    ((stop : StopsAt taken left) × Answered m stop.done written n)
+    ((taken ≡ []) × AreAnswered m [] written n) ⊎
+    ((stop : StopsAt taken left) × AreAnswered m stop.done written n)
 
 -- for each end, by the bytes taken, those that are left, and those written
-abbrev pub Serves : End → Machine → List ℕ → List ℕ → List ℕ → Machine → Type 0
-Serves EndOfInput m taken left written n = (left ≡ []) × Answered m (lines taken) written n
-Serves ReadFault m taken left written n = Answered m (ended_lines taken) written n
-Serves TurnBound m taken left written n = Answered m (ended_lines taken) written n
-Serves WriteFault m taken left written n = StopsWriting m taken left written n
-Serves (NoMemory true) m taken left written n = StopsDone m taken left written n
-Serves (NoMemory false) m taken left written n = StopsUndone m taken left written n
+abbrev pub AnswersUntil : End → Machine → List ℕ → List ℕ → List ℕ → Machine → Type 0
+AnswersUntil EndOfInput m taken left written n = (left ≡ []) × AreAnswered m (lines taken) written n
+AnswersUntil ReadFault m taken left written n = AreAnswered m (ended_lines taken) written n
+AnswersUntil TurnBound m taken left written n = AreAnswered m (ended_lines taken) written n
+AnswersUntil WriteFault m taken left written n = StopsWriting m taken left written n
+AnswersUntil (NoMemory true) m taken left written n = StopsDone m taken left written n
+AnswersUntil (NoMemory false) m taken left written n = StopsUndone m taken left written n
 
 -- the same of a reader and a writer that tell their bytes, those before and those after
-abbrev pub Served : End → Option (List ℕ) → Option (List ℕ) → Option (List ℕ)
+abbrev pub AnswersReader : End → Option (List ℕ) → Option (List ℕ) → Option (List ℕ)
     → Option (List ℕ) → Machine → Machine → Type 0
-Served end read unread old new m n =
+AnswersReader end read unread old new m n =
     IfSome read (λ all. IfSome old (λ out.
     (taken left written : List ℕ) × (all ≡ taken ++ left) × (unread ≡ Some left) ×
-    (new ≡ Some (out ++ written)) × Serves end m taken left written n))
+    (new ≡ Some (out ++ written)) × AnswersUntil end m taken left written n))

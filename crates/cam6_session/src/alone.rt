@@ -1,5 +1,5 @@
 //! A session with a machine that nobody shares.
-ghost use Rattle.cam6_session.specs.Alone.{ServedAlone, WritesAlone};
+ghost use Rattle.cam6_session.specs.Alone.{AnswersReaderAlone, WritesRepliesAlone};
 
 use crate::serving::{End, serve};
 use cam6_machine::Machine;
@@ -14,10 +14,10 @@ pub fn serve_alone<R: BufRead, W: Write>(
     writer: &mut W,
     turns: u64,
 ) -> End
-    ensures served { ServedAlone result (R.remaining reader.old) (R.remaining reader.new)
+    ensures served { AnswersReaderAlone result (R.remaining reader.old) (R.remaining reader.new)
         (W.contents writer.old) (W.contents writer.new) }
     // What was written is the replies of the machine alone and the faults of lines, in their order.
-    ensures replies { WritesAlone result (R.remaining reader.old)
+    ensures replies { WritesRepliesAlone result (R.remaining reader.old)
         (W.contents writer.old) (W.contents writer.new) }
 {
     let Ok(mut machine) = Machine::new(alloc) else {

@@ -4,7 +4,7 @@ ghost use Rattle.cam6_machine.specs.Machine.{Machine};
 ghost use Rattle.cam6_wire.specs.Commands.{command as what_is_said, Fails, Reads};
 ghost use Rattle.cam6_session.specs.Held.{Holds};
 ghost use Rattle.cam6_session.specs.Responding.{Responds};
-ghost use Rattle.cam6_session.specs.Sessions.{Served};
+ghost use Rattle.cam6_session.specs.Sessions.{AnswersReader};
 
 use crate::asking::Ask;
 use crate::line_buffer::LineBuf;
@@ -44,7 +44,7 @@ pub fn serve<R: BufRead, W: Write, D: Ask>(
 ) -> End
     requires { D.is_ready desk.old }
     ensures ready { D.is_ready desk.new }
-    ensures served { Served result (R.remaining reader.old) (R.remaining reader.new)
+    ensures served { AnswersReader result (R.remaining reader.old) (R.remaining reader.new)
         (W.contents writer.old) (W.contents writer.new)
         (D.stands_at desk.old) (D.stands_at desk.new) }
 {

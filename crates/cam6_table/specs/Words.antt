@@ -49,8 +49,8 @@ on_stack word.Greater (b ∷ a ∷ rest) = Ok (bit_number (nat_lt b a) ∷ rest)
 on_stack _ _ = Err MissingValue
 
 -- a call did what was said: the new stack, or the fault
-abbrev pub Does : {S : Type 0} → Result S RuleFault → S → Result (Unit {0}) RuleFault → Type 0
-Does said new result = MatchResult result (λ _. said ≡ Ok new) (λ fault. said ≡ Err fault)
+abbrev pub IsOutcome : {S : Type 0} → Result S RuleFault → S → Result (Unit {0}) RuleFault → Type 0
+IsOutcome said new result = MatchResult result (λ _. said ≡ Ok new) (λ fault. said ≡ Err fault)
 
 -- a call took the top value off, or found none
 abbrev pub Takes : Values → Values → Result ℕ RuleFault → Type 0

@@ -3,7 +3,7 @@ ghost use Rattle.std.specs.Prelude.{◌≡◌, ◌+◌, ◌<◌, ◌≤◌, None
 ghost use Rattle.cam6_planes.specs.Row.{bit_number};
 ghost use Rattle.cam6_wiring.specs.Seen.{shown};
 ghost use Rattle.cam6_table.specs.declared.evaluation.TheConstants.{MAX_TURNS};
-ghost use Rattle.cam6_table.specs.Words.{Does};
+ghost use Rattle.cam6_table.specs.Words.{IsOutcome};
 ghost use Rattle.cam6_table.specs.Codes.{max_turns, act, exec, turns_of, answer, turns_at, at_head};
 ghost use Rattle.cam6_table.specs.Codes.{Acts};
 
@@ -37,7 +37,7 @@ fn run(
     turns: &mut u32,
 ) -> Result<(), RuleFault>
     requires turns { length code.now ≤ turns.old }
-    ensures done { Does (exec (shown address) code.now 0 None state.old) state.new result }
+    ensures done { IsOutcome (exec (shown address) code.now 0 None state.old) state.new result }
     ensures turns { turns.old ≡ turns.new + turns_of (shown address) code.now 0 None state.old }
     ensures limit { turns.old ≤ turns.new + length code.now }
 {

@@ -1,6 +1,6 @@
 //! The state of a rule that runs: its stack, and the last write to each plane.
 ghost use Rattle.std.specs.Prelude.{◌≡◌, ◌<◌, ◌/◌, ℕ, Bool, None};
-ghost use Rattle.cam6_table.specs.Words.{Does};
+ghost use Rattle.cam6_table.specs.Words.{IsOutcome};
 ghost use Rattle.cam6_table.specs.Outputs.{begin, written, is_odd, entry_of};
 
 use crate::faults::RuleFault;
@@ -28,7 +28,7 @@ pub fn begin() -> State
 
 /// Does what an output word says. After a fault nothing is promised of the stack.
 pub fn write(state: &mut State, target: Target) -> Result<(), RuleFault>
-    ensures { Does (written target state.old) state.new result }
+    ensures { IsOutcome (written target state.old) state.new result }
 {
     let value = state.stack.pop()?;
     let low = value % 2 == 1;

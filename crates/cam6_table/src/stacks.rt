@@ -1,6 +1,6 @@
 //! The stack of a rule that runs, and what each word does to it.
 ghost use Rattle.std.specs.Prelude.{◌≡◌, ◌<◌, length};
-ghost use Rattle.cam6_table.specs.Words.{pushed, on_stack, Does, Takes};
+ghost use Rattle.cam6_table.specs.Words.{pushed, on_stack, IsOutcome, Takes};
 
 use crate::faults::RuleFault;
 use cam6_forth::StackWord;
@@ -40,7 +40,7 @@ impl Stack {
 
     /// Puts a value on top, if there is room.
     pub fn push(&mut self, value: u16) -> Result<(), RuleFault>
-        ensures { Does (pushed value self.old) self.new result }
+        ensures { IsOutcome (pushed value self.old) self.new result }
     {
         if self.len == MAX_VALUES {
             return Err(RuleFault::FullStack);
@@ -71,7 +71,7 @@ impl Stack {
 
     /// Does what a stack word says. After a fault nothing is promised of the stack.
     pub fn apply(&mut self, word: StackWord) -> Result<(), RuleFault>
-        ensures { Does (on_stack word self.old) self.new result }
+        ensures { IsOutcome (on_stack word self.old) self.new result }
     {
         match word {
             StackWord::Dup => self.dup(),
@@ -93,7 +93,7 @@ impl Stack {
     }
 
     fn dup(&mut self) -> Result<(), RuleFault>
-        ensures { Does (on_stack StackWord.Dup self.old) self.new result }
+        ensures { IsOutcome (on_stack StackWord.Dup self.old) self.new result }
     {
         let a = self.pop()?;
         self.put(a);
@@ -101,14 +101,14 @@ impl Stack {
     }
 
     fn drop_top(&mut self) -> Result<(), RuleFault>
-        ensures { Does (on_stack StackWord.Drop self.old) self.new result }
+        ensures { IsOutcome (on_stack StackWord.Drop self.old) self.new result }
     {
         self.pop()?;
         Ok(())
     }
 
     fn swap(&mut self) -> Result<(), RuleFault>
-        ensures { Does (on_stack StackWord.Swap self.old) self.new result }
+        ensures { IsOutcome (on_stack StackWord.Swap self.old) self.new result }
     {
         let b = self.pop()?;
         let a = self.pop()?;
@@ -118,7 +118,7 @@ impl Stack {
     }
 
     fn over(&mut self) -> Result<(), RuleFault>
-        ensures { Does (on_stack StackWord.Over self.old) self.new result }
+        ensures { IsOutcome (on_stack StackWord.Over self.old) self.new result }
     {
         let b = self.pop()?;
         let a = self.pop()?;
@@ -128,7 +128,7 @@ impl Stack {
     }
 
     fn rot(&mut self) -> Result<(), RuleFault>
-        ensures { Does (on_stack StackWord.Rot self.old) self.new result }
+        ensures { IsOutcome (on_stack StackWord.Rot self.old) self.new result }
     {
         let c = self.pop()?;
         let b = self.pop()?;
@@ -140,7 +140,7 @@ impl Stack {
     }
 
     fn plus(&mut self) -> Result<(), RuleFault>
-        ensures { Does (on_stack StackWord.Plus self.old) self.new result }
+        ensures { IsOutcome (on_stack StackWord.Plus self.old) self.new result }
     {
         let b = self.pop()?;
         let a = self.pop()?;
@@ -152,7 +152,7 @@ impl Stack {
     }
 
     fn minus(&mut self) -> Result<(), RuleFault>
-        ensures { Does (on_stack StackWord.Minus self.old) self.new result }
+        ensures { IsOutcome (on_stack StackWord.Minus self.old) self.new result }
     {
         let b = self.pop()?;
         let a = self.pop()?;
@@ -164,7 +164,7 @@ impl Stack {
     }
 
     fn times(&mut self) -> Result<(), RuleFault>
-        ensures { Does (on_stack StackWord.Times self.old) self.new result }
+        ensures { IsOutcome (on_stack StackWord.Times self.old) self.new result }
     {
         let b = self.pop()?;
         let a = self.pop()?;
@@ -176,7 +176,7 @@ impl Stack {
     }
 
     fn and(&mut self) -> Result<(), RuleFault>
-        ensures { Does (on_stack StackWord.And self.old) self.new result }
+        ensures { IsOutcome (on_stack StackWord.And self.old) self.new result }
     {
         let b = self.pop()?;
         let a = self.pop()?;
@@ -185,7 +185,7 @@ impl Stack {
     }
 
     fn or(&mut self) -> Result<(), RuleFault>
-        ensures { Does (on_stack StackWord.Or self.old) self.new result }
+        ensures { IsOutcome (on_stack StackWord.Or self.old) self.new result }
     {
         let b = self.pop()?;
         let a = self.pop()?;
@@ -194,7 +194,7 @@ impl Stack {
     }
 
     fn xor(&mut self) -> Result<(), RuleFault>
-        ensures { Does (on_stack StackWord.Xor self.old) self.new result }
+        ensures { IsOutcome (on_stack StackWord.Xor self.old) self.new result }
     {
         let b = self.pop()?;
         let a = self.pop()?;
@@ -203,7 +203,7 @@ impl Stack {
     }
 
     fn is_zero(&mut self) -> Result<(), RuleFault>
-        ensures { Does (on_stack StackWord.IsZero self.old) self.new result }
+        ensures { IsOutcome (on_stack StackWord.IsZero self.old) self.new result }
     {
         let a = self.pop()?;
         self.put(u16::from(a == 0));
@@ -211,7 +211,7 @@ impl Stack {
     }
 
     fn equal(&mut self) -> Result<(), RuleFault>
-        ensures { Does (on_stack StackWord.Equal self.old) self.new result }
+        ensures { IsOutcome (on_stack StackWord.Equal self.old) self.new result }
     {
         let b = self.pop()?;
         let a = self.pop()?;
@@ -220,7 +220,7 @@ impl Stack {
     }
 
     fn less(&mut self) -> Result<(), RuleFault>
-        ensures { Does (on_stack StackWord.Less self.old) self.new result }
+        ensures { IsOutcome (on_stack StackWord.Less self.old) self.new result }
     {
         let b = self.pop()?;
         let a = self.pop()?;
@@ -229,7 +229,7 @@ impl Stack {
     }
 
     fn greater(&mut self) -> Result<(), RuleFault>
-        ensures { Does (on_stack StackWord.Greater self.old) self.new result }
+        ensures { IsOutcome (on_stack StackWord.Greater self.old) self.new result }
     {
         let b = self.pop()?;
         let a = self.pop()?;
