@@ -1,72 +1,176 @@
-//! An example's file, line by line: `#` says what it shows, `>` is sent, `<` must come back.
+//! An example's file, line by line.
+//!
+//! ```text
+//! # what it shows, and where its answers come from
+//! as WAY                  how the lines that follow are played; a session, where nothing is said
+//! let NAME TEXT           `«NAME»` stands for the text from here on
+//! > LINE                  a line that is sent
+//! < LINE                  a line that must come back
+//! > LINE => LINE          both
+//! >> TEXT                 sent without an LF
+//! > rows PLANE            sends a `set` of each row that follows, and wants each to be done
+//! < plane                 the reply to `plane`, all zeros but for the rows that follow
+//! = ROW DIGITS            a row; `*` is for the zeros left out; `even` and `odd` are all such rows
+//! @ COLUMN ROW            where a picture begins, whose rows follow
+//! | ..#..                 a row of the picture
+//! ```
 
-use crate::rows::{PlaneText, row_of};
-use std::alloc::{AllocError, Global};
+use crate::faults::Unplayable;
+use crate::repeats::{Named, write_out, written_out};
+use crate::rows::{Rows, SIDE};
+use crate::ways::Way;
+use std::alloc::Global;
 
-/// What an example sends, and what must come back.
+/// A line that is sent, or a text without an LF at its end.
 #[derive(Drop)]
-pub struct Example {
-    pub sent: Vec<u8>,
+pub struct Sent {
+    pub bytes: Vec<u8>,
+    pub has_end: bool,
+}
+
+/// Lines that are played in one way, and what must come back.
+#[derive(Drop)]
+pub struct Part {
+    pub way: Way,
+    pub sent: Vec<Sent>,
     pub wanted: Vec<u8>,
 }
 
-/// Why a file is no example.
-#[derive(Clone, Copy, Debug, PartialEq, Eq)]
-pub enum Unreadable {
-    NoMemory,
-    /// The number of a line, from 1, that is of none of the kinds.
-    Line(usize),
-}
-
-impl From<AllocError> for Unreadable {
-    fn from(_: AllocError) -> Unreadable {
-        Unreadable::NoMemory
+impl Part {
+    fn new(alloc: Global, way: Way) -> Part {
+        Part {
+            way,
+            sent: Vec::new(alloc),
+            wanted: Vec::new(alloc),
+        }
     }
 }
 
-/// Reads an example.
-///
-/// An empty line says nothing, and neither does one that begins with `#`. `> LINE` is a line sent,
-/// `< LINE` one that must come back. `< plane` stands for the reply to `plane`, whose rows follow
-/// from the first on as `= ROW DIGITS`, with `*` for as many zeros as are left out; a row that
-/// isn't there is all zeros.
-pub fn read_example(alloc: Global, text: &str) -> Result<Example, Unreadable> {
-    let mut example = Example {
-        sent: Vec::new(alloc),
-        wanted: Vec::new(alloc),
+/// Rows that are being read.
+#[derive(Drop)]
+enum Pending {
+    Nothing,
+    /// Rows of the plane with these digits, to be set.
+    Set(Rows, String),
+    Wanted(Rows),
+}
+
+/// An example that has been read up to a line.
+#[derive(Drop)]
+struct Reading {
+    parts: Vec<Part>,
+    part: Part,
+    named: Vec<Named>,
+    pending: Pending,
+}
+
+/// Reads an example. The number is that of the line that can't be played, counted from 1.
+pub fn read_example(alloc: Global, text: &str) -> Result<Vec<Part>, (usize, Unplayable)> {
+    let mut reading = Reading {
+        parts: Vec::new(alloc),
+        part: Part::new(alloc, Way::Session),
+        named: Vec::new(alloc),
+        pending: Pending::Nothing,
     };
-    let mut plane: Option<PlaneText> = None;
-    for (i, line) in text.split('\n').enumerate() {
-        if let Some(row) = line.strip_prefix("= ") {
-            match (&mut plane, row_of(row)) {
-                (Some(plane), Some((y, digits))) if plane.next <= y => {
-                    plane.put(&mut example.wanted, y, digits)?;
-                }
-                _ => return Err(Unreadable::Line(i.saturating_add(1))),
-            }
-            continue;
-        }
-        if let Some(plane) = plane.take() {
-            plane.end(&mut example.wanted)?;
-        }
-        if line.is_empty() || line.starts_with('#') {
-            continue;
-        }
-        if let Some(sent) = line.strip_prefix("> ") {
-            add_line(&mut example.sent, sent)?;
-        } else if line == "< plane" {
-            plane = Some(PlaneText::begin(&mut example.wanted)?);
-        } else if let Some(wanted) = line.strip_prefix("< ") {
-            add_line(&mut example.wanted, wanted)?;
-        } else {
-            return Err(Unreadable::Line(i.saturating_add(1)));
-        }
+    let mut lines: usize = 0;
+    for line in text.split('\n') {
+        lines = lines.saturating_add(1);
+        reading.read_line(alloc, line).map_err(|e| (lines, e))?;
     }
-    Ok(example)
+    reading
+        .begin_part(alloc, Way::Session)
+        .map_err(|e| (lines, e))?;
+    Ok(reading.parts)
 }
 
-fn add_line(lines: &mut Vec<u8>, line: &str) -> Result<(), AllocError> {
-    lines.extend_from_slice(line.as_bytes())?;
-    lines.push(b'\n')?;
-    Ok(())
+impl Reading {
+    fn read_line(&mut self, alloc: Global, line: &str) -> Result<(), Unplayable> {
+        let (mark, rest) = line.split_once(' ').unwrap_or((line, ""));
+        if let "=" | "@" | "|" = mark {
+            let rest = written_out(alloc, rest, self.named.as_slice())?;
+            let rest = str::from_utf8(rest.as_slice()).unwrap_or("");
+            return self.read_row(mark, rest).ok_or(Unplayable::Unread);
+        }
+        self.end_rows(alloc)?;
+        match mark {
+            "" | "#" => Ok(()),
+            "as" => self.begin_part(alloc, Way::read(alloc, rest)?),
+            "let" => self.name(alloc, rest),
+            ">" => self.send(alloc, rest),
+            ">>" => self.send_text(alloc, rest, false),
+            "<" => self.want(alloc, rest),
+            _ => Err(Unplayable::Unread),
+        }
+    }
+
+    fn begin_part(&mut self, alloc: Global, way: Way) -> Result<(), Unplayable> {
+        self.end_rows(alloc)?;
+        let part = std::mem::replace(&mut self.part, Part::new(alloc, way));
+        Ok(self.parts.push(part)?)
+    }
+
+    fn name(&mut self, alloc: Global, rest: &str) -> Result<(), Unplayable> {
+        let (name, text) = rest.split_once(' ').ok_or(Unplayable::Unread)?;
+        let bytes = written_out(alloc, text, self.named.as_slice())?;
+        let name = String::from_str(alloc, name)?;
+        Ok(self.named.push(Named { name, bytes })?)
+    }
+
+    fn send(&mut self, alloc: Global, rest: &str) -> Result<(), Unplayable> {
+        if let Some(plane) = rest.strip_prefix("rows ") {
+            let plane = String::from_str(alloc, plane)?;
+            self.pending = Pending::Set(Rows::blank(alloc)?, plane);
+            return Ok(());
+        }
+        match rest.rsplit_once(" => ") {
+            Some((sent, wanted)) => {
+                self.send_text(alloc, sent, true)?;
+                self.want(alloc, wanted)
+            }
+            None => self.send_text(alloc, rest, true),
+        }
+    }
+
+    fn send_text(&mut self, alloc: Global, text: &str, has_end: bool) -> Result<(), Unplayable> {
+        let bytes = written_out(alloc, text, self.named.as_slice())?;
+        Ok(self.part.sent.push(Sent { bytes, has_end })?)
+    }
+
+    fn want(&mut self, alloc: Global, text: &str) -> Result<(), Unplayable> {
+        if text == "plane" {
+            self.pending = Pending::Wanted(Rows::blank(alloc)?);
+            return Ok(());
+        }
+        write_out(&mut self.part.wanted, text, self.named.as_slice())?;
+        Ok(self.part.wanted.push(b'\n')?)
+    }
+
+    fn read_row(&mut self, mark: &str, rest: &str) -> Option<()> {
+        match &mut self.pending {
+            Pending::Nothing => None,
+            Pending::Set(rows, _) | Pending::Wanted(rows) => rows.read_line(mark, rest),
+        }
+    }
+
+    /// Sends, or wants, the rows that were read.
+    fn end_rows(&mut self, alloc: Global) -> Result<(), Unplayable> {
+        match std::mem::replace(&mut self.pending, Pending::Nothing) {
+            Pending::Nothing => Ok(()),
+            Pending::Wanted(rows) => Ok(rows.write_plane(&mut self.part.wanted)?),
+            Pending::Set(rows, plane) => {
+                for y in 0..SIDE {
+                    let Some(digits) = rows.named(y) else {
+                        continue;
+                    };
+                    let bits = str::from_utf8(digits).unwrap_or("");
+                    let line = format!(in alloc;
+                        r#"{{"do":"set","plane":{plane},"row":{y},"bits":"{bits}"}}"#
+                    )?;
+                    self.send_text(alloc, line.as_str(), true)?;
+                    self.want(alloc, r#"{"ok":"set"}"#)?;
+                }
+                Ok(())
+            }
+        }
+    }
 }

@@ -1,41 +1,50 @@
-//! The worked examples: sessions as files, each with the lines sent and the lines that must come
-//! back.
+//! The worked examples: files of lines, each with what must come back.
 //!
-//! The words name files, as `parity.example`. Of each the program sends the lines to a machine of
-//! its own, through the session that `cam6` serves, and prints whether all came back byte for byte.
-//! It makes no claim of its own beyond being safe.
+//! The words name files, as `parity.example`. Of each the program plays the lines in the ways that
+//! the file says (`ways`), and prints whether all came back byte for byte. A file whose name begins
+//! with `wrong_` has one answer that is wrong on purpose: what is printed of it shows that answers
+//! are compared. The program makes no claim of its own beyond being safe.
 //!
-//! Stands on: `cam6_session`.
+//! Stands on: `cam6_session` and all below it.
 //!
-//! Read next: `data/`, the examples; `examples`, how their files are read; `rows`, planes in them.
+//! Read next: `data/`, the examples; `examples`, how their files are read; `ways`, how they are
+//! played; then `sessions`, `rules` and `stacks`.
 #![tactic(auto)]
 
+mod command_lines;
 mod examples;
+mod faults;
+mod repeats;
 mod rows;
+mod rules;
+mod sessions;
+mod settings;
+mod stacks;
+mod ways;
 
-use cam6_session::{End, serve_alone};
-use examples::{Example, Unreadable, read_example};
+use examples::{Part, read_example};
+use faults::Unplayable;
+use std::alloc::Global;
 use std::process::ExitCode;
 use std::{fs, io};
-
-/// How often one example looks at its lines at most.
-const TURNS: u64 = 1_000_000;
+use ways::Way;
 
 fn main(rt: HostRuntime) -> io::Result<ExitCode> {
-    let alloc = rt.alloc();
-    let mut all_well = true;
+    let mut is_well = true;
     for name in std::env::args(&rt)?.skip(1) {
         let text = fs::read_to_string(&rt, &name)?;
-        match read_example(alloc, &text) {
-            Ok(example) => all_well &= show(&rt, &name, &example)?,
-            Err(Unreadable::NoMemory) => return Err(io::Error::from(io::ErrorKind::OutOfMemory)),
-            Err(Unreadable::Line(line)) => {
-                all_well = false;
-                println!(rt; "{name}: line {line} says nothing")?;
+        let is_right = match read_example(rt.alloc(), &text) {
+            Ok(parts) => show(&rt, &name, parts.as_slice())?,
+            Err((_, Unplayable::NoMemory)) => return Err(sessions::no_memory()),
+            Err((line, Unplayable::Unread)) => {
+                println!(rt; "{name}: line {line} can't be played")?;
+                is_well = false;
+                continue;
             }
-        }
+        };
+        is_well &= is_right != name.starts_with("wrong_");
     }
-    if all_well {
+    if is_well {
         Ok(ExitCode::SUCCESS)
     } else {
         Ok(ExitCode::FAILURE)
@@ -43,26 +52,66 @@ fn main(rt: HostRuntime) -> io::Result<ExitCode> {
 }
 
 /// Plays an example and prints whether all its lines came back.
-fn show<R: Print + AllocGlobal>(rt: &R, name: &str, example: &Example) -> io::Result<bool> {
+fn show<R: Print + AllocGlobal>(rt: &R, name: &str, parts: &[Part]) -> io::Result<bool> {
     let alloc = rt.alloc();
-    let mut reader = example.sent.as_slice();
-    let mut answers = Vec::new(alloc);
-    let end = serve_alone(alloc, &mut reader, &mut answers, TURNS);
-    let wanted = example.wanted.as_slice();
-    if end == End::EndOfInput && answers.as_slice() == wanted {
-        let lines = wanted.iter().filter(|x| **x == b'\n').count();
-        println!(rt; "{name}: {lines} lines came back")?;
-        return Ok(true);
+    let mut lines: usize = 0;
+    for part in parts {
+        let wanted = part.wanted.as_slice();
+        for answers in played(alloc, part)? {
+            if let Some(line) = first_other(answers.as_slice(), wanted) {
+                let line = line.saturating_add(lines);
+                println!(rt; "{name}: line {line} that came back is another")?;
+                return Ok(false);
+            }
+        }
+        lines = lines.saturating_add(lines_of(wanted));
+    }
+    if lines == 0 {
+        println!(rt; "{name}: no line is wanted")?;
+        return Ok(false);
+    }
+    println!(rt; "{name}: all lines came back")?;
+    Ok(true)
+}
+
+/// What came back of a part's lines, by each way in.
+fn played(alloc: Global, part: &Part) -> io::Result<Vec<Vec<u8>>> {
+    let sent = part.sent.as_slice();
+    let first = match &part.way {
+        Way::Session => sessions::served(alloc, sent)?,
+        Way::Commands => sessions::answered_as_commands(alloc, sent)?,
+        Way::Readings => sessions::read(alloc, sent)?,
+        Way::Shown => sessions::read_shown(alloc, sent)?,
+        Way::Texts(wiring) => rules::faults_of_texts(alloc, *wiring, sent)?,
+        Way::Rules(wiring) => rules::kept_rules(alloc, *wiring, sent)?,
+        Way::Entries(wiring, addresses) => {
+            rules::entries(alloc, *wiring, addresses.as_slice(), sent)?
+        }
+        Way::Tables(wiring) => rules::tables(alloc, *wiring, sent)?,
+        Way::Stacks => stacks::stacks(alloc, sent)?,
+    };
+    let mut all = Vec::new(alloc);
+    all.push(first)?;
+    if let Way::Session = part.way {
+        all.push(sessions::served_byte_by_byte(alloc, sent)?)?;
+        all.push(sessions::answered_one_by_one(alloc, sent)?)?;
+    }
+    Ok(all)
+}
+
+fn lines_of(bytes: &[u8]) -> usize {
+    bytes.iter().filter(|byte| **byte == b'\n').count()
+}
+
+/// The first line, from 1, in which two texts differ, if they do.
+fn first_other(answers: &[u8], wanted: &[u8]) -> Option<usize> {
+    if answers == wanted {
+        return None;
     }
     let same = answers
         .iter()
         .zip(wanted)
-        .take_while(|x| x.0 == x.1)
+        .take_while(|pair| pair.0 == pair.1)
         .count();
-    let line = answers[..same].iter().filter(|x| **x == b'\n').count();
-    println!(rt;
-        "{name}: line {} that came back is another, at {end:?}",
-        line + 1
-    )?;
-    Ok(false)
+    Some(lines_of(&answers[..same]).saturating_add(1))
 }

@@ -1,64 +1,145 @@
-//! The reply to `plane`, written row by row.
+//! Rows of a plane in an example: as digits, or as a picture of a few cells.
 
-use std::alloc::AllocError;
+use std::alloc::{AllocError, Global};
 
-/// Rows of a plane.
-const ROWS: usize = 256;
+/// Rows of a plane, and its columns.
+pub const SIDE: usize = 256;
 
 /// Hexadecimal digits of a row.
 const DIGITS: usize = 64;
 
-/// A reply to `plane` that has been written up to a row.
-#[derive(Clone, Copy, Debug, PartialEq, Eq)]
-pub struct PlaneText {
-    /// The first row that isn't written yet.
-    pub next: usize,
+/// The rows of a plane, all zeros but for those that an example names.
+#[derive(Drop)]
+pub struct Rows {
+    digits: Vec<[u8; DIGITS]>,
+    is_named: Vec<bool>,
+    /// Where the next row of a picture begins.
+    corner: (usize, usize),
 }
 
-impl PlaneText {
-    pub fn begin(text: &mut Vec<u8>) -> Result<PlaneText, AllocError> {
-        text.extend_from_slice(b"{\"ok\":\"plane\",\"rows\":[")?;
-        Ok(PlaneText { next: 0 })
+impl Rows {
+    pub fn blank(alloc: Global) -> Result<Rows, AllocError> {
+        Ok(Rows {
+            digits: vec![in alloc; [b'0'; DIGITS]; SIDE]?,
+            is_named: vec![in alloc; false; SIDE]?,
+            corner: (0, 0),
+        })
     }
 
-    /// Writes the rows before this one as zeros, then this one.
-    pub fn put(&mut self, text: &mut Vec<u8>, y: usize, digits: &str) -> Result<(), AllocError> {
-        for row in self.next..y {
-            add_row(text, row, "*")?;
+    /// Reads a line of rows, by its mark.
+    pub fn read_line(&mut self, mark: &str, rest: &str) -> Option<()> {
+        match mark {
+            "=" => self.put_digits(rest),
+            "@" => self.put_corner(rest),
+            _ => self.put_cells(rest),
         }
-        add_row(text, y, digits)?;
-        self.next = y.saturating_add(1);
-        Ok(())
     }
 
-    /// Writes all rows that are left, as zeros.
-    pub fn end(self, text: &mut Vec<u8>) -> Result<(), AllocError> {
-        for row in self.next..ROWS {
-            add_row(text, row, "*")?;
+    /// `ROW DIGITS`, with `*` for as many zeros as are left out, and `even` or `odd` for all such
+    /// rows. None where it is no such text.
+    fn put_digits(&mut self, text: &str) -> Option<()> {
+        let (row, digits) = text.split_once(' ')?;
+        let digits = all_digits(digits)?;
+        match row {
+            "even" => self.put_half(0, digits),
+            "odd" => self.put_half(1, digits),
+            _ => self.put(row.parse().ok()?, digits)?,
+        }
+        Some(())
+    }
+
+    /// `COLUMN ROW`: where the picture that follows has its upper left cell.
+    fn put_corner(&mut self, text: &str) -> Option<()> {
+        let (column, row) = text.split_once(' ')?;
+        self.corner = (column.parse().ok()?, row.parse().ok()?);
+        Some(())
+    }
+
+    /// The next row of a picture: `#` for a cell that is set, `.` for one that isn't. It goes on
+    /// past the last column at column 0, and the row below the last one is row 0.
+    fn put_cells(&mut self, cells: &str) -> Option<()> {
+        let (column, row) = self.corner;
+        let y = row % SIDE;
+        let digits = self.digits.get_mut(y)?;
+        for (i, cell) in cells.bytes().enumerate() {
+            let x = column.wrapping_add(i) % SIDE;
+            match cell {
+                b'#' => set_cell(digits, x),
+                b'.' => {}
+                _ => return None,
+            }
+        }
+        *self.is_named.get_mut(y)? = true;
+        self.corner = (column, row.wrapping_add(1));
+        Some(())
+    }
+
+    /// The reply to `plane`.
+    pub fn write_plane(&self, text: &mut Vec<u8>) -> Result<(), AllocError> {
+        text.extend_from_slice(b"{\"ok\":\"plane\",\"rows\":[")?;
+        for (y, digits) in self.digits.iter().enumerate() {
+            text.extend_from_slice(if y == 0 { b"\"".as_slice() } else { b",\"" })?;
+            text.extend_from_slice(digits)?;
+            text.push(b'"')?;
         }
         text.extend_from_slice(b"]}\n")
     }
+
+    /// A row's digits, where the example names the row.
+    pub fn named(&self, y: usize) -> Option<&[u8; DIGITS]> {
+        if *self.is_named.get(y)? {
+            self.digits.get(y)
+        } else {
+            None
+        }
+    }
+
+    fn put(&mut self, y: usize, digits: [u8; DIGITS]) -> Option<()> {
+        *self.digits.get_mut(y)? = digits;
+        *self.is_named.get_mut(y)? = true;
+        Some(())
+    }
+
+    fn put_half(&mut self, first: usize, digits: [u8; DIGITS]) {
+        for y in (first..SIDE).step_by(2) {
+            let _ = self.put(y, digits);
+        }
+    }
 }
 
-/// A row's number and its digits.
-pub fn row_of(text: &str) -> Option<(usize, &str)> {
-    let (row, digits) = text.split_once(' ')?;
-    let y: usize = row.parse().ok()?;
-    if y < ROWS { Some((y, digits)) } else { None }
+/// A row's digits, with zeros for its `*`. None where there are too many, or too few without `*`.
+fn all_digits(text: &str) -> Option<[u8; DIGITS]> {
+    let mut digits = [b'0'; DIGITS];
+    let (first, last) = text.split_once('*').unwrap_or((text, ""));
+    let given = first.len().saturating_add(last.len());
+    if given > DIGITS || given < DIGITS && !text.contains('*') {
+        return None;
+    }
+    for (digit, byte) in digits.iter_mut().zip(first.bytes()) {
+        *digit = byte;
+    }
+    let zeros = DIGITS.saturating_sub(last.len());
+    for (digit, byte) in digits.iter_mut().skip(zeros).zip(last.bytes()) {
+        *digit = byte;
+    }
+    Some(digits)
 }
 
-/// Writes a row, with zeros for its `*` so that it has all its digits.
-fn add_row(text: &mut Vec<u8>, y: usize, digits: &str) -> Result<(), AllocError> {
-    if y > 0 {
-        text.push(b',')?;
-    }
-    text.push(b'"')?;
-    let (first, last) = digits.split_once('*').unwrap_or((digits, ""));
-    text.extend_from_slice(first.as_bytes())?;
-    for _ in first.len().saturating_add(last.len())..DIGITS {
-        text.push(b'0')?;
-    }
-    text.extend_from_slice(last.as_bytes())?;
-    text.push(b'"')?;
-    Ok(())
+/// Sets a cell in its row; column 0 is the highest bit of the first digit.
+fn set_cell(digits: &mut [u8; DIGITS], x: usize) {
+    let Some(digit) = digits.get_mut(x / 4) else {
+        return;
+    };
+    let bit = match x % 4 {
+        0 => 8,
+        1 => 4,
+        2 => 2,
+        _ => 1,
+    };
+    let value = match *digit {
+        b'0'..=b'9' => *digit - b'0',
+        b'a'..=b'f' => *digit - b'a' + 10,
+        _ => 0,
+    };
+    *digit = b"0123456789abcdef"[usize::from((value | bit) & 15)];
 }

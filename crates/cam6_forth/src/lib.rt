@@ -31,20 +31,3 @@ pub use faults::{
 pub use parsing::parse;
 pub use rules::{Definition, Rule};
 pub use words::{Output, StackWord, Target, Word};
-
-#[cfg(test)]
-mod kept_tests;
-#[cfg(test)]
-mod limit_tests;
-#[cfg(test)]
-mod place_tests;
-#[cfg(test)]
-mod reserved_tests;
-#[cfg(test)]
-mod size_tests;
-#[cfg(test)]
-mod test_trees;
-#[cfg(test)]
-mod tests;
-#[cfg(test)]
-mod tree_tests;

@@ -34,12 +34,3 @@ pub use machines::Machine;
 pub use replies::{Fault, PlaneRows, Reply};
 pub use rules::MAX_RULES;
 pub use texts::Text;
-
-#[cfg(test)]
-mod command_tests;
-#[cfg(test)]
-mod patch_tests;
-#[cfg(test)]
-mod plain_tests;
-#[cfg(test)]
-mod tests;

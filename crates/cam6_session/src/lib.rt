@@ -14,13 +14,7 @@ mod alone;
 mod asking;
 mod line_buffer;
 mod lines;
-#[cfg(test)]
-mod lines_tests;
 mod serving;
-#[cfg(test)]
-mod session_tests;
-#[cfg(test)]
-mod tests;
 mod writing;
 
 pub use alone::serve_alone;

@@ -24,12 +24,3 @@ pub use codes::{Code, Instruction};
 pub use evaluation::{MAX_TURNS, eval};
 pub use faults::RuleFault;
 pub use tables::{ENTRIES, Table, fill};
-
-#[cfg(test)]
-mod rule_tests;
-#[cfg(test)]
-mod stack_tests;
-#[cfg(test)]
-mod tests;
-#[cfg(test)]
-mod word_tests;

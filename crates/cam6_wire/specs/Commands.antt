@@ -62,6 +62,12 @@ by_word word d =
     else if bytes_eq word (codes "plane") then plane_of d
     else None
 
+-- the command that a JSON value shows, whether it is accepted so far or not
+abbrev pub shown_in : Data → Option Command
+shown_in d = do
+  word ← text_at (codes "do") d
+  by_word word d
+
 -- the command that a JSON value is, where it is one that is accepted so far
 abbrev pub command_in : Data → Option Command
 command_in d = do

@@ -22,16 +22,5 @@ mod settings;
 mod writing;
 
 pub use faults::LineFault;
-pub use reading::{LINE_LIMIT, read_command};
+pub use reading::{LINE_LIMIT, command_shown, read_command};
 pub use writing::{fault_text, reply_text};
-
-#[cfg(test)]
-mod command_tests;
-#[cfg(test)]
-mod fault_tests;
-#[cfg(test)]
-mod limit_tests;
-#[cfg(test)]
-mod reply_tests;
-#[cfg(test)]
-mod tests;

@@ -2,7 +2,7 @@
 ghost use Rattle.std.specs.Prelude.{◌≡◌, IfOk};
 ghost use Rattle.serde_json.specs.View.{view};
 ghost use Rattle.cam6_wire.specs.Commands.{set_of, rule_of, cycle_of, run_of, plane_of, by_word};
-ghost use Rattle.cam6_wire.specs.Commands.{command_in, command, Reads};
+ghost use Rattle.cam6_wire.specs.Commands.{shown_in, command_in, command, Reads};
 
 use crate::entries::entries_at;
 use crate::faults::LineFault;
@@ -33,6 +33,17 @@ pub fn read_command(alloc: Global, line: &[u8]) -> Result<Command, LineFault>
         }
     };
     command_in(alloc, &value)?.ok_or(LineFault::NoCommand)
+}
+
+/// The command that a JSON value shows, for whatever wiring and cycle. A line says those alone that
+/// are accepted so far.
+pub fn command_shown(alloc: Global, value: &Value) -> Result<Option<Command>, AllocError>
+    ensures { IfOk result (λ command. command ≡ shown_in (view value.now)) }
+{
+    match text_at(value, "do") {
+        Some(word) => by_word(alloc, word, value),
+        None => Ok(None),
+    }
 }
 
 fn command_in(alloc: Global, value: &Value) -> Result<Option<Command>, AllocError>

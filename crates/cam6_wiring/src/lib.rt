@@ -20,10 +20,3 @@ pub use blocks::{Corner, Grid, corner_of, in_block};
 pub use names::{Compass, Half, Level, Name, Phase, Turn};
 pub use neighbours::{Setting, address_at, seen};
 pub use wirings::{Hood, LINES, Minor, Wiring, line_of};
-
-#[cfg(test)]
-mod address_tests;
-#[cfg(test)]
-mod corner_tests;
-#[cfg(test)]
-mod tests;

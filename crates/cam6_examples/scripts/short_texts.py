@@ -1,0 +1,21 @@
+#!/usr/bin/env python3
+"""Writes data/short_texts.example: all texts of up to five bytes, each an LF, `0` or `x`, as sessions.
+
+`0` alone is a JSON value and no command; `x` never is one. A text is split at its LFs, and what is
+behind the last one is a line if it isn't empty.
+"""
+
+from itertools import product
+
+print("# All texts of up to five bytes, each an LF, a `0`, which alone is a JSON value, or an `x`, which never is.")
+print("# Answers: by scripts/short_texts.py, which splits each text at its LFs.")
+for size in range(1, 6):
+    for text in map("".join, product("\n0x", repeat=size)):
+        print("\nas session")
+        *ended, last = text.split("\n")
+        for line in ended:
+            print(f"> {line}")
+        if last:
+            print(f">> {last}")
+        for line in ended + ([last] if last else []):
+            print(f'< {{"fault":{3 if line == "0" else 2}}}')

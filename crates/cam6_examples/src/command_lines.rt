@@ -1,0 +1,53 @@
+//! A command as the plainest line that says it: compact, its keys in byte order, its digits small.
+
+use crate::settings::{grid_text, half_text, hood_text, minor_text};
+use cam6_machine::{Command, NamedEntry, Text};
+use serde_json::{Value, json};
+use std::alloc::{AllocError, Global};
+
+/// The line that says a command, without its LF.
+pub fn line_of(alloc: Global, command: &Command) -> Result<String, AllocError> {
+    value_of(alloc, command)?.to_string(alloc)
+}
+
+fn value_of(alloc: Global, command: &Command) -> Result<Value, AllocError> {
+    match command {
+        Command::Set { plane, row, bits } => {
+            let bits = hex::encode(alloc, bits.as_slice())?;
+            json!(in alloc; {"bits": bits, "do": "set", "plane": *plane, "row": *row})
+        }
+        Command::Rule {
+            name,
+            half,
+            hood,
+            minor,
+            text,
+        } => {
+            json!(in alloc; {
+                "do": "rule",
+                "half": half_text(*half),
+                "hood": hood_text(*hood),
+                "minor": minor_text(*minor),
+                "name": name.as_str(),
+                "text": text.as_str()
+            })
+        }
+        Command::Cycle { entries } => {
+            let mut values = Vec::new(alloc);
+            for entry in entries.as_slice() {
+                values.push(entry_value(alloc, entry)?)?;
+            }
+            let entries = Value::Array(values);
+            json!(in alloc; {"do": "cycle", "entries": entries})
+        }
+        Command::Run { n } => json!(in alloc; {"do": "run", "n": *n}),
+        Command::Plane { plane } => json!(in alloc; {"do": "plane", "plane": *plane}),
+    }
+}
+
+fn entry_value(alloc: Global, entry: &NamedEntry) -> Result<Value, AllocError> {
+    let a = entry.a.as_ref().map_or("-", Text::as_str);
+    let b = entry.b.as_ref().map_or("-", Text::as_str);
+    let grid = grid_text(entry.grid);
+    json!(in alloc; {"a": a, "b": b, "grid": grid, "phase": entry.phase})
+}

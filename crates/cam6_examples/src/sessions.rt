@@ -1,0 +1,175 @@
+//! Lines as they are answered: by the session that `cam6` serves, and one by one.
+
+use crate::command_lines::line_of;
+use crate::examples::Sent;
+use cam6_machine::{Command, Machine};
+use cam6_session::{End, serve_alone};
+use cam6_wire::{LineFault, command_shown, fault_text, read_command, reply_text};
+use serde_json::Value;
+use std::alloc::Global;
+use std::io;
+use std::io::{BufRead, Read};
+
+/// How often one session looks at its lines at most.
+const TURNS: u64 = 1_000_000;
+
+/// All bytes that are sent.
+fn bytes_of(alloc: Global, sent: &[Sent]) -> io::Result<Vec<u8>> {
+    let mut bytes = Vec::new(alloc);
+    for line in sent {
+        bytes.extend_from_slice(line.bytes.as_slice())?;
+        if line.has_end {
+            bytes.push(b'\n')?;
+        }
+    }
+    Ok(bytes)
+}
+
+/// Shows a byte at a time.
+#[derive(Drop)]
+struct ByteByByte<'a> {
+    bytes: &'a [u8],
+}
+
+impl Read for ByteByByte<'_> {
+    fn read(&mut self, _buf: &mut [u8]) -> io::Result<usize> {
+        Err(io::Error::from(io::ErrorKind::Unsupported))
+    }
+}
+
+impl BufRead for ByteByByte<'_> {
+    fn fill_buf(&mut self) -> io::Result<&[u8]> {
+        Ok(&self.bytes[..self.bytes.len().min(1)])
+    }
+
+    fn consume(&mut self, amount: usize) {
+        self.bytes = &self.bytes[amount.min(self.bytes.len())..];
+    }
+}
+
+/// What a session over a blank machine answers, and how it ends if not with its input.
+pub fn served(alloc: Global, sent: &[Sent]) -> io::Result<Vec<u8>> {
+    let bytes = bytes_of(alloc, sent)?;
+    let mut reader = bytes.as_slice();
+    let mut answers = Vec::new(alloc);
+    let end = serve_alone(alloc, &mut reader, &mut answers, TURNS);
+    add_end(answers, end)
+}
+
+/// The same, where its lines are read a byte at a time.
+pub fn served_byte_by_byte(alloc: Global, sent: &[Sent]) -> io::Result<Vec<u8>> {
+    let bytes = bytes_of(alloc, sent)?;
+    let mut reader = ByteByByte {
+        bytes: bytes.as_slice(),
+    };
+    let mut answers = Vec::new(alloc);
+    let end = serve_alone(alloc, &mut reader, &mut answers, TURNS);
+    add_end(answers, end)
+}
+
+/// The answers, with another end than that of the input as a line of its own.
+fn add_end(mut answers: Vec<u8>, end: End) -> io::Result<Vec<u8>> {
+    if end != End::EndOfInput {
+        add_line(&mut answers, "the session ended before its input")?;
+    }
+    Ok(answers)
+}
+
+/// The replies of a blank machine to the commands among the lines, and the faults of the others.
+pub fn answered_one_by_one(alloc: Global, sent: &[Sent]) -> io::Result<Vec<u8>> {
+    let bytes = bytes_of(alloc, sent)?;
+    let lines = bytes.strip_suffix(b"\n").unwrap_or(bytes.as_slice());
+    let mut machine = Machine::new(alloc).map_err(|_| no_memory())?;
+    let mut answers = Vec::new(alloc);
+    if !bytes.is_empty() {
+        for line in lines.split(|byte| *byte == b'\n') {
+            add_answer(alloc, &mut answers, &mut machine, read_command(alloc, line))?;
+        }
+    }
+    Ok(answers)
+}
+
+/// The replies of a blank machine to the commands that the lines show.
+pub fn answered_as_commands(alloc: Global, sent: &[Sent]) -> io::Result<Vec<u8>> {
+    let mut machine = Machine::new(alloc).map_err(|_| no_memory())?;
+    let mut answers = Vec::new(alloc);
+    for line in sent {
+        let command = shown(alloc, line.bytes.as_slice());
+        add_answer(alloc, &mut answers, &mut machine, command)?;
+    }
+    Ok(answers)
+}
+
+/// What each line says.
+pub fn read(alloc: Global, sent: &[Sent]) -> io::Result<Vec<u8>> {
+    let mut answers = Vec::new(alloc);
+    for line in sent {
+        add_command(
+            alloc,
+            &mut answers,
+            read_command(alloc, line.bytes.as_slice()),
+        )?;
+    }
+    Ok(answers)
+}
+
+/// What each line's JSON value shows.
+pub fn read_shown(alloc: Global, sent: &[Sent]) -> io::Result<Vec<u8>> {
+    let mut answers = Vec::new(alloc);
+    for line in sent {
+        add_command(alloc, &mut answers, shown(alloc, line.bytes.as_slice()))?;
+    }
+    Ok(answers)
+}
+
+/// The command that a line's JSON value shows, also where no line may say it yet.
+fn shown(alloc: Global, line: &[u8]) -> Result<Command, LineFault> {
+    let value = Value::from_slice(alloc, line).map_err(|_| LineFault::NoJson)?;
+    command_shown(alloc, &value)?.ok_or(LineFault::NoCommand)
+}
+
+/// Adds the machine's reply to a command, or the text of a line's fault.
+fn add_answer(
+    alloc: Global,
+    answers: &mut Vec<u8>,
+    machine: &mut Machine,
+    command: Result<Command, LineFault>,
+) -> io::Result<()> {
+    match command {
+        Ok(command) => {
+            let reply = machine.answer(command).map_err(|_| no_memory())?;
+            let text = reply_text(alloc, &reply).map_err(|_| no_memory())?;
+            add_line(answers, text.as_str())
+        }
+        Err(fault) => add_fault(answers, fault),
+    }
+}
+
+/// Adds a command as a line that says it, or the text of a line's fault.
+fn add_command(
+    alloc: Global,
+    answers: &mut Vec<u8>,
+    command: Result<Command, LineFault>,
+) -> io::Result<()> {
+    match command {
+        Ok(command) => add_line(answers, line_of(alloc, &command)?.as_str()),
+        Err(fault) => add_fault(answers, fault),
+    }
+}
+
+fn add_fault(answers: &mut Vec<u8>, fault: LineFault) -> io::Result<()> {
+    match fault {
+        LineFault::NoMemory => Err(no_memory()),
+        fault => add_line(answers, fault_text(fault)),
+    }
+}
+
+pub fn add_line(answers: &mut Vec<u8>, line: &str) -> io::Result<()> {
+    answers.extend_from_slice(line.as_bytes())?;
+    answers.push(b'\n')?;
+    Ok(())
+}
+
+pub fn no_memory() -> io::Error {
+    io::Error::from(io::ErrorKind::OutOfMemory)
+}

@@ -1,0 +1,66 @@
+//! The ways in which the lines of an example are played, and the words that ask for them.
+
+use crate::faults::Unplayable;
+use crate::settings::wiring_named;
+use cam6_wiring::Wiring;
+use std::alloc::Global;
+
+/// What is made of the lines that a part of an example sends.
+#[derive(Drop)]
+pub enum Way {
+    /// A session over a blank machine: its answers, whether its lines are read whole or a byte at a
+    /// time, which are those of the machine to one command after another.
+    Session,
+    /// Commands to a blank machine, for whatever wirings and cycles, those that no line may ask for
+    /// yet among them: its replies.
+    Commands,
+    /// What each line says, or its fault.
+    Readings,
+    /// What each line's JSON value shows, whether a line may say it yet or not.
+    Shown,
+    /// Texts of rules under a wiring: the first fault of each, if it has one.
+    Texts(Wiring),
+    /// What is kept of each rule's text.
+    Rules(Wiring),
+    /// The entry of each rule at these addresses.
+    Entries(Wiring, Vec<u16>),
+    /// Each rule's whole table, or the least address at which it stops.
+    Tables(Wiring),
+    /// Words of a body: what they leave on the stack, the top value last.
+    Stacks,
+}
+
+impl Way {
+    /// Reads the words of a line `as ..`.
+    pub fn read(alloc: Global, text: &str) -> Result<Way, Unplayable> {
+        let (first, rest) = text.split_once(' ').unwrap_or((text, ""));
+        match (first, rest) {
+            ("session", "") => Ok(Way::Session),
+            ("commands", "") => Ok(Way::Commands),
+            ("readings", "") => Ok(Way::Readings),
+            ("shown", "") => Ok(Way::Shown),
+            ("stacks", "") => Ok(Way::Stacks),
+            ("texts", wiring) => Ok(Way::Texts(wiring_of(wiring)?)),
+            ("rules", wiring) => Ok(Way::Rules(wiring_of(wiring)?)),
+            ("tables", wiring) => Ok(Way::Tables(wiring_of(wiring)?)),
+            ("entries", rest) => {
+                let (wiring, addresses) = rest.split_once(" at ").ok_or(Unplayable::Unread)?;
+                let addresses = addresses_of(alloc, addresses)?;
+                Ok(Way::Entries(wiring_of(wiring)?, addresses))
+            }
+            _ => Err(Unplayable::Unread),
+        }
+    }
+}
+
+fn wiring_of(text: &str) -> Result<Wiring, Unplayable> {
+    wiring_named(text).ok_or(Unplayable::Unread)
+}
+
+fn addresses_of(alloc: Global, text: &str) -> Result<Vec<u16>, Unplayable> {
+    let mut addresses = Vec::new(alloc);
+    for address in text.split(' ') {
+        addresses.push(address.parse().map_err(|_| Unplayable::Unread)?)?;
+    }
+    Ok(addresses)
+}

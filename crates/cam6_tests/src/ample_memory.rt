@@ -1,0 +1,125 @@
+//! Each public call that takes memory, once, where there is enough: no contract can say that a call
+//! doesn't give up for want of memory, where memory is taken.
+
+use cam6_forth::{ParseFault, Rule, parse};
+use cam6_machine::{Command, Machine, Now, Reply, replies_alone};
+use cam6_planes::Planes;
+use cam6_session::{Ask, End, Line, LineBuf, next_line, serve, serve_alone};
+use cam6_table::{Code, Table};
+use cam6_wire::{command_shown, read_command, reply_text};
+use cam6_wiring::{Half, Hood, Minor};
+use serde_json::Value;
+use std::alloc::Global;
+use std::test::Fail;
+
+#[test]
+fn planes_are_blank(rt: HostRuntime) -> Result<(), Fail> {
+    let planes = Planes::blank(rt.alloc())?;
+    assert!(rt; !planes.bit(0, 0, 0));
+    Ok(())
+}
+
+fn rule(alloc: Global) -> Result<Rule, ParseFault> {
+    let text = ": R CENTER >PLN0 ;";
+    parse(alloc, text, Half::A, Hood::VonNeumann, Minor::Centers)
+}
+
+#[test]
+fn rules_become_code(rt: HostRuntime) -> Result<(), Fail> {
+    let rule = rule(rt.alloc())?;
+    assert_eq!(rt; rule.definitions().len(), 1);
+    let code = Code::of(rt.alloc(), &rule);
+    assert!(rt; code.is_ok());
+    Ok(())
+}
+
+#[test]
+fn tables_are_blank(rt: HostRuntime) -> Result<(), Fail> {
+    let table = Table::blank(rt.alloc())?;
+    assert_eq!(rt; table.at(4), 0);
+    Ok(())
+}
+
+// No cycle is set.
+#[test]
+fn machines_answer_now(rt: HostRuntime) -> Result<(), Fail> {
+    let mut machine = Machine::new(rt.alloc())?;
+    let now = machine.now(Command::Run { n: 0 })?;
+    assert!(rt; matches!(&now, Now::Reply(Reply::Fault(_))));
+    Ok(())
+}
+
+#[test]
+fn machines_answer(rt: HostRuntime) -> Result<(), Fail> {
+    let mut machine = Machine::new(rt.alloc())?;
+    let reply = machine.answer(Command::Run { n: 0 })?;
+    assert!(rt; matches!(&reply, Reply::Fault(_)));
+    let reply = machine.ask(Command::Run { n: 0 })?;
+    assert!(rt; matches!(&reply, Reply::Fault(_)));
+    Ok(())
+}
+
+#[test]
+fn lists_are_answered(rt: HostRuntime) -> Result<(), Fail> {
+    let mut commands = Vec::new(rt.alloc());
+    commands.push(Command::Run { n: 0 })?;
+    let (replies, _machine) = replies_alone(rt.alloc(), commands)?;
+    assert!(rt; matches!(replies.as_slice(), [Reply::Fault(_)]));
+    Ok(())
+}
+
+const NO_STEPS: &str = r#"{"do":"run","n":0}"#;
+
+#[test]
+fn lines_are_commands(rt: HostRuntime) {
+    let command = read_command(rt.alloc(), NO_STEPS.as_bytes());
+    assert!(rt; matches!(&command, Ok(Command::Run { n: 0 })));
+}
+
+#[test]
+fn values_show_commands(rt: HostRuntime) -> Result<(), Fail> {
+    let value = Value::from_str(rt.alloc(), NO_STEPS)?;
+    let command = command_shown(rt.alloc(), &value);
+    assert!(rt; matches!(&command, Ok(Some(Command::Run { n: 0 }))));
+    Ok(())
+}
+
+#[test]
+fn replies_are_texts(rt: HostRuntime) -> Result<(), Fail> {
+    let text = reply_text(rt.alloc(), &Reply::Set)?;
+    assert_eq!(rt; text.as_str(), r#"{"ok":"set"}"#);
+    Ok(())
+}
+
+#[test]
+fn lines_are_kept(rt: HostRuntime) -> Result<(), Fail> {
+    let mut line = LineBuf::new(rt.alloc())?;
+    let mut turns = 9;
+    let read = next_line(&mut NO_STEPS.as_bytes(), &mut line, &mut turns);
+    assert_eq!(rt; read, Line::Last);
+    assert_eq!(rt; line.bytes(), Some(NO_STEPS.as_bytes()));
+    Ok(())
+}
+
+const REFUSED: &[u8] = b"{\"fault\":63}\n";
+
+#[test]
+fn machines_are_served(rt: HostRuntime) -> Result<(), Fail> {
+    let alloc = rt.alloc();
+    let mut machine = Machine::new(alloc)?;
+    let mut writer = Vec::new(alloc);
+    let mut reader = NO_STEPS.as_bytes();
+    let end = serve(alloc, &mut reader, &mut writer, &mut machine, 9);
+    assert_eq!(rt; end, End::EndOfInput);
+    assert_eq!(rt; writer.as_slice(), REFUSED);
+    Ok(())
+}
+
+#[test]
+fn sessions_are_served(rt: HostRuntime) {
+    let mut writer = Vec::new(rt.alloc());
+    let mut reader = NO_STEPS.as_bytes();
+    let end = serve_alone(rt.alloc(), &mut reader, &mut writer, 9);
+    assert_eq!(rt; end, End::EndOfInput);
+    assert_eq!(rt; writer.as_slice(), REFUSED);
+}

@@ -1,0 +1,102 @@
+//! Corners of blocks, turns in them, and addresses round a lone cell, worked out by hand.
+
+use cam6_planes::{NoMemory, Planes};
+use cam6_wiring::{
+    Compass, Corner, Grid, Half, Hood, Level, Minor, Name, Phase, Setting, Turn, address_at,
+    corner_of, in_block, seen,
+};
+use std::test::Fail;
+
+// From the picture of the two grids round the corner of the torus.
+#[test]
+fn corners_of_cells(rt: HostRuntime) {
+    for (grid, x, y, want) in [
+        (Grid::Even, 0, 0, Corner::UpperLeft),
+        (Grid::Even, 255, 0, Corner::UpperRight),
+        (Grid::Even, 0, 255, Corner::LowerLeft),
+        (Grid::Even, 255, 255, Corner::LowerRight),
+        (Grid::Odd, 0, 0, Corner::LowerRight),
+        (Grid::Odd, 255, 0, Corner::LowerLeft),
+        (Grid::Odd, 0, 255, Corner::UpperRight),
+        (Grid::Odd, 255, 255, Corner::UpperLeft),
+    ] {
+        assert_eq!(rt; corner_of(grid, x, y), want, "{grid:?} {x} {y}");
+    }
+}
+
+// From the picture of a block: the places run clockwise from the upper left one.
+#[test]
+fn turns_in_a_block(rt: HostRuntime) {
+    let turns = [Turn::Clockwise, Turn::Opposite, Turn::CounterClockwise];
+    for (corner, places) in [
+        (
+            Corner::UpperLeft,
+            [Compass::East, Compass::SouthEast, Compass::South],
+        ),
+        (
+            Corner::UpperRight,
+            [Compass::South, Compass::SouthWest, Compass::West],
+        ),
+        (
+            Corner::LowerRight,
+            [Compass::West, Compass::NorthWest, Compass::North],
+        ),
+        (
+            Corner::LowerLeft,
+            [Compass::North, Compass::NorthEast, Compass::East],
+        ),
+    ] {
+        for (turn, want) in turns.into_iter().zip(places) {
+            assert_eq!(rt; in_block(corner, turn), want, "{corner:?} {turn:?}");
+        }
+    }
+}
+
+fn one_cell(alloc: std::alloc::Global) -> Result<Planes, NoMemory> {
+    let mut planes = Planes::blank(alloc)?;
+    planes.set_row_words(0, 0, [1 << 63, 0, 0, 0]);
+    Ok(planes)
+}
+
+// The cell at column 0 of row 0 of plane 0 is set, and no other.
+#[test]
+fn addresses_round_a_cell(rt: HostRuntime) -> Result<(), Fail> {
+    let planes = one_cell(rt.alloc())?;
+    let (moore, block) = (Hood::Moore, Hood::Margolus);
+    for (half, hood, grid, x, y, want) in [
+        (Half::A, moore, Grid::Even, 0u8, 0u8, 1),
+        (Half::A, moore, Grid::Even, 0, 1, 4),
+        (Half::A, moore, Grid::Even, 0, 255, 8),
+        (Half::A, moore, Grid::Even, 1, 0, 16),
+        (Half::A, moore, Grid::Even, 255, 0, 32),
+        (Half::A, moore, Grid::Even, 255, 255, 512),
+        (Half::B, moore, Grid::Even, 0, 0, 1024),
+        (Half::A, block, Grid::Even, 1, 0, 8),
+        (Half::A, block, Grid::Even, 255, 255, 0),
+        (Half::A, block, Grid::Odd, 255, 255, 16),
+        (Half::A, block, Grid::Odd, 255, 0, 8),
+    ] {
+        let (x, y) = (usize::from(x), usize::from(y));
+        let address = address_at(&planes, half, hood, Minor::Centers, grid, Phase::P0, x, y);
+        assert_eq!(rt; address, want, "{half:?} {hood:?} {grid:?} {x} {y}");
+    }
+    let setting = Setting {
+        half: Half::A,
+        grid: Grid::Odd,
+        phase: Phase::P2,
+    };
+    assert!(rt; seen(&planes, setting, Name::MinorPhase(Level::Upper), 0, 0));
+    assert!(rt; seen(&planes, setting, Name::Horz, 0, 0));
+    let address = address_at(
+        &planes,
+        Half::A,
+        Hood::MargolusPhase,
+        Minor::Phases,
+        Grid::Even,
+        Phase::P2,
+        9,
+        9,
+    );
+    assert_eq!(rt; address, 512 + 2048);
+    Ok(())
+}

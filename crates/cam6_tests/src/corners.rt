@@ -1,0 +1,207 @@
+//! What the four cells round the corner of the torus see under each name, in both halves, on both
+//! grids and in each phase.
+
+use crate::rows::lone;
+use cam6_planes::Planes;
+use cam6_wiring::{Compass, Grid, Half, Level, Name, Phase, Setting, Turn, seen};
+use std::process::Abort;
+use std::test::Fail;
+
+/// A cell's column and row.
+pub(crate) type Place = (u8, u8);
+
+/// The cells that look, in the order of each table here.
+pub(crate) const CELLS: [Place; 4] = [(0, 0), (255, 0), (0, 255), (255, 255)];
+
+fn beside(compass: Compass) -> [Name; 2] {
+    [
+        Name::Beside(compass, Level::Lower),
+        Name::Beside(compass, Level::Upper),
+    ]
+}
+
+fn turned(turn: Turn) -> [Name; 2] {
+    [
+        Name::InBlock(turn, Level::Lower),
+        Name::InBlock(turn, Level::Upper),
+    ]
+}
+
+/// Each of the cells sees a bit of this plane under the name at its place, and at no other: it sees
+/// 1 where that cell alone is set, and 0 where none is.
+fn check_places(
+    rt: &impl Abort,
+    planes: &mut Planes,
+    setting: Setting,
+    name: Name,
+    plane: u8,
+    places: [Place; 4],
+) {
+    let plane = usize::from(plane % 4);
+    for ((x, y), (column, row)) in CELLS.into_iter().zip(places) {
+        let (x, y, row) = (usize::from(x), usize::from(y), usize::from(row));
+        planes.set_row_words(plane, row, lone(column));
+        assert!(rt;
+            seen(planes, setting, name, x, y),
+            "{setting:?} {name:?} {x} {y}"
+        );
+        planes.set_row_words(plane, row, [0; 4]);
+        assert!(rt;
+            !seen(planes, setting, name, x, y),
+            "{setting:?} {name:?} {x} {y}"
+        );
+    }
+}
+
+/// Unprimed names read planes 0 and 2, primed ones planes 1 and 3.
+fn check_names(
+    rt: &impl Abort,
+    planes: &mut Planes,
+    grid: Grid,
+    names: [Name; 2],
+    places: [Place; 4],
+) {
+    let [unprimed, primed] = names;
+    for (half, name, plane) in [
+        (Half::A, unprimed, 0),
+        (Half::A, primed, 1),
+        (Half::B, unprimed, 2),
+        (Half::B, primed, 3),
+    ] {
+        let phase = Phase::P0;
+        check_places(
+            rt,
+            planes,
+            Setting { half, grid, phase },
+            name,
+            plane,
+            places,
+        );
+    }
+}
+
+// By hand: a row further up is one less, a column further west is one less, round the torus.
+#[test]
+fn places_beside(rt: HostRuntime) -> Result<(), Fail> {
+    let mut planes = Planes::blank(rt.alloc())?;
+    for (compass, places) in [
+        (Compass::Center, [(0, 0), (255, 0), (0, 255), (255, 255)]),
+        (Compass::North, [(0, 255), (255, 255), (0, 254), (255, 254)]),
+        (Compass::South, [(0, 1), (255, 1), (0, 0), (255, 0)]),
+        (Compass::West, [(255, 0), (254, 0), (255, 255), (254, 255)]),
+        (Compass::East, [(1, 0), (0, 0), (1, 255), (0, 255)]),
+        (
+            Compass::NorthWest,
+            [(255, 255), (254, 255), (255, 254), (254, 254)],
+        ),
+        (Compass::NorthEast, [(1, 255), (0, 255), (1, 254), (0, 254)]),
+        (Compass::SouthWest, [(255, 1), (254, 1), (255, 0), (254, 0)]),
+        (Compass::SouthEast, [(1, 1), (0, 1), (1, 0), (0, 0)]),
+    ] {
+        for grid in [Grid::Even, Grid::Odd] {
+            check_names(&rt, &mut planes, grid, beside(compass), places);
+        }
+    }
+    Ok(())
+}
+
+// By hand, from the picture of the blocks: on the even grid each of the four cells is the outermost
+// of a block of its own; on the odd grid they are one block, and (255, 255) is its upper left cell.
+#[test]
+fn places_in_blocks(rt: HostRuntime) -> Result<(), Fail> {
+    let mut planes = Planes::blank(rt.alloc())?;
+    for (turn, even, odd) in [
+        (
+            Turn::Clockwise,
+            [(1, 0), (255, 1), (0, 254), (254, 255)],
+            [(255, 0), (255, 255), (0, 0), (0, 255)],
+        ),
+        (
+            Turn::Opposite,
+            [(1, 1), (254, 1), (1, 254), (254, 254)],
+            [(255, 255), (0, 255), (255, 0), (0, 0)],
+        ),
+        (
+            Turn::CounterClockwise,
+            [(0, 1), (254, 0), (1, 255), (255, 254)],
+            [(0, 255), (0, 0), (255, 255), (255, 0)],
+        ),
+    ] {
+        check_names(&rt, &mut planes, Grid::Even, turned(turn), even);
+        check_names(&rt, &mut planes, Grid::Odd, turned(turn), odd);
+    }
+    Ok(())
+}
+
+// &CENTER of half A is in plane 2, of half B in plane 0; with a prime, one plane further up.
+#[test]
+fn centres_of_the_other_half(rt: HostRuntime) -> Result<(), Fail> {
+    let mut planes = Planes::blank(rt.alloc())?;
+    for (half, level, plane) in [
+        (Half::A, Level::Lower, 2),
+        (Half::A, Level::Upper, 3),
+        (Half::B, Level::Lower, 0),
+        (Half::B, Level::Upper, 1),
+    ] {
+        let (grid, phase) = (Grid::Odd, Phase::P3);
+        let setting = Setting { half, grid, phase };
+        check_places(
+            &rt,
+            &mut planes,
+            setting,
+            Name::MinorCenter(level),
+            plane,
+            CELLS,
+        );
+    }
+    Ok(())
+}
+
+/// The bits that the cells see of blank planes, in either half.
+fn check_blank(
+    rt: &impl Abort,
+    planes: &Planes,
+    grid: Grid,
+    phase: Phase,
+    names: [Name; 2],
+    bits: [u8; 4],
+) {
+    for half in [Half::A, Half::B] {
+        let setting = Setting { half, grid, phase };
+        for name in names {
+            for ((x, y), bit) in CELLS.into_iter().zip(bits) {
+                let (x, y) = (usize::from(x), usize::from(y));
+                let got = u8::from(seen(planes, setting, name, x, y));
+                assert_eq!(rt; got, bit, "{setting:?} {name:?} {x} {y}");
+            }
+        }
+    }
+}
+
+// By hand: HORZ is 1 in a block's right column, VERT in its lower row; PHASE is the low bit.
+#[test]
+fn names_that_read_no_plane(rt: HostRuntime) -> Result<(), Fail> {
+    let planes = Planes::blank(rt.alloc())?;
+    let horz = [Name::Horz, Name::MinorHorz];
+    let vert = [Name::Vert, Name::MinorVert];
+    for phase in [Phase::P0, Phase::P3] {
+        check_blank(&rt, &planes, Grid::Even, phase, horz, [0, 1, 0, 1]);
+        check_blank(&rt, &planes, Grid::Even, phase, vert, [0, 0, 1, 1]);
+        check_blank(&rt, &planes, Grid::Odd, phase, horz, [1, 0, 1, 0]);
+        check_blank(&rt, &planes, Grid::Odd, phase, vert, [1, 1, 0, 0]);
+    }
+    let low = [Name::Phase(Level::Lower), Name::MinorPhase(Level::Lower)];
+    let high = [Name::Phase(Level::Upper), Name::MinorPhase(Level::Upper)];
+    for grid in [Grid::Even, Grid::Odd] {
+        for (phase, low_bit, high_bit) in [
+            (Phase::P0, 0, 0),
+            (Phase::P1, 1, 0),
+            (Phase::P2, 0, 1),
+            (Phase::P3, 1, 1),
+        ] {
+            check_blank(&rt, &planes, grid, phase, low, [low_bit; 4]);
+            check_blank(&rt, &planes, grid, phase, high, [high_bit; 4]);
+        }
+    }
+    Ok(())
+}

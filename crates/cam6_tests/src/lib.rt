@@ -1,0 +1,31 @@
+//! Tests of what no line, no text of a rule and no list of commands can show. All else that is
+//! tested is a file of `cam6_examples`.
+//!
+//! They stand above the other crates and call their public functions alone, so that those crates
+//! are proved once. The program has its own, since no crate can call a program.
+//!
+//! Stands on: all libraries of the repository.
+//!
+//! Read next: `ample_memory`, each call that takes memory; `planes` and `rows`; `blocks`, `corners`
+//! and `addresses`, what a cell sees; `steps`, those of a run and of a rule; then `failing`,
+//! readers, writers and desks that fail, with the sessions over them in `sessions`.
+#![tactic(auto)]
+
+#[cfg(test)]
+mod addresses;
+#[cfg(test)]
+mod ample_memory;
+#[cfg(test)]
+mod blocks;
+#[cfg(test)]
+mod corners;
+#[cfg(test)]
+mod failing;
+#[cfg(test)]
+mod planes;
+#[cfg(test)]
+mod rows;
+#[cfg(test)]
+mod sessions;
+#[cfg(test)]
+mod steps;

@@ -1,0 +1,84 @@
+//! One row of a plane: its columns moved round the torus, and as bytes, words, digits and columns.
+
+use cam6_planes::{Planes, Row, SIDE, WORDS, east, west};
+use std::test::Fail;
+
+pub(crate) fn lone(column: u8) -> Row {
+    let column = usize::from(column);
+    let mut row = [0; WORDS];
+    row[column / 64] = 1 << (63 - column % 64);
+    row
+}
+
+// A lone column, with the columns to its east and to its west on the ring, by hand.
+#[test]
+fn lone_columns_move(rt: HostRuntime) {
+    for (column, its_east, its_west) in [
+        (0u8, 1, 255),
+        (1, 2, 0),
+        (63, 64, 62),
+        (64, 65, 63),
+        (100, 101, 99),
+        (127, 128, 126),
+        (128, 129, 127),
+        (191, 192, 190),
+        (192, 193, 191),
+        (254, 255, 253),
+        (255, 0, 254),
+    ] {
+        let row = lone(column);
+        assert_eq!(rt; west(&row), lone(its_east), "column {column}");
+        assert_eq!(rt; east(&row), lone(its_west), "column {column}");
+    }
+}
+
+// Every digit, and the first and the last column of the last word.
+const ROW: Row = [
+    0x0123_4567_89AB_CDEF,
+    0xFEDC_BA98_7654_3210,
+    0,
+    0x8000_0000_0000_0001,
+];
+
+const TEXT: [u8; 64] = *b"0123456789abcdeffedcba987654321000000000000000008000000000000001";
+
+const FIRST_BYTES: [u8; 16] = [
+    0x01, 0x23, 0x45, 0x67, 0x89, 0xAB, 0xCD, 0xEF, 0xFE, 0xDC, 0xBA, 0x98, 0x76, 0x54, 0x32, 0x10,
+];
+
+// By hand: a digit is four columns, a byte eight and a word 64, the first the highest bit.
+#[test]
+fn digits_bytes_and_words(rt: HostRuntime) -> Result<(), Fail> {
+    let mut bytes = [0; 32];
+    for (byte, first) in bytes.iter_mut().zip(FIRST_BYTES) {
+        *byte = first;
+    }
+    bytes[24] = 0x80;
+    bytes[31] = 0x01;
+    let mut planes = Planes::blank(rt.alloc())?;
+    planes.put_row(0, 0, &bytes);
+    assert_eq!(rt; planes.row_words(0, 0), ROW);
+    assert_eq!(rt; planes.row_hex(0, 0), TEXT);
+    planes.set_row_words(3, 255, ROW);
+    assert_eq!(rt; planes.row_hex(3, 255), TEXT);
+    Ok(())
+}
+
+// By hand: the digits 0, 1, 2 and 3 are columns 0 to 15, f and e columns 64 to 71.
+#[test]
+fn columns_of_digits(rt: HostRuntime) -> Result<(), Fail> {
+    let mut planes = Planes::blank(rt.alloc())?;
+    planes.set_row_words(1, 7, ROW);
+    for (first, columns) in [
+        (0u8, b"0000000100100011".as_slice()),
+        (64, b"11111110"),
+        (188, b"000010"),
+        (248, b"00000001"),
+    ] {
+        for (place, digit) in columns.iter().enumerate() {
+            let column = (usize::from(first) + place % 16) % SIDE;
+            assert_eq!(rt; planes.bit(1, column, 7), *digit == b'1', "column {column}");
+        }
+    }
+    Ok(())
+}

@@ -1,0 +1,100 @@
+//! The steps that a run leaves to be done, the turns that a rule takes, and the numbers of line faults.
+
+use cam6_forth::parse;
+use cam6_machine::{Command, Machine, NamedEntries, NamedEntry, Now};
+use cam6_planes::NoMemory;
+use cam6_table::{Code, MAX_TURNS, eval};
+use cam6_wire::LineFault;
+use cam6_wiring::{Grid, Half, Hood, Minor};
+use std::alloc::{AllocError, Global};
+use std::test::Fail;
+
+/// A cycle of three entries without rules.
+fn cycle(alloc: Global) -> Result<Command, AllocError> {
+    let mut entries = Vec::new(alloc);
+    for phase in 0..3 {
+        let grid = Grid::Odd;
+        let (a, b) = (None, None);
+        entries.push(NamedEntry { a, b, grid, phase })?;
+    }
+    let entries = NamedEntries::new(entries);
+    Ok(Command::Cycle { entries })
+}
+
+/// The steps that a command leaves to be done, if it isn't answered at once.
+fn left(machine: &mut Machine, command: Command) -> Result<Option<u16>, NoMemory> {
+    match machine.now(command)? {
+        Now::Reply(_) => Ok(None),
+        Now::Work(steps, _) => Ok(Some(steps)),
+    }
+}
+
+/// A machine with that cycle, which a blank one sets at once.
+fn with_cycle(alloc: Global) -> Result<Machine, NoMemory> {
+    let mut machine = Machine::new(alloc)?;
+    let _ = left(&mut machine, cycle(alloc)?)?;
+    Ok(machine)
+}
+
+// By hand: a run that isn't refused leaves its steps to be done, and any other command is answered.
+// None of them is done here.
+#[test]
+fn steps_are_left(rt: HostRuntime) -> Result<(), Fail> {
+    let mut machine = with_cycle(rt.alloc())?;
+    for (n, want) in [
+        (0, None),
+        (1, Some(1)),
+        (65_535, Some(65_535)),
+        (65_536, None),
+        (0, None),
+    ] {
+        assert_eq!(rt; left(&mut machine, Command::Run { n }), Ok(want), "{n}");
+    }
+    Ok(())
+}
+
+// Without a cycle a run is refused, and a plane is shown at once.
+#[test]
+fn no_steps_are_left(rt: HostRuntime) -> Result<(), Fail> {
+    let mut machine = Machine::new(rt.alloc())?;
+    assert_eq!(rt; left(&mut machine, Command::Run { n: 1 }), Ok(None));
+    assert_eq!(rt; left(&mut machine, Command::Plane { plane: 4 }), Ok(None));
+    Ok(())
+}
+
+/// A definition A0, and A1 to the last one, each of them twice the one before.
+fn doubled(alloc: Global, first: &str, last: u32) -> Result<String, AllocError> {
+    let mut text = String::from_str(alloc, first)?;
+    for k in 1..=last {
+        let before = k - 1;
+        text.push_str(&format!(in alloc; " : A{k} A{before} A{before} ;")?)?;
+    }
+    Ok(text)
+}
+
+// 2,048 times a number that is dropped again, and 4,096 times nothing.
+#[test]
+fn turns_of_the_largest_rules(rt: HostRuntime) -> Result<(), Fail> {
+    let alloc = rt.alloc();
+    for (first, last, left) in [(": A0 1 DROP ;", 11, 0), (": A0 ;", 12, MAX_TURNS)] {
+        let text = doubled(alloc, first, last)?;
+        let rule = parse(alloc, &text, Half::A, Hood::VonNeumann, Minor::Centers)?;
+        let code = Code::of(alloc, &rule)?;
+        for (address, want) in [(0, 0), (1, 1), (2, 2), (4095, 3)] {
+            let mut turns = MAX_TURNS;
+            let got = eval(&code, address, &mut turns);
+            assert_eq!(rt; got, Ok(want), "{first} at {address}");
+            assert_eq!(rt; turns, left, "{first} at {address}");
+        }
+    }
+    Ok(())
+}
+
+// From the table of line faults; want of memory has no reply.
+#[test]
+fn numbers_of_line_faults(rt: HostRuntime) {
+    assert_eq!(rt; LineFault::NoMemory.number(), 0);
+    assert_eq!(rt; LineFault::TooLong.number(), 1);
+    assert_eq!(rt; LineFault::NoJson.number(), 2);
+    assert_eq!(rt; LineFault::NoCommand.number(), 3);
+}
