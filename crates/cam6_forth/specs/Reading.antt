@@ -1,6 +1,7 @@
 -- How a text is read, token by token: a fault is of the token at which it comes, by what stands
 -- before it.
-use Rattle.std.specs.Prelude.{ℕ, ◌+◌, Bool, true, false, not, List, [], ◌∷◌, ◌++◌, length}
+use Rattle.std.specs.Prelude.{ℕ, ◌+◌, Bool, true, false, not, ◌&&◌, ◌||◌, List, [], ◌∷◌, ◌++◌}
+use Rattle.std.specs.Prelude.{length}
 use Rattle.std.specs.Prelude.{is_some, Result, Ok, Err, if◌then◌else◌, nat_lt, nat_le}
 use Rattle.cam6_wiring.specs.declared.wirings.Wiring.{Wiring}
 use Rattle.cam6_forth.specs.declared.words.Word.{Word}
@@ -170,3 +171,27 @@ unfoldable pub read_text : Wiring → List ℕ → Result (List Defined) (ℕ ×
 read_text wiring text =
     if nat_lt max_text (length text) then Err (too_long, 0)
     else read wiring begin 1 (tokens text)
+
+-- the token is of a definition's body
+abbrev pub is_in_body : Place → Bool
+is_in_body Outside = false
+is_in_body Naming = false
+is_in_body Inside = true
+is_in_body Braces = true
+
+-- what follows a token without a fault
+abbrev pub then_so : Result State ℕ → (State → Bool) → Bool
+then_so (Ok state) rest = rest state
+then_so (Err number) rest = false
+
+-- a definition's name is among the tokens, before the first that has a fault: from there on
+-- something of the text is kept
+abbrev pub begins : Wiring → State → List Token → Bool
+begins wiring state [] = false
+begins wiring state (token ∷ later) =
+    then_so (step wiring state token)
+    (λ next. is_in_body next.place || begins wiring next later)
+
+-- something of a text is kept
+abbrev pub keeps : Wiring → List ℕ → Bool
+keeps wiring text = nat_le (length text) max_text && begins wiring begin (tokens text)

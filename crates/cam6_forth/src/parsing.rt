@@ -1,7 +1,7 @@
 //! A rule's text is read as a rule, or as its first fault.
-ghost use Rattle.std.specs.Prelude.{◌≡◌, ℕ, List};
-ghost use Rattle.cam6_forth.specs.declared.faults.ParseFault.TheVariants.{Text};
-ghost use Rattle.cam6_forth.specs.Reading.{read_text};
+ghost use Rattle.std.specs.Prelude.{◌≡◌, ℕ, List, Err, true};
+ghost use Rattle.cam6_forth.specs.declared.faults.ParseFault.TheVariants.{NoMemory, Text};
+ghost use Rattle.cam6_forth.specs.Reading.{read_text, keeps};
 ghost use Rattle.cam6_forth.specs.Tree.{Part, rule_of};
 ghost use Rattle.cam6_forth.specs.Texts.{IsTextOf};
 ghost use Rattle.cam6_forth.specs.Faults.{HasFault};
@@ -41,13 +41,17 @@ pub fn parse(
         (read_text (record { half = half; hood = hood; minor = minor }) text.now)
         (record { half = half; hood = hood; minor = minor })
         result }
+    // Memory is wanted only where something of the text is kept.
+    ensures memory { result ≡ Err NoMemory →
+        keeps (record { half = half; hood = hood; minor = minor }) text.now ≡ true }
 {
     parse_under(alloc, text, Wiring { half, hood, minor })
 }
 
 #[tactic(auto, unfolding(crate::specs::Reading::read_text))]
 fn parse_under(alloc: Global, text: &str, wiring: Wiring) -> Result<Rule, ParseFault>
-    ensures { Answers (read_text wiring text.now) wiring result }
+    ensures exact { Answers (read_text wiring text.now) wiring result }
+    ensures memory { result ≡ Err NoMemory → keeps wiring text.now ≡ true }
 {
     if text.len() > MAX_TEXT {
         return Err(text_fault(TOO_LONG, 0));

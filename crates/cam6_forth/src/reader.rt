@@ -1,5 +1,5 @@
 //! A text is read token by token: what was read so far, and one more token.
-ghost use Rattle.std.specs.Prelude.{◌≡◌};
+ghost use Rattle.std.specs.Prelude.{◌≡◌, ◌≢◌, ◌||◌, Err, true};
 ghost use Rattle.cam6_forth.specs.SingleWords.{place_of};
 
 use crate::faults::{
@@ -60,7 +60,8 @@ impl Reader {
     ghost use Rattle.cam6_forth.specs.SingleWords.{word_of};
     ghost use Rattle.cam6_forth.specs.Reading.{begin, step, grown, outside, naming, with_if};
     ghost use Rattle.cam6_forth.specs.Reading.{with_else, with_then, with_end, inside, braces};
-    ghost use Rattle.cam6_forth.specs.Reading.{finish};
+    ghost use Rattle.cam6_forth.specs.Reading.{finish, is_in_body, then_so};
+    ghost use Rattle.cam6_forth.specs.declared.faults.StepFault.TheVariants.{NoMemory};
     ghost use Rattle.cam6_forth.specs.Outcome.{Steps, Finishes};
 
     pub(crate) fn new(alloc: Global) -> Self
@@ -80,7 +81,12 @@ impl Reader {
 
     /// One more token.
     pub(crate) fn step(&mut self, wiring: Wiring, token: &[u8]) -> Result<(), StepFault>
-        ensures { Steps (step wiring self.old token.now) self.new result }
+        ensures state { Steps (step wiring self.old token.now) self.new result }
+        // Memory is wanted for a name, and in a body, alone.
+        ensures memory { result ≡ Err NoMemory →
+            (is_in_body self.old.place
+            || then_so (step wiring self.old token.now) (λ next. is_in_body next.place))
+            ≡ true }
     {
         if self.comment {
             self.comment = !ends_comment(token);
@@ -109,7 +115,8 @@ impl Reader {
     }
 
     fn outside(&mut self, kind: Kind) -> Result<(), StepFault>
-        ensures { Steps (outside self.old kind) self.new result }
+        ensures state { Steps (outside self.old kind) self.new result }
+        ensures memory { result ≢ Err NoMemory }
     {
         match kind {
             Kind::Colon => {
@@ -128,7 +135,9 @@ impl Reader {
     }
 
     fn naming(&mut self, kind: Kind, token: &[u8]) -> Result<(), StepFault>
-        ensures { Steps (naming self.old kind token.now) self.new result }
+        ensures state { Steps (naming self.old kind token.now) self.new result }
+        ensures memory { result ≡ Err NoMemory →
+            then_so (naming self.old kind token.now) (λ next. is_in_body next.place) ≡ true }
     {
         if kind != Kind::Other || place_of(token, &self.definitions).is_some() {
             return Err(StepFault::Number(NOT_DEFINABLE));

@@ -59,8 +59,13 @@ impl Model for Machine {
 }
 
 impl Machine {
-    ghost use Rattle.std.specs.Prelude.{◌≡◌, ◌<◌, ◌≤◌, IfOk, OnErr, length};
+    ghost use Rattle.std.specs.Prelude.{◌≡◌, ◌<◌, ◌≤◌, ℕ, false, List, Some, IsOk, IfOk};
+    ghost use Rattle.std.specs.Prelude.{OnErr, length};
     ghost use Rattle.cam6_machine.specs.Machine.{blank, steps, machine_of};
+    ghost use Rattle.cam6_machine.specs.Refusals.{refusal};
+    ghost use Rattle.cam6_machine.specs.declared.replies.Fault.{Fault};
+    ghost use Rattle.cam6_forth.specs.declared.faults.TextFault.{TextFault};
+    ghost use Rattle.cam6_forth.specs.Reading.{keeps};
     ghost use Rattle.cam6_machine.specs.Alone.{reply, after, work_of};
     ghost use Rattle.cam6_machine.specs.Answers.{work_left, IsReplyTo, machine_after};
     ghost use Rattle.cam6_machine.specs.Answers.{IsKeptBy, Keeps, CanWork};
@@ -97,6 +102,17 @@ impl Machine {
         ensures kept { IfOk result (λ now. Keeps now self.old self.new) }
         ensures ready { IfOk result (λ now. CanWork now self.new) }
         ensures err { OnErr result (self.new ≡ self.old) }
+        // Memory is wanted neither for a row or a run, nor where a number, a name or a cycle is
+        // refused, nor for a text of which nothing is kept.
+        ensures row { (plane row : ℕ) (bits : List ℕ) →
+            command ≡ Command.Set plane row bits → IsOk result }
+        ensures run { (n : ℕ) → command ≡ Command.Run n → IsOk result }
+        ensures refused { (fault : Fault) →
+            refusal (machine_of self.old) command ≡ Some (Reply.Fault fault) → IsOk result }
+        ensures unkept { (name text : List ℕ) (wiring : Wiring) (fault : TextFault) →
+            command ≡ Command.Rule name wiring.half wiring.hood wiring.minor text →
+            refusal (machine_of self.old) command ≡ Some (Reply.RuleText fault) →
+            keeps wiring text ≡ false → IsOk result }
     {
         match command {
             Command::Set { plane, row, bits } => Ok(Now::Reply(self.set(plane, row, &bits))),
@@ -137,6 +153,14 @@ impl Machine {
             (Command.Rule name wiring.half wiring.hood wiring.minor text)) }
         ensures kept { IfOk result (λ r. IsKeptBy r self.old self.new) }
         ensures err { OnErr result (self.new ≡ self.old) }
+        ensures refused { (fault : Fault) →
+            refusal (machine_of self.old)
+            (Command.Rule name wiring.half wiring.hood wiring.minor text)
+            ≡ Some (Reply.Fault fault) → IsOk result }
+        ensures unkept { (fault : TextFault) →
+            refusal (machine_of self.old)
+            (Command.Rule name wiring.half wiring.hood wiring.minor text)
+            ≡ Some (Reply.RuleText fault) → keeps wiring text ≡ false → IsOk result }
     {
         if let Some(fault) = rule_refusal(&self.rules, &self.cycle, &name) {
             return Ok(Reply::Fault(fault));
@@ -157,6 +181,9 @@ impl Machine {
             machine_of self.new ≡ after (machine_of self.old) (Command.Cycle entries.now)) }
         ensures kept { IfOk result (λ r. IsKeptBy r self.old self.new) }
         ensures err { OnErr result (self.new ≡ self.old) }
+        ensures refused { (fault : Fault) →
+            refusal (machine_of self.old) (Command.Cycle entries.now)
+            ≡ Some (Reply.Fault fault) → IsOk result }
     {
         if let Some(fault) = cycle_refusal(&self.rules, entries) {
             return Ok(Reply::Fault(fault));
@@ -190,6 +217,9 @@ impl Machine {
             r ≡ reply (machine_of self.now) (Command.Plane plane)) }
         ensures machine { machine_of self.now ≡ after (machine_of self.now) (Command.Plane plane) }
         ensures kept { IfOk result (λ r. IsKeptBy r self.now self.now) }
+        ensures refused { (fault : Fault) →
+            refusal (machine_of self.now) (Command.Plane plane)
+            ≡ Some (Reply.Fault fault) → IsOk result }
     {
         if let Some(fault) = plane_refusal(plane) {
             return Ok(Reply::Fault(fault));
@@ -230,6 +260,16 @@ impl Machine {
         ensures machine { IfOk result (λ r.
             machine_of self.new ≡ after (machine_of self.old) command) }
         ensures err { OnErr result (self.new ≡ self.old) }
+        // Memory is wanted as by `now`.
+        ensures row { (plane row : ℕ) (bits : List ℕ) →
+            command ≡ Command.Set plane row bits → IsOk result }
+        ensures run { (n : ℕ) → command ≡ Command.Run n → IsOk result }
+        ensures refused { (fault : Fault) →
+            refusal (machine_of self.old) command ≡ Some (Reply.Fault fault) → IsOk result }
+        ensures unkept { (name text : List ℕ) (wiring : Wiring) (fault : TextFault) →
+            command ≡ Command.Rule name wiring.half wiring.hood wiring.minor text →
+            refusal (machine_of self.old) command ≡ Some (Reply.RuleText fault) →
+            keeps wiring text ≡ false → IsOk result }
     {
         match self.now(command)? {
             Now::Reply(reply) => Ok(reply),

@@ -1,7 +1,10 @@
 //! The rules of a machine, by name, in the order in which their names came first.
-ghost use Rattle.std.specs.Prelude.{◌≡◌, IfOk, OnOk, OnErr};
+ghost use Rattle.std.specs.Prelude.{◌≡◌, false, Some, IsOk, IfOk, OnOk, OnErr};
 ghost use Rattle.std.specs.List.{list_all};
+ghost use Rattle.cam6_forth.specs.Reading.{read_text, keeps};
+ghost use Rattle.cam6_forth.specs.declared.faults.TextFault.{TextFault};
 ghost use Rattle.cam6_machine.specs.Effects.{with_rule};
+ghost use Rattle.cam6_machine.specs.Refusals.{text_refusal};
 ghost use Rattle.cam6_machine.specs.Rules.{rules_of, place_of, wiring_of, wiring_at};
 ghost use Rattle.cam6_machine.specs.Rules.{is_rule_name, is_name_byte};
 ghost use Rattle.cam6_machine.specs.ByTables.{IsVerdict};
@@ -78,7 +81,11 @@ pub(crate) fn tried_rule(
     text: Text,
     trial: &mut Table,
 ) -> Result<Result<KeptRule, Reply>, NoMemory>
-    ensures { IfOk result (λ tried. IsVerdict wiring text tried) }
+    ensures verdict { IfOk result (λ tried. IsVerdict wiring text tried) }
+    // No memory is wanted for a text of which nothing is kept.
+    ensures unkept { (fault : TextFault) →
+        text_refusal (read_text wiring text) ≡ Some (Reply.RuleText fault) →
+        keeps wiring text ≡ false → IsOk result }
 {
     let Wiring { half, hood, minor } = wiring;
     let rule = match parse(alloc, text.as_str(), half, hood, minor) {

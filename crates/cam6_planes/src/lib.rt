@@ -3,7 +3,7 @@
 //! Contract: contracts see planes as `cells`, a truth value at each plane, column and row of a
 //! torus (`specs/Cells.antt`). A write changes one row of one plane and nothing else.
 //!
-//! Stands on: nothing. Column 0 is the highest bit of a row's first word, of its first byte and of
+//! Stands on: `hex`, for a row's digits. Column 0 is the highest bit of a row's first word, of its first byte and of
 //! its first hexadecimal digit.
 //!
 //! Read next: `row`, one packed row and its shifts by one column; then `planes`; then `memory`.

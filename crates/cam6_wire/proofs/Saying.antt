@@ -1,11 +1,12 @@
 -- What a line says, step by step as it is read.
 use Rattle.std.proofs.Common.{◌≡◌, ◌≤◌, ℕ, List, length, Bool, true, false, nat_lt, cond, Option}
 use Rattle.std.proofs.Common.{Some, None, ok_or, Result, Err, refl, ap, ◌∙◌, sym, arith, subst}
-use Rattle.std.proofs.Common.{IsUtf8}
+use Rattle.std.proofs.Common.{IsUtf8, ◌<◌, [], ◌∷◌}
 use Rattle.std.proofs.lemmas.Str.{is_utf8-from_IsUtf8, IsUtf8-from_is_utf8}
 use Rattle.std.specs.Str.{is_utf8}
 use Rattle.serde_json.specs.Data.{Data}
 use Rattle.serde_json.specs.Read.{read}
+use Rattle.serde_json.proofs.OnLiterals.{serde_json_on_literals}
 use Rattle.cam6_machine.specs.declared.commands.Command.{Command}
 use Rattle.cam6_wire.specs.Commands.{command, command_in, from_value, value_of, Reads}
 use Rattle.cam6_wire.specs.declared.faults.LineFault.{LineFault}
@@ -51,3 +52,9 @@ pub reads_value : (line : List ℕ) (d : Data) (found : Option Command)
 reads_value line d found answered short text e given =
     let said = says_value line d short text.0 text.1 ∙ ap (λ x. ok_or x NoCommand) (sym e) in
     subst (λ x. Reads x (command line)) (sym given) (same_or_fault found (command line) said)
+
+-- a line with a value isn't empty
+pub not_empty : (line : List ℕ) (d : Data) → read line ≡ Some d → 0 < length line
+unfolding serde_json_on_literals
+not_empty [] d e = absurd (cc e)
+not_empty (byte ∷ bytes) d e = omega arith

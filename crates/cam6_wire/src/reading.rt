@@ -1,5 +1,6 @@
 //! A line as a command.
-ghost use Rattle.std.specs.Prelude.{◌≡◌, IfOk};
+ghost use Rattle.std.specs.Prelude.{◌≡◌, ◌<◌, ◌≤◌, length, Err, IfOk};
+ghost use Rattle.cam6_wire.specs.declared.faults.LineFault.TheVariants.{NoMemory};
 ghost use Rattle.serde_json.specs.View.{view};
 ghost use Rattle.cam6_wire.specs.Commands.{set_of, rule_of, cycle_of, run_of, plane_of, by_word};
 ghost use Rattle.cam6_wire.specs.Commands.{shown_in, command_in, command, Reads};
@@ -18,7 +19,9 @@ pub const LINE_LIMIT: usize = 16_384;
 
 /// What a line says.
 pub fn read_command(alloc: Global, line: &[u8]) -> Result<Command, LineFault>
-    ensures { Reads result (command line.now) }
+    ensures said { Reads result (command line.now) }
+    // No memory is wanted for an empty line, nor for one that is too long.
+    ensures memory { result ≡ Err NoMemory → (0 < length line.now) × (length line.now ≤ 16384) }
 {
     if line.len() > LINE_LIMIT {
         return Err(LineFault::TooLong);

@@ -3,16 +3,16 @@ use Rattle.cam6_forth.proofs.parsing.parse.Goals as goal
 
 pub returns-clause-accepted : goal.returns-clause-accepted
 returns-clause-accepted c =
-    accepted_from _ c.args.text.now c.parse_under.result c.parse_under.ensures
+    accepted_from _ c.args.text.now c.parse_under.result c.parse_under.ensures.exact
 
 pub returns-clause-refused : goal.returns-clause-refused
 returns-clause-refused c =
-    refused_from _ c.args.text.now c.parse_under.result c.parse_under.ensures
+    refused_from _ c.args.text.now c.parse_under.result c.parse_under.ensures.exact
 
 pub returns-clause-rule : goal.returns-clause-rule
 returns-clause-rule c =
-    rule_from _ c.args.text.now c.parse_under.result c.parse_under.ensures
+    rule_from _ c.args.text.now c.parse_under.result c.parse_under.ensures.exact
 
 pub returns-clause-fault : goal.returns-clause-fault
 returns-clause-fault c =
-    fault_from _ c.args.text.now c.parse_under.result c.parse_under.ensures
+    fault_from _ c.args.text.now c.parse_under.result c.parse_under.ensures.exact

@@ -2,8 +2,8 @@ use Rattle.std.proofs.Common.{ap}
 use Rattle.cam6_machine.proofs.Verdicts.{untried, tried, accepted, refused}
 use Rattle.cam6_machine.proofs.rules.tried_rule.Goals as goal
 
-pub returns-in-Err : goal.returns-in-Err
-returns-in-Err c =
+pub returns-in-Err-clause-verdict : goal.returns-in-Err-clause-verdict
+returns-in-Err-clause-verdict c =
     refused c.args.wiring c.args.text c.in_ok-code.code c.in-Err.address c.in-Err.fault
     (untried c.args.wiring c.as_str.result.now c.args.text c.in-Ok.rule c.in_ok-code.code
     c.as_str.ensures c.in-Ok.ensures.accepted c.in-Ok.ensures.exact c.in_ok-code.ensures.meaning)
@@ -16,8 +16,8 @@ new-requires c =
     c.as_str.ensures c.in-Ok.ensures.accepted c.in-Ok.ensures.exact c.in_ok-code.ensures.meaning)
     c.in_default.ensures.filled
 
-pub returns : goal.returns
-returns c =
+pub returns-clause-verdict : goal.returns-clause-verdict
+returns-clause-verdict c =
     let wiring = c.args.wiring in
     let text = c.args.text in
     let code = c.in_ok-code.code in
