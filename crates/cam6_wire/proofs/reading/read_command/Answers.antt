@@ -15,6 +15,6 @@ returns-clause-said c =
 
 pub returns-in_err-command_in-clause-memory : goal.returns-in_err-command_in-clause-memory
 returns-in_err-command_in-clause-memory c = λ wanted. (
-      not_empty c.args.line.now _ (c.in-Ok.ensures.ok.1),
-      omega (arith, c.if-line-gt-LINE_LIMIT.false),
-    )
+  not_empty c.args.line.now _ (c.in-Ok.ensures.ok.1),
+  omega (arith, c.if-line-gt-LINE_LIMIT.false),
+)
