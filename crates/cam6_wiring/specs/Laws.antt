@@ -1,13 +1,30 @@
--- The law that ties what is seen to the address that it makes.
-use Rattle.std.specs.Prelude.{◌≡◌, ℕ, Some}
+-- The laws that tie what is seen to the address that it makes, and the table of turns to the block.
+use Rattle.std.specs.Prelude.{◌≡◌, ◌<◌, ℕ, ◌*◌, Some}
+use Rattle.cam6_planes.specs.Cells.{Cells}
+use Rattle.cam6_wiring.specs.Block.{corner_of, in_block, turned, column_beside, row_beside, block_of}
+use Rattle.cam6_wiring.specs.declared.blocks.Grid.{Grid}
 use Rattle.cam6_wiring.specs.declared.names.Name.{Name}
+use Rattle.cam6_wiring.specs.declared.names.Turn.{Turn}
 use Rattle.cam6_wiring.specs.declared.wirings.Hood.{Hood}
 use Rattle.cam6_wiring.specs.declared.wirings.Minor.{Minor}
 use Rattle.cam6_wiring.specs.Wiring.{line_of}
-use Rattle.cam6_wiring.specs.Seen.{Sees, address_of, shown}
+use Rattle.cam6_wiring.specs.Seen.{Sees, address_of, shown, seen_in_block}
 
 -- the address of what is seen shows, on the line of each name, what is seen under the name
 abbrev pub ShowsWhatIsSeen : Type 0
 ShowsWhatIsSeen =
     (hood : Hood) (minor : Minor) (sees : Sees) (name : Name) (line : ℕ) →
     line_of hood minor name ≡ Some line → shown (address_of hood minor sees) line ≡ sees name
+
+-- the cell that a cell sees one, two or three places further clockwise lies in the same block, one,
+-- two or three corners further clockwise; the torus has an even side
+abbrev pub TurnsInTheBlock : Type 0
+TurnsInTheBlock =
+    (half_side : ℕ) (f : Cells) (grid : Grid) (turn : Turn) (p x y : ℕ) → 0 < half_side →
+    let s = 2 * half_side in
+    let there = in_block (corner_of grid x y) turn in
+    let column = column_beside s there x in
+    let row = row_beside s there y in
+    (seen_in_block s f grid turn p x y ≡ f p column row) ×
+    (corner_of grid column row ≡ turned turn (corner_of grid x y)) ×
+    (block_of s grid column ≡ block_of s grid x) × (block_of s grid row ≡ block_of s grid y)

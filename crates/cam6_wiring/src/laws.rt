@@ -1,8 +1,14 @@
-//! The law that ties what is seen to the address that it makes. It is the contract of a function
-//! that does nothing.
-ghost use Rattle.cam6_wiring.specs.Laws.{ShowsWhatIsSeen};
+//! Laws that tie what is seen to the address that it makes, and turns to the block. Each is the
+//! contract of a function that does nothing.
+ghost use Rattle.cam6_wiring.specs.Laws.{ShowsWhatIsSeen, TurnsInTheBlock};
 
 /// The address of what is seen shows, on the line of each name, what is seen under the name.
 pub fn an_address_shows_what_is_seen()
     ensures law { ShowsWhatIsSeen }
+{}
+
+/// What a cell sees one, two or three places further clockwise is a cell of its own block, one, two or
+/// three corners further clockwise.
+pub fn turns_stay_in_the_block()
+    ensures law { TurnsInTheBlock }
 {}
