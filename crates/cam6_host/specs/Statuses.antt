@@ -1,5 +1,7 @@
--- The exit status of a session that failed, and the line for standard error.
-use Rattle.std.specs.Prelude.{ℕ, List, Option, None, Some, codes}
+-- The exit status of a session that failed, and of words that ask for nothing, with what is told.
+use Rattle.std.specs.Prelude.{ℕ, List, Option, None, Some, codes, string_bytes}
+use Rattle.cam6_host.specs.declared.modes.Refused.{Refused}
+use Rattle.cam6_host.specs.declared.modes.Refused.TheVariants as refused
 use Rattle.cam6_session.specs.declared.serving.End.{End}
 use Rattle.cam6_session.specs.declared.serving.End.TheVariants.{EndOfInput, ReadFault, TurnBound}
 use Rattle.cam6_session.specs.declared.serving.End.TheVariants.{WriteFault, NoMemory}
@@ -11,3 +13,9 @@ failure ReadFault = Some (3, codes "cam6: read failed\n")
 failure WriteFault = Some (4, codes "cam6: write failed\n")
 failure (NoMemory done) = Some (5, codes "cam6: no memory\n")
 failure TurnBound = Some (6, codes "cam6: turn bound reached\n")
+
+-- help succeeds
+abbrev pub refusal : Refused → ℕ × List ℕ
+refusal (refused.Help text) = (0, string_bytes text)
+refusal (refused.Words text) = (2, string_bytes text)
+refusal refused.NoMemory = (5, codes "cam6: no memory\n")

@@ -23,30 +23,30 @@ mod words_tests;
 
 use cam6_session::serve_alone;
 use modes::{Options, Refused};
-use statuses::{NO_MEMORY, REFUSED_WORDS, WRITE_FAILED, failure_of};
+use statuses::{NO_MEMORY, WRITE_FAILED, failure_of, refusal_of, turns};
 use std::alloc::Global;
 use std::env::Env;
 use std::io;
 use std::io::{BufReader, ErrorKind};
 use std::process::ExitCode;
 
-/// How often one run looks at standard input at most.
-const TURNS: u64 = 1_099_511_627_776;
-
 fn main(rt: HostRuntime) -> ExitCode {
-    run(&rt)
+    run(&rt, turns())
 }
 
-/// Reads the words, and does what they ask for.
-fn run<R: Env + Input + Print + Eprint + AllocGlobal>(rt: &R) -> ExitCode {
-    match options_given(rt) {
-        Ok(Options::Alone) => over_standard_streams(rt),
-        Err(Refused::Help(text)) => match rt.print(text.as_str()) {
-            Ok(()) => ExitCode::SUCCESS,
-            Err(_) => failed(rt, WRITE_FAILED, "cam6: write failed\n"),
-        },
-        Err(Refused::Words(text)) => failed(rt, REFUSED_WORDS, text.as_str()),
-        Err(Refused::NoMemory) => failed(rt, NO_MEMORY, "cam6: no memory\n"),
+/// Reads the words, and does what they ask for, with so many looks at standard input.
+fn run<R: Env + Input + Print + Eprint + AllocGlobal>(rt: &R, turns: u64) -> ExitCode {
+    let refused = match options_given(rt) {
+        Ok(Options::Alone) => return over_standard_streams(rt, turns),
+        Err(refused) => refused,
+    };
+    let (status, text) = refusal_of(&refused);
+    if status != 0 {
+        return failed(rt, status, text);
+    }
+    match rt.print(text) {
+        Ok(()) => ExitCode::SUCCESS,
+        Err(_) => failed(rt, WRITE_FAILED, "cam6: write failed\n"),
     }
 }
 
@@ -76,13 +76,13 @@ fn unreadable(alloc: Global, kind: ErrorKind) -> Refused
 }
 
 /// Serves one machine over standard input and output.
-fn over_standard_streams<R: Input + Print + Eprint + AllocGlobal>(rt: &R) -> ExitCode {
+fn over_standard_streams<R: Input + Print + Eprint + AllocGlobal>(rt: &R, turns: u64) -> ExitCode {
     let alloc = rt.alloc();
     let Ok(mut reader) = BufReader::new(alloc, rt.reader()) else {
         return failed(rt, NO_MEMORY, "cam6: no memory\n");
     };
     let mut writer = io::writer(rt);
-    match failure_of(serve_alone(alloc, &mut reader, &mut writer, TURNS)) {
+    match failure_of(serve_alone(alloc, &mut reader, &mut writer, turns)) {
         Some((status, text)) => failed(rt, status, text),
         None => ExitCode::SUCCESS,
     }

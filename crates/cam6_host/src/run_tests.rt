@@ -137,16 +137,23 @@ const LINES: &[u8] = b"nope\n{\"do\":\"run\",\"n\":1}";
 
 const ANSWERS: &[u8] = b"{\"fault\":2}\n{\"fault\":63}\n";
 
+const TURNS_ARE_UP: &[u8] = b"cam6: turn bound reached\n";
+
+const NO_UTF8: &[u8] = b"cam6: a word is not UTF-8\n";
+
 /// What fails in a run.
 #[derive(Clone, Copy, Debug, PartialEq, Eq)]
 enum Fault {
     None,
     Read,
     Write,
+    /// There is one look at the input.
+    Turns,
 }
 
 /// A run over these words and the lines above: its status, its output and its errors.
 fn run_with(alloc: Global, words: &[&'static [u8]], fault: Fault) -> (ExitCode, Vec<u8>, Vec<u8>) {
+    let turns = if fault == Fault::Turns { 1 } else { 1_000 };
     let streams = Streams {
         alloc,
         words,
@@ -158,7 +165,7 @@ fn run_with(alloc: Global, words: &[&'static [u8]], fault: Fault) -> (ExitCode, 
         output_fails: fault == Fault::Write,
         errors: RefCell::new(Vec::new(alloc)),
     };
-    let status = run(&streams);
+    let status = run(&streams, turns);
     (
         status,
         streams.output.into_inner(),
@@ -170,22 +177,12 @@ fn run_with(alloc: Global, words: &[&'static [u8]], fault: Fault) -> (ExitCode, 
 #[test]
 fn ends_have_their_status(rt: HostRuntime) {
     let cam6 = b"cam6".as_slice();
+    let (alone, part) = ([cam6, b"alone"], &ANSWERS[..12]);
     for (words, fault, status, output, errors) in [
-        ([cam6, b"alone"], Fault::None, 0, ANSWERS, b"".as_slice()),
-        (
-            [cam6, b"alone"],
-            Fault::Read,
-            3,
-            &ANSWERS[..12],
-            b"cam6: read failed\n",
-        ),
-        (
-            [cam6, b"alone"],
-            Fault::Write,
-            4,
-            b"",
-            b"cam6: write failed\n",
-        ),
+        (alone, Fault::None, 0, ANSWERS, b"".as_slice()),
+        (alone, Fault::Read, 3, part, b"cam6: read failed\n"),
+        (alone, Fault::Write, 4, b"", b"cam6: write failed\n"),
+        (alone, Fault::Turns, 6, part, TURNS_ARE_UP),
         (
             [cam6, b"--help"],
             Fault::Write,
@@ -193,13 +190,7 @@ fn ends_have_their_status(rt: HostRuntime) {
             b"",
             b"cam6: write failed\n",
         ),
-        (
-            [cam6, b"\xff"],
-            Fault::None,
-            2,
-            b"",
-            b"cam6: a word is not UTF-8\n",
-        ),
+        ([cam6, b"\xff"], Fault::None, 2, b"", NO_UTF8),
     ] {
         let got = run_with(rt.alloc(), &words, fault);
         assert_eq!(rt; got.0, ExitCode::from(status), "{words:?} {fault:?}");

@@ -1,7 +1,8 @@
 //! The exit statuses of the program.
 ghost use Rattle.std.specs.Prelude.{◌≡◌, option_map};
-ghost use Rattle.cam6_host.specs.Statuses.{failure};
+ghost use Rattle.cam6_host.specs.Statuses.{failure, refusal};
 
+use crate::modes::Refused;
 use cam6_session::End;
 
 /// Words that are refused.
@@ -26,4 +27,23 @@ pub fn failure_of(end: End) -> Option<(u8, &'static str)>
         End::NoMemory { .. } => Some((NO_MEMORY, "cam6: no memory\n")),
         End::TurnBound => Some((TURN_BOUND_REACHED, "cam6: turn bound reached\n")),
     }
+}
+
+/// The status of words that ask for nothing, and what is told: help for standard output, anything
+/// else for standard error.
+pub fn refusal_of(refused: &Refused) -> (u8, &str)
+    ensures { (result.0, result.1.now) ≡ refusal refused.now }
+{
+    match refused {
+        Refused::Help(text) => (0, text.as_str()),
+        Refused::Words(text) => (REFUSED_WORDS, text.as_str()),
+        Refused::NoMemory => (NO_MEMORY, "cam6: no memory\n"),
+    }
+}
+
+/// How often one run looks at standard input at most.
+pub fn turns() -> u64
+    ensures { result ≡ 1099511627776 }
+{
+    1_099_511_627_776
 }
