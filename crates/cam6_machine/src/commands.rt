@@ -74,6 +74,13 @@ impl NamedEntries {
     {
         self.entries.as_slice()
     }
+
+    pub fn into_vec(self) -> Vec<NamedEntry>
+        ensures { result.items ≡ self }
+    {
+        let NamedEntries { entries } = self;
+        entries
+    }
 }
 
 /// Which way a run goes along the cycle.

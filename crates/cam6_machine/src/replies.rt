@@ -89,4 +89,12 @@ impl PlaneRows {
     {
         self.rows.as_slice()
     }
+
+    pub fn into_vec(self) -> Vec<[u8; 64]>
+        ensures rows { result.items ≡ self }
+        ensures ascii { All IsAscii result.items }
+    {
+        let PlaneRows { rows } = self;
+        rows
+    }
 }

@@ -1,10 +1,10 @@
 -- The lines of names, and what an address shows on them.
-use Rattle.std.proofs.Common.{◌≡◌, ℕ, suc, ◌+◌, ◌<◌, ◌==◌, Bool, true, false, ◌&&◌, List, []}
+use Rattle.std.proofs.Common.{◌≡◌, ℕ, zero, suc, ◌+◌, ◌<◌, ◌==◌, Bool, true, false, ◌&&◌, List, []}
 use Rattle.std.proofs.Common.{◌∷◌, map, get_or, Option, Some, None, cond, refl, ◌∙◌, ap, arith}
 use Rattle.std.specs.List.{position_from}
 use Rattle.std.proofs.lemmas.Option.{same_Some}
 use Rattle.cam6_planes.specs.Row.{bit_number}
-use Rattle.cam6_wiring.specs.Laws.{ShowsWhatIsSeen}
+use Rattle.cam6_wiring.specs.Laws.{ShowsWhatIsSeen, ShowsNothingElse}
 use Rattle.cam6_wiring.specs.Name.{is_same_level, is_same_turn, is_same_place, is_same_name}
 use Rattle.cam6_wiring.specs.Seen.{Sees, line_shows, address_of}
 use Rattle.cam6_wiring.specs.Wiring.{is_at, line_of, names_of}
@@ -57,7 +57,7 @@ right_true : (a b : Bool) → (a && b) ≡ true → b ≡ true
 right_true true b e = e
 right_true false b e = cc
 
-same_name : (known name : Name) → is_same_name known name ≡ true → known ≡ name
+pub same_name : (known name : Name) → is_same_name known name ≡ true → known ≡ name
 same_name (Beside c l) (Beside d m) e =
     ap (λ place. Beside place l) (same_place c d (left_true _ _ e)) ∙
     ap (λ level. Beside d level) (same_level l m (right_true (is_same_place c d) _ e))
@@ -94,7 +94,7 @@ at_first sees name known lines start line false e found later =
     (suc k, omega (arith, here), shows)
 
 -- the line that is found from a start on shows what is seen under the name
-at_line : (sees : Sees) (name : Name) (lines : List (Option Name)) (start line : ℕ) →
+pub at_line : (sees : Sees) (name : Name) (lines : List (Option Name)) (start line : ℕ) →
     position_from (is_at name) start lines ≡ Some line →
     (k : ℕ) × (line ≡ start + k) × (get_or (map (line_shows sees) lines) k false ≡ sees name)
 at_line sees name [] start line found = cc
@@ -114,6 +114,20 @@ shows_what_is_seen hood minor sees name line found =
     let same : line ≡ k = omega (arith, here) in
     ap (λ n. n == 1) (bit_at-number_of bits line) ∙ bit_number-one (get_or bits line false) ∙
     ap (λ i. get_or bits i false) same ∙ shows
+
+-- a line without a name shows nothing, and neither does one past the last
+blank_line : (sees : Sees) (lines : List (Option Name)) (i : ℕ) → get_or lines i None ≡ None →
+    get_or (map (line_shows sees) lines) i false ≡ false
+blank_line sees [] i e = refl
+blank_line sees (known ∷ lines) zero e = ap (line_shows sees) e
+blank_line sees (known ∷ lines) (suc i) e = blank_line sees lines i e
+
+pub shows_nothing_else : ShowsNothingElse
+unfolding address_of
+shows_nothing_else hood minor sees line blank =
+    let bits = map (line_shows sees) (names_of hood minor) in
+    ap (λ n. n == 1) (bit_at-number_of bits line) ∙ bit_number-one (get_or bits line false) ∙
+    blank_line sees (names_of hood minor) line blank
 
 pub address_of-lt : (hood : Hood) (minor : Minor) (sees : Sees) → address_of hood minor sees < 4096
 unfolding address_of

@@ -1,5 +1,5 @@
 -- The laws that tie what is seen to the address that it makes, and the table of turns to the block.
-use Rattle.std.specs.Prelude.{◌≡◌, ◌<◌, ℕ, ◌*◌, Some}
+use Rattle.std.specs.Prelude.{◌≡◌, ◌<◌, ℕ, ◌*◌, false, Some, None, get_or}
 use Rattle.cam6_planes.specs.Cells.{Cells}
 use Rattle.cam6_wiring.specs.Block.{corner_of, in_block, turned, column_beside, row_beside, block_of}
 use Rattle.cam6_wiring.specs.declared.blocks.Grid.{Grid}
@@ -7,7 +7,7 @@ use Rattle.cam6_wiring.specs.declared.names.Name.{Name}
 use Rattle.cam6_wiring.specs.declared.names.Turn.{Turn}
 use Rattle.cam6_wiring.specs.declared.wirings.Hood.{Hood}
 use Rattle.cam6_wiring.specs.declared.wirings.Minor.{Minor}
-use Rattle.cam6_wiring.specs.Wiring.{line_of}
+use Rattle.cam6_wiring.specs.Wiring.{line_of, names_of}
 use Rattle.cam6_wiring.specs.Seen.{Sees, address_of, shown, seen_in_block}
 
 -- the address of what is seen shows, on the line of each name, what is seen under the name
@@ -15,6 +15,20 @@ abbrev pub ShowsWhatIsSeen : Type 0
 ShowsWhatIsSeen =
     (hood : Hood) (minor : Minor) (sees : Sees) (name : Name) (line : ℕ) →
     line_of hood minor name ≡ Some line → shown (address_of hood minor sees) line ≡ sees name
+
+-- and 0 on each line without a name
+abbrev pub ShowsNothingElse : Type 0
+ShowsNothingElse =
+    (hood : Hood) (minor : Minor) (sees : Sees) (line : ℕ) →
+    get_or (names_of hood minor) line None ≡ None →
+    shown (address_of hood minor sees) line ≡ false
+
+-- the line of a name and the names of the lines say the same
+abbrev pub LinesAreNamed : Type 0
+LinesAreNamed =
+    (hood : Hood) (minor : Minor) (name : Name) (line : ℕ) →
+    (line_of hood minor name ≡ Some line → get_or (names_of hood minor) line None ≡ Some name) ×
+    (get_or (names_of hood minor) line None ≡ Some name → line_of hood minor name ≡ Some line)
 
 -- the cell that a cell sees one, two or three places further clockwise lies in the same block, one,
 -- two or three corners further clockwise; the torus has an even side

@@ -1,10 +1,21 @@
 //! Laws that tie what is seen to the address that it makes, and turns to the block. Each is the
 //! contract of a function that does nothing.
-ghost use Rattle.cam6_wiring.specs.Laws.{ShowsWhatIsSeen, TurnsInTheBlock};
+ghost use Rattle.cam6_wiring.specs.Laws.{ShowsWhatIsSeen, ShowsNothingElse};
+ghost use Rattle.cam6_wiring.specs.Laws.{LinesAreNamed, TurnsInTheBlock};
 
 /// The address of what is seen shows, on the line of each name, what is seen under the name.
 pub fn an_address_shows_what_is_seen()
     ensures law { ShowsWhatIsSeen }
+{}
+
+/// The address of what is seen shows 0 on each line without a name.
+pub fn an_address_shows_nothing_else()
+    ensures law { ShowsNothingElse }
+{}
+
+/// The line of a name, and the names of the lines, say the same.
+pub fn lines_are_named()
+    ensures law { LinesAreNamed }
 {}
 
 /// What a cell sees one, two or three places further clockwise is a cell of its own block, one, two or

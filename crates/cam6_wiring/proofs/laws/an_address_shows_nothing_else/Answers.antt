@@ -1,0 +1,5 @@
+use Rattle.cam6_wiring.proofs.Lines.{shows_nothing_else}
+use Rattle.cam6_wiring.proofs.laws.an_address_shows_nothing_else.Goals as goal
+
+pub returns : goal.returns
+returns c = record { law = shows_nothing_else }
