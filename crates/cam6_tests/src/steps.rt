@@ -1,7 +1,7 @@
 //! The steps that a run leaves to be done, the turns that a rule takes, and the numbers of line faults.
 
 use cam6_forth::parse;
-use cam6_machine::{Command, Machine, NamedEntries, NamedEntry, Now};
+use cam6_machine::{Command, Machine, NamedEntries, NamedEntry, Now, Reply};
 use cam6_planes::NoMemory;
 use cam6_table::{Code, MAX_TURNS, eval};
 use cam6_wire::LineFault;
@@ -29,27 +29,35 @@ fn left(machine: &mut Machine, command: Command) -> Result<Option<u16>, NoMemory
     }
 }
 
-/// A machine with that cycle, which a blank one sets at once.
-fn with_cycle(alloc: Global) -> Result<Machine, NoMemory> {
+/// A machine with that cycle, if a blank one sets it at once.
+fn with_cycle(alloc: Global) -> Result<Option<Machine>, NoMemory> {
     let mut machine = Machine::new(alloc)?;
-    let _ = left(&mut machine, cycle(alloc)?)?;
-    Ok(machine)
+    let is_answered = left(&mut machine, cycle(alloc)?)?.is_none();
+    Ok(if is_answered { Some(machine) } else { None })
+}
+
+/// The position that a run of no steps tells.
+fn position(machine: &mut Machine) -> Result<Option<usize>, NoMemory> {
+    match machine.now(Command::Run { n: 0 })? {
+        Now::Reply(Reply::Run { position }) => Ok(Some(position)),
+        _ => Ok(None),
+    }
 }
 
 // By hand: a run that isn't refused leaves its steps to be done, and any other command is answered.
-// None of them is done here.
+// None of them is done here, so the position stays.
 #[test]
 fn steps_are_left(rt: HostRuntime) -> Result<(), Fail> {
-    let mut machine = with_cycle(rt.alloc())?;
+    let mut machine = with_cycle(rt.alloc())?.ok_or("a cycle is set at once")?;
     for (n, want) in [
         (0, None),
         (1, Some(1)),
         (65_535, Some(65_535)),
         (65_536, None),
-        (0, None),
     ] {
         assert_eq!(rt; left(&mut machine, Command::Run { n }), Ok(want), "{n}");
     }
+    assert_eq!(rt; position(&mut machine), Ok(Some(0)));
     Ok(())
 }
 
