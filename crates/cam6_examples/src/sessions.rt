@@ -137,7 +137,7 @@ fn add_answer(
 ) -> io::Result<()> {
     match command {
         Ok(command) => {
-            let reply = machine.answer(command).map_err(|_| no_memory())?;
+            let reply = machine.reply_to(command).map_err(|_| no_memory())?;
             let text = reply_text(alloc, &reply).map_err(|_| no_memory())?;
             add_line(answers, text.as_str())
         }

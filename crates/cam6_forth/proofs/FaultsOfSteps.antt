@@ -7,7 +7,7 @@ use Rattle.cam6_forth.specs.declared.words.Word.{Word}
 use Rattle.cam6_forth.specs.declared.words.Word.TheVariants as word
 use Rattle.cam6_forth.specs.declared.kinds.Kind.{Kind}
 use Rattle.cam6_forth.specs.declared.kinds.Kind.TheVariants as kind
-use Rattle.cam6_forth.specs.declared.reader.Place.TheVariants as place
+use Rattle.cam6_forth.specs.declared.reader.Context.TheVariants as context
 use Rattle.cam6_forth.specs.Tokens.{Token}
 use Rattle.cam6_forth.specs.Limits.{max_size, max_open_ifs, max_definitions, too_large}
 use Rattle.cam6_forth.specs.Limits.{too_many_ifs, not_definable, out_of_place}
@@ -118,7 +118,7 @@ inside-fault w s last kind.Else t e =
 inside-fault w s last kind.Then t e =
     ap (λ flags. fault_in (with_then flags s)) e ∙ then-fault last.open_ifs s
 inside-fault w s last kind.OpenBrace t e =
-    grown-fault 1 word.Cases (record s { place = place.Braces })
+    grown-fault 1 word.Cases (record s { context = context.Braces })
 inside-fault w s last k t e = grown_by-fault 0 s.size (word_of w s.done k t) s (omega arith)
 
 -- a fault between braces
@@ -130,7 +130,7 @@ braces-fault w s k t = grown_by-fault 1 (s.size + 1) (word_of w s.done k t) s re
 
 -- a fault of a token outside comments
 pub step-fault : (w : Wiring) (u : Unfinished) (k : Kind) (t : Token) →
-    fault_in (step_at w (state_of w u).place (state_of w u) k t) ≡ token_fault w u k t
+    fault_in (step_at w (state_of w u).context (state_of w u) k t) ≡ token_fault w u k t
 step-fault w (Whole parts) k t =
     outside-fault (state_of w (Whole parts)) parts k (length-all w parts)
 step-fault w (Unnamed parts) k t = naming-fault (state_of w (Unnamed parts)) k t

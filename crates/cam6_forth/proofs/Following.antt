@@ -100,17 +100,17 @@ module _ (w : Wiring) where
   -- a step outside comments
   pub step_plain : (u : Unfinished) (t : Token) →
       step w (with_comment false (state_of w u)) t
-      ≡ step_at w (state_of w u).place (state_of w u) (kind_of t) t
-  step_plain u t = ap (λ s. step_at w s.place s (kind_of t) t) (plain_state w u)
+      ≡ step_at w (state_of w u).context (state_of w u) (kind_of t) t
+  step_plain u t = ap (λ s. step_at w s.context s (kind_of t) t) (plain_state w u)
 
   -- `(` where it opens a comment
   pub step_open : (u : Unfinished) (t : Token) → kind_of t ≡ kind.Open → mode_of u ≡ Plain →
       step w (with_comment false (state_of w u)) t ≡ ok_state (with_comment true (state_of w u))
   step_open u t e f =
-      step_plain u t ∙ ap (λ k. step_at w (state_of w u).place (state_of w u) k t) e ∙ opened u f
+      step_plain u t ∙ ap (λ k. step_at w (state_of w u).context (state_of w u) k t) e ∙ opened u f
     where
       opened : (u : Unfinished) → mode_of u ≡ Plain →
-          step_at w (state_of w u).place (state_of w u) kind.Open t
+          step_at w (state_of w u).context (state_of w u) kind.Open t
           ≡ ok_state (with_comment true (state_of w u))
       opened (Whole parts) e = refl
       opened (Unnamed parts) e = cc e

@@ -159,7 +159,7 @@ module _ (w : Wiring) (parts : List Part) where
 -- a token that a step reads outside comments, and that opens none
 pub grows : (w : Wiring) (u : Unfinished) (t : Token) (s1 : State) → IsSound w u →
     (kind_of t ≡ kind.Open → mode_of u ≡ AfterColon) →
-    step_at w (state_of w u).place (state_of w u) (kind_of t) t ≡ ok_state s1 →
+    step_at w (state_of w u).context (state_of w u) (kind_of t) t ≡ ok_state s1 →
     Grows w u t (next_mode (mode_of u) t) s1
 grows w (Whole parts) t s1 sound opens f =
     outside_grows w parts (kind_of t) t s1 sound refl (λ e. cc (opens e)) f

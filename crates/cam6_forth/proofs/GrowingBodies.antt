@@ -5,7 +5,7 @@ use Rattle.std.proofs.Common.{arith, Option, Some, None, is_some, Err, nat_lt, c
 use Rattle.std.proofs.lemmas.Bool.{ltb-true}
 use Rattle.cam6_wiring.specs.declared.wirings.Wiring.{Wiring}
 use Rattle.cam6_forth.specs.declared.words.Word.TheVariants as word
-use Rattle.cam6_forth.specs.declared.reader.Place.TheVariants as place
+use Rattle.cam6_forth.specs.declared.reader.Context.TheVariants as context
 use Rattle.cam6_forth.specs.Tokens.{Token}
 use Rattle.cam6_forth.specs.Comments.{Plain}
 use Rattle.cam6_forth.specs.Limits.{max_open_ifs, too_many_ifs, out_of_place}
@@ -184,10 +184,10 @@ module _ (w : Wiring) (parts : List Part) where
   -- `{` in a body
   pub brace_grows : (last : Opened) (t : Token) (s1 : State) → IsSound w (Within parts last) →
       t ≡ codes "{" →
-      grown 1 word.Cases (record (state_of w (Within parts last)) { place = place.Braces })
+      grown 1 word.Cases (record (state_of w (Within parts last)) { context = context.Braces })
       ≡ ok_state s1 → Grows w (Within parts last) t Plain s1
   brace_grows last t s1 sound e f =
-      let s0 = record (state_of w (Within parts last)) { place = place.Braces } in
+      let s0 = record (state_of w (Within parts last)) { context = context.Braces } in
       let g = grown_ok 1 word.Cases s0 s1 f in
       let fits = g.0 in
       record {
@@ -272,7 +272,7 @@ module _ (w : Wiring) (parts : List Part) where
   pub cases_grow : (last : Opened) (words : List Token) (t : Token) (s1 : State) →
       IsSound w (Braced parts last words) → t ≡ codes "}" →
       ok_state (record (state_of w (Braced parts last words)) {
-        place = place.Inside;
+        context = context.Inside;
         words = (state_of w (Braced parts last words)).words ++ word.EndCases ∷ [];
       }) ≡ ok_state s1 →
       Grows w (Braced parts last words) t Plain s1

@@ -18,4 +18,5 @@ pub mod Fresh
 pub mod Completing
 pub mod TextLaws
 pub mod Singles
+pub mod FaultOrders
 pub mod OneTree

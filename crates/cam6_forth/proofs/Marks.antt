@@ -64,6 +64,63 @@ mark-is token k =
     (by_row token (codes "THEN") kind.Then k _ refl
     (λ none. cc none)))))))))
 
+none-empty : mark [] ≡ None
+unfolding mark
+none-empty = refl
+
+not-empty : (token : Token) (k : Kind) → mark token ≡ Some k → token ≡ [] → ⊥
+not-empty token k is empty = let none = ap mark empty ∙ none-empty in cc (none, is)
+
+-- what the table of marks says is a mark
+marks : (token : Token) (k : Kind) → mark token ≡ Some k → is_mark k ≡ true
+marks token (kind.Digits value) is = absurd (not-empty token _ is (mark-is token _ is))
+marks token (kind.Stack stack) is = absurd (not-empty token _ is (mark-is token _ is))
+marks token (kind.Output output) is = absurd (not-empty token _ is (mark-is token _ is))
+marks token (kind.Name name) is = absurd (not-empty token _ is (mark-is token _ is))
+marks token kind.Other is = absurd (not-empty token _ is (mark-is token _ is))
+marks token _ is = refl
+
+-- what a token of a kind is by the tables
+abbrev pub IsOfKind : Token → Kind → Type 0
+IsOfKind token (kind.Digits value) = (is_digits token ≡ true) × (literal token ≡ value)
+IsOfKind token (kind.Stack stack) = stack_word token ≡ Some stack
+IsOfKind token (kind.Output output) = output_word token ≡ Some output
+IsOfKind token (kind.Name name) = neighbour_name token ≡ Some name
+IsOfKind token _ = Unit {0}
+
+mark-of_kind : (token : Token) (k : Kind) → is_mark k ≡ true → IsOfKind token k
+mark-of_kind token (kind.Digits value) is = cc is
+mark-of_kind token (kind.Stack stack) is = cc is
+mark-of_kind token (kind.Output output) is = cc is
+mark-of_kind token (kind.Name name) is = cc is
+mark-of_kind token _ is = tt
+
+rest-of_kind : (token : Token) (digits : Bool) → is_digits token ≡ digits →
+    IsOfKind token (cond digits (kind.Digits (literal token)) kind.Other)
+rest-of_kind token true is = (is, refl)
+rest-of_kind token false is = tt
+
+by_tables : (token : Token) (marked : Option Kind) (stack : Option StackWord)
+    (output : Option Output) (name : Option Name) → mark token ≡ marked →
+    stack_word token ≡ stack → output_word token ≡ output → neighbour_name token ≡ name →
+    IsOfKind token (unwrap_or (option_or marked
+    (option_or (option_map kind.Stack stack)
+    (option_or (option_map kind.Output output) (option_map kind.Name name))))
+    (cond (is_digits token) (kind.Digits (literal token)) kind.Other))
+by_tables token (Some marked) stack output name m s o n =
+    mark-of_kind token marked (marks token marked m)
+by_tables token None (Some stack) output name m s o n = s
+by_tables token None None (Some output) name m s o n = o
+by_tables token None None None (Some name) m s o n = n
+by_tables token None None None None m s o n = rest-of_kind token (is_digits token) refl
+
+-- each token is by the tables what its kind says
+pub of_kind : (token : Token) → IsOfKind token (kind_of token)
+unfolding kind_of
+of_kind token =
+    by_tables token (mark token) (stack_word token) (output_word token) (neighbour_name token)
+    refl refl refl refl
+
 other-unmarked : (words : Option Kind) (unmarked k : Kind) → is_mark unmarked ≡ false →
     ((found : Kind) → words ≡ Some found → is_mark found ≡ false) →
     unwrap_or words unmarked ≡ k → is_mark k ≡ false

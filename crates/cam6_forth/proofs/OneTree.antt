@@ -50,12 +50,12 @@ module _ (wiring : Wiring) (known : List Defined) (parts : List Part) (name : To
       IsOk (word_of wiring known k token) →
       longer (after parts name open_ifs said) k token
       ≡ after parts name open_ifs (join said (Says token End))
-  one_word kind.Colon token open_ifs said ok = cc ok
+  one_word kind.Colon token open_ifs said ok = cc
   one_word kind.Semicolon token open_ifs said ok = cc ok
-  one_word kind.Open token open_ifs said ok = cc ok
-  one_word kind.Close token open_ifs said ok = cc ok
+  one_word kind.Open token open_ifs said ok = cc
+  one_word kind.Close token open_ifs said ok = cc
   one_word kind.OpenBrace token open_ifs said ok = cc ok
-  one_word kind.CloseBrace token open_ifs said ok = cc ok
+  one_word kind.CloseBrace token open_ifs said ok = cc
   one_word kind.If token open_ifs said ok = cc ok
   one_word kind.Else token open_ifs said ok = cc ok
   one_word kind.Then token open_ifs said ok = cc ok

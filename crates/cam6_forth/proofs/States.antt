@@ -3,7 +3,7 @@ use Rattle.std.proofs.Common.{ℕ, ◌+◌, Bool, false, List, [], ◌∷◌, �
 use Rattle.cam6_wiring.specs.declared.wirings.Wiring.{Wiring}
 use Rattle.cam6_forth.specs.declared.words.Word.{Word}
 use Rattle.cam6_forth.specs.declared.words.Word.TheVariants as word
-use Rattle.cam6_forth.specs.declared.reader.Place.TheVariants as place
+use Rattle.cam6_forth.specs.declared.reader.Context.TheVariants as context
 use Rattle.cam6_forth.specs.Tokens.{Token}
 use Rattle.cam6_forth.specs.Defined.{Defined}
 use Rattle.cam6_forth.specs.Tree.{Body, words_of, case_words, case_size, meant}
@@ -17,13 +17,13 @@ after_all done = record begin { done = done }
 
 -- right after `:`
 abbrev pub after_colon : List Defined → State
-after_colon done = record begin { done = done; place = place.Naming }
+after_colon done = record begin { done = done; context = context.Naming }
 
 -- in a body
 abbrev pub in_body : List Defined → Token → List Word → ℕ → List Bool → State
 in_body done name words size open_ifs = record {
   done = done;
-  place = place.Inside;
+  context = context.Inside;
   comment = false;
   name = name;
   words = words;
@@ -35,7 +35,7 @@ in_body done name words size open_ifs = record {
 abbrev pub in_braces : List Defined → Token → List Word → ℕ → List Bool → State
 in_braces done name words size open_ifs = record {
   done = done;
-  place = place.Braces;
+  context = context.Braces;
   comment = false;
   name = name;
   words = words;

@@ -14,8 +14,8 @@ use Rattle.cam6_forth.specs.Tree.{Part, meant, rule_of, IsOfTree}
 use Rattle.cam6_forth.specs.Texts.{AreTokensOf, IsTextOf, Begins}
 use Rattle.cam6_forth.specs.Faults.{HasTokenFault, HasFault}
 use Rattle.cam6_forth.specs.Reading.{begin, read, read_text}
-use Rattle.cam6_forth.specs.Outcome.{Answers, IsThisRule, IsThisFault, IsAccepted, IsRefused}
-use Rattle.cam6_forth.specs.Laws.{HasAnswer, HasOneFault, CanBeCompleted}
+use Rattle.cam6_forth.specs.Outcome.{IsReadAs, IsThisRule, IsThisFault, IsAccepted, IsRefused}
+use Rattle.cam6_forth.specs.Laws.{HasRuleOrFault, HasOneFault, CanBeCompleted}
 use Rattle.cam6_forth.specs.Laws.{FaultStays, FaultIsFirst, EndIsTooEarly}
 use Rattle.cam6_forth.proofs.Readings.{sound_run, token_fault_read, end_fault_read}
 use Rattle.cam6_forth.proofs.Readings.{rule_read, rule_back, fault_back}
@@ -137,20 +137,20 @@ module _ (w : Wiring) (text : List ℕ) where
           inr (number, token_number, read_fault_of number token_number e)
 
   -- what `parse` answers
-  pub accepted_from : (result : Result RuleWords ParseFault) → Answers (read_text w text) w result →
+  pub accepted_from : (result : Result RuleWords ParseFault) → IsReadAs (read_text w text) w result →
       IsAccepted w text result
   accepted_from (Ok rule) e =
       let r = read_rule rule.definitions e.0 in
       (r.0, r.1, same_rule rule w (meant w [] r.0) e.1 r.2)
   accepted_from (Err fault) e = tt
 
-  pub refused_from : (result : Result RuleWords ParseFault) → Answers (read_text w text) w result →
+  pub refused_from : (result : Result RuleWords ParseFault) → IsReadAs (read_text w text) w result →
       IsRefused w text result
   refused_from (Ok rule) e = tt
   refused_from (Err parse_fault.NoMemory) e = tt
   refused_from (Err (parse_fault.Text fault)) e = read_fault_of fault.number fault.token e
 
-  pub rule_from : (result : Result RuleWords ParseFault) → Answers (read_text w text) w result →
+  pub rule_from : (result : Result RuleWords ParseFault) → IsReadAs (read_text w text) w result →
       (parts : List Part) → IsTextOf w parts text → IsThisRule (rule_of w parts) result
   rule_from (Ok rule) e parts it =
       same_rule rule w (meant w [] parts) e.1
@@ -160,7 +160,7 @@ module _ (w : Wiring) (text : List ℕ) where
       let g : ok_out (meant w [] parts) ≡ fault_out fault.number fault.token =
       sym (text_read parts it) ∙ e in cc g
 
-  pub fault_from : (result : Result RuleWords ParseFault) → Answers (read_text w text) w result →
+  pub fault_from : (result : Result RuleWords ParseFault) → IsReadAs (read_text w text) w result →
       (number token_number : ℕ) → HasFault w text number token_number →
       IsThisFault number token_number result
   fault_from (Ok rule) e number token_number fault =
@@ -171,8 +171,8 @@ module _ (w : Wiring) (text : List ℕ) where
       same_fault found.number found.token number token_number
       (sym e ∙ fault_read number token_number fault)
 
-pub some_answer : HasAnswer
-some_answer w text = has_answer w text
+pub rule_or_fault : HasRuleOrFault
+rule_or_fault w text = has_answer w text
 
 pub one_fault : HasOneFault
 one_fault w text number token_number fault = (others, no_rule)

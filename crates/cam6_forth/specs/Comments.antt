@@ -16,7 +16,18 @@ pub data Mode : Type 0 where
 abbrev pub mode_after_kind : Kind → Mode
 mode_after_kind kind.Open = InComment
 mode_after_kind kind.Colon = AfterColon
-mode_after_kind _ = Plain
+mode_after_kind kind.Semicolon = Plain
+mode_after_kind kind.Close = Plain
+mode_after_kind kind.OpenBrace = Plain
+mode_after_kind kind.CloseBrace = Plain
+mode_after_kind kind.If = Plain
+mode_after_kind kind.Else = Plain
+mode_after_kind kind.Then = Plain
+mode_after_kind (kind.Digits value) = Plain
+mode_after_kind (kind.Stack word) = Plain
+mode_after_kind (kind.Output output) = Plain
+mode_after_kind (kind.Name name) = Plain
+mode_after_kind kind.Other = Plain
 
 -- where the token after it stands
 abbrev pub next_mode : Mode → Token → Mode

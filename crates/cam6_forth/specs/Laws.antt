@@ -1,14 +1,17 @@
 -- The laws that tie texts, trees and faults.
-use Rattle.std.specs.Prelude.{◌≡◌, ℕ, ◌-◌, ◌≤◌, ◌⊎◌, List, ◌++◌, length, take, IsOk}
+use Rattle.std.specs.Prelude.{◌≡◌, ℕ, ◌-◌, ◌≤◌, ◌⊎◌, List, ◌++◌, length, take, IsOk, true}
 use Rattle.cam6_wiring.specs.declared.wirings.Wiring.{Wiring}
+use Rattle.cam6_forth.specs.declared.kinds.Kind.{Kind}
 use Rattle.cam6_forth.specs.Tokens.{Token}
 use Rattle.cam6_forth.specs.Defined.{Defined}
 use Rattle.cam6_forth.specs.SingleWords.{IsSingle}
 use Rattle.cam6_forth.specs.Tree.{Part, spell, IsRule, word_at, word_in, size_in}
 use Rattle.cam6_forth.specs.Trees.{tree_of}
 use Rattle.cam6_forth.specs.Texts.{AreTokensOf, IsTextOf, Begins}
-use Rattle.cam6_forth.specs.Unfinished.{Unfinished}
+use Rattle.cam6_forth.specs.Unfinished.{Unfinished, IsSound}
 use Rattle.cam6_forth.specs.Faults.{AreSoundTokens, HasTokenFault, HasEndFault, HasFault}
+use Rattle.cam6_forth.specs.Faults.{token_fault}
+use Rattle.cam6_forth.specs.FaultOrder.{first_fault, between, has_at_most_one}
 
 -- trees that are spelled alike are one
 abbrev pub HasOneTree : Type 0
@@ -23,8 +26,8 @@ TreeIsRead =
     tree_of text ≡ parts
 
 -- a text is a rule or has a fault
-abbrev pub HasAnswer : Type 0
-HasAnswer =
+abbrev pub HasRuleOrFault : Type 0
+HasRuleOrFault =
     (wiring : Wiring) (text : List ℕ) →
     ((parts : List Part) × IsTextOf wiring parts text)
     ⊎ ((number : ℕ) × (token_number : ℕ) × HasFault wiring text number token_number)
@@ -65,8 +68,22 @@ EndIsTooEarly =
     HasEndFault wiring all number token_number →
     Begins wiring all × ((parts : List Part) → AreTokensOf wiring parts all → ⊥)
 
+-- a token that follows a rule that is being written has the first of its faults, in their order
+abbrev pub FaultsInOrder : Type 0
+FaultsInOrder =
+    (wiring : Wiring) (unfinished : Unfinished) (kind : Kind) (token : Token) →
+    IsSound wiring unfinished →
+    token_fault wiring unfinished kind token ≡ first_fault wiring unfinished kind token
+
+-- of the faults between, the order doesn't matter: a token has at most one
+abbrev pub OneBetween : Type 0
+OneBetween =
+    (wiring : Wiring) (unfinished : Unfinished) (kind : Kind) (token : Token) →
+    has_at_most_one (between wiring unfinished kind token) ≡ true
+
 -- a known token says a single word
 abbrev pub KnownIsSingle : Type 0
 KnownIsSingle =
     (wiring : Wiring) (done : List Defined) (token : Token) → IsOk (word_at wiring done token) →
-    IsSingle wiring done (word_in (word_at wiring done token)) (size_in (word_at wiring done token))
+    IsSingle wiring done token
+    (word_in (word_at wiring done token)) (size_in (word_at wiring done token))

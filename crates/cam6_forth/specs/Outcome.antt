@@ -24,11 +24,11 @@ Finishes reading (Ok definitions) = reading ≡ Ok definitions.items
 Finishes reading (Err number) = reading ≡ Err number
 
 -- the rule of this wiring with the definitions that were read, or the first fault
-abbrev pub Answers :
+abbrev pub IsReadAs :
     Result (List Defined) (ℕ × ℕ) → Wiring → Result RuleWords ParseFault → Type 0
-Answers reading wiring (Ok rule) = (reading ≡ Ok rule.definitions) × (rule.wiring ≡ wiring)
-Answers reading wiring (Err parse_fault.NoMemory) = Unit {0}
-Answers reading wiring (Err (parse_fault.Text fault)) = reading ≡ Err (fault.number, fault.token)
+IsReadAs reading wiring (Ok rule) = (reading ≡ Ok rule.definitions) × (rule.wiring ≡ wiring)
+IsReadAs reading wiring (Err parse_fault.NoMemory) = Unit {0}
+IsReadAs reading wiring (Err (parse_fault.Text fault)) = reading ≡ Err (fault.number, fault.token)
 
 -- an accepted text is the tree of the rule
 abbrev pub IsAccepted : Wiring → List ℕ → Result RuleWords ParseFault → Type 0
@@ -40,7 +40,8 @@ IsAccepted wiring text (Err fault) = Unit {0}
 abbrev pub IsRefused : Wiring → List ℕ → Result RuleWords ParseFault → Type 0
 IsRefused wiring text (Err (parse_fault.Text fault)) =
     HasFault wiring text fault.number fault.token
-IsRefused wiring text _ = Unit {0}
+IsRefused wiring text (Err parse_fault.NoMemory) = Unit {0}
+IsRefused wiring text (Ok rule) = Unit {0}
 
 -- the answer is this rule, unless memory runs out
 abbrev pub IsThisRule : RuleWords → Result RuleWords ParseFault → Type 0

@@ -9,8 +9,8 @@ use Rattle.cam6_forth.specs.declared.words.Word.TheVariants as word
 use Rattle.cam6_forth.specs.declared.kinds.Kind.{Kind}
 use Rattle.cam6_forth.specs.declared.kinds.Kind.TheVariants.{Colon, Semicolon, Open, OpenBrace}
 use Rattle.cam6_forth.specs.declared.kinds.Kind.TheVariants.{CloseBrace, If, Else, Then, Other}
-use Rattle.cam6_forth.specs.declared.reader.Place.{Place}
-use Rattle.cam6_forth.specs.declared.reader.Place.TheVariants.{Outside, Naming, Inside, Braces}
+use Rattle.cam6_forth.specs.declared.reader.Context.{Context}
+use Rattle.cam6_forth.specs.declared.reader.Context.TheVariants.{Outside, Naming, Inside, Braces}
 use Rattle.cam6_forth.specs.Tokens.{Token, tokens}
 use Rattle.cam6_forth.specs.Kinds.{kind_of, ends_comment}
 use Rattle.cam6_forth.specs.Limits.{max_text, max_definitions, max_size}
@@ -24,7 +24,7 @@ use Rattle.cam6_forth.specs.SingleWords.{word_of, place_of}
 -- first, each with whether its ELSE has come
 pub record State : Type 0 where
   pub done : List Defined
-  pub place : Place
+  pub context : Context
   pub comment : Bool
   pub name : Token
   pub words : List Word
@@ -35,7 +35,7 @@ pub record State : Type 0 where
 abbrev pub begin : State
 begin = record {
   done = [];
-  place = Outside;
+  context = Outside;
   comment = false;
   name = [];
   words = [];
@@ -58,7 +58,7 @@ grown_by more (Ok (added, size)) state = grown (size + more) added state
 -- outside definitions: `:` begins one, unless it is one too many
 abbrev pub outside : State → Kind → Result State ℕ
 outside state Colon =
-    if nat_lt (length state.done) max_definitions then Ok (record state { place = Naming })
+    if nat_lt (length state.done) max_definitions then Ok (record state { context = Naming })
     else Err too_long
 outside state Open = Ok (record state { comment = true })
 outside state kind = Err out_of_place
@@ -67,7 +67,7 @@ outside state kind = Err out_of_place
 abbrev pub naming : State → Kind → Token → Result State ℕ
 naming state Other token =
     if is_some (place_of token state.done) then Err not_definable
-    else Ok (record state { place = Inside; name = token; words = []; size = 0; open_ifs = [] })
+    else Ok (record state { context = Inside; name = token; words = []; size = 0; open_ifs = [] })
 naming state kind token = Err not_definable
 
 -- IF, unless it is one too many
@@ -97,7 +97,7 @@ abbrev pub with_end : List Bool → State → Result State ℕ
 with_end [] state =
     Ok (record state {
       done = state.done ++ defined state ∷ [];
-      place = Outside;
+      context = Outside;
       name = [];
       words = [];
       size = 0;
@@ -111,18 +111,18 @@ inside wiring state Open token = Ok (record state { comment = true })
 inside wiring state If token = with_if state
 inside wiring state Else token = with_else state.open_ifs state
 inside wiring state Then token = with_then state.open_ifs state
-inside wiring state OpenBrace token = grown 1 word.Cases (record state { place = Braces })
+inside wiring state OpenBrace token = grown 1 word.Cases (record state { context = Braces })
 inside wiring state kind token = grown_by 0 (word_of wiring state.done kind token) state
 
 -- between braces, where each word has one more than its size
 abbrev pub braces : Wiring → State → Kind → Token → Result State ℕ
 braces wiring state Open token = Ok (record state { comment = true })
 braces wiring state CloseBrace token =
-    Ok (record state { place = Inside; words = state.words ++ word.EndCases ∷ [] })
+    Ok (record state { context = Inside; words = state.words ++ word.EndCases ∷ [] })
 braces wiring state kind token = grown_by 1 (word_of wiring state.done kind token) state
 
--- a token that stands at this place
-abbrev pub step_at : Wiring → Place → State → Kind → Token → Result State ℕ
+-- a token in this context
+abbrev pub step_at : Wiring → Context → State → Kind → Token → Result State ℕ
 step_at wiring Outside state kind token = outside state kind
 step_at wiring Naming state kind token = naming state kind token
 step_at wiring Inside state kind token = inside wiring state kind token
@@ -132,7 +132,7 @@ step_at wiring Braces state kind token = braces wiring state kind token
 abbrev pub step : Wiring → State → Token → Result State ℕ
 step wiring state token =
     if state.comment then Ok (record state { comment = not (ends_comment token) })
-    else step_at wiring state.place state (kind_of token) token
+    else step_at wiring state.context state (kind_of token) token
 
 -- at least one definition
 abbrev pub some_definition : List Defined → Result (List Defined) ℕ
@@ -140,13 +140,13 @@ some_definition [] = Err no_definition
 some_definition (first ∷ later) = Ok (first ∷ later)
 
 -- a text may end outside definitions
-abbrev pub finish_at : Place → State → Result (List Defined) ℕ
+abbrev pub finish_at : Context → State → Result (List Defined) ℕ
 finish_at Outside state = some_definition state.done
 finish_at place state = Err out_of_place
 
 -- the definitions at the end of the text, or the number of the end's fault
 abbrev pub finish : State → Result (List Defined) ℕ
-finish state = if state.comment then Err out_of_place else finish_at state.place state
+finish state = if state.comment then Err out_of_place else finish_at state.context state
 
 -- a fault with its token
 abbrev pub numbered : Result (List Defined) ℕ → ℕ → Result (List Defined) (ℕ × ℕ)
@@ -173,7 +173,7 @@ read_text wiring text =
     else read wiring begin 1 (tokens text)
 
 -- the token is of a definition's body
-abbrev pub is_in_body : Place → Bool
+abbrev pub is_in_body : Context → Bool
 is_in_body Outside = false
 is_in_body Naming = false
 is_in_body Inside = true
@@ -190,7 +190,7 @@ abbrev pub begins : Wiring → State → List Token → Bool
 begins wiring state [] = false
 begins wiring state (token ∷ later) =
     then_so (step wiring state token)
-    (λ next. is_in_body next.place || begins wiring next later)
+    (λ next. is_in_body next.context || begins wiring next later)
 
 -- something of a text is kept
 abbrev pub keeps : Wiring → List ℕ → Bool

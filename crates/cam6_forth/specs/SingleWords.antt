@@ -11,6 +11,8 @@ use Rattle.cam6_forth.specs.declared.words.Word.TheVariants as word
 use Rattle.cam6_forth.specs.declared.kinds.Kind.{Kind}
 use Rattle.cam6_forth.specs.declared.kinds.Kind.TheVariants.{Digits, Stack, Output, Name, Other}
 use Rattle.cam6_forth.specs.Tokens.{Token}
+use Rattle.cam6_forth.specs.Spellings.{stack_word, output_word, neighbour_name}
+use Rattle.cam6_forth.specs.Kinds.{is_digits, literal}
 use Rattle.cam6_forth.specs.Limits.{unknown_word, out_of_place, other_half, literal_range}
 use Rattle.cam6_forth.specs.Defined.{Defined}
 
@@ -28,8 +30,9 @@ place_of name done = place_from 0 name done
 -- whether two halves are one
 abbrev pub is_same_half : Half → Half → Bool
 is_same_half A A = true
+is_same_half A B = false
+is_same_half B A = false
 is_same_half B B = true
-is_same_half _ _ = false
 
 -- a literal has size 1, and a value of at most 65,535
 abbrev pub literal_word : Option ℕ → Result (Word × ℕ) ℕ
@@ -54,16 +57,26 @@ word_of wiring done (Name name) token =
 word_of wiring done Other token = defined_word (place_of token done)
 word_of wiring done kind token = Err out_of_place
 
--- what a word by itself can be: it has size 1, but that a defined name has its definition's; a
--- neighbour name stands on a line of the wiring; IF, ELSE, THEN and braces are none
-abbrev pub IsSingle : Wiring → List Defined → Word → ℕ → Type 0
-IsSingle wiring done (word.Literal value) size = size ≡ 1
-IsSingle wiring done (word.Name name) size =
-    (line : ℕ) × (line_of wiring.hood wiring.minor name ≡ Some line) × (size ≡ 1)
-IsSingle wiring done (word.Stack stack) size = size ≡ 1
-IsSingle wiring done (word.Output target) size = size ≡ 1
-IsSingle wiring done (word.Defined place) size =
+-- a token says this single word, of this size: a literal in range its value; a stack word, an output
+-- word of the half and a neighbour name of the wiring what the tables of spellings say; each has
+-- size 1. A name says the first definition of that name, and has its size, or 1 where that is 0
+abbrev pub IsSingle : Wiring → List Defined → Token → Word → ℕ → Type 0
+IsSingle wiring done token (word.Literal value) size =
+    (is_digits token ≡ true) × (literal token ≡ Some value) × (size ≡ 1)
+IsSingle wiring done token (word.Name name) size =
+    (neighbour_name token ≡ Some name)
+    × ((line : ℕ) × (line_of wiring.hood wiring.minor name ≡ Some line)) × (size ≡ 1)
+IsSingle wiring done token (word.Stack stack) size =
+    (stack_word token ≡ Some stack) × (size ≡ 1)
+IsSingle wiring done token (word.Output target) size =
+    (output_word token ≡ Some (record { half = wiring.half; target = target })) × (size ≡ 1)
+IsSingle wiring done token (word.Defined place) size =
     (before : List Defined) × (definition : Defined) × (later : List Defined)
     × (done ≡ before ++ definition ∷ later) × (place ≡ length before)
+    × (definition.name ≡ token) × (place_of token before ≡ None)
     × (size ≡ max definition.size 1)
-IsSingle wiring done _ size = ⊥
+IsSingle wiring done token word.If size = ⊥
+IsSingle wiring done token word.Else size = ⊥
+IsSingle wiring done token word.Then size = ⊥
+IsSingle wiring done token word.Cases size = ⊥
+IsSingle wiring done token word.EndCases size = ⊥

@@ -54,7 +54,7 @@ output_word token = found token (
     ∷ (codes ">PLNB", record { half = B; target = target.Both })
     ∷ [])
 
--- the cell's place and its neighbours', in the half's lower plane
+-- the cell itself and its neighbours, in the half's lower plane
 unfoldable pub plain_name : Token → Option Name
 plain_name token = found token (
     (codes "CENTER", Beside Center level.Lower)

@@ -65,7 +65,9 @@ written_on unfinished (token ∷ later) =
 
 abbrev pub parts_of : Unfinished → List Part
 parts_of (Whole parts) = parts
-parts_of _ = []
+parts_of (Unnamed parts) = []
+parts_of (Within parts last) = []
+parts_of (Braced parts last words) = []
 
 -- the tree of a text
 unfoldable pub tree_of : List ℕ → List Part

@@ -1,7 +1,7 @@
 //! Laws that tie texts, trees and faults. Each is the contract of a function that does nothing.
-ghost use Rattle.cam6_forth.specs.Laws.{HasOneTree, TreeIsRead, HasAnswer, HasOneFault};
+ghost use Rattle.cam6_forth.specs.Laws.{HasOneTree, TreeIsRead, HasRuleOrFault, HasOneFault};
 ghost use Rattle.cam6_forth.specs.Laws.{CanBeCompleted, FaultStays, FaultIsFirst, EndIsTooEarly};
-ghost use Rattle.cam6_forth.specs.Laws.{KnownIsSingle};
+ghost use Rattle.cam6_forth.specs.Laws.{FaultsInOrder, OneBetween, KnownIsSingle};
 
 /// Trees that are spelled alike are one tree.
 pub fn trees_spelled_alike_are_one()
@@ -15,7 +15,7 @@ pub fn the_tree_of_a_text_is_read()
 
 /// A text is a rule or has a fault.
 pub fn a_text_is_a_rule_or_has_a_fault()
-    ensures law { HasAnswer }
+    ensures law { HasRuleOrFault }
 {}
 
 /// A text has at most one fault, and none where it is a rule.
@@ -42,6 +42,16 @@ pub fn a_fault_is_the_first()
 /// Where the end of a text has a fault, its tokens begin a rule and are none.
 pub fn an_end_with_a_fault_is_too_early()
     ensures law { EndIsTooEarly }
+{}
+
+/// A token has the first of its faults: 21 is tried before 22, and 23 after all others.
+pub fn faults_come_in_order()
+    ensures law { FaultsInOrder }
+{}
+
+/// Of the faults tried between 22 and 23, a token has at most one.
+pub fn at_most_one_fault_comes_between()
+    ensures law { OneBetween }
 {}
 
 /// A token that is known in a body says a single word, of size 1 or its definition's.

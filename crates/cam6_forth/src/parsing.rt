@@ -5,7 +5,7 @@ ghost use Rattle.cam6_forth.specs.Reading.{read_text, keeps};
 ghost use Rattle.cam6_forth.specs.Tree.{Part, rule_of};
 ghost use Rattle.cam6_forth.specs.Texts.{IsTextOf};
 ghost use Rattle.cam6_forth.specs.Faults.{HasFault};
-ghost use Rattle.cam6_forth.specs.Outcome.{Answers, IsAccepted, IsRefused, IsThisRule, IsThisFault};
+ghost use Rattle.cam6_forth.specs.Outcome.{IsReadAs, IsAccepted, IsRefused, IsThisRule, IsThisFault};
 
 use crate::faults::{MAX_TEXT, ParseFault, StepFault, TOO_LONG, TextFault};
 use crate::reader::Reader;
@@ -37,7 +37,7 @@ pub fn parse(
         number token_number →
         IsThisFault number token_number result }
     // The same as a function of the text.
-    ensures exact { Answers
+    ensures exact { IsReadAs
         (read_text (record { half = half; hood = hood; minor = minor }) text.now)
         (record { half = half; hood = hood; minor = minor })
         result }
@@ -50,7 +50,7 @@ pub fn parse(
 
 #[tactic(auto, unfolding(crate::specs::Reading::read_text))]
 fn parse_under(alloc: Global, text: &str, wiring: Wiring) -> Result<Rule, ParseFault>
-    ensures exact { Answers (read_text wiring text.now) wiring result }
+    ensures exact { IsReadAs (read_text wiring text.now) wiring result }
     ensures memory { result ≡ Err NoMemory → keeps wiring text.now ≡ true }
 {
     if text.len() > MAX_TEXT {

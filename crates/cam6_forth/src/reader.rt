@@ -17,7 +17,7 @@ use std::mem;
 
 /// Where the next token stands, unless a comment is open.
 #[derive(Clone, Copy, Debug, PartialEq, Eq)]
-pub(crate) enum Place {
+pub(crate) enum Context {
     Outside,
     /// Right after `:`.
     Naming,
@@ -32,7 +32,7 @@ pub(crate) enum Place {
 pub(crate) struct Reader {
     alloc: Global,
     definitions: Vec<Definition>,
-    place: Place,
+    context: Context,
     comment: bool,
     name: Vec<u8>,
     words: Vec<Word>,
@@ -47,7 +47,7 @@ impl Model for Reader {
 
     ghost view = { λ r. record {
       done = r.definitions.items;
-      place = r.place;
+      context = r.context;
       comment = r.comment;
       name = r.name.items;
       words = r.words.items;
@@ -70,7 +70,7 @@ impl Reader {
         Reader {
             alloc,
             definitions: Vec::new(alloc),
-            place: Place::Outside,
+            context: Context::Outside,
             comment: false,
             name: Vec::new(alloc),
             words: Vec::new(alloc),
@@ -84,8 +84,8 @@ impl Reader {
         ensures state { Steps (step wiring self.old token.now) self.new result }
         // Memory is wanted for a name, and in a body, alone.
         ensures memory { result ≡ Err NoMemory →
-            (is_in_body self.old.place
-            || then_so (step wiring self.old token.now) (λ next. is_in_body next.place))
+            (is_in_body self.old.context
+            || then_so (step wiring self.old token.now) (λ next. is_in_body next.context))
             ≡ true }
     {
         if self.comment {
@@ -93,11 +93,11 @@ impl Reader {
             return Ok(());
         }
         let kind = kind_of(token);
-        match self.place {
-            Place::Outside => self.outside(kind),
-            Place::Naming => self.naming(kind, token),
-            Place::Inside => self.inside(wiring, kind, token),
-            Place::Braces => self.braces(wiring, kind, token),
+        match self.context {
+            Context::Outside => self.outside(kind),
+            Context::Naming => self.naming(kind, token),
+            Context::Inside => self.inside(wiring, kind, token),
+            Context::Braces => self.braces(wiring, kind, token),
         }
     }
 
@@ -105,7 +105,7 @@ impl Reader {
     pub(crate) fn finish(self) -> Result<Vec<Definition>, u8>
         ensures { Finishes (finish self) result }
     {
-        if self.comment || self.place != Place::Outside {
+        if self.comment || self.context != Context::Outside {
             Err(OUT_OF_PLACE)
         } else if self.definitions.is_empty() {
             Err(NO_DEFINITION)
@@ -123,7 +123,7 @@ impl Reader {
                 if self.definitions.len() >= MAX_DEFINITIONS {
                     return Err(StepFault::Number(TOO_LONG));
                 }
-                self.place = Place::Naming;
+                self.context = Context::Naming;
                 Ok(())
             }
             Kind::Open => {
@@ -137,7 +137,7 @@ impl Reader {
     fn naming(&mut self, kind: Kind, token: &[u8]) -> Result<(), StepFault>
         ensures state { Steps (naming self.old kind token.now) self.new result }
         ensures memory { result ≡ Err NoMemory →
-            then_so (naming self.old kind token.now) (λ next. is_in_body next.place) ≡ true }
+            then_so (naming self.old kind token.now) (λ next. is_in_body next.context) ≡ true }
     {
         if kind != Kind::Other || place_of(token, &self.definitions).is_some() {
             return Err(StepFault::Number(NOT_DEFINABLE));
@@ -146,7 +146,7 @@ impl Reader {
         self.words = Vec::new(self.alloc);
         self.size = 0;
         self.open_ifs = OpenIfs::new();
-        self.place = Place::Inside;
+        self.context = Context::Inside;
         Ok(())
     }
 
@@ -163,7 +163,7 @@ impl Reader {
             Kind::Else => self.with_else(),
             Kind::Then => self.with_then(),
             Kind::OpenBrace => {
-                self.place = Place::Braces;
+                self.context = Context::Braces;
                 self.grow(1, Word::Cases)
             }
             _ => match self.word_of(wiring, kind, token) {
@@ -182,7 +182,7 @@ impl Reader {
                 Ok(())
             }
             Kind::CloseBrace => {
-                self.place = Place::Inside;
+                self.context = Context::Inside;
                 self.words.push(Word::EndCases)?;
                 Ok(())
             }
@@ -234,7 +234,7 @@ impl Reader {
         let words = mem::replace(&mut self.words, Vec::new(self.alloc));
         let size = mem::replace(&mut self.size, 0);
         self.definitions.push(Definition { name, words, size })?;
-        self.place = Place::Outside;
+        self.context = Context::Outside;
         Ok(())
     }
 

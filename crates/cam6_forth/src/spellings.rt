@@ -68,7 +68,7 @@ pub(crate) fn neighbour_name(token: &[u8]) -> Option<Name>
 fn plain_name(token: &[u8]) -> Option<Name>
     ensures { result ≡ plain_name token.now }
 {
-    let place = if token == b"CENTER".as_slice() {
+    let compass = if token == b"CENTER".as_slice() {
         Compass::Center
     } else if token == b"NORTH".as_slice() {
         Compass::North
@@ -89,14 +89,14 @@ fn plain_name(token: &[u8]) -> Option<Name>
     } else {
         return None;
     };
-    Some(Name::Beside(place, Level::Lower))
+    Some(Name::Beside(compass, Level::Lower))
 }
 
 #[tactic(auto, unfolding(crate::specs::Spellings::primed_name))]
 fn primed_name(token: &[u8]) -> Option<Name>
     ensures { result ≡ primed_name token.now }
 {
-    let place = if token == b"CENTER'".as_slice() {
+    let compass = if token == b"CENTER'".as_slice() {
         Compass::Center
     } else if token == b"NORTH'".as_slice() {
         Compass::North
@@ -109,7 +109,7 @@ fn primed_name(token: &[u8]) -> Option<Name>
     } else {
         return None;
     };
-    Some(Name::Beside(place, Level::Upper))
+    Some(Name::Beside(compass, Level::Upper))
 }
 
 #[tactic(auto, unfolding(crate::specs::Spellings::block_name))]

@@ -1,5 +1,6 @@
 -- The words that the program takes, and what they ask for.
-use Rattle.std.specs.Prelude.{◌≡◌, ◌≢◌, List, codes, Option, Some, None, ⊤}
+use Rattle.std.specs.Prelude.{◌≡◌, ◌≢◌, List, codes, Option, Some, None, ⊤, if◌then◌else◌}
+use Rattle.std.specs.Str.{bytes_eq}
 use Rattle.clap.specs.Words.{App, IsAmong, Kinds, Row, Text, new_app, with_subcommand}
 use Rattle.clap.specs.declared.error.kind.ErrorKind.{ErrorKind}
 use Rattle.clap.specs.declared.error.kind.ErrorKind.TheVariants.{OutOfMemory, DisplayHelp}
@@ -20,13 +21,14 @@ program = with_subcommand (new_app (codes "cam6")) alone.top
 pub data Mode : Type 0 where
   single : Mode
 
--- the mode that a subcommand names, or none
-abbrev pub mode_of : Option (Text × List Row) → Mode
-mode_of None = single
-mode_of (Some found) = single
+-- the mode that a subcommand names, or none; any other name is no mode's
+abbrev pub mode_of : Option (Text × List Row) → Option Mode
+mode_of None = Some single
+mode_of (Some found) = if bytes_eq found.0 (codes "alone") then Some single else None
 
-abbrev pub HasMode : Options → Mode → Type 0
-HasMode Alone mode = mode ≡ single
+-- the words ask for this
+abbrev pub HasMode : Options → Option Mode → Type 0
+HasMode Alone said = said ≡ Some single
 
 -- an error of clap's of this kind is refused so
 abbrev pub IsOfKind : Refused → ErrorKind → Type 0

@@ -21,13 +21,16 @@ pub fn options(alloc: Global, words: &[String]) -> Result<Options, Refused>
         return Err(Refused::NoMemory);
     };
     match command.try_get_matches_from(words) {
-        Ok(_) => Ok(Options::Alone),
+        Ok(matches) => match matches.subcommand_name() {
+            None | Some("alone") => Ok(Options::Alone),
+            Some(_) => unreachable!(),
+        },
         Err(error) => Err(refusal(alloc, error)),
     }
 }
 
 /// The program's command line.
-fn program<'a>(alloc: Global) -> Result<Command<'a>, AllocError>
+pub fn program<'a>(alloc: Global) -> Result<Command<'a>, AllocError>
     ensures { IfOk result (λ command. app_of command ≡ program) }
 {
     let alone = Command::new(alloc, "alone").about("Answers command lines on standard input");

@@ -1,53 +1,50 @@
 //! The words of the command line, and the status of each end.
 
-use crate::modes::{Options, Refused};
-use crate::statuses::failure_of;
-use crate::words::options;
+use crate::statuses::{failure_of, refusal_of};
+use crate::words::{options, program};
 use cam6_session::End;
 use std::alloc::Global;
 use std::test::Fail;
 
-/// What reading the words came to.
-#[derive(Clone, Copy, Debug, PartialEq, Eq)]
-enum Outcome {
-    Alone,
-    Help,
-    Words,
-    NoMemory,
-}
-
-fn read(alloc: Global, words: &[String]) -> Outcome {
-    match options(alloc, words) {
-        Ok(Options::Alone) => Outcome::Alone,
-        Err(Refused::Help(_)) => Outcome::Help,
-        Err(Refused::Words(_)) => Outcome::Words,
-        Err(Refused::NoMemory) => Outcome::NoMemory,
+/// The text of clap's own error for the words, and none where it takes them.
+fn text_of_clap(alloc: Global, words: &[String]) -> Result<String, Fail> {
+    match program(alloc)?.try_get_matches_from(words) {
+        Ok(_) => Ok(String::new(alloc)),
+        Err(error) => Ok(error.to_string(alloc)?),
     }
 }
 
+// The status of words that are refused: 0 for help, which is no refusal, and 2 for all others.
 #[test]
 fn words_are_read(rt: HostRuntime) -> Result<(), Fail> {
     let alloc = rt.alloc();
     for (line, want) in [
-        ("cam6", Outcome::Alone),
-        ("cam6 alone", Outcome::Alone),
-        ("cam6 --help", Outcome::Help),
-        ("cam6 -h", Outcome::Help),
-        ("cam6 alone --help", Outcome::Help),
-        ("cam6 help", Outcome::Help),
-        ("cam6 --version", Outcome::Words),
-        ("cam6 replay", Outcome::Words),
-        ("cam6 serve", Outcome::Words),
-        ("cam6 alone --users 2", Outcome::Words),
-        ("cam6 alone alone", Outcome::Words),
-        ("cam6 Alone", Outcome::Words),
-        ("cam6 fly", Outcome::Words),
+        ("cam6", None),
+        ("cam6 alone", None),
+        ("cam6 --help", Some(0)),
+        ("cam6 -h", Some(0)),
+        ("cam6 alone --help", Some(0)),
+        ("cam6 help", Some(0)),
+        ("cam6 --version", Some(2)),
+        ("cam6 replay", Some(2)),
+        ("cam6 serve", Some(2)),
+        ("cam6 alone --users 2", Some(2)),
+        ("cam6 alone alone", Some(2)),
+        ("cam6 Alone", Some(2)),
+        ("cam6 fly", Some(2)),
     ] {
         let mut words = Vec::new(alloc);
         for word in line.split(' ') {
             words.push(String::from_str(alloc, word)?)?;
         }
-        assert_eq!(rt; read(alloc, words.as_slice()), want, "{line}");
+        let read = options(alloc, words.as_slice());
+        let (status, text) = match &read {
+            Ok(_) => (None, ""),
+            Err(refused) => (Some(refusal_of(refused).0), refusal_of(refused).1),
+        };
+        assert_eq!(rt; status, want, "{line}");
+        let clap = text_of_clap(alloc, words.as_slice())?;
+        assert_eq!(rt; text, clap.as_str(), "{line}");
     }
     Ok(())
 }

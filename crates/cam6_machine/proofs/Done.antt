@@ -1,44 +1,134 @@
 -- The reply to a command and the machine after it, where it is refused and where it is not.
-use Rattle.std.proofs.Common.{◌≡◌, ◌∙◌, ℕ, List, Some, None, sym, ap}
+use Rattle.std.proofs.Common.{◌≡◌, ◌∙◌, ℕ, zero, suc, List, map, Option, Some, None, sym, ap}
+use Rattle.std.specs.List.{AllByRecursion}
+use Rattle.std.proofs.lemmas.Option.{same_Some}
 use Rattle.cam6_planes.specs.Row.{byte_column}
 use Rattle.cam6_planes.specs.Stored.{Stored}
 use Rattle.cam6_planes.specs.Cells.{Cells, cells, with_row}
-use Rattle.cam6_machine.specs.Kept.{Kept}
+use Rattle.cam6_wiring.specs.declared.wirings.Wiring.{Wiring}
+use Rattle.cam6_machine.specs.Rules as rule
+use Rattle.cam6_machine.specs.Stored.{StoredMachine}
 use Rattle.cam6_machine.specs.Machine.{Machine, machine_of}
-use Rattle.cam6_machine.specs.Refusals.{set_refusal, fault_reply, refusal}
-use Rattle.cam6_machine.specs.Effects.{answer, effect}
-use Rattle.cam6_machine.specs.Alone.{if_refused, reply, after}
+use Rattle.cam6_machine.specs.Refusals.{or_then, set_refusal, rule_refusal, cycle_refusal}
+use Rattle.cam6_machine.specs.Refusals.{words_refusal, fault_reply, refusal}
+use Rattle.cam6_machine.specs.Effects.{accepted_reply, effect, with_rule}
+use Rattle.cam6_machine.specs.Always.{IsEntry}
+use Rattle.cam6_machine.specs.Alone.{if_refused, reply, after, some_steps, work_of, command_of}
+use Rattle.cam6_machine.specs.Places.{placed_entry, named_entries, ArePlaced, stored}
 use Rattle.cam6_machine.specs.declared.commands.Command.{Command}
-use Rattle.cam6_machine.specs.declared.commands.Command.TheVariants.{Set}
+use Rattle.cam6_machine.specs.declared.commands.Command.TheVariants.{Set, Rule, Cycle, Run, Plane}
+use Rattle.cam6_machine.specs.declared.commands.Direction.{Direction}
+use Rattle.cam6_machine.specs.declared.commands.Direction.TheVariants.{Forward}
+use Rattle.cam6_machine.specs.declared.commands.NamedEntry.{NamedEntry}
+use Rattle.cam6_machine.specs.declared.cycles.Entry.{Entry}
 use Rattle.cam6_machine.specs.declared.replies.Reply.{Reply}
+use Rattle.cam6_machine.proofs.Naming.{entries_with, named_back}
 
 pub reply-refused : (m : Machine) (c : Command) (r : Reply) → refusal m c ≡ Some r →
     reply m c ≡ r
-reply-refused m c r e = ap (λ o. if_refused o (λ r. r) (answer m c)) e
+reply-refused m c r e = ap (λ o. if_refused o (λ r. r) (accepted_reply m c)) e
 
 pub after-refused : (m : Machine) (c : Command) (r : Reply) → refusal m c ≡ Some r →
     after m c ≡ m
 after-refused m c r e = ap (λ o. if_refused o (λ r. m) (effect m c)) e
 
 pub reply-accepted : (m : Machine) (c : Command) → refusal m c ≡ None →
-    reply m c ≡ answer m c
-reply-accepted m c e = ap (λ o. if_refused o (λ r. r) (answer m c)) e
+    reply m c ≡ accepted_reply m c
+reply-accepted m c e = ap (λ o. if_refused o (λ r. r) (accepted_reply m c)) e
 
 pub after-accepted : (m : Machine) (c : Command) → refusal m c ≡ None →
     after m c ≡ effect m c
 after-accepted m c e = ap (λ o. if_refused o (λ r. m) (effect m c)) e
 
--- a machine after a row was set
-pub after-set : (old : Kept) (planes : Stored) (plane row : ℕ) (bits : List ℕ) →
-    old.planes.side ≡ 256 → planes.side ≡ 256 → None ≡ set_refusal 256 plane row →
-    cells planes ≡ with_row 256 (cells old.planes) plane row (byte_column bits) →
-    machine_of (record old { planes = planes }) ≡ after (machine_of old) (Set plane row bits)
-after-set old planes plane row bits before now within set =
-    let m = machine_of old in
-    let accepted : refusal m (Set plane row bits) ≡ None =
-    ap (λ s. fault_reply (set_refusal s plane row)) before ∙ ap fault_reply (sym within) in
-    ap {B = Machine} (λ s. record m { side = s; planes = cells planes }) (now ∙ sym before) ∙
-    ap {B = Machine} (λ (f : Cells). record m { planes = f })
-    (set ∙
-    ap (λ s. with_row s (cells old.planes) plane row (byte_column bits)) (sym before)) ∙
-    sym (after-accepted m (Set plane row bits) accepted)
+-- where it is not refused, a run of steps is answered, and done, by them
+pub command_is : (m : Machine) (c : Command) (n : ℕ) (direction : Direction) →
+    work_of m c ≡ Some (n, direction) → command_of n direction ≡ c
+command_is m (Set plane row bits) n direction e = cc e
+command_is m (Rule name half hood minor text) n direction e = cc e
+command_is m (Cycle entries) n direction e = cc e
+command_is m (Plane plane) n direction e = cc e
+command_is m (Run steps) n direction e = by_refusal (refusal m (Run steps)) e
+  where
+    by_steps : (k : ℕ) → some_steps k ≡ Some (n, direction) → command_of n direction ≡ Run k
+    by_steps zero e = cc e
+    by_steps (suc k) e =
+        let same = same_Some (suc k, Forward) (n, direction) e in
+        sym (ap (λ (w : ℕ × Direction). command_of w.0 w.1) same)
+
+    by_refusal : (o : Option Reply) →
+        if_refused o (λ r. None) (some_steps steps) ≡ Some (n, direction) →
+        command_of n direction ≡ Run steps
+    by_refusal None e = by_steps steps e
+    by_refusal (Some r) e = cc e
+
+-- a rule that was put, with what was said of it
+pub put_as : (rules new : List rule.Rule) (name text said_text : List ℕ)
+    (wiring said_wiring : Wiring) → said_wiring ≡ wiring → said_text ≡ text →
+    new ≡ with_rule (record { name = name; wiring = said_wiring; text = said_text }) rules →
+    new ≡ with_rule (record { name = name; wiring = wiring; text = text }) rules
+put_as rules new name text said_text wiring said_wiring same_wiring same_text put =
+    put ∙
+    ap (λ w. with_rule (record { name = name; wiring = w; text = said_text }) rules) same_wiring ∙
+    ap (λ t. with_rule (record { name = name; wiring = wiring; text = t }) rules) same_text
+
+module _ (planes : Stored) (rules : List rule.Rule) (cycle : List Entry) (position : ℕ)
+    (colours : List ℕ) where
+  abbrev pub before : Machine
+  before = machine_of (stored planes rules cycle position colours)
+
+  -- a machine after a row was set
+  pub after-set : (new : Stored) (plane row : ℕ) (bits : List ℕ) → planes.side ≡ 256 →
+      new.side ≡ 256 → None ≡ set_refusal 256 plane row →
+      cells new ≡ with_row 256 (cells planes) plane row (byte_column bits) →
+      machine_of (stored new rules cycle position colours) ≡ after before (Set plane row bits)
+  after-set new plane row bits old_side new_side within set =
+      let m = machine_of (stored planes rules cycle position colours) in
+      let accepted : refusal m (Set plane row bits) ≡ None =
+      ap (λ s. fault_reply (set_refusal s plane row)) old_side ∙ ap fault_reply (sym within) in
+      ap {B = Machine} (λ s. record m { side = s; planes = cells new })
+      (new_side ∙ sym old_side) ∙
+      ap {B = Machine} (λ (f : Cells). record m { planes = f })
+      (set ∙ ap (λ s. with_row s (cells planes) plane row (byte_column bits)) (sym old_side)) ∙
+      sym (after-accepted m (Set plane row bits) accepted)
+
+  -- after a rule was put
+  pub after-rule : (name text : List ℕ) (wiring : Wiring) (new : List rule.Rule) →
+      ArePlaced rules cycle → None ≡ rule_refusal rules (named_entries rules cycle) name →
+      words_refusal wiring text ≡ None →
+      new ≡ with_rule (record { name = name; wiring = wiring; text = text }) rules →
+      machine_of (stored planes new cycle position colours)
+      ≡ after before (Rule name wiring.half wiring.hood wiring.minor text)
+  after-rule name text wiring new placed room words put =
+      let m = machine_of (stored planes rules cycle position colours) in
+      let put_rule : rule.Rule = record { name = name; wiring = wiring; text = text } in
+      let command = Rule name wiring.half wiring.hood wiring.minor text in
+      let accepted : refusal m command ≡ None =
+      ap (λ o. or_then (fault_reply o) (words_refusal wiring text)) (sym room) ∙ words in
+      ap (λ l. machine_of (stored planes l cycle position colours)) put ∙
+      ap {B = Machine} (λ l. record m { rules = with_rule put_rule rules; cycle = l })
+      (entries_with put_rule rules cycle placed) ∙
+      sym (after-accepted m command accepted)
+
+  -- after a cycle was set
+  pub after-cycle : (entries : List NamedEntry) (new : List Entry) →
+      None ≡ cycle_refusal rules entries → new ≡ map (placed_entry rules) entries →
+      AllByRecursion (IsEntry rules) entries →
+      machine_of (stored planes rules new 0 colours) ≡ after before (Cycle entries)
+  after-cycle entries new none placed are =
+      let m = machine_of (stored planes rules cycle position colours) in
+      let accepted : refusal m (Cycle entries) ≡ None = ap fault_reply (sym none) in
+      ap (λ l. machine_of (stored planes rules l 0 colours)) placed ∙
+      ap {B = Machine} (λ l. record m { cycle = l; position = 0 })
+      (named_back rules entries are) ∙
+      sym (after-accepted m (Cycle entries) accepted)
+
+  -- what is stored then
+  pub stored-rule : (new_rule : rule.Rule) (new : List rule.Rule) → ArePlaced rules cycle →
+      new ≡ with_rule new_rule rules →
+      stored planes new cycle position colours
+      ≡ record (stored planes rules cycle position colours) { rules = new }
+  stored-rule new_rule new placed put =
+      ap {B = StoredMachine} (λ l. record (stored planes rules cycle position colours) {
+        rules = new;
+        cycle = l;
+      }) (ap (λ l. named_entries l cycle) put ∙ entries_with new_rule rules cycle placed)

@@ -4,6 +4,7 @@ use Rattle.std.proofs.Common.{◌∷◌, length, Some, slice_get, slice_set, get
 use Rattle.std.proofs.Common.{sym, ap, subst, ◌∙◌}
 use Rattle.std.proofs.lemmas.Option.{get_or_from_slice_get, slice_get_within}
 use Rattle.cam6_machine.specs.Rules.{Rule}
+use Rattle.cam6_machine.specs.Places.{rules_at}
 use Rattle.cam6_machine.specs.ByTables.{ArePair, ArePairs}
 use Rattle.cam6_machine.specs.declared.cycles.Entry.{Entry}
 use Rattle.cam6_machine.specs.declared.tables.TablePair.{TablePair}
@@ -12,7 +13,7 @@ use Rattle.cam6_machine.specs.declared.tables.TablePair.{TablePair}
 abbrev pub ArePairsBelow : ℕ → List Rule → List Entry → List TablePair → Type 0
 ArePairsBelow n rules cycle pairs =
     (place : ℕ) (entry : Entry) → place < n → slice_get cycle place ≡ Some entry →
-    (pair : TablePair) × (slice_get pairs place ≡ Some pair) × ArePair rules entry pair
+    (pair : TablePair) × (slice_get pairs place ≡ Some pair) × ArePair (rules_at rules entry) pair
 
 -- what was written at a place stands there
 written_here : {X : Type 0} (xs : List X) (n : ℕ) (x : X) → n < length xs →
@@ -37,19 +38,19 @@ last_or_before n place below = grind (arith, below)
 -- one more entry's pair is written at its place, whatever entry stands for those past the end
 pub one_more : (n : ℕ) (rules : List Rule) (cycle : List Entry) (past : Entry)
     (pairs : List TablePair) (new : TablePair) → n < length pairs →
-    ArePair rules (get_or cycle n past) new → ArePairsBelow n rules cycle pairs →
+    ArePair (rules_at rules (get_or cycle n past)) new → ArePairsBelow n rules cycle pairs →
     ArePairsBelow (n + 1) rules cycle (slice_set pairs n new)
 one_more n rules cycle past pairs new within right before place entry below found =
     at_place (last_or_before n place below)
   where
     at_place : (place ≡ n) ⊎ (place < n) →
         (pair : TablePair) × (slice_get (slice_set pairs n new) place ≡ Some pair)
-        × ArePair rules entry pair
+        × ArePair (rules_at rules entry) pair
     at_place (inl here) =
         let at_n : slice_get cycle n ≡ Some entry = sym (ap (slice_get cycle) here) ∙ found in (
           new,
           ap (slice_get (slice_set pairs n new)) here ∙ written_here pairs n new within,
-          subst (λ e. ArePair rules e new) (get_or_from_slice_get cycle n entry past at_n) right,
+          subst (λ e. ArePair (rules_at rules e) new) (get_or_from_slice_get cycle n entry past at_n) right,
         )
     at_place (inr earlier) =
         let old = before place entry earlier found in

@@ -1,6 +1,6 @@
 -- The rules of a map, looked up by name.
-use Rattle.std.proofs.Common.{◌≡◌, ℕ, ◌+◌, List, [], ◌∷◌, Bool, true, false, cond}
-use Rattle.std.proofs.Common.{Some, None, String, Global, refl, sym, ap, ◌∙◌, map}
+use Rattle.std.proofs.Common.{◌≡◌, ℕ, suc, ◌+◌, List, [], ◌∷◌, Bool, true, false, cond}
+use Rattle.std.proofs.Common.{Option, Some, None, String, Global, refl, sym, ap, ◌∙◌, map, arith}
 use Rattle.std.proofs.Common.{string_bytes, option_map, slice_get}
 use Rattle.std.specs.Map.{lookup}
 use Rattle.std.specs.List.{position, position_from}
@@ -10,50 +10,66 @@ use Rattle.std.specs.String.{string_eq}
 use Rattle.std.proofs.lemmas.Option.{slice_get-map}
 use Rattle.indexmap.specs.IndexMap.{insert_entry}
 use Rattle.cam6_machine.specs.Effects.{with_rule}
-use Rattle.cam6_machine.specs.Rules.{Rule, rules_of, place_from, place_of, wiring_of, rule_at}
+use Rattle.cam6_machine.specs.Rules.{Rule, rule_named, wiring_for, wiring_of}
+use Rattle.cam6_machine.specs.Places.{rules_of, place_of, rule_at}
 use Rattle.cam6_machine.specs.declared.rules.KeptRule.{KeptRule}
 
 -- whether a key of the map is this name
 abbrev pub is_name : List ℕ → String Global → Bool
 is_name name key = bytes_eq name (string_bytes key)
 
-pub wiring_of-rules_of : (name : List ℕ) (es : List (String Global × KeptRule)) →
+-- a rule as it is listed
+abbrev pub listed : String Global × KeptRule → Rule
+listed e = record { name = string_bytes e.0; wiring = e.1.wiring; text = e.1.text }
+
+pub rule_named-rules_of : (name : List ℕ) (es : List (String Global × KeptRule)) →
     option_map (λ (r : KeptRule). r.wiring) (lookup (is_name name) es)
     ≡ wiring_of name (rules_of es)
-wiring_of-rules_of name [] = refl
-wiring_of-rules_of name (e ∷ es) =
-    found (bytes_eq name (string_bytes e.0)) (wiring_of-rules_of name es)
+rule_named-rules_of name [] = refl
+rule_named-rules_of name (e ∷ es) =
+    found (bytes_eq name (string_bytes e.0)) (rule_named-rules_of name es)
   where
     found : (b : Bool)
         → option_map (λ (r : KeptRule). r.wiring) (lookup (is_name name) es)
         ≡ wiring_of name (rules_of es)
         → option_map (λ (r : KeptRule). r.wiring) (cond b (Some e.1) (lookup (is_name name) es))
-        ≡ cond b (Some e.1.wiring) (wiring_of name (rules_of es))
+        ≡ wiring_for (cond b (Some (listed e)) (rule_named name (rules_of es)))
     found true h = refl
     found false h = h
 
+-- a place that is counted from i on
+counted : ℕ → Option ℕ → Option ℕ
+counted i = option_map (λ place. i + place)
+
 place_from-rules_of : (i : ℕ) (name : List ℕ) (es : List (String Global × KeptRule)) →
-    position_from (is_name name) i (map (λ e. e.0) es) ≡ place_from i name (rules_of es)
+    position_from (is_name name) i (map (λ e. e.0) es) ≡ counted i (place_of name (rules_of es))
+unfolding counted
 place_from-rules_of i name [] = refl
 place_from-rules_of i name (e ∷ es) =
     found (bytes_eq name (string_bytes e.0)) (place_from-rules_of (i + 1) name es)
   where
+    one_more : (o : Option ℕ) → counted (i + 1) o ≡ counted i (option_map suc o)
+    one_more None = refl
+    one_more (Some place) = ap Some (omega arith)
+
     found : (b : Bool)
         → position_from (is_name name) (i + 1) (map (λ e. e.0) es)
-        ≡ place_from (i + 1) name (rules_of es)
+        ≡ counted (i + 1) (place_of name (rules_of es))
         → cond b (Some i) (position_from (is_name name) (i + 1) (map (λ e. e.0) es))
-        ≡ cond b (Some i) (place_from (i + 1) name (rules_of es))
-    found true h = refl
-    found false h = h
+        ≡ counted i (cond b (Some 0) (option_map suc (place_of name (rules_of es))))
+    found true h = ap Some (omega arith)
+    found false h = h ∙ one_more (place_of name (rules_of es))
+
+counted_from_0 : (o : Option ℕ) → counted 0 o ≡ o
+unfolding counted
+counted_from_0 None = refl
+counted_from_0 (Some place) = ap Some (omega arith)
 
 pub place_of-rules_of : (name : List ℕ) (es : List (String Global × KeptRule)) →
     position (is_name name) (map (λ e. e.0) es) ≡ place_of name (rules_of es)
 place_of-rules_of name es =
-    position_from-zero (is_name name) (map (λ e. e.0) es) ∙ place_from-rules_of 0 name es
-
--- a rule as it is listed
-abbrev pub listed : String Global × KeptRule → Rule
-listed e = record { name = string_bytes e.0; wiring = e.1.wiring; text = e.1.text }
+    position_from-zero (is_name name) (map (λ e. e.0) es) ∙ place_from-rules_of 0 name es ∙
+    counted_from_0 (place_of name (rules_of es))
 
 pub rules_of-insert_entry : (es : List (String Global × KeptRule)) (k : String Global)
     (v : KeptRule) →

@@ -1,3 +1,6 @@
+pub mod Naming
+pub mod Along
+pub mod KeptNames
 pub mod FilledTables
 pub mod KeptRules
 pub mod PlaneTexts
@@ -7,3 +10,4 @@ pub mod MadeWords
 pub mod WrittenRows
 pub mod TrueSteps
 pub mod StepLaws
+pub mod Staying

@@ -10,12 +10,13 @@ use Rattle.cam6_wiring.specs.declared.names.Half.{Half}
 use Rattle.cam6_wiring.specs.declared.names.Half.TheVariants.{A, B}
 use Rattle.cam6_wiring.specs.declared.names.Level.{Level}
 use Rattle.cam6_wiring.specs.declared.names.Level.TheVariants.{Lower, Upper}
-use Rattle.cam6_machine.specs.Rules.{rule_at}
-use Rattle.cam6_machine.specs.Steps.{new_cell, on_plane, place_for, setting_for}
+use Rattle.cam6_machine.specs.Steps.{new_cell}
+use Rattle.cam6_wiring.specs.Name.{on_plane}
+use Rattle.cam6_machine.specs.Cycles.{rule_for, setting_for}
 use Rattle.cam6_machine.specs.Machine.{Machine, stepped_by, stepped, steps}
 use Rattle.cam6_machine.specs.Laws.{KeepsItsPlanes, StepsAddUp}
 use Rattle.cam6_machine.specs.Laws.{OnlyPlanesAndPosition, PositionGoesRound}
-use Rattle.cam6_machine.specs.declared.cycles.Entry.{Entry}
+use Rattle.cam6_machine.specs.declared.commands.NamedEntry.{NamedEntry}
 
 plane_of-lt : (half : Half) (level : Level) → plane_of half level < 4
 plane_of-lt A Lower = omega arith
@@ -30,17 +31,21 @@ on_plane-of A Upper bit = refl
 on_plane-of B Lower bit = refl
 on_plane-of B Upper bit = refl
 
-setting-half : (half : Half) (entry : Entry) → (setting_for half entry).half ≡ half
-setting-half half entry = refl
-
 pub keeps_its_planes : KeepsItsPlanes
-keeps_its_planes s rules entry f half level x y h k none =
+keeps_its_planes s entry f half level x y h k none =
+    let bit : Half → Level → Bool = λ half level.
+    new_cell s f (setting_for half entry) (rule_for half entry) level x y in
     let new : Cells = λ p x y. on_plane p (λ half level.
-    new_cell s f (setting_for half entry) (rule_at rules (place_for half entry)) level x y) in
+    new_cell s f (setting_for half entry) (rule_for half entry) level x y) in
     torus_at s new (plane_of half level) x y (plane_of-lt half level) h k ∙
-    on_plane-of half level (λ half level.
-    new_cell s f (setting_for half entry) (rule_at rules (place_for half entry)) level x y) ∙
-    ap (λ place. new_cell s f (setting_for half entry) (rule_at rules place) level x y) none
+    on_plane-of half level bit ∙
+    ap (λ rule. new_cell s f (setting_for half entry) rule level x y) none ∙
+    kept half level
+  where
+    kept : (half : Half) (level : Level) →
+        f (plane_of (setting_for half entry).half level) x y ≡ f (plane_of half level) x y
+    kept A level = refl
+    kept B level = refl
 
 pub steps_add_up : StepsAddUp
 steps_add_up m first zero =
@@ -50,7 +55,7 @@ steps_add_up m first (suc later) =
     ap (λ n. steps n m) one_more ∙ ap stepped (steps_add_up m first later)
 
 -- a step changes these alone
-moved : (o : Option Entry) (m : Machine) →
+moved : (o : Option NamedEntry) (m : Machine) →
     stepped_by o m
     ≡ record m { planes = (stepped_by o m).planes; position = (stepped_by o m).position }
 moved None m = refl
@@ -67,8 +72,8 @@ only_planes_and_position m (suc n) =
     (only_planes_and_position m n)
 
 -- an entry stands at each place of the cycle
-at_place : (cycle : List Entry) (place : ℕ) → place < length cycle →
-    (entry : Entry) × (slice_get cycle place ≡ Some entry)
+at_place : (cycle : List NamedEntry) (place : ℕ) → place < length cycle →
+    (entry : NamedEntry) × (slice_get cycle place ≡ Some entry)
 at_place [] place within = absurd (omega (arith, within))
 at_place (entry ∷ cycle) zero within = (entry, refl)
 at_place (entry ∷ cycle) (suc place) within = at_place cycle place (omega (arith, within))

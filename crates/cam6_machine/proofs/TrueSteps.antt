@@ -13,10 +13,12 @@ use Rattle.cam6_wiring.specs.declared.names.Level.TheVariants.{Lower, Upper}
 use Rattle.cam6_wiring.specs.declared.neighbours.Setting.{Setting}
 use Rattle.cam6_forth.specs.Trees.{tree_of}
 use Rattle.cam6_table.proofs.TrueTables.{true_table}
-use Rattle.cam6_machine.specs.Rules.{Rule, rule_at, wiring_for, wiring_at}
-use Rattle.cam6_machine.specs.Steps.{new_bit, new_cell, on_plane, place_for, setting_for, step}
-use Rattle.cam6_machine.specs.ByTables.{IsTableFor, ArePair, bit_by_table}
-use Rattle.cam6_machine.specs.declared.cycles.Entry.{Entry}
+use Rattle.cam6_machine.specs.Rules.{Rule, wiring_for}
+use Rattle.cam6_machine.specs.Steps.{new_bit, new_cell, step}
+use Rattle.cam6_wiring.specs.Name.{on_plane}
+use Rattle.cam6_machine.specs.Cycles.{EntryRules, rule_for, setting_for}
+use Rattle.cam6_machine.specs.ByTables.{IsTableFor, ArePair}
+use Rattle.cam6_table.specs.NewBits.{bit_by_table}
 use Rattle.cam6_machine.specs.declared.tables.TablePair.{TablePair}
 
 -- a cell's new bit by a true table is the one by the words of the rule
@@ -31,31 +33,30 @@ new_cell-by_table s f setting (Some rule) entries level x y table =
     table.rule table.holds))
 
 -- the new bits of a half
-abbrev pub IsHalf : ℕ → List Rule → Entry → Half → List ℕ → Cells → Cells → Type 0
-IsHalf s rules entry half entries old new =
+abbrev pub IsHalf : ℕ → EntryRules → Half → List ℕ → Cells → Cells → Type 0
+IsHalf s entry half entries old new =
     (level : Level) (x y : ℕ) → x < s → y < s →
     new (plane_of half level) x y
-    ≡ bit_by_table s old (setting_for half entry) (wiring_at rules (place_for half entry))
+    ≡ bit_by_table s old (setting_for half entry) (wiring_for (rule_for half entry))
     entries level x y
 
-module _ (s : ℕ) (rules : List Rule) (entry : Entry) (old : Cells) where
+module _ (s : ℕ) (entry : EntryRules) (old : Cells) where
   -- the new bit of a half's plane
   abbrev new_of : Half → Level → ℕ → ℕ → Bool
   new_of half level x y =
-      new_cell s old (setting_for half entry) (rule_at rules (place_for half entry)) level x y
+      new_cell s old (setting_for half entry) (rule_for half entry) level x y
 
   half_at : (half : Half) (entries : List ℕ) (new : Cells) →
-      IsTableFor (rule_at rules (place_for half entry)) entries →
-      IsHalf s rules entry half entries old new →
+      IsTableFor (rule_for half entry) entries → IsHalf s entry half entries old new →
       (level : Level) (x y : ℕ) → x < s → y < s →
       new (plane_of half level) x y ≡ new_of half level x y
   half_at half entries new table written level x y h k =
       written level x y h k ∙
-      new_cell-by_table s old (setting_for half entry) (rule_at rules (place_for half entry))
+      new_cell-by_table s old (setting_for half entry) (rule_for half entry)
       entries level x y table
 
-  plane_at : (pair : TablePair) (new : Cells) → ArePair rules entry pair →
-      IsHalf s rules entry A pair.a old new → IsHalf s rules entry B pair.b old new →
+  plane_at : (pair : TablePair) (new : Cells) → ArePair entry pair →
+      IsHalf s entry A pair.a old new → IsHalf s entry B pair.b old new →
       (p x y : ℕ) → p < 4 → x < s → y < s →
       new p x y ≡ on_plane p (λ half level. new_of half level x y)
   plane_at pair new tables a b zero x y h k l =
@@ -70,8 +71,8 @@ module _ (s : ℕ) (rules : List Rule) (entry : Entry) (old : Cells) where
 
   -- planes whose two halves are written by true tables are those after the step
   pub stepped_planes : (pair : TablePair) (new : Stored) → 0 < s → new.side ≡ s →
-      ArePair rules entry pair → IsHalf s rules entry A pair.a old (cells new) →
-      IsHalf s rules entry B pair.b old (cells new) → cells new ≡ step s rules entry old
+      ArePair entry pair → IsHalf s entry A pair.a old (cells new) →
+      IsHalf s entry B pair.b old (cells new) → cells new ≡ step s entry old
   stepped_planes pair new some side tables a b =
       let within : (p x y : ℕ) → p < 4 → x < s → y < s →
       stored_bit new.rows p x y ≡ on_plane p (λ half level. new_of half level x y) =

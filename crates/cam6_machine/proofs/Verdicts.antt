@@ -3,19 +3,19 @@ use Rattle.std.proofs.Common.{◌≡◌, ℕ, List, slice_index, Some, None, Opt
 use Rattle.std.proofs.Common.{IsOk, refl, sym, ap, subst, ◌∙◌}
 use Rattle.cam6_wiring.specs.declared.wirings.Wiring.{Wiring}
 use Rattle.cam6_forth.specs.Defined.{RuleWords}
-use Rattle.cam6_forth.specs.Outcome.{Answers, IsAccepted}
+use Rattle.cam6_forth.specs.Outcome.{IsReadAs, IsAccepted}
 use Rattle.cam6_forth.specs.Reading.{read_text}
 use Rattle.cam6_forth.specs.Texts.{IsTextOf}
 use Rattle.cam6_forth.specs.Tree.{rule_of}
 use Rattle.cam6_forth.specs.Trees.{tree_of}
 use Rattle.cam6_forth.proofs.OneTree.{tree_is_read}
-use Rattle.cam6_table.specs.Codes.{answer, IsCodeOf}
+use Rattle.cam6_table.specs.Codes.{result_at, IsCodeOf}
 use Rattle.cam6_table.specs.Meaning.{at_address}
-use Rattle.cam6_table.specs.Tables.{AreEntries, IsFirstFault, least_stop}
+use Rattle.cam6_table.specs.Tables.{AreEntries, IsLeastStop, least_stop}
 use Rattle.cam6_table.specs.declared.codes.Instruction.{Instruction}
 use Rattle.cam6_table.specs.declared.faults.RuleFault.{RuleFault}
 use Rattle.cam6_table.proofs.Stops.{least_is_found, none_is_found}
-use Rattle.cam6_machine.specs.ByTables.{IsCodeFor}
+use Rattle.cam6_table.specs.RuleTexts.{IsCodeFor}
 use Rattle.cam6_machine.specs.Refusals.{or_then, text_refusal, stop_refusal, words_refusal}
 use Rattle.cam6_machine.specs.declared.replies.Reply.{Reply}
 use Rattle.cam6_machine.specs.declared.replies.Reply.TheVariants as reply
@@ -23,13 +23,13 @@ use Rattle.cam6_machine.specs.declared.replies.Reply.TheVariants as reply
 -- code of the rule that a text spells, which was not tried yet
 pub record IsUntried (wiring : Wiring) (text : List ℕ) (code : List Instruction) : Type 0 where
   pub spells : IsTextOf wiring (tree_of text) text
-  pub means : (address : ℕ) → answer code address ≡ at_address wiring (tree_of text) address
+  pub means : (address : ℕ) → result_at code address ≡ at_address wiring (tree_of text) address
   pub read : text_refusal (read_text wiring text) ≡ None
 
 -- the code of a rule that was read from the text
 pub untried : (wiring : Wiring) (shown text : List ℕ) (rule : RuleWords)
     (code : List Instruction) → shown ≡ text → IsAccepted wiring shown (Ok rule) →
-    Answers (read_text wiring shown) wiring (Ok rule) → IsCodeOf code rule →
+    IsReadAs (read_text wiring shown) wiring (Ok rule) → IsCodeOf code rule →
     IsUntried wiring text code
 untried wiring shown text rule code is_text accepted exact is =
     let parts = accepted.0 in
@@ -48,12 +48,12 @@ is_entry said entry e = subst (λ (r : Result ℕ RuleFault). IsOk r) (sym e) re
 
 -- code that made a table stops nowhere
 pub tried : (wiring : Wiring) (text : List ℕ) (code : List Instruction) (entries : List ℕ) →
-    IsUntried wiring text code → AreEntries (answer code) entries → IsCodeFor wiring text code
+    IsUntried wiring text code → AreEntries (result_at code) entries → IsCodeFor wiring text code
 tried wiring text code entries is are = record {
   spells = is.spells;
   means = is.means;
   runs = λ address within.
-      is_entry (answer code address) (slice_index entries address) (are address within);
+      is_entry (result_at code address) (slice_index entries address) (are address within);
 }
 
 -- a text that was read is refused where its code stops
@@ -77,7 +77,7 @@ accepted wiring text code is tried =
 -- one whose code stops is refused with the least address and the fault there
 pub refused : (wiring : Wiring) (text : List ℕ) (code : List Instruction)
     (address : ℕ) (fault : RuleFault) → IsUntried wiring text code →
-    IsFirstFault (answer code) address fault →
+    IsLeastStop (result_at code) address fault →
     words_refusal wiring text ≡ Some (reply.RuleStops address fault)
 refused wiring text code address fault is first =
     by_stop wiring text code (Some (address, fault)) is

@@ -13,7 +13,7 @@ use Rattle.cam6_wiring.specs.declared.names.Level.{Level}
 use Rattle.cam6_wiring.specs.declared.names.Level.TheVariants.{Lower, Upper}
 use Rattle.cam6_wiring.specs.declared.neighbours.Setting.{Setting}
 use Rattle.cam6_wiring.specs.declared.wirings.Wiring.{Wiring}
-use Rattle.cam6_machine.specs.ByTables.{bit_by_table}
+use Rattle.cam6_table.specs.NewBits.{bit_by_table}
 
 -- the new bits by a table in the columns of word i of row y
 abbrev pub word_by_table : Stored → Setting → Wiring → List ℕ → Level → ℕ → ℕ → ℕ → Bool

@@ -2,7 +2,7 @@
 use Rattle.std.specs.Prelude.{ℕ, zero, suc, List, [], ◌∷◌, Option, Some, None}
 use Rattle.cam6_machine.specs.Machine.{Machine}
 use Rattle.cam6_machine.specs.Refusals.{refusal}
-use Rattle.cam6_machine.specs.Effects.{answer, effect}
+use Rattle.cam6_machine.specs.Effects.{accepted_reply, effect}
 use Rattle.cam6_machine.specs.declared.commands.Command.{Command}
 use Rattle.cam6_machine.specs.declared.commands.Command.TheVariants.{Run}
 use Rattle.cam6_machine.specs.declared.commands.Direction.{Direction}
@@ -16,7 +16,7 @@ if_refused (Some r) refused accepted = refused r
 
 -- the reply to a command
 abbrev pub reply : Machine → Command → Reply
-reply m c = if_refused (refusal m c) (λ r. r) (answer m c)
+reply m c = if_refused (refusal m c) (λ r. r) (accepted_reply m c)
 
 -- the machine after a command; one that is refused leaves it
 abbrev pub after : Machine → Command → Machine
@@ -40,3 +40,7 @@ some_steps (suc n) = Some (suc n, Forward)
 abbrev pub work_of : Machine → Command → Option (ℕ × Direction)
 work_of m (Run n) = if_refused (refusal m (Run n)) (λ r. None) (some_steps n)
 work_of m c = None
+
+-- the command of which so many steps are the work
+abbrev pub command_of : ℕ → Direction → Command
+command_of n Forward = Run n

@@ -5,7 +5,6 @@ use Rattle.std.specs.Str.{bytes_eq}
 use Rattle.cam6_planes.specs.Row.{byte_column, row_text}
 use Rattle.cam6_planes.specs.Cells.{Cells, with_row}
 use Rattle.cam6_machine.specs.Rules.{Rule}
-use Rattle.cam6_machine.specs.Cycles.{placed_entry}
 use Rattle.cam6_machine.specs.Machine.{Machine, steps}
 use Rattle.cam6_machine.specs.declared.commands.Command.{Command}
 use Rattle.cam6_machine.specs.declared.commands.Command.TheVariants.{Set, Rule as SetRule}
@@ -26,12 +25,12 @@ with_rule new (rule ∷ rules) =
     else rule ∷ with_rule new rules
 
 -- the reply to a command that is not refused
-abbrev pub answer : Machine → Command → Reply
-answer m (Set plane row bits) = reply.Set
-answer m (SetRule name half hood minor text) = reply.Rule
-answer m (Cycle entries) = reply.Cycle
-answer m (Run n) = reply.Run (steps n m).position
-answer m (Plane plane) = reply.Plane (plane_rows m.side (m.side / 4) m.planes plane)
+abbrev pub accepted_reply : Machine → Command → Reply
+accepted_reply m (Set plane row bits) = reply.Set
+accepted_reply m (SetRule name half hood minor text) = reply.Rule
+accepted_reply m (Cycle entries) = reply.Cycle
+accepted_reply m (Run n) = reply.Run (steps n m).position
+accepted_reply m (Plane plane) = reply.Plane (plane_rows m.side (m.side / 4) m.planes plane)
 
 -- the machine after it
 abbrev pub effect : Machine → Command → Machine
@@ -45,7 +44,6 @@ effect m (SetRule name half hood minor text) =
         text = text;
       }) m.rules;
     }
-effect m (Cycle entries) =
-    record m { cycle = map (placed_entry m.rules) entries; position = 0 }
+effect m (Cycle entries) = record m { cycle = entries; position = 0 }
 effect m (Run n) = steps n m
 effect m (Plane plane) = m

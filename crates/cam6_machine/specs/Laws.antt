@@ -1,20 +1,26 @@
--- What follows of steps.
-use Rattle.std.specs.Prelude.{◌≡◌, ℕ, ◌+◌, ◌<◌, ◌%◌, List, length, None}
+-- What follows of steps, and what a machine always is.
+use Rattle.std.specs.Prelude.{◌≡◌, ℕ, ◌+◌, ◌<◌, ◌%◌, List, length, Some, None, IsOk}
+use Rattle.std.specs.List.{AllByRecursion}
 use Rattle.cam6_planes.specs.Cells.{Cells}
 use Rattle.cam6_wiring.specs.Name.{plane_of}
+use Rattle.cam6_wiring.specs.Seen.{Sees}
 use Rattle.cam6_wiring.specs.declared.names.Half.{Half}
 use Rattle.cam6_wiring.specs.declared.names.Level.{Level}
 use Rattle.cam6_machine.specs.Rules.{Rule}
-use Rattle.cam6_machine.specs.Steps.{place_for, step}
-use Rattle.cam6_machine.specs.Machine.{Machine, steps}
-use Rattle.cam6_machine.specs.declared.cycles.Entry.{Entry}
+use Rattle.cam6_machine.specs.Cycles.{EntryRules, name_for, entry_rules, rule_for}
+use Rattle.cam6_machine.specs.Steps.{words_mean, step}
+use Rattle.cam6_machine.specs.Machine.{Machine, blank, steps}
+use Rattle.cam6_machine.specs.Always.{IsMachine}
+use Rattle.cam6_machine.specs.Alone.{after}
+use Rattle.cam6_machine.specs.declared.commands.Command.{Command}
+use Rattle.cam6_machine.specs.declared.commands.NamedEntry.{NamedEntry}
 
 -- a half without a rule keeps its planes
 abbrev pub KeepsItsPlanes : Type 0
 KeepsItsPlanes =
-    (s : ℕ) (rules : List Rule) (entry : Entry) (f : Cells) (half : Half) (level : Level)
-    (x y : ℕ) → x < s → y < s → place_for half entry ≡ None →
-    step s rules entry f (plane_of half level) x y ≡ f (plane_of half level) x y
+    (s : ℕ) (entry : EntryRules) (f : Cells) (half : Half) (level : Level) (x y : ℕ) →
+    x < s → y < s → rule_for half entry ≡ None →
+    step s entry f (plane_of half level) x y ≡ f (plane_of half level) x y
 
 -- after some steps more come all of them together
 abbrev pub StepsAddUp : Type 0
@@ -33,3 +39,22 @@ abbrev pub PositionGoesRound : Type 0
 PositionGoesRound =
     (m : Machine) (n : ℕ) → m.position < length m.cycle →
     (steps n m).position ≡ (m.position + n) % length m.cycle
+
+-- the blank machine is a machine
+abbrev pub BlankIsMachine : Type 0
+BlankIsMachine = IsMachine blank
+
+-- and so is a machine after any command
+abbrev pub StaysMachine : Type 0
+StaysMachine = (m : Machine) (c : Command) → IsMachine m → IsMachine (after m c)
+
+-- a name that an entry has for a half is a rule's, which stops nowhere, whatever is seen
+abbrev pub IsRuled : Machine → NamedEntry → Type 0
+IsRuled m entry =
+    (half : Half) (name : List ℕ) → name_for half entry ≡ Some name →
+    (rule : Rule) × (rule_for half (entry_rules m.rules entry) ≡ Some rule) ×
+    ((sees : Sees) → IsOk (words_mean rule sees))
+
+-- so it is with each entry of a machine's cycle
+abbrev pub RulesRun : Type 0
+RulesRun = (m : Machine) → IsMachine m → AllByRecursion (IsRuled m) m.cycle

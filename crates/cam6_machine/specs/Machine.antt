@@ -2,10 +2,12 @@
 use Rattle.std.specs.Prelude.{ℕ, zero, suc, ◌+◌, ◌%◌, List, [], ◌∷◌, length, Option, Some, None}
 use Rattle.std.specs.List.{slice_get}
 use Rattle.cam6_planes.specs.Cells.{Cells, cells, no_cells}
+use Rattle.cam6_machine.specs.Limits as limit
 use Rattle.cam6_machine.specs.Rules.{Rule}
+use Rattle.cam6_machine.specs.Cycles.{entry_rules}
 use Rattle.cam6_machine.specs.Steps.{step}
-use Rattle.cam6_machine.specs.Kept.{Kept}
-use Rattle.cam6_machine.specs.declared.cycles.Entry.{Entry}
+use Rattle.cam6_machine.specs.Stored.{StoredMachine}
+use Rattle.cam6_machine.specs.declared.commands.NamedEntry.{NamedEntry}
 
 -- four planes on a torus of so many rows and columns, rules in their order, the cycle's entries
 -- with a position among them, and a colour for each of the sixteen states of a cell; no entries: no
@@ -14,7 +16,7 @@ pub record Machine : Type 0 where
   pub side : ℕ
   pub planes : Cells
   pub rules : List Rule
-  pub cycle : List Entry
+  pub cycle : List NamedEntry
   pub position : ℕ
   pub colours : List ℕ
 
@@ -26,7 +28,7 @@ own_colours =
 -- a machine to begin with: no cell is set, and there are no rules and no cycle
 abbrev pub blank : Machine
 blank = record {
-  side = 256;
+  side = limit.side;
   planes = no_cells;
   rules = [];
   cycle = [];
@@ -35,11 +37,11 @@ blank = record {
 }
 
 -- one step by this entry; the position moves on by one, round the cycle
-abbrev pub stepped_by : Option Entry → Machine → Machine
+abbrev pub stepped_by : Option NamedEntry → Machine → Machine
 stepped_by None m = m
 stepped_by (Some entry) m =
     record m {
-      planes = step m.side m.rules entry m.planes;
+      planes = step m.side (entry_rules m.rules entry) m.planes;
       position = (m.position + 1) % length m.cycle;
     }
 
@@ -52,13 +54,13 @@ abbrev pub steps : ℕ → Machine → Machine
 steps zero m = m
 steps (suc n) m = stepped (steps n m)
 
--- the machine that is kept
-abbrev pub machine_of : Kept → Machine
-machine_of kept = record {
-  side = kept.planes.side;
-  planes = cells kept.planes;
-  rules = kept.rules;
-  cycle = kept.cycle;
-  position = kept.position;
-  colours = kept.colours;
+-- the machine that is stored
+abbrev pub machine_of : StoredMachine → Machine
+machine_of stored = record {
+  side = stored.planes.side;
+  planes = cells stored.planes;
+  rules = stored.rules;
+  cycle = stored.cycle;
+  position = stored.position;
+  colours = stored.colours;
 }

@@ -1,7 +1,8 @@
 -- When a command is refused, and with which reply.
-use Rattle.std.specs.Prelude.{ℕ, Bool, true, false, ◌&&◌, ◌||◌, ◌==◌, List, [], ◌∷◌, length}
+use Rattle.std.specs.Prelude.{ℕ, Bool, true, false, ◌&&◌, ◌||◌, List, [], ◌∷◌, length}
 use Rattle.std.specs.Prelude.{nat_le, nat_lt, Option, Some, None, Result, Ok, Err, if◌then◌else◌}
 use Rattle.std.specs.List.{list_all, list_any}
+use Rattle.std.specs.Str.{bytes_eq}
 use Rattle.cam6_wiring.specs.declared.names.Half.{Half}
 use Rattle.cam6_wiring.specs.declared.names.Half.TheVariants as half
 use Rattle.cam6_wiring.specs.declared.wirings.Wiring.{Wiring}
@@ -11,9 +12,9 @@ use Rattle.cam6_forth.specs.Trees.{tree_of}
 use Rattle.cam6_table.specs.declared.faults.RuleFault.{RuleFault}
 use Rattle.cam6_table.specs.Meaning.{at_address}
 use Rattle.cam6_table.specs.Tables.{least_stop}
-use Rattle.cam6_machine.specs.Rules.{Rule, place_of, wiring_of, is_rule_name}
+use Rattle.cam6_machine.specs.Limits.{max_rules, max_entries, max_steps}
+use Rattle.cam6_machine.specs.Rules.{Rule, rule_named, wiring_of, is_rule_name}
 use Rattle.cam6_machine.specs.Machine.{Machine}
-use Rattle.cam6_machine.specs.declared.cycles.Entry.{Entry}
 use Rattle.cam6_machine.specs.declared.commands.NamedEntry.{NamedEntry}
 use Rattle.cam6_machine.specs.declared.commands.Command.{Command}
 use Rattle.cam6_machine.specs.declared.commands.Command.TheVariants.{Set, Rule as SetRule}
@@ -39,33 +40,36 @@ set_refusal s plane row = unless (nat_lt plane 4 && nat_lt row s) OutOfRange
 abbrev pub plane_refusal : ℕ → Option Fault
 plane_refusal plane = unless (nat_lt plane 4) OutOfRange
 
-abbrev pub some_cycle : List Entry → Option Fault
+abbrev pub some_cycle : List NamedEntry → Option Fault
 some_cycle [] = Some NoCycle
 some_cycle (entry ∷ entries) = None
 
 -- at most 65,535 steps, and then a cycle
-abbrev pub run_refusal : List Entry → ℕ → Option Fault
-run_refusal cycle n = or_then (unless (nat_le n 65535) OutOfRange) (some_cycle cycle)
+abbrev pub run_refusal : List NamedEntry → ℕ → Option Fault
+run_refusal cycle n = or_then (unless (nat_le n max_steps) OutOfRange) (some_cycle cycle)
 
-abbrev pub is_place : ℕ → Option ℕ → Bool
-is_place place None = false
-is_place place (Some other) = other == place
+-- whether a name that an entry has, if it has one, is this one
+abbrev pub is_name : List ℕ → Option (List ℕ) → Bool
+is_name name None = false
+is_name name (Some other) = bytes_eq other name
 
--- whether an entry names the rule at this place
-abbrev pub uses : ℕ → Entry → Bool
-uses place entry = is_place place entry.a || is_place place entry.b
+-- whether an entry names this rule
+abbrev pub uses : List ℕ → NamedEntry → Bool
+uses name entry = is_name name entry.a || is_name name entry.b
 
-abbrev pub is_used : List Entry → ℕ → Bool
-is_used cycle place = list_any (uses place) cycle
+abbrev pub is_used : List NamedEntry → List ℕ → Bool
+is_used cycle name = list_any (uses name) cycle
 
--- a rule that the cycle uses stays; a new one wants a place among sixteen
-abbrev pub place_refusal : List Rule → List Entry → Option ℕ → Option Fault
-place_refusal rules cycle (Some place) = if is_used cycle place then Some RuleInUse else None
-place_refusal rules cycle None = if nat_le 16 (length rules) then Some TooManyRules else None
+-- a rule that is there and that the cycle uses stays; a new one must be among sixteen
+abbrev pub room_refusal : List Rule → List NamedEntry → List ℕ → Option Rule → Option Fault
+room_refusal rules cycle name (Some rule) = if is_used cycle name then Some RuleInUse else None
+room_refusal rules cycle name None =
+    if nat_le max_rules (length rules) then Some TooManyRules else None
 
-abbrev pub rule_refusal : List Rule → List Entry → List ℕ → Option Fault
+abbrev pub rule_refusal : List Rule → List NamedEntry → List ℕ → Option Fault
 rule_refusal rules cycle name =
-    if is_rule_name name then place_refusal rules cycle (place_of name rules) else Some OutOfRange
+    if is_rule_name name then room_refusal rules cycle name (rule_named name rules)
+    else Some OutOfRange
 
 -- phases are 0 to 3
 abbrev pub have_phases : List NamedEntry → Bool
@@ -74,12 +78,13 @@ have_phases entries = list_all (λ entry. nat_lt entry.phase 4) entries
 -- 1 to 16 entries, each with a phase
 abbrev pub is_cycle : List NamedEntry → Bool
 is_cycle entries =
-    nat_le 1 (length entries) && nat_le (length entries) 16 && have_phases entries
+    nat_le 1 (length entries) && nat_le (length entries) max_entries && have_phases entries
 
 abbrev pub is_of : Half → Half → Bool
 is_of half.A half.A = true
+is_of half.A half.B = false
+is_of half.B half.A = false
 is_of half.B half.B = true
-is_of _ _ = false
 
 -- a name must be a rule's, and the rule one of this half
 abbrev pub wiring_refusal : Half → Option Wiring → Option Fault

@@ -1,27 +1,18 @@
 -- What a cell becomes by the words of its rule, and one step of all cells.
-use Rattle.std.specs.Prelude.{ℕ, zero, suc, ◌/◌, Bool, false, List}
-use Rattle.std.specs.Prelude.{Option, Some, None, Result, Ok, Err}
+use Rattle.std.specs.Prelude.{ℕ, Bool, false, Option, Some, None, Result, Ok, Err}
 use Rattle.cam6_planes.specs.Cells.{Cells, torus}
-use Rattle.cam6_wiring.specs.Name.{plane_of}
+use Rattle.cam6_wiring.specs.Name.{plane_of, on_plane}
 use Rattle.cam6_wiring.specs.Seen.{Sees, seen}
-use Rattle.cam6_wiring.specs.declared.names.Half.{Half}
-use Rattle.cam6_wiring.specs.declared.names.Half.TheVariants.{A, B}
 use Rattle.cam6_wiring.specs.declared.names.Level.{Level}
-use Rattle.cam6_wiring.specs.declared.names.Level.TheVariants.{Lower, Upper}
 use Rattle.cam6_wiring.specs.declared.neighbours.Setting.{Setting}
 use Rattle.cam6_forth.specs.Trees.{tree_of}
 use Rattle.cam6_table.specs.declared.faults.RuleFault.{RuleFault}
 use Rattle.cam6_table.specs.Meaning.{meaning}
-use Rattle.cam6_table.specs.Outputs.{is_odd}
-use Rattle.cam6_machine.specs.Rules.{Rule, rule_at}
-use Rattle.cam6_machine.specs.declared.cycles.Entry.{Entry}
+use Rattle.cam6_table.specs.NewBits.{bit_for}
+use Rattle.cam6_machine.specs.Rules.{Rule}
+use Rattle.cam6_machine.specs.Cycles.{EntryRules, rule_for, setting_for}
 
--- of two new bits, the lowest is the lower plane's and the next the upper plane's
-abbrev pub bit_for : Level → ℕ → Bool
-bit_for Lower bits = is_odd bits
-bit_for Upper bits = is_odd (bits / 2)
-
--- the new bit that a rule makes; a rule that is kept stops nowhere
+-- the new bit that a rule makes; a rule of a machine stops nowhere
 abbrev pub new_bit : Level → Result ℕ RuleFault → Bool
 new_bit level (Ok bits) = bit_for level bits
 new_bit level (Err fault) = false
@@ -37,25 +28,9 @@ new_cell s f setting None level x y = f (plane_of setting.half level) x y
 new_cell s f setting (Some rule) level x y =
     new_bit level (words_mean rule (λ name. seen s f setting name x y))
 
--- where an entry has the rule of a half
-abbrev pub place_for : Half → Entry → Option ℕ
-place_for A entry = entry.a
-place_for B entry = entry.b
-
--- an entry's grid and phase, for a half
-abbrev pub setting_for : Half → Entry → Setting
-setting_for half entry = record { half = half; grid = entry.grid; phase = entry.phase }
-
--- a bit for each of the four planes from a bit for each plane of a half
-abbrev pub on_plane : ℕ → (Half → Level → Bool) → Bool
-on_plane zero bit = bit A Lower
-on_plane (suc zero) bit = bit A Upper
-on_plane (suc (suc zero)) bit = bit B Lower
-on_plane (suc (suc (suc p))) bit = bit B Upper
-
 -- one step by an entry: every cell of both halves takes its new bits at once, read from f, on a
 -- torus of s rows and columns
-abbrev pub step : ℕ → List Rule → Entry → Cells → Cells
-step s rules entry f =
+abbrev pub step : ℕ → EntryRules → Cells → Cells
+step s entry f =
     torus s (λ p x y. on_plane p (λ half level.
-    new_cell s f (setting_for half entry) (rule_at rules (place_for half entry)) level x y))
+    new_cell s f (setting_for half entry) (rule_for half entry) level x y))

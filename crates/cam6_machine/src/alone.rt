@@ -20,7 +20,7 @@ pub fn replies_alone(
     let mut machine = Machine::new(alloc)?;
     let mut replies = Vec::with_capacity(alloc, commands.len())?;
     for command in commands {
-        replies.push(machine.answer(command)?)?;
+        replies.push(machine.reply_to(command)?)?;
     }
     Ok((replies, machine))
 }

@@ -5,6 +5,9 @@ use crate::texts::Text;
 use cam6_wiring::{Grid, Half, Hood, Minor};
 use std::marker::Model;
 
+/// Steps that one command can do.
+pub const MAX_STEPS: u64 = 65_535;
+
 /// A command. Its numbers are checked by the machine.
 #[derive(Debug, Drop)]
 pub enum Command {

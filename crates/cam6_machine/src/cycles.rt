@@ -1,8 +1,8 @@
 //! A cycle: the entries that a run takes in turn.
 
 ghost use Rattle.std.specs.Prelude.{◌≡◌, IfOk, map};
-ghost use Rattle.cam6_machine.specs.Rules.{rules_of};
-ghost use Rattle.cam6_machine.specs.Cycles.{phase_of, placed, placed_entry};
+ghost use Rattle.cam6_machine.specs.Cycles.{phase_of};
+ghost use Rattle.cam6_machine.specs.Places.{rules_of, placed, placed_entry};
 
 use crate::commands::NamedEntry;
 use crate::rules::{KeptRule, place_of};

@@ -1,7 +1,8 @@
-//! What follows of the definition of steps. Each law is the contract of a function that does
-//! nothing.
+//! What follows of the definition of steps, and what a machine always is. Each law is the contract
+//! of a function that does nothing.
 ghost use Rattle.cam6_machine.specs.Laws.{KeepsItsPlanes, StepsAddUp};
 ghost use Rattle.cam6_machine.specs.Laws.{OnlyPlanesAndPosition, PositionGoesRound};
+ghost use Rattle.cam6_machine.specs.Laws.{BlankIsMachine, StaysMachine, RulesRun};
 
 /// A half without a rule keeps its planes.
 pub fn a_half_without_a_rule_keeps_its_planes()
@@ -21,4 +22,19 @@ pub fn steps_change_planes_and_position_alone()
 /// The position moves on by one with each step, round the cycle.
 pub fn the_position_goes_round()
     ensures law { PositionGoesRound }
+{}
+
+/// The blank machine is a machine: it is what a machine always is.
+pub fn the_blank_machine_is_one()
+    ensures law { BlankIsMachine }
+{}
+
+/// After any command a machine is still a machine.
+pub fn a_machine_stays_one()
+    ensures law { StaysMachine }
+{}
+
+/// The rules that a machine's cycle names are there, and stop nowhere, whatever is seen.
+pub fn the_rules_of_a_cycle_run()
+    ensures law { RulesRun }
 {}

@@ -28,7 +28,7 @@ mod tables;
 mod texts;
 
 pub use alone::replies_alone;
-pub use commands::{Command, Direction, NamedEntries, NamedEntry, Now};
+pub use commands::{Command, Direction, MAX_STEPS, NamedEntries, NamedEntry, Now};
 pub use cycles::{Entry, MAX_ENTRIES};
 pub use machines::Machine;
 pub use replies::{Fault, PlaneRows, Reply};

@@ -1,5 +1,5 @@
 //! A user's machine, and what each command does to it.
-ghost use Rattle.std.specs.Prelude.{◌≡◌, ◌<◌, ◌≤◌, All, IfOk, length};
+ghost use Rattle.std.specs.Prelude.{◌≡◌, ◌<◌, All, IfOk};
 ghost use Rattle.std.specs.Str.{IsAscii};
 ghost use Rattle.cam6_planes.specs.Cells.{cells};
 ghost use Rattle.cam6_planes.specs.declared.row.TheConstants.{SIDE};
@@ -39,43 +39,42 @@ pub struct Machine {
 }
 
 impl Model for Machine {
-    ghost use Rattle.std.specs.Prelude.{◌≡◌, ◌<◌, ◌≤◌, vec_len};
-    ghost use Rattle.cam6_machine.specs.Rules.{rules_of};
-    ghost use Rattle.cam6_machine.specs.Kept.{Kept};
+    ghost use Rattle.std.specs.Prelude.{◌≡◌, vec_len};
+    ghost use Rattle.cam6_machine.specs.Limits.{max_entries};
+    ghost use Rattle.cam6_machine.specs.Stored.{StoredMachine};
+    ghost use Rattle.cam6_machine.specs.Machine.{machine_of};
+    ghost use Rattle.cam6_machine.specs.Always.{IsMachine};
+    ghost use Rattle.cam6_machine.specs.Places.{rules_of, stored, ArePlaced};
 
-    ghost Value = { Kept };
+    ghost Value = { StoredMachine };
 
-    ghost view = { λ m. record {
-      planes = m.planes;
-      rules = rules_of m.rules.entries;
-      cycle = m.cycle.items;
-      position = m.position;
-      colours = m.colours;
-    } };
+    ghost view = { λ m.
+        stored m.planes (rules_of m.rules.entries) m.cycle.items m.position m.colours };
 
     ghost invariant = { λ m.
-        (m.planes.side ≡ 256) × (vec_len m.cycle ≤ 16)
-        × (0 < vec_len m.cycle → m.position < vec_len m.cycle) × (vec_len m.tables ≡ 16) };
+        IsMachine (machine_of
+        (stored m.planes (rules_of m.rules.entries) m.cycle.items m.position m.colours))
+        × ArePlaced (rules_of m.rules.entries) m.cycle.items × (vec_len m.tables ≡ max_entries) };
 }
 
 impl Machine {
-    ghost use Rattle.std.specs.Prelude.{◌≡◌, ◌<◌, ◌≤◌, ℕ, false, List, Some, IsOk, IfOk};
-    ghost use Rattle.std.specs.Prelude.{OnErr, length};
-    ghost use Rattle.cam6_machine.specs.Machine.{blank, steps, machine_of};
+    ghost use Rattle.std.specs.Prelude.{◌≡◌, ℕ, false, List, Some, None, IsOk, IfOk};
+    ghost use Rattle.std.specs.Prelude.{OnErr};
+    ghost use Rattle.cam6_machine.specs.Machine.{blank, machine_of};
     ghost use Rattle.cam6_machine.specs.Refusals.{refusal};
     ghost use Rattle.cam6_machine.specs.declared.replies.Fault.{Fault};
     ghost use Rattle.cam6_forth.specs.declared.faults.TextFault.{TextFault};
     ghost use Rattle.cam6_forth.specs.Reading.{keeps};
-    ghost use Rattle.cam6_machine.specs.Alone.{reply, after, work_of};
-    ghost use Rattle.cam6_machine.specs.Answers.{work_left, IsReplyTo, machine_after};
-    ghost use Rattle.cam6_machine.specs.Answers.{IsKeptBy, Keeps, CanWork};
+    ghost use Rattle.cam6_machine.specs.Alone.{reply, after, work_of, command_of};
+    ghost use Rattle.cam6_machine.specs.AtOnce.{work_left, IsReplyTo, machine_after};
+    ghost use Rattle.cam6_machine.specs.AtOnce.{IsLeftBy, Leaves, CanWork};
 
     /// A machine with blank planes, no rules and no cycle.
     pub fn new(alloc: Global) -> Result<Machine, NoMemory>
         ensures machine { IfOk result (λ m. machine_of m ≡ blank) }
     {
         let mut tables = Vec::with_capacity(alloc, MAX_ENTRIES)?;
-        for _place in 0..MAX_ENTRIES {
+        for _pair in 0..MAX_ENTRIES {
             tables.push(TablePair::blank(alloc)?)?;
         }
         Ok(Machine {
@@ -99,8 +98,8 @@ impl Machine {
         ensures reply { IfOk result (λ now. IsReplyTo now (machine_of self.old) command) }
         ensures machine { IfOk result (λ now.
             machine_of self.new ≡ machine_after now (machine_of self.old) command) }
-        ensures kept { IfOk result (λ now. Keeps now self.old self.new) }
-        ensures ready { IfOk result (λ now. CanWork now self.new) }
+        ensures left { IfOk result (λ now. Leaves now self.old self.new) }
+        ensures ready { IfOk result (λ now. CanWork now (machine_of self.new)) }
         ensures err { OnErr result (self.new ≡ self.old) }
         // Memory is wanted neither for a row or a run, nor where a number, a name or a cycle is
         // refused, nor for a text of which nothing is kept.
@@ -136,7 +135,7 @@ impl Machine {
         ensures reply { result ≡ reply (machine_of self.old) (Command.Set plane row bits.now) }
         ensures machine { machine_of self.new
             ≡ after (machine_of self.old) (Command.Set plane row bits.now) }
-        ensures kept { IsKeptBy result self.old self.new }
+        ensures left { IsLeftBy result self.old self.new }
     {
         let planes = &mut self.planes;
         if let Some(fault) = set_refusal(plane, row) {
@@ -151,7 +150,7 @@ impl Machine {
             (Command.Rule name wiring.half wiring.hood wiring.minor text)) }
         ensures machine { IfOk result (λ r. machine_of self.new ≡ after (machine_of self.old)
             (Command.Rule name wiring.half wiring.hood wiring.minor text)) }
-        ensures kept { IfOk result (λ r. IsKeptBy r self.old self.new) }
+        ensures left { IfOk result (λ r. IsLeftBy r self.old self.new) }
         ensures err { OnErr result (self.new ≡ self.old) }
         ensures refused { (fault : Fault) →
             refusal (machine_of self.old)
@@ -179,7 +178,7 @@ impl Machine {
             r ≡ reply (machine_of self.old) (Command.Cycle entries.now)) }
         ensures machine { IfOk result (λ r.
             machine_of self.new ≡ after (machine_of self.old) (Command.Cycle entries.now)) }
-        ensures kept { IfOk result (λ r. IsKeptBy r self.old self.new) }
+        ensures left { IfOk result (λ r. IsLeftBy r self.old self.new) }
         ensures err { OnErr result (self.new ≡ self.old) }
         ensures refused { (fault : Fault) →
             refusal (machine_of self.old) (Command.Cycle entries.now)
@@ -198,8 +197,8 @@ impl Machine {
         ensures reply { IsReplyTo result (machine_of self.now) (Command.Run n) }
         ensures machine { machine_of self.now
             ≡ machine_after result (machine_of self.now) (Command.Run n) }
-        ensures kept { Keeps result self.now self.now }
-        ensures ready { CanWork result self.now }
+        ensures left { Leaves result self.now self.now }
+        ensures ready { CanWork result (machine_of self.now) }
     {
         if let Some(fault) = run_refusal(&self.cycle, n) {
             return Now::Reply(Reply::Fault(fault));
@@ -216,7 +215,7 @@ impl Machine {
         ensures reply { IfOk result (λ r.
             r ≡ reply (machine_of self.now) (Command.Plane plane)) }
         ensures machine { machine_of self.now ≡ after (machine_of self.now) (Command.Plane plane) }
-        ensures kept { IfOk result (λ r. IsKeptBy r self.now self.now) }
+        ensures left { IfOk result (λ r. IsLeftBy r self.now self.now) }
         ensures refused { (fault : Fault) →
             refusal (machine_of self.now) (Command.Plane plane)
             ≡ Some (Reply.Fault fault) → IsOk result }
@@ -229,12 +228,12 @@ impl Machine {
         Ok(Reply::Plane { rows })
     }
 
-    /// Does the steps of a run, and replies with the position after them. It takes no memory.
+    /// Does the steps of a command, and replies to it. It takes no memory.
     pub fn work(&mut self, n: u16, direction: Direction) -> Reply
-        requires steps { 1 ≤ n }
-        requires cycle { 0 < length self.old.cycle }
-        ensures reply { result ≡ Reply.Run (steps n (machine_of self.old)).position }
-        ensures machine { machine_of self.new ≡ steps n (machine_of self.old) }
+        requires accepted { refusal (machine_of self.old) (command_of n direction) ≡ None }
+        ensures reply { result ≡ reply (machine_of self.old) (command_of n direction) }
+        ensures machine { machine_of self.new
+            ≡ after (machine_of self.old) (command_of n direction) }
         ensures others { self.new
             ≡ record self.old { planes = self.new.planes; position = self.new.position } }
     {
@@ -255,7 +254,7 @@ impl Machine {
     }
 
     /// Answers a command and does its steps.
-    pub fn answer(&mut self, command: Command) -> Result<Reply, NoMemory>
+    pub fn reply_to(&mut self, command: Command) -> Result<Reply, NoMemory>
         ensures reply { IfOk result (λ r. r ≡ reply (machine_of self.old) command) }
         ensures machine { IfOk result (λ r.
             machine_of self.new ≡ after (machine_of self.old) command) }

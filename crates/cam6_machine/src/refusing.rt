@@ -1,19 +1,23 @@
 //! Which fault a command is refused for, before anything is done.
-ghost use Rattle.std.specs.Prelude.{◌≡◌, ◌<◌, ◌≤◌, length, IfNone};
+ghost use Rattle.std.specs.Prelude.{◌≡◌, ◌<◌, ◌≤◌, List, length, IfNone};
+ghost use Rattle.std.specs.List.{list_any};
 ghost use Rattle.std.specs.Bool.{OnTrue};
 ghost use Rattle.cam6_planes.specs.declared.row.TheConstants.{SIDE};
+ghost use Rattle.cam6_machine.specs.declared.commands.TheConstants.{MAX_STEPS};
 ghost use Rattle.cam6_machine.specs.declared.cycles.TheConstants.{MAX_ENTRIES};
-ghost use Rattle.cam6_machine.specs.Rules.{rules_of};
+ghost use Rattle.cam6_machine.specs.Rules.{Rule};
+ghost use Rattle.cam6_machine.specs.Places.{rules_of, named_entries, uses_place};
 ghost use Rattle.cam6_machine.specs.Refusals.{set_refusal, plane_refusal, run_refusal};
 ghost use Rattle.cam6_machine.specs.Refusals.{rule_refusal, cycle_refusal, is_cycle, have_phases};
 ghost use Rattle.cam6_machine.specs.Refusals.{first_refusal, entry_refusal, half_refusal};
-ghost use Rattle.cam6_machine.specs.Refusals.{uses, is_used};
+ghost use Rattle.cam6_machine.specs.Always.{HaveOwnNames};
 
-use crate::commands::{NamedEntries, NamedEntry};
+use crate::commands::{MAX_STEPS, NamedEntries, NamedEntry};
 use crate::cycles::{Entry, MAX_ENTRIES};
 use crate::replies::Fault;
 use crate::rules::{KeptRule, MAX_RULES, is_rule_name, place_of, wiring_of};
 use crate::texts::Text;
+use cam6_planes::SIDE;
 use cam6_wiring::Half;
 use indexmap::IndexMap;
 
@@ -22,7 +26,7 @@ pub(crate) fn set_refusal(plane: u64, row: u64) -> Option<Fault>
     ensures refusal { result ≡ set_refusal SIDE plane row }
     ensures within { IfNone result ((plane < 4) × (row < SIDE)) }
 {
-    if plane >= 4 || row >= 256 {
+    if plane >= 4 || row >= SIDE as u64 {
         return Some(Fault::OutOfRange);
     }
     None
@@ -40,10 +44,12 @@ pub(crate) fn plane_refusal(plane: u64) -> Option<Fault>
 
 /// At most 65,535 steps, and then a cycle.
 pub(crate) fn run_refusal(cycle: &[Entry], n: u64) -> Option<Fault>
-    ensures refusal { result ≡ run_refusal cycle.now n }
-    ensures within { IfNone result ((n ≤ 65535) × (0 < length cycle.now)) }
+    // Whatever rules the places are of.
+    ensures refusal { (rules : List Rule) →
+        result ≡ run_refusal (named_entries rules cycle.now) n }
+    ensures within { IfNone result (n ≤ MAX_STEPS) }
 {
-    if n > 65_535 {
+    if n > MAX_STEPS {
         return Some(Fault::OutOfRange);
     }
     if cycle.is_empty() {
@@ -57,7 +63,9 @@ pub(crate) fn rule_refusal(
     cycle: &[Entry],
     name: &Text,
 ) -> Option<Fault>
-    ensures { result ≡ rule_refusal (rules_of rules.now.entries) cycle.now name.now }
+    requires names { HaveOwnNames (rules_of rules.now.entries) }
+    ensures { result ≡ rule_refusal (rules_of rules.now.entries)
+        (named_entries (rules_of rules.now.entries) cycle.now) name.now }
 {
     if !is_rule_name(name) {
         return Some(Fault::OutOfRange);
@@ -70,15 +78,15 @@ pub(crate) fn rule_refusal(
     }
 }
 
-/// Whether an entry of the cycle names the rule at this place.
+/// Whether an entry of the cycle has the rule at this place.
 fn is_used(cycle: &[Entry], place: usize) -> bool
-    ensures { result ≡ is_used cycle.now place }
+    ensures { result ≡ list_any (uses_place place) cycle.now }
 {
-    cycle.iter().any(|entry| uses(*entry, place))
+    cycle.iter().any(|entry| uses_place(*entry, place))
 }
 
-fn uses(entry: Entry, place: usize) -> bool
-    ensures { result ≡ uses place entry }
+fn uses_place(entry: Entry, place: usize) -> bool
+    ensures { result ≡ uses_place place entry }
 {
     entry.a == Some(place) || entry.b == Some(place)
 }

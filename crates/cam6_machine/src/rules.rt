@@ -5,8 +5,8 @@ ghost use Rattle.cam6_forth.specs.Reading.{read_text, keeps};
 ghost use Rattle.cam6_forth.specs.declared.faults.TextFault.{TextFault};
 ghost use Rattle.cam6_machine.specs.Effects.{with_rule};
 ghost use Rattle.cam6_machine.specs.Refusals.{text_refusal};
-ghost use Rattle.cam6_machine.specs.Rules.{rules_of, place_of, wiring_of, wiring_at};
-ghost use Rattle.cam6_machine.specs.Rules.{is_rule_name, is_name_byte};
+ghost use Rattle.cam6_machine.specs.Rules.{wiring_of, is_rule_name, is_name_byte};
+ghost use Rattle.cam6_machine.specs.Places.{rules_of, place_of, wiring_at};
 ghost use Rattle.cam6_machine.specs.ByTables.{IsVerdict};
 
 use crate::replies::Reply;
@@ -35,8 +35,8 @@ pub(crate) struct KeptRule {
 }
 
 impl Model for KeptRule {
-    ghost use Rattle.cam6_machine.specs.Rules.{Compiled};
-    ghost use Rattle.cam6_machine.specs.ByTables.{IsCodeFor};
+    ghost use Rattle.cam6_table.specs.RuleTexts.{IsCodeFor};
+    ghost use Rattle.cam6_machine.specs.Places.{Compiled};
 
     ghost Value = { Compiled };
 
@@ -47,7 +47,7 @@ impl Model for KeptRule {
 
 impl KeptRule {
     ghost use Rattle.std.specs.Prelude.{◌≡◌};
-    ghost use Rattle.cam6_machine.specs.ByTables.{IsCodeFor, IsTableOf};
+    ghost use Rattle.cam6_table.specs.RuleTexts.{IsCodeFor, IsTableOf};
 
     pub(crate) fn new(wiring: Wiring, text: Text, code: Code) -> KeptRule
         requires { IsCodeFor wiring text code }

@@ -1,10 +1,10 @@
 //! Steps along a cycle.
 ghost use Rattle.std.specs.Prelude.{◌≡◌, ◌<◌, ◌≤◌, ℕ, List, length};
 ghost use Rattle.cam6_planes.specs.declared.row.TheConstants.{SIDE};
-ghost use Rattle.cam6_machine.specs.Kept.{kept};
-ghost use Rattle.cam6_machine.specs.Rules.{rules_of};
 ghost use Rattle.cam6_machine.specs.Machine.{steps, machine_of};
+ghost use Rattle.cam6_machine.specs.Places.{rules_of, stored};
 ghost use Rattle.cam6_machine.specs.ByTables.{ArePairs};
+ghost use Rattle.cam6_machine.specs.Always.{HaveOwnNames};
 
 use crate::cycles::Entry;
 use crate::rules::KeptRule;
@@ -26,13 +26,14 @@ pub(crate) fn run_along(
     requires position { position < length cycle.now }
     requires side { planes.old.side ≡ SIDE }
     requires room { length cycle.now ≤ length tables.now }
+    requires names { HaveOwnNames (rules_of rules.now.entries) }
     requires tables { ArePairs (rules_of rules.now.entries) cycle.now tables.now }
     ensures side { planes.new.side ≡ SIDE }
     ensures position { result < length cycle.now }
     ensures steps { (colours : List ℕ) →
-        machine_of (kept planes.new (rules_of rules.now.entries) cycle.now result colours)
+        machine_of (stored planes.new (rules_of rules.now.entries) cycle.now result colours)
         ≡ steps n (machine_of
-        (kept planes.old (rules_of rules.now.entries) cycle.now position colours)) }
+        (stored planes.old (rules_of rules.now.entries) cycle.now position colours)) }
 {
     let mut position = position;
     for _step in 0..n {

@@ -8,9 +8,10 @@ ghost use Rattle.cam6_wiring.specs.Seen.{address};
 ghost use Rattle.cam6_wiring.specs.declared.names.Level.{Level};
 ghost use Rattle.cam6_wiring.specs.declared.names.Level.TheVariants.{Lower, Upper};
 ghost use Rattle.cam6_table.specs.declared.tables.TheConstants.{ENTRIES};
-ghost use Rattle.cam6_machine.specs.Rules.{rules_of, wiring_at};
+ghost use Rattle.cam6_table.specs.NewBits.{bit_by_table};
 ghost use Rattle.cam6_machine.specs.Steps.{step};
-ghost use Rattle.cam6_machine.specs.ByTables.{ArePair, bit_by_table};
+ghost use Rattle.cam6_machine.specs.Places.{rules_of, rules_at, wiring_at};
+ghost use Rattle.cam6_machine.specs.ByTables.{ArePair};
 
 use crate::cycles::Entry;
 use crate::rules::{KeptRule, wiring_at};
@@ -30,9 +31,9 @@ pub(crate) fn step(
     entry: Entry,
     tables: &TablePair,
 )
-    requires tables { ArePair (rules_of rules.now.entries) entry tables.now }
+    requires tables { ArePair (rules_at (rules_of rules.now.entries) entry) tables.now }
     ensures planes { cells planes.new
-        ≡ step SIDE (rules_of rules.now.entries) entry (cells planes.old) }
+        ≡ step SIDE (rules_at (rules_of rules.now.entries) entry) (cells planes.old) }
     ensures side { (planes.old.side ≡ SIDE) × (planes.new.side ≡ SIDE) }
 {
     let Entry { a, b, grid, phase } = entry;

@@ -1,6 +1,6 @@
 //! The tables by which a run steps, in room that a machine has from the beginning.
 ghost use Rattle.std.specs.Prelude.{◌≡◌, ◌≤◌, length};
-ghost use Rattle.cam6_machine.specs.Rules.{rules_of, rule_at};
+ghost use Rattle.cam6_machine.specs.Places.{rules_of, rule_at};
 ghost use Rattle.cam6_machine.specs.ByTables.{IsTableFor, ArePairs};
 
 use crate::cycles::Entry;
@@ -25,7 +25,7 @@ impl TablePair {
     }
 }
 
-/// Fills the tables of a cycle's rules, each pair at the place of its entry.
+/// Fills the tables of a cycle's rules, each pair at the index of its entry.
 pub(crate) fn fill_tables(
     rules: &IndexMap<String, KeptRule>,
     cycle: &[Entry],
@@ -35,8 +35,8 @@ pub(crate) fn fill_tables(
     ensures tables { ArePairs (rules_of rules.now.entries) cycle.now tables.new }
     ensures room { length tables.new ≡ length tables.old }
 {
-    for (place, entry) in cycle.iter().enumerate() {
-        let pair = &mut tables[place];
+    for (index, entry) in cycle.iter().enumerate() {
+        let pair = &mut tables[index];
         fill_table(rules, entry.a, &mut pair.a);
         fill_table(rules, entry.b, &mut pair.b);
     }

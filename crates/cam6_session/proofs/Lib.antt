@@ -1,3 +1,4 @@
+pub mod Taking
 pub mod Parts
 pub mod Runs
 pub mod Known

@@ -5,7 +5,6 @@ use Rattle.std.proofs.lemmas.List.Elements.{All-push}
 use Rattle.std.specs.Prelude.{All}
 use Rattle.std.specs.Io.KnownBytes.{Appends, Keeps}
 use Rattle.cam6_machine.specs.Machine.{Machine}
-use Rattle.cam6_wire.specs.Commands.{command}
 use Rattle.cam6_wire.specs.Lines.{lines, ended_lines, joined}
 use Rattle.cam6_wire.specs.Answers.{answer, answers, after_line, after_lines}
 use Rattle.cam6_wire.specs.OneLine.{HasNoLf}
@@ -44,11 +43,11 @@ pub record HasTaken (m : Machine) (all out : List ℕ) (unread new : Option (Lis
   pub stands : n ≡ after_lines m stop.done
   pub holds : Holds held stop.line
 
--- what the line says is responded to so
+-- the line is responded to so
 abbrev pub RespondsTo : Option End → Held → Option (List ℕ) → Option (List ℕ) → Machine
     → Machine → Type 0
 RespondsTo end held old new m n =
-    (line : List ℕ) → Holds held line → Responds end (command line) old new m n
+    (line : List ℕ) → Holds held line → Responds end line old new m n
 
 appended : (old new : Option (List ℕ)) (bytes more : List ℕ) → old ≡ Some bytes
     → Appends old new more → new ≡ Some (bytes ++ more)
@@ -221,14 +220,14 @@ module _ (m : Machine) (all out : List ℕ) (after new then : Option (List ℕ))
   finds_none_done responds =
       let at = responds t.stop.line t.holds in
       served (end.NoMemory true) (answers m t.stop.done) (kept new then _ t.writes at.0)
-      (t.stop, refl, stands_after at.1)
+      (t.stop, refl, stands_after at.1, at.2)
 
   finds_none_undone : RespondsTo (Some (end.NoMemory false)) held new then n p
       → AnswersReader (end.NoMemory false) (Some all) after (Some out) then m p
   finds_none_undone responds =
       let at = responds t.stop.line t.holds in
       served (end.NoMemory false) (answers m t.stop.done) (kept new then _ t.writes at.0)
-      (inr (t.stop, (refl, at.1 ∙ t.stands)))
+      (inr (t.stop, (refl, at.1 ∙ t.stands), at.2))
 
   -- a line was taken, and the session stops at it
   pub stops : (e : End) → RespondsTo (Some e) held new then n p

@@ -1,9 +1,12 @@
 -- How serving ends: which lines were taken, what was written, and at which machine n the one that
 -- is asked stands then; it stood at m.
-use Rattle.std.specs.Prelude.{◌≡◌, ℕ, List, [], ◌∷◌, ◌++◌, Option, Some, IfSome, true, false, ◌⊎◌}
+use Rattle.std.specs.Prelude.{◌≡◌, ℕ, List, [], ◌∷◌, ◌++◌, Option, Some, IfSome, IsOk, ◌⊎◌}
+use Rattle.std.specs.Prelude.{true, false}
 use Rattle.cam6_machine.specs.Machine.{Machine}
+use Rattle.cam6_wire.specs.Commands.{command}
 use Rattle.cam6_wire.specs.Lines.{lines, ended_lines}
 use Rattle.cam6_wire.specs.Answers.{answer, answers, after_lines}
+use Rattle.cam6_session.specs.Responding.{TakesMemory}
 use Rattle.cam6_session.specs.declared.serving.End.{End}
 use Rattle.cam6_session.specs.declared.serving.End.TheVariants.{EndOfInput, ReadFault, TurnBound}
 use Rattle.cam6_session.specs.declared.serving.End.TheVariants.{WriteFault, NoMemory}
@@ -26,17 +29,18 @@ StopsWriting m taken left written n =
     (answer (after_lines m stop.done) stop.line ≡ front ++ rest) ×
     (written ≡ answers m stop.done ++ front) × (n ≡ after_lines m (stop.done ++ stop.line ∷ []))
 
--- the lines before it were answered, and its command is done
+-- the lines before it were answered, and it says a command, which is done
 abbrev pub StopsDone : Machine → List ℕ → List ℕ → List ℕ → Machine → Type 0
 StopsDone m taken left written n =
     (stop : StopsAt taken left) × (written ≡ answers m stop.done) ×
-    (n ≡ after_lines m (stop.done ++ stop.line ∷ []))
+    (n ≡ after_lines m (stop.done ++ stop.line ∷ [])) × IsOk (command stop.line)
 
--- the lines before it were answered, and its command isn't done; or no line was taken
+-- the lines before it were answered, and memory is taken for it, but its command isn't done; or no
+-- line was taken
 abbrev pub StopsUndone : Machine → List ℕ → List ℕ → List ℕ → Machine → Type 0
 StopsUndone m taken left written n =
     ((taken ≡ []) × AreAnswered m [] written n) ⊎
-    ((stop : StopsAt taken left) × AreAnswered m stop.done written n)
+    ((stop : StopsAt taken left) × AreAnswered m stop.done written n × TakesMemory stop.line)
 
 -- for each end, by the bytes taken, those that are left, and those written
 abbrev pub AnswersUntil : End → Machine → List ℕ → List ℕ → List ℕ → Machine → Type 0

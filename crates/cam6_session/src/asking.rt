@@ -34,6 +34,6 @@ impl Ask for Machine {
     ghost is_ready = { λ _. ⊤ };
 
     fn ask(&mut self, command: Command) -> Result<Reply, NoMemory> {
-        self.answer(command)
+        self.reply_to(command)
     }
 }

@@ -14,13 +14,14 @@ pub struct LineBuf {
 
 impl Model for LineBuf {
     ghost use Rattle.std.specs.Prelude.{◌≤◌, vec_len, vec_capacity};
+    ghost use Rattle.cam6_wire.specs.Limits.{max_line};
     ghost use Rattle.cam6_session.specs.Held.{Held};
 
     ghost Value = { Held };
 
     ghost view = { λ b. record { bytes = b.bytes.items; is_long = b.is_long } };
 
-    ghost invariant = { λ b. (16384 ≤ vec_capacity b.bytes) × (vec_len b.bytes ≤ 16384) };
+    ghost invariant = { λ b. (max_line ≤ vec_capacity b.bytes) × (vec_len b.bytes ≤ max_line) };
 }
 
 impl LineBuf {

@@ -1,9 +1,10 @@
 //! A stream of command lines, each answered by one line.
-ghost use Rattle.std.specs.Prelude.{List, ℕ, Ok};
+ghost use Rattle.std.specs.Prelude.{◌≡◌, List, ℕ, Ok, Err};
 ghost use Rattle.cam6_machine.specs.Machine.{Machine};
-ghost use Rattle.cam6_wire.specs.Commands.{command as what_is_said, Fails, Reads};
+ghost use Rattle.cam6_wire.specs.declared.faults.LineFault.TheVariants.{NoMemory};
+ghost use Rattle.cam6_wire.specs.Commands.{command as what_is_said, IsFaultOf, IsSaid};
 ghost use Rattle.cam6_session.specs.Held.{Holds};
-ghost use Rattle.cam6_session.specs.Responding.{Responds};
+ghost use Rattle.cam6_session.specs.Responding.{Responds, TakesMemory};
 ghost use Rattle.cam6_session.specs.Sessions.{AnswersReader};
 
 use crate::asking::Ask;
@@ -76,7 +77,7 @@ fn respond<W: Write, D: Ask>(
 ) -> Option<End>
     requires { D.is_ready desk.old }
     ensures ready { D.is_ready desk.new }
-    ensures responds { (l : List ℕ) → Holds line.now l → Responds result (what_is_said l)
+    ensures responds { (l : List ℕ) → Holds line.now l → Responds result l
         (W.contents writer.old) (W.contents writer.new)
         (D.stands_at desk.old) (D.stands_at desk.new) }
 {
@@ -88,7 +89,8 @@ fn respond<W: Write, D: Ask>(
 
 /// What a line says.
 fn said(alloc: Global, line: &LineBuf) -> Result<Command, LineFault>
-    ensures { (l : List ℕ) → Holds line.now l → Reads result (what_is_said l) }
+    ensures said { (l : List ℕ) → Holds line.now l → IsSaid result (what_is_said l) }
+    ensures memory { (l : List ℕ) → Holds line.now l → result ≡ Err NoMemory → TakesMemory l }
 {
     let Some(bytes) = line.bytes() else {
         return Err(LineFault::TooLong);
@@ -96,6 +98,7 @@ fn said(alloc: Global, line: &LineBuf) -> Result<Command, LineFault>
     read_command(alloc, bytes)
 }
 
+#[tactic(auto, using(crate::proofs::Taking::command_takes_memory))]
 fn respond_to<W: Write, D: Ask>(
     alloc: Global,
     command: Command,
@@ -104,7 +107,8 @@ fn respond_to<W: Write, D: Ask>(
 ) -> Option<End>
     requires { D.is_ready desk.old }
     ensures ready { D.is_ready desk.new }
-    ensures responds { Responds result (Ok command) (W.contents writer.old) (W.contents writer.new)
+    ensures responds { (l : List ℕ) → what_is_said l ≡ Ok command → Responds result l
+        (W.contents writer.old) (W.contents writer.new)
         (D.stands_at desk.old) (D.stands_at desk.new) }
 {
     let Ok(reply) = desk.ask(command) else {
@@ -120,8 +124,9 @@ fn respond_to<W: Write, D: Ask>(
 }
 
 fn respond_fault<W: Write>(fault: LineFault, writer: &mut W) -> Option<End>
-    ensures { (l : List ℕ) (m : Machine) → Fails fault (what_is_said l) → Responds result
-        (what_is_said l) (W.contents writer.old) (W.contents writer.new) m m }
+    ensures { (l : List ℕ) (m : Machine) → IsFaultOf fault (what_is_said l) →
+        (fault ≡ NoMemory → TakesMemory l) →
+        Responds result l (W.contents writer.old) (W.contents writer.new) m m }
 {
     match fault {
         LineFault::NoMemory => Some(End::NoMemory { done: false }),

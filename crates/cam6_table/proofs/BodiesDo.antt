@@ -32,28 +32,29 @@ use Rattle.cam6_table.proofs.Segments.{exec-pass, exec-over, then_is, choice_is,
 module _ (wiring : Wiring) (sees : Sees) (shows : Lines) (agree : Agree wiring sees shows) where
   module _ (known : List Defined) (codes : List Instructions) (done : List Meaning)
       (codes_are : AreCodes shows codes done) where
-    word_is : (said : Word) (size : ℕ) → IsSingle wiring known said size →
+    word_is : (token : Token) (said : Word) (size : ℕ) →
+        IsSingle wiring known token said size →
         IsCode shows (word_code wiring codes said) (word_means sees done said)
-    word_is (word.Literal v) size single later s =
+    word_is token (word.Literal v) size single later s =
         on_next (with_stack s (pushed v s.stack)) (runs shows later)
-    word_is (word.Name name) size single later s =
-        let (line, found, one) = single in
+    word_is token (word.Name name) size single later s =
+        let (spelled, (line, found), one) = single in
         ap (λ o. exec shows (line_code o ++ later) 0 None s) found ∙
         on_next (with_stack s (pushed (bit_number (shows line)) s.stack)) (runs shows later) ∙
         ap (λ b. then_do (with_stack s (pushed (bit_number b) s.stack)) (exec shows later 0 None))
         (agree name line found)
-    word_is (word.Stack stack) size single later s =
+    word_is token (word.Stack stack) size single later s =
         on_next (with_stack s (on_stack stack s.stack)) (runs shows later)
-    word_is (word.Output target) size single later s =
+    word_is token (word.Output target) size single later s =
         on_next (written target s) (runs shows later)
-    word_is (word.Defined place) size single later s = codes_are place later s
-    word_is _ size single later s = absurd single
+    word_is token (word.Defined place) size single later s = codes_are place later s
+    word_is token _ size single later s = absurd single
 
     token_is : (token : Token) → IsOk (word_at wiring known token) →
         IsCode shows (token_code wiring known codes token)
         (word_means sees done (word_in (word_at wiring known token)))
     token_is token ok =
-        word_is (word_in (word_at wiring known token)) (size_in (word_at wiring known token))
+        word_is token (word_in (word_at wiring known token)) (size_in (word_at wiring known token))
         (known_is_single wiring known token ok)
 
     -- after a word of a case the rest of the case is passed

@@ -14,7 +14,7 @@ use Rattle.cam6_table.specs.declared.outputs.State.{State}
 use Rattle.cam6_table.specs.Outputs.{begin, entry_of, is_odd}
 use Rattle.cam6_table.specs.Meaning.{meaning_at, meanings, last_meaning}
 use Rattle.cam6_table.specs.Meaning.{entry_in, meaning, at_address}
-use Rattle.cam6_table.specs.Codes.{Lines, exec, entry_at, answer}
+use Rattle.cam6_table.specs.Codes.{Lines, exec, entry_at, result_at}
 use Rattle.cam6_table.specs.Emitting.{Instructions, code_at}
 use Rattle.cam6_table.proofs.BodyCodes.{tree_codes, Agree}
 use Rattle.cam6_table.proofs.Segments.{then_do-ok}
@@ -41,7 +41,7 @@ entry-same wiring sees shows agree (Ok s) =
     (agree (Beside Center Upper) 1 (line_of-center_upper wiring.hood wiring.minor))
 entry-same wiring sees shows agree (Err fault) = refl
 
--- the code answers as the rule does, whatever lines and names show
+-- the code results as the rule does, whatever lines and names show
 pub tree_does : (wiring : Wiring) (parts : List Part) (sees : Sees) (shows : Lines) →
     IsRule wiring parts → Agree wiring sees shows →
     entry_by shows (exec shows (tree_code wiring parts) 0 None begin) ≡ meaning wiring parts sees
@@ -72,7 +72,7 @@ entry-at address (Err fault) = refl
 
 -- the code's answer at an address is what the rule means there
 pub answers_rule : (wiring : Wiring) (parts : List Part) (address : ℕ) → IsRule wiring parts →
-    answer (tree_code wiring parts) address ≡ at_address wiring parts address
+    result_at (tree_code wiring parts) address ≡ at_address wiring parts address
 answers_rule wiring parts address rule =
     entry-at address (exec (shown address) (tree_code wiring parts) 0 None begin) ∙
     tree_does wiring parts (environment wiring.hood wiring.minor address) (shown address) rule

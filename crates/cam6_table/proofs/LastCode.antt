@@ -5,7 +5,7 @@ use Rattle.std.specs.Option.{unwrap_or}
 use Rattle.cam6_wiring.specs.declared.wirings.Wiring.{Wiring}
 use Rattle.cam6_forth.specs.Defined.{Defined, RuleWords}
 use Rattle.cam6_forth.specs.Tree.{Part, IsRule, IsOfTree, rule_of}
-use Rattle.cam6_table.specs.Codes.{answer, IsCodeOf}
+use Rattle.cam6_table.specs.Codes.{result_at, IsCodeOf}
 use Rattle.cam6_table.specs.Emitting.{Instructions, code_at, all_codes}
 use Rattle.cam6_table.proofs.BodyCodes.{tree_codes}
 use Rattle.cam6_table.proofs.Emission.{rule_codes}
@@ -66,11 +66,11 @@ last-length rule codes code made last tree =
     last ∙ ap (λ cs. code_at cs (length codes - 1)) of_tree in
     omega (arith, ap length at_tree, code_length rule.wiring parts (length codes - 1) tree.1)
 
--- it answers what the rule means
+-- it results what the rule means
 pub last-is_code : (rule : RuleWords) (codes : List Instructions) (code : Instructions) →
     codes ≡ all_codes rule.wiring [] rule.definitions → code ≡ last_code codes →
     IsCodeOf code rule
 last-is_code rule codes code made last parts is_rule same address =
     let of_tree = codes_are rule codes parts made is_rule same in
-    ap (λ x. answer x address) (last ∙ ap last_code of_tree)
+    ap (λ x. result_at x address) (last ∙ ap last_code of_tree)
     ∙ answers_rule rule.wiring parts address is_rule

@@ -9,3 +9,4 @@ pub mod TrueTables
 pub mod Stops
 pub mod OneMeaning
 pub mod Jumps
+pub mod Wants

@@ -17,10 +17,6 @@ use Rattle.cam6_table.specs.Words.{pushed, on_stack}
 use Rattle.cam6_table.specs.Outputs.{begin, written, entry_of, is_odd}
 use Rattle.cam6_table.specs.Meaning.{then_do, with_stack, with_top, at_zero, at_address}
 
--- the most instructions that a rule's code has, and so the most turns that it takes
-abbrev pub max_turns : ℕ
-max_turns = 4096
-
 -- the last so many instructions
 abbrev pub last_of : ℕ → List Instruction → List Instruction
 last_of behind code = drop (length code - behind) code
@@ -84,20 +80,20 @@ abbrev pub entry_at : ℕ → Result State RuleFault → Result ℕ RuleFault
 entry_at address (Ok s) = Ok (entry_of (is_odd address) (is_odd (address / 2)) s)
 entry_at address (Err fault) = Err fault
 
--- the code's answer at an address
-abbrev pub answer : List Instruction → ℕ → Result ℕ RuleFault
-answer code address = entry_at address (exec (shown address) code 0 None begin)
+-- the code's result at an address
+abbrev pub result_at : List Instruction → ℕ → Result ℕ RuleFault
+result_at code address = entry_at address (exec (shown address) code 0 None begin)
 
 -- how many instructions it does there
 abbrev pub turns_at : List Instruction → ℕ → ℕ
 turns_at code address = turns_of (shown address) code 0 None begin
 
--- the code of a rule: at each address it answers what the rule means there, whichever tree of the
+-- the code of a rule: at each address it results what the rule means there, whichever tree of the
 -- rule is read
 abbrev pub IsCodeOf : List Instruction → RuleWords → Type 0
 IsCodeOf code rule =
     (parts : List Part) → IsRule rule.wiring parts → rule ≡ rule_of rule.wiring parts →
-    (address : ℕ) → answer code address ≡ at_address rule.wiring parts address
+    (address : ℕ) → result_at code address ≡ at_address rule.wiring parts address
 
 -- a call did what was said: the new state and how the code goes on, or the fault
 abbrev pub Acts : Result (State × Next) RuleFault → State → Result Next RuleFault → Type 0

@@ -1,11 +1,16 @@
 -- The laws that tie trees, what they mean, and tables.
-use Rattle.std.specs.Prelude.{◌≡◌, ℕ, ◌<◌, List, slice_index, Some, None, Ok, IsOk}
+use Rattle.std.specs.Prelude.{◌≡◌, ℕ, ◌<◌, ◌≤◌, List, length, slice_index}
+use Rattle.std.specs.Prelude.{Some, None, Ok, Err, IsOk}
 use Rattle.cam6_wiring.specs.Seen.{Sees, address_of}
 use Rattle.cam6_wiring.specs.declared.wirings.Wiring.{Wiring}
 use Rattle.cam6_forth.specs.Tree.{Part, IsRule, rule_of}
+use Rattle.cam6_forth.specs.declared.words.StackWord.{StackWord}
 use Rattle.cam6_table.specs.declared.faults.RuleFault.{RuleFault}
-use Rattle.cam6_table.specs.Meaning.{meaning}
-use Rattle.cam6_table.specs.Tables.{Answers, IsFirstFault, IsTrueTable, least_stop}
+use Rattle.cam6_table.specs.declared.faults.RuleFault.TheVariants.{MissingValue}
+use Rattle.cam6_table.specs.Limits.{addresses}
+use Rattle.cam6_table.specs.Words.{Values, wants, on_stack}
+use Rattle.cam6_table.specs.Meaning.{meaning, at_address}
+use Rattle.cam6_table.specs.Tables.{Results, IsLeastStop, IsTrueTable, least_stop}
 
 -- a true table, read at the address of what is seen, is the rule as a function
 abbrev pub TrueTableIsRule : Type 0
@@ -25,11 +30,24 @@ TreesMeanTheSame =
 -- the least address at which any fault comes is found, with its fault
 abbrev pub LeastIsFound : Type 0
 LeastIsFound =
-    (answers : Answers) (address : ℕ) (fault : RuleFault) → IsFirstFault answers address fault →
-    least_stop answers ≡ Some (address, fault)
+    (results : Results) (address : ℕ) (fault : RuleFault) → IsLeastStop results address fault →
+    least_stop results ≡ Some (address, fault)
 
 -- and none is found where there is an entry at each address
 abbrev pub NoneIsFound : Type 0
 NoneIsFound =
-    (answers : Answers) → ((address : ℕ) → address < 4096 → IsOk (answers address)) →
-    least_stop answers ≡ None
+    (results : Results) → ((address : ℕ) → address < addresses → IsOk (results address)) →
+    least_stop results ≡ None
+
+-- a stack word stops for want of values exactly where there are fewer than it wants
+abbrev pub WantsValues : Type 0
+WantsValues =
+    (word : StackWord) (values : Values) →
+    (length values < wants word → on_stack word values ≡ Err MissingValue)
+    × (wants word ≤ length values → on_stack word values ≡ Err MissingValue → ⊥)
+
+-- a rule that stops at no address stops nowhere, whatever is seen
+abbrev pub RunsEverywhere : Type 0
+RunsEverywhere =
+    (wiring : Wiring) (parts : List Part) (sees : Sees) → IsRule wiring parts →
+    least_stop (at_address wiring parts) ≡ None → IsOk (meaning wiring parts sees)

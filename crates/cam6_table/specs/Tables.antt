@@ -4,22 +4,23 @@ use Rattle.std.specs.Prelude.{Option, Some, None, Result, Ok, Err, IsOk}
 use Rattle.cam6_wiring.specs.declared.wirings.Wiring.{Wiring}
 use Rattle.cam6_forth.specs.Tree.{Part}
 use Rattle.cam6_table.specs.declared.faults.RuleFault.{RuleFault}
+use Rattle.cam6_table.specs.Limits.{addresses}
 use Rattle.cam6_table.specs.Meaning.{at_address}
 
 -- at each address an entry, or a fault
-abbrev pub Answers : Type 0
-Answers = ℕ → Result ℕ RuleFault
+abbrev pub Results : Type 0
+Results = ℕ → Result ℕ RuleFault
 
--- each entry is the answer at its address
-abbrev pub AreEntries : Answers → List ℕ → Type 0
-AreEntries answers entries =
-    (address : ℕ) → address < 4096 → answers address ≡ Ok (slice_index entries address)
+-- each entry is the result at its address
+abbrev pub AreEntries : Results → List ℕ → Type 0
+AreEntries results entries =
+    (address : ℕ) → address < addresses → results address ≡ Ok (slice_index entries address)
 
 -- the least address at which any fault comes, with the fault there
-pub record IsFirstFault (answers : Answers) (address : ℕ) (fault : RuleFault) : Type 0 where
-  pub within : address < 4096
-  pub stops : answers address ≡ Err fault
-  pub least : (before : ℕ) → before < address → IsOk (answers before)
+pub record IsLeastStop (results : Results) (address : ℕ) (fault : RuleFault) : Type 0 where
+  pub within : address < addresses
+  pub stops : results address ≡ Err fault
+  pub least : (before : ℕ) → before < address → IsOk (results before)
 
 -- the table of a rule
 abbrev pub IsTrueTable : Wiring → List Part → List ℕ → Type 0
@@ -31,11 +32,11 @@ or_later (Ok entry) address later = later
 or_later (Err fault) address later = Some (address, fault)
 
 -- the first of so many addresses, from one on, at which any fault comes, with the fault there
-abbrev pub first_stop : Answers → ℕ → ℕ → Option (ℕ × RuleFault)
-first_stop answers zero address = None
-first_stop answers (suc n) address =
-    or_later (answers address) address (first_stop answers n (suc address))
+abbrev pub first_stop : Results → ℕ → ℕ → Option (ℕ × RuleFault)
+first_stop results zero address = None
+first_stop results (suc n) address =
+    or_later (results address) address (first_stop results n (suc address))
 
 -- the least address at which any fault comes, if there is one
-unfoldable pub least_stop : Answers → Option (ℕ × RuleFault)
-least_stop answers = first_stop answers 4096 0
+unfoldable pub least_stop : Results → Option (ℕ × RuleFault)
+least_stop results = first_stop results addresses 0

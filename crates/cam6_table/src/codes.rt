@@ -1,5 +1,6 @@
 //! Flat code: instructions in a row, with jumps that only go forward.
 ghost use Rattle.std.specs.Prelude.{◌≡◌, ◌≤◌, ◌<◌, length};
+ghost use Rattle.cam6_table.specs.Limits.{max_turns};
 
 use cam6_forth::{StackWord, Target};
 use cam6_planes::NoMemory;
@@ -94,18 +95,19 @@ pub struct Code {
 
 impl Model for Code {
     ghost use Rattle.std.specs.Prelude.{List, length, ◌≤◌};
+    ghost use Rattle.cam6_table.specs.Limits.{max_turns};
     ghost use Rattle.cam6_table.specs.declared.codes.Instruction.{Instruction};
 
     ghost Value = { List Instruction };
 
     ghost view = { λ c. c.instructions };
 
-    ghost invariant = { λ c. length c.instructions ≤ 4096 };
+    ghost invariant = { λ c. length c.instructions ≤ max_turns };
 }
 
 impl Code {
     pub(crate) fn new(instructions: Instructions) -> Code
-        requires { length instructions ≤ 4096 }
+        requires { length instructions ≤ max_turns }
         ensures { result ≡ instructions }
     {
         Code { instructions }
@@ -113,7 +115,7 @@ impl Code {
 
     pub(crate) fn instructions(&self) -> &Instructions
         ensures instructions { result.now ≡ self.now }
-        ensures limit { length self.now ≤ 4096 }
+        ensures limit { length self.now ≤ max_turns }
     {
         &self.instructions
     }

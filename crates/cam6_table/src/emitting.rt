@@ -1,5 +1,6 @@
 //! A rule becomes flat code: the definitions that it uses are written out.
 ghost use Rattle.std.specs.Prelude.{◌≡◌, ◌≤◌, [], ◌++◌, length, IfOk, OnOk};
+ghost use Rattle.cam6_table.specs.Limits.{max_turns};
 ghost use Rattle.cam6_table.specs.Codes.{IsCodeOf};
 ghost use Rattle.cam6_table.specs.Emitting.{words_code, all_codes};
 
@@ -11,11 +12,11 @@ use std::alloc::Global;
 use std::marker::Model;
 
 impl Code {
-    /// The code of a rule, which at each address answers what the rule means there. Its jumps lead
+    /// The code of a rule, which at each address results what the rule means there. Its jumps lead
     /// forward alone.
     pub fn of(alloc: Global, rule: &Rule) -> Result<Code, NoMemory>
         ensures meaning { IfOk result (λ code. IsCodeOf code rule.now) }
-        ensures limit { IfOk result (λ code. length code ≤ 4096) }
+        ensures limit { IfOk result (λ code. length code ≤ max_turns) }
     {
         let mut codes = codes_of(alloc, rule.wiring(), rule.definitions())?;
         let last = codes.pop().unwrap_or(Instructions::new(alloc));

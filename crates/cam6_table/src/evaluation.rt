@@ -4,7 +4,8 @@ ghost use Rattle.cam6_planes.specs.Row.{bit_number};
 ghost use Rattle.cam6_wiring.specs.Seen.{shown};
 ghost use Rattle.cam6_table.specs.declared.evaluation.TheConstants.{MAX_TURNS};
 ghost use Rattle.cam6_table.specs.Words.{IsOutcome};
-ghost use Rattle.cam6_table.specs.Codes.{max_turns, act, exec, turns_of, answer, turns_at, at_head};
+ghost use Rattle.cam6_table.specs.Limits.{max_turns};
+ghost use Rattle.cam6_table.specs.Codes.{act, exec, turns_of, result_at, turns_at, at_head};
 ghost use Rattle.cam6_table.specs.Codes.{Acts};
 
 use crate::codes::{Code, Instruction, Instructions};
@@ -18,7 +19,7 @@ pub const MAX_TURNS: u32 = 4096;
 /// is the new lower plane, bit 1 the new upper plane. Each turn does one instruction.
 pub fn eval(code: &Code, address: u16, turns: &mut u32) -> Result<u8, RuleFault>
     requires turns { max_turns ≤ turns.old }
-    ensures answer { result ≡ answer code.now address }
+    ensures value { result ≡ result_at code.now address }
     ensures within { IfOk result (λ entry. entry < 4) }
     ensures turns { turns.old ≡ turns.new + turns_at code.now address }
     ensures limit { turns.old ≤ turns.new + max_turns }

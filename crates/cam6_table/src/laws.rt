@@ -1,7 +1,7 @@
 //! Laws that tie trees, what they mean, and tables. Each is the contract of a function that does
 //! nothing.
 ghost use Rattle.cam6_table.specs.Laws.{TrueTableIsRule, TreesMeanTheSame, LeastIsFound};
-ghost use Rattle.cam6_table.specs.Laws.{NoneIsFound};
+ghost use Rattle.cam6_table.specs.Laws.{NoneIsFound, WantsValues, RunsEverywhere};
 
 /// A true table, read at the address of what is seen, is the rule as a function of what is seen.
 pub fn a_true_table_is_the_rule()
@@ -21,4 +21,14 @@ pub fn the_least_stop_is_found()
 /// A search over all addresses finds none where the rule stops nowhere.
 pub fn no_stop_is_found()
     ensures law { NoneIsFound }
+{}
+
+/// A stack word stops for want of values exactly where there are fewer than it wants.
+pub fn a_word_wants_so_many_values()
+    ensures law { WantsValues }
+{}
+
+/// A rule that stops at no address stops nowhere, whatever is seen.
+pub fn a_rule_that_stops_at_no_address_runs()
+    ensures law { RunsEverywhere }
 {}

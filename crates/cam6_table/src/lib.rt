@@ -1,8 +1,8 @@
 //! Flat code and tables: a rule compiled to instructions with forward jumps, run at each address.
 //!
-//! Contract: the code of a rule answers at each address what the rule means there
-//! (`specs/Meaning.antt`), the two new bits or the first fault. `eval` gives that answer in at most
-//! 4,096 turns, one instruction each; `fill` leaves the table of all answers, or names the least
+//! Contract: the code of a rule results at each address what the rule means there
+//! (`specs/Meaning.antt`), the two new bits or the first fault. `eval` gives that result in at most
+//! 4,096 turns, one instruction each; `fill` leaves the table of all results, or names the least
 //! address at which any fault comes, with the fault there.
 //!
 //! Stands on: `cam6_planes` (its `NoMemory`), `cam6_wiring` and `cam6_forth`.

@@ -18,12 +18,13 @@ pub struct Stack {
 
 impl Model for Stack {
     ghost use Rattle.std.specs.Prelude.{List, ℕ, reverse, take, ◌≤◌};
+    ghost use Rattle.cam6_table.specs.Limits.{max_values};
 
     ghost Value = { List ℕ };
 
     ghost view = { λ s. reverse (take s.len s.values) };
 
-    ghost invariant = { λ s. s.len ≤ 32 };
+    ghost invariant = { λ s. s.len ≤ max_values };
 }
 
 impl Stack {

@@ -1,8 +1,8 @@
 //! A rule's table: its entry at each address.
 ghost use Rattle.std.specs.Prelude.{◌≡◌, ◌<◌, IfOk, IfErr, slice_index, replicate};
 ghost use Rattle.cam6_table.specs.declared.tables.TheConstants.{ENTRIES};
-ghost use Rattle.cam6_table.specs.Tables.{AreEntries, IsFirstFault};
-ghost use Rattle.cam6_table.specs.Codes.{answer};
+ghost use Rattle.cam6_table.specs.Tables.{AreEntries, IsLeastStop};
+ghost use Rattle.cam6_table.specs.Codes.{result_at};
 
 use crate::codes::Code;
 use crate::evaluation::{MAX_TURNS, eval};
@@ -23,12 +23,13 @@ pub struct Table {
 
 impl Model for Table {
     ghost use Rattle.std.specs.Prelude.{◌≡◌, List, ℕ, vec_len};
+    ghost use Rattle.cam6_table.specs.Limits.{addresses};
 
     ghost Value = { List ℕ };
 
     ghost view = { λ t. t.entries.items };
 
-    ghost invariant = { λ t. vec_len t.entries ≡ 4096 };
+    ghost invariant = { λ t. vec_len t.entries ≡ addresses };
 }
 
 impl Table {
@@ -50,12 +51,20 @@ impl Table {
         self.entries[usize::from(address)]
     }
 
-    fn put(&mut self, address: u16, entry: u8)
+    /// Writes the entry at an address. Of the entry only the two lowest bits are a cell's.
+    pub fn put(&mut self, address: u16, entry: u8)
         requires { address < ENTRIES }
         ensures { self.new ≡ slice_set self.old address entry }
     {
         let place = usize::from(address);
         self.entries[place] = entry;
+    }
+
+    /// Makes the table a copy of another one. It takes no memory.
+    pub fn copy_from(&mut self, other: &Table)
+        ensures { self.new ≡ other.now }
+    {
+        self.entries.copy_from_slice(&other.entries);
     }
 }
 
@@ -63,8 +72,8 @@ impl Table {
 /// there, also if no cell shows the address. After a fault nothing is promised of the table's
 /// entries. It takes no memory.
 pub fn fill(code: &Code, table: &mut Table) -> Result<(), (u16, RuleFault)>
-    ensures filled { IfOk result (λ _. AreEntries (answer code.now) table.new) }
-    ensures fault { IfErr result (λ refused. IsFirstFault (answer code.now) refused.0 refused.1) }
+    ensures filled { IfOk result (λ _. AreEntries (result_at code.now) table.new) }
+    ensures fault { IfErr result (λ refused. IsLeastStop (result_at code.now) refused.0 refused.1) }
 {
     prove!(table.entries.len() == usize::from(ENTRIES));
     for address in 0..ENTRIES {

@@ -52,7 +52,7 @@ fn machines_answer_now(rt: HostRuntime) -> Result<(), Fail> {
 #[test]
 fn machines_answer(rt: HostRuntime) -> Result<(), Fail> {
     let mut machine = Machine::new(rt.alloc())?;
-    let reply = machine.answer(Command::Run { n: 0 })?;
+    let reply = machine.reply_to(Command::Run { n: 0 })?;
     assert!(rt; matches!(&reply, Reply::Fault(_)));
     let reply = machine.ask(Command::Run { n: 0 })?;
     assert!(rt; matches!(&reply, Reply::Fault(_)));

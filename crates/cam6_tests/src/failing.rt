@@ -35,7 +35,7 @@ impl Ask for Desk {
             return Err(NoMemory);
         }
         self.answers -= 1;
-        self.machine.answer(command)
+        self.machine.reply_to(command)
     }
 }
 

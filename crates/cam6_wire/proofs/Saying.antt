@@ -8,15 +8,17 @@ use Rattle.serde_json.specs.Data.{Data}
 use Rattle.serde_json.specs.Read.{read}
 use Rattle.serde_json.proofs.OnLiterals.{serde_json_on_literals}
 use Rattle.cam6_machine.specs.declared.commands.Command.{Command}
-use Rattle.cam6_wire.specs.Commands.{command, command_in, from_value, value_of, Reads}
+use Rattle.cam6_wire.specs.Limits.{max_line}
+use Rattle.cam6_wire.specs.Commands.{command, command_in, from_value, value_of, IsSaid}
 use Rattle.cam6_wire.specs.declared.faults.LineFault.{LineFault}
 use Rattle.cam6_wire.specs.declared.faults.LineFault.TheVariants.{NoJson, NoCommand, TooLong}
 
-not_long : (n : ℕ) → n ≤ 16384 → nat_lt 16384 n ≡ false
+not_long : (n : ℕ) → n ≤ max_line → nat_lt max_line n ≡ false
 not_long n h = grind arith
 
 -- a line within the limit says what its value says
-pub short_line : (line : List ℕ) → length line ≤ 16384 → command line ≡ from_value (value_of line)
+pub short_line : (line : List ℕ) → length line ≤ max_line →
+    command line ≡ from_value (value_of line)
 short_line line h =
     ap (λ b. cond b (Err TooLong) (from_value (value_of line))) (not_long (length line) h)
 
@@ -29,29 +31,29 @@ no_value line false e h = refl
 no_value line true e h = h (IsUtf8-from_is_utf8 line e)
 
 -- a line that is no JSON
-pub says_no_json : (line : List ℕ) → length line ≤ 16384 → (IsUtf8 line → read line ≡ None) →
+pub says_no_json : (line : List ℕ) → length line ≤ max_line → (IsUtf8 line → read line ≡ None) →
     command line ≡ Err NoJson
 says_no_json line short h =
     short_line line short ∙ ap from_value (no_value line (is_utf8 line) refl h)
 
 -- a line that is JSON
-says_value : (line : List ℕ) (d : Data) → length line ≤ 16384 → IsUtf8 line → read line ≡ Some d →
-    command line ≡ ok_or (command_in d) NoCommand
+says_value : (line : List ℕ) (d : Data) → length line ≤ max_line → IsUtf8 line →
+    read line ≡ Some d → command line ≡ ok_or (command_in d) NoCommand
 says_value line d short text e = short_line line short ∙ ap from_value (value_found line d text e)
 
 same_or_fault : (o : Option Command) (said : Result Command LineFault) →
-    said ≡ ok_or o NoCommand → Reads (ok_or o NoCommand) said
+    said ≡ ok_or o NoCommand → IsSaid (ok_or o NoCommand) said
 same_or_fault None said e = e
 same_or_fault (Some c) said e = e
 
 -- what was found in a line's value is what the line says
 pub reads_value : (line : List ℕ) (d : Data) (found : Option Command)
-    (answered : Result Command LineFault) → length line ≤ 16384 →
+    (answered : Result Command LineFault) → length line ≤ max_line →
     IsUtf8 line × (read line ≡ Some d) → found ≡ command_in d → answered ≡ ok_or found NoCommand →
-    Reads answered (command line)
+    IsSaid answered (command line)
 reads_value line d found answered short text e given =
     let said = says_value line d short text.0 text.1 ∙ ap (λ x. ok_or x NoCommand) (sym e) in
-    subst (λ x. Reads x (command line)) (sym given) (same_or_fault found (command line) said)
+    subst (λ x. IsSaid x (command line)) (sym given) (same_or_fault found (command line) said)
 
 -- a line with a value isn't empty
 pub not_empty : (line : List ℕ) (d : Data) → read line ≡ Some d → 0 < length line

@@ -1,11 +1,13 @@
 -- A line that says a command has a value that shows it.
-use Rattle.std.proofs.Common.{◌≡◌, ◌≤◌, ℕ, List, length, Bool, true, false, cond, nat_lt, codes}
-use Rattle.std.proofs.Common.{Option, Some, None, IfSome, Result, Ok, Err, ok_or, option_map}
+use Rattle.std.proofs.Common.{◌≡◌, ◌<◌, ◌≤◌, ℕ, List, length, Bool, true, false, cond, nat_lt}
+use Rattle.std.proofs.Common.{codes, Option, Some, None, IfSome, Result, Ok, Err, ok_or, option_map}
 use Rattle.std.proofs.Common.{bytes_eq, refl, ap, ◌∙◌, arith}
 use Rattle.std.specs.Bool.{then_some}
+use Rattle.std.specs.Str.{is_utf8}
 use Rattle.std.proofs.lemmas.Slice.Eq.{bytes_eq-Decides}
 use Rattle.serde_json.specs.Data.{Data, string, array, object, Members, no_members, member}
 use Rattle.serde_json.specs.Find.{get}
+use Rattle.serde_json.specs.Read.{read}
 use Rattle.cam6_wiring.specs.declared.names.Half.{Half}
 use Rattle.cam6_wiring.specs.declared.wirings.Hood.{Hood}
 use Rattle.cam6_wiring.specs.declared.wirings.Minor.{Minor}
@@ -20,13 +22,15 @@ use Rattle.cam6_wire.specs.Settings.{half_text, hood_text, minor_text}
 use Rattle.cam6_wire.specs.Settings.{half_named, hood_named, minor_named, wiring_in}
 use Rattle.cam6_wire.specs.Entries.{entries_at}
 use Rattle.cam6_wire.specs.Fragment.{is_in_fragment}
+use Rattle.cam6_wire.specs.Limits.{max_line}
 use Rattle.cam6_wire.specs.Commands.{set_fields, set_of, rule_fields, rule_of, cycle_of, run_of}
-use Rattle.cam6_wire.specs.Commands.{plane_of, by_word, command_in, from_value, value_of}
+use Rattle.cam6_wire.specs.Commands.{plane_of, by_word, command_in, from_value, value_of, command}
 use Rattle.cam6_wire.specs.Shown.{Shows}
 use Rattle.cam6_wire.specs.Laws.{SaidIsShown}
 use Rattle.cam6_wire.proofs.Steps.{of_map, of_step, of_value, of_test, of_three}
 use Rattle.cam6_wire.proofs.Ordered.{IsOrdered, value_is_ordered}
 use Rattle.cam6_wire.proofs.Exactly.{these}
+use Rattle.cam6_wire.proofs.Saying.{not_empty}
 use Rattle.cam6_wire.proofs.Found.{number_found, text_found, AreDigits, bits_found}
 use Rattle.cam6_wire.proofs.Found.{half_found, hood_found, minor_found, of_object}
 use Rattle.cam6_wire.proofs.ShownEntries.{HasEntries, entries_found}
@@ -208,7 +212,7 @@ command_shown d ordered =
 
 -- a line that says a command isn't too long
 not_too_long : (n : ℕ) (said : Result Command LineFault) (c : Command) (b : Bool) →
-    nat_lt 16384 n ≡ b → cond b (Err TooLong) said ≡ Ok c → (n ≤ 16384) × (said ≡ Ok c)
+    nat_lt max_line n ≡ b → cond b (Err TooLong) said ≡ Ok c → (n ≤ max_line) × (said ≡ Ok c)
 not_too_long n said c true is e = let never : ⊥ = cc in absurd never
 not_too_long n said c false is e = (grind arith, e)
 
@@ -225,7 +229,7 @@ has_value (Some d) c e = (d, refl, has_command (command_in d) c e)
 pub said_is_shown : SaidIsShown
 said_is_shown line c said =
     let short =
-    not_too_long (length line) (from_value (value_of line)) c (nat_lt 16384 (length line)) refl
+    not_too_long (length line) (from_value (value_of line)) c (nat_lt max_line (length line)) refl
     said in
     let value = has_value (value_of line) c short.1 in
     let ordered = of_value IsOrdered (value_of line) value.0 (value_is_ordered line) value.1 in
@@ -233,3 +237,13 @@ said_is_shown line c said =
     of_value (IsAccepted value.0) (command_in value.0) c (command_shown value.0 ordered) value.2
     in
     (short.0, (value.0, value.1, is.0), is.1)
+
+is_read : (b : Bool) (o : Option Data) (d : Data) → cond b o None ≡ Some d → o ≡ Some d
+is_read true o d e = e
+is_read false o d e = let never : ⊥ = cc in absurd never
+
+-- a line that says a command isn't empty
+pub said_not_empty : (line : List ℕ) (c : Command) → command line ≡ Ok c → 0 < length line
+said_not_empty line c said =
+    let value = (said_is_shown line c said).1 in
+    not_empty line value.0 (is_read (is_utf8 line) (read line) value.0 value.1)

@@ -1,8 +1,9 @@
 -- What a line says: the JSON value that it is, and the command that the value is.
-use Rattle.std.specs.Prelude.{◌≡◌, ℕ, List, length, codes, nat_lt}
+use Rattle.std.specs.Prelude.{◌≡◌, ℕ, List, length, codes, nat_lt, Bool, false, ◌||◌}
 use Rattle.std.specs.Prelude.{if◌then◌else◌, Option, Some, None}
 use Rattle.std.specs.Prelude.{option_map, ok_or, Result, Ok, Err, ⊤}
 use Rattle.std.specs.Bool.{then_some}
+use Rattle.std.specs.Option.{option_map_or}
 use Rattle.std.specs.Str.{bytes_eq, is_utf8}
 use Rattle.serde_json.specs.Data.{Data}
 use Rattle.serde_json.specs.Read.{read}
@@ -11,6 +12,7 @@ use Rattle.cam6_machine.specs.declared.commands.Command.TheVariants.{Set, Rule, 
 use Rattle.cam6_wire.specs.declared.faults.LineFault.{LineFault}
 use Rattle.cam6_wire.specs.declared.faults.LineFault.TheVariants.{NoMemory, TooLong}
 use Rattle.cam6_wire.specs.declared.faults.LineFault.TheVariants.{NoJson, NoCommand}
+use Rattle.cam6_wire.specs.Limits.{max_line}
 use Rattle.cam6_wire.specs.Fields.{has_size, number_at, text_at, bits_at, ◌>>=◌}
 use Rattle.cam6_wire.specs.Settings.{wiring_in}
 use Rattle.cam6_wire.specs.Entries.{entries_at}
@@ -68,6 +70,14 @@ shown_in d = do
   word ← text_at (codes "do") d
   by_word word d
 
+-- whether a word is rule or cycle
+abbrev pub is_of_texts : List ℕ → Bool
+is_of_texts word = bytes_eq word (codes "rule") || bytes_eq word (codes "cycle")
+
+-- whether the word at the key do is rule or cycle, the commands of which texts are kept
+abbrev pub takes_text : Data → Bool
+takes_text d = option_map_or is_of_texts (text_at (codes "do") d) false
+
 -- the command that a JSON value is, where it is one that is accepted so far
 abbrev pub command_in : Data → Option Command
 command_in d = do
@@ -86,16 +96,16 @@ from_value (Some d) = ok_or (command_in d) NoCommand
 
 -- what a line says
 abbrev pub command : List ℕ → Result Command LineFault
-command line = if nat_lt 16384 (length line) then Err TooLong else from_value (value_of line)
+command line = if nat_lt max_line (length line) then Err TooLong else from_value (value_of line)
 
 -- the fault that was answered is what the line says, unless memory ran out
-abbrev pub Fails : LineFault → Result Command LineFault → Type 0
-Fails NoMemory said = ⊤
-Fails TooLong said = said ≡ Err TooLong
-Fails NoJson said = said ≡ Err NoJson
-Fails NoCommand said = said ≡ Err NoCommand
+abbrev pub IsFaultOf : LineFault → Result Command LineFault → Type 0
+IsFaultOf NoMemory said = ⊤
+IsFaultOf TooLong said = said ≡ Err TooLong
+IsFaultOf NoJson said = said ≡ Err NoJson
+IsFaultOf NoCommand said = said ≡ Err NoCommand
 
 -- what was answered is what the line says, unless memory ran out
-abbrev pub Reads : Result Command LineFault → Result Command LineFault → Type 0
-Reads (Ok answered) said = said ≡ Ok answered
-Reads (Err fault) said = Fails fault said
+abbrev pub IsSaid : Result Command LineFault → Result Command LineFault → Type 0
+IsSaid (Ok answered) said = said ≡ Ok answered
+IsSaid (Err fault) said = IsFaultOf fault said

@@ -8,6 +8,7 @@ use Rattle.cam6_machine.specs.Alone.{replies, after_all}
 use Rattle.cam6_machine.specs.declared.commands.Command.{Command}
 use Rattle.cam6_machine.specs.declared.replies.Reply.{Reply}
 use Rattle.cam6_wire.specs.declared.faults.LineFault.{LineFault}
+use Rattle.cam6_wire.specs.Limits.{max_line}
 use Rattle.cam6_wire.specs.Fragment.{is_in_fragment}
 use Rattle.cam6_wire.specs.Commands.{command, value_of}
 use Rattle.cam6_wire.specs.Replies.{reply_bytes, fault_bytes}
@@ -19,14 +20,14 @@ use Rattle.cam6_wire.specs.Shown.{Shows}
 -- a line whose value shows a command that is accepted so far says it
 abbrev pub ShownIsSaid : Type 0
 ShownIsSaid =
-    (line : List ℕ) (d : Data) (c : Command) → length line ≤ 16384 → value_of line ≡ Some d →
+    (line : List ℕ) (d : Data) (c : Command) → length line ≤ max_line → value_of line ≡ Some d →
     Shows d c → is_in_fragment c ≡ true → command line ≡ Ok c
 
 -- a line says no other command
 abbrev pub SaidIsShown : Type 0
 SaidIsShown =
     (line : List ℕ) (c : Command) → command line ≡ Ok c →
-    (length line ≤ 16384) × ((d : Data) × (value_of line ≡ Some d) × Shows d c) ×
+    (length line ≤ max_line) × ((d : Data) × (value_of line ≡ Some d) × Shows d c) ×
     (is_in_fragment c ≡ true)
 
 -- the text of a reply is one line, whatever stands in it

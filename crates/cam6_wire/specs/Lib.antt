@@ -1,7 +1,8 @@
--- In the order of reading: faults, what stands at a key, settings, entries, what is accepted so
--- far, commands, replies; then texts of one line, the lines of a text and the answers to them, the
--- values by which commands are shown, and the laws.
+-- In the order of reading: faults, the limit of a line, what stands at a key, settings, entries,
+-- what is accepted so far, commands, replies; then texts of one line, the lines of a text and the
+-- answers to them, the values by which commands are shown, and the laws.
 pub mod Faults
+pub mod Limits
 pub mod Fields
 pub mod Settings
 pub mod Entries

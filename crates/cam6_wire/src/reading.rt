@@ -1,9 +1,11 @@
 //! A line as a command.
-ghost use Rattle.std.specs.Prelude.{◌≡◌, ◌<◌, ◌≤◌, length, Err, IfOk};
+ghost use Rattle.std.specs.Prelude.{◌≡◌, ◌<◌, ◌≤◌, length, Err, IfOk, IsOk, false};
 ghost use Rattle.cam6_wire.specs.declared.faults.LineFault.TheVariants.{NoMemory};
 ghost use Rattle.serde_json.specs.View.{view};
 ghost use Rattle.cam6_wire.specs.Commands.{set_of, rule_of, cycle_of, run_of, plane_of, by_word};
-ghost use Rattle.cam6_wire.specs.Commands.{shown_in, command_in, command, Reads};
+ghost use Rattle.cam6_wire.specs.Commands.{shown_in, command_in, command, IsSaid};
+ghost use Rattle.cam6_wire.specs.Commands.{is_of_texts, takes_text};
+ghost use Rattle.cam6_wire.specs.Limits.{max_line};
 
 use crate::entries::entries_at;
 use crate::faults::LineFault;
@@ -19,9 +21,9 @@ pub const LINE_LIMIT: usize = 16_384;
 
 /// What a line says.
 pub fn read_command(alloc: Global, line: &[u8]) -> Result<Command, LineFault>
-    ensures said { Reads result (command line.now) }
+    ensures said { IsSaid result (command line.now) }
     // No memory is wanted for an empty line, nor for one that is too long.
-    ensures memory { result ≡ Err NoMemory → (0 < length line.now) × (length line.now ≤ 16384) }
+    ensures memory { result ≡ Err NoMemory → (0 < length line.now) × (length line.now ≤ max_line) }
 {
     if line.len() > LINE_LIMIT {
         return Err(LineFault::TooLong);
@@ -41,7 +43,9 @@ pub fn read_command(alloc: Global, line: &[u8]) -> Result<Command, LineFault>
 /// The command that a JSON value shows, for whatever wiring and cycle. A line says those alone that
 /// are accepted so far.
 pub fn command_shown(alloc: Global, value: &Value) -> Result<Option<Command>, AllocError>
-    ensures { IfOk result (λ command. command ≡ shown_in (view value.now)) }
+    ensures command { IfOk result (λ command. command ≡ shown_in (view value.now)) }
+    // Memory is wanted for a rule and a cycle alone.
+    ensures memory { takes_text (view value.now) ≡ false → IsOk result }
 {
     match text_at(value, "do") {
         Some(word) => by_word(alloc, word, value),
@@ -59,7 +63,8 @@ fn command_in(alloc: Global, value: &Value) -> Result<Option<Command>, AllocErro
 }
 
 fn by_word(alloc: Global, word: &str, value: &Value) -> Result<Option<Command>, AllocError>
-    ensures { IfOk result (λ command. command ≡ by_word word.now (view value.now)) }
+    ensures command { IfOk result (λ command. command ≡ by_word word.now (view value.now)) }
+    ensures memory { is_of_texts word.now ≡ false → IsOk result }
 {
     match word {
         "set" => Ok(set_of(value)),

@@ -5,7 +5,7 @@ use Rattle.std.specs.List.{position_from}
 use Rattle.std.proofs.lemmas.Option.{same_Some}
 use Rattle.cam6_planes.specs.Row.{bit_number}
 use Rattle.cam6_wiring.specs.Laws.{ShowsWhatIsSeen, ShowsNothingElse}
-use Rattle.cam6_wiring.specs.Name.{is_same_level, is_same_turn, is_same_place, is_same_name}
+use Rattle.cam6_wiring.specs.Name.{is_same_level, is_same_turn, is_same_compass, is_same_name}
 use Rattle.cam6_wiring.specs.Seen.{Sees, line_shows, address_of}
 use Rattle.cam6_wiring.specs.Wiring.{is_at, line_of, names_of}
 use Rattle.cam6_wiring.specs.declared.names.Compass.{Compass}
@@ -37,7 +37,7 @@ same_turn Opposite Opposite e = refl
 same_turn CounterClockwise CounterClockwise e = refl
 same_turn _ _ e = cc
 
-same_place : (c d : Compass) → is_same_place c d ≡ true → c ≡ d
+same_place : (c d : Compass) → is_same_compass c d ≡ true → c ≡ d
 same_place Center Center e = refl
 same_place North North e = refl
 same_place South South e = refl
@@ -60,7 +60,7 @@ right_true false b e = cc
 pub same_name : (known name : Name) → is_same_name known name ≡ true → known ≡ name
 same_name (Beside c l) (Beside d m) e =
     ap (λ place. Beside place l) (same_place c d (left_true _ _ e)) ∙
-    ap (λ level. Beside d level) (same_level l m (right_true (is_same_place c d) _ e))
+    ap (λ level. Beside d level) (same_level l m (right_true (is_same_compass c d) _ e))
 same_name (InBlock c l) (InBlock d m) e =
     ap (λ turn. InBlock turn l) (same_turn c d (left_true _ _ e)) ∙
     ap (λ level. InBlock d level) (same_level l m (right_true (is_same_turn c d) _ e))

@@ -2,8 +2,8 @@
 use Rattle.std.proofs.Common.{◌≡◌, ℕ, zero, suc, ◌+◌, Bool, true, false, not, ◌&&◌, ◌||◌, List, [], ◌∷◌}
 use Rattle.std.proofs.Common.{map, get_or, Option, Some, None, cond, refl, sym, ◌∙◌, ap, arith}
 use Rattle.std.specs.List.{position_from, list_any}
-use Rattle.cam6_wiring.specs.Laws.{LinesAreNamed}
-use Rattle.cam6_wiring.specs.Name.{is_same_level, is_same_turn, is_same_place, is_same_name}
+use Rattle.cam6_wiring.specs.Laws.{LinesAreNamed, IsItselfAlone}
+use Rattle.cam6_wiring.specs.Name.{is_same_level, is_same_turn, is_same_compass, is_same_name}
 use Rattle.cam6_wiring.specs.Seen.{Sees, line_shows}
 use Rattle.cam6_wiring.specs.Wiring.{is_at, line_of, names_of}
 use Rattle.cam6_wiring.specs.declared.names.Compass.{Compass}
@@ -34,7 +34,7 @@ turn_itself Clockwise = refl
 turn_itself Opposite = refl
 turn_itself CounterClockwise = refl
 
-place_itself : (c : Compass) → is_same_place c c ≡ true
+place_itself : (c : Compass) → is_same_compass c c ≡ true
 place_itself Center = refl
 place_itself North = refl
 place_itself South = refl
@@ -55,6 +55,12 @@ itself (MinorCenter l) = level_itself l
 itself (MinorPhase l) = level_itself l
 itself MinorHorz = refl
 itself MinorVert = refl
+
+pub itself_alone : IsItselfAlone
+itself_alone first second = (
+  λ same. same_name first second same,
+  λ equal. ap (is_same_name first) (sym equal) ∙ itself first,
+)
 
 -- the line that shows whether it has this name has it
 named_line : (name : Name) (lines : List (Option Name)) (i : ℕ) →

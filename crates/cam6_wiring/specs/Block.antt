@@ -35,7 +35,7 @@ corner_at zero (suc low) = LowerLeft
 abbrev pub corner_of : Grid → ℕ → ℕ → Corner
 corner_of grid x y = corner_at (side_in_block grid x) (side_in_block grid y)
 
--- where the cell one, two or three places further clockwise lies, seen from a corner
+-- where the cell one, two or three corners further clockwise lies, seen from a corner
 abbrev pub in_block : Corner → Turn → Compass
 in_block UpperLeft Clockwise = East
 in_block UpperLeft Opposite = SouthEast
@@ -57,7 +57,7 @@ clockwise UpperRight = LowerRight
 clockwise LowerRight = LowerLeft
 clockwise LowerLeft = UpperLeft
 
--- the corner one, two or three places further clockwise
+-- the corner one, two or three corners further clockwise
 abbrev pub turned : Turn → Corner → Corner
 turned Clockwise corner = clockwise corner
 turned Opposite corner = clockwise (clockwise corner)

@@ -1,5 +1,5 @@
 -- The laws that tie what is seen to the address that it makes, and the table of turns to the block.
-use Rattle.std.specs.Prelude.{◌≡◌, ◌<◌, ℕ, ◌*◌, false, Some, None, get_or}
+use Rattle.std.specs.Prelude.{◌≡◌, ◌<◌, ℕ, ◌*◌, true, false, Some, None, get_or}
 use Rattle.cam6_planes.specs.Cells.{Cells}
 use Rattle.cam6_wiring.specs.Block.{corner_of, in_block, turned, column_beside, row_beside, block_of}
 use Rattle.cam6_wiring.specs.declared.blocks.Grid.{Grid}
@@ -7,6 +7,7 @@ use Rattle.cam6_wiring.specs.declared.names.Name.{Name}
 use Rattle.cam6_wiring.specs.declared.names.Turn.{Turn}
 use Rattle.cam6_wiring.specs.declared.wirings.Hood.{Hood}
 use Rattle.cam6_wiring.specs.declared.wirings.Minor.{Minor}
+use Rattle.cam6_wiring.specs.Name.{is_same_name}
 use Rattle.cam6_wiring.specs.Wiring.{line_of, names_of}
 use Rattle.cam6_wiring.specs.Seen.{Sees, address_of, shown, seen_in_block}
 
@@ -30,7 +31,14 @@ LinesAreNamed =
     (line_of hood minor name ≡ Some line → get_or (names_of hood minor) line None ≡ Some name) ×
     (get_or (names_of hood minor) line None ≡ Some name → line_of hood minor name ≡ Some line)
 
--- the cell that a cell sees one, two or three places further clockwise lies in the same block, one,
+-- a name is the same as itself, and as no other
+abbrev pub IsItselfAlone : Type 0
+IsItselfAlone =
+    (first second : Name) →
+    (is_same_name first second ≡ true → first ≡ second) ×
+    (first ≡ second → is_same_name first second ≡ true)
+
+-- the cell that a cell sees one, two or three corners further clockwise lies in the same block, one,
 -- two or three corners further clockwise; the torus has an even side
 abbrev pub TurnsInTheBlock : Type 0
 TurnsInTheBlock =

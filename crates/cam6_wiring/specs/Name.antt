@@ -1,5 +1,5 @@
 -- Names: the planes and bits that they read, and when two are the same.
-use Rattle.std.specs.Prelude.{ℕ, Bool, true, false, ◌&&◌}
+use Rattle.std.specs.Prelude.{ℕ, zero, suc, Bool, true, false, ◌&&◌}
 use Rattle.cam6_wiring.specs.declared.names.Compass.{Compass}
 use Rattle.cam6_wiring.specs.declared.names.Compass.TheVariants.{Center, North, South, West}
 use Rattle.cam6_wiring.specs.declared.names.Compass.TheVariants.{East, NorthWest, NorthEast}
@@ -26,6 +26,13 @@ abbrev pub other_half : Half → Half
 other_half A = B
 other_half B = A
 
+-- a bit for each of the four planes from a bit for each plane of a half
+abbrev pub on_plane : ℕ → (Half → Level → Bool) → Bool
+on_plane zero bit = bit A Lower
+on_plane (suc zero) bit = bit A Upper
+on_plane (suc (suc zero)) bit = bit B Lower
+on_plane (suc (suc (suc p))) bit = bit B Upper
+
 -- the phase's low bit, or its high bit
 abbrev pub phase_bit : Phase → Level → Bool
 phase_bit P0 level = false
@@ -37,8 +44,9 @@ phase_bit P3 level = true
 
 abbrev pub is_same_level : Level → Level → Bool
 is_same_level Lower Lower = true
+is_same_level Lower Upper = false
+is_same_level Upper Lower = false
 is_same_level Upper Upper = true
-is_same_level _ _ = false
 
 abbrev pub is_same_turn : Turn → Turn → Bool
 is_same_turn Clockwise Clockwise = true
@@ -46,21 +54,21 @@ is_same_turn Opposite Opposite = true
 is_same_turn CounterClockwise CounterClockwise = true
 is_same_turn _ _ = false
 
-abbrev pub is_same_place : Compass → Compass → Bool
-is_same_place Center Center = true
-is_same_place North North = true
-is_same_place South South = true
-is_same_place West West = true
-is_same_place East East = true
-is_same_place NorthWest NorthWest = true
-is_same_place NorthEast NorthEast = true
-is_same_place SouthWest SouthWest = true
-is_same_place SouthEast SouthEast = true
-is_same_place _ _ = false
+abbrev pub is_same_compass : Compass → Compass → Bool
+is_same_compass Center Center = true
+is_same_compass North North = true
+is_same_compass South South = true
+is_same_compass West West = true
+is_same_compass East East = true
+is_same_compass NorthWest NorthWest = true
+is_same_compass NorthEast NorthEast = true
+is_same_compass SouthWest SouthWest = true
+is_same_compass SouthEast SouthEast = true
+is_same_compass _ _ = false
 
 -- whether two names are one
 abbrev pub is_same_name : Name → Name → Bool
-is_same_name (name.Beside c l) (name.Beside d m) = is_same_place c d && is_same_level l m
+is_same_name (name.Beside c l) (name.Beside d m) = is_same_compass c d && is_same_level l m
 is_same_name (name.InBlock c l) (name.InBlock d m) = is_same_turn c d && is_same_level l m
 is_same_name (name.Phase l) (name.Phase m) = is_same_level l m
 is_same_name name.Horz name.Horz = true

@@ -20,11 +20,11 @@ use Rattle.cam6_wiring.specs.Name.{is_same_name}
 
 -- a name without a prime: it reads the half's lower plane
 abbrev pub lower : Compass → Option Name
-lower place = Some (Beside place Lower)
+lower compass = Some (Beside compass Lower)
 
 -- a name with a prime: it reads the half's upper plane
 abbrev pub upper : Compass → Option Name
-upper place = Some (Beside place Upper)
+upper compass = Some (Beside compass Upper)
 
 -- lines 0 to 7 of the Margolus neighbourhoods, and then these
 abbrev pub block_names : List (Option Name) → List (Option Name)

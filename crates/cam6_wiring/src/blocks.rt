@@ -1,10 +1,8 @@
 //! Margolus blocks: the torus cut into squares of two by two cells, by the even or the odd grid.
-ghost use Rattle.std.specs.Prelude.{◌≡◌, ◌<◌};
+ghost use Rattle.std.specs.Prelude.{◌≡◌};
 ghost use Rattle.cam6_wiring.specs.Block.{corner_of, in_block, side_in_block};
-ghost use Rattle.cam6_planes.specs.declared.row.TheConstants.{SIDE};
 
 use crate::names::{Compass, Turn};
-use cam6_planes::SIDE;
 
 /// Where a block's upper left cell lies: at even coordinates, or at odd ones. The last blocks of
 /// the odd grid join the last column with column 0, and the last row with row 0.
@@ -14,7 +12,7 @@ pub enum Grid {
     Odd,
 }
 
-/// A cell's place in its block; the places run clockwise.
+/// A cell's corner of its block. The corners run clockwise.
 #[derive(Clone, Copy, Debug, PartialEq, Eq)]
 pub enum Corner {
     UpperLeft,
@@ -25,8 +23,6 @@ pub enum Corner {
 
 /// The corner of its block in which the cell at column `x` of row `y` lies.
 pub fn corner_of(grid: Grid, x: usize, y: usize) -> Corner
-    requires column { x < SIDE }
-    requires row { y < SIDE }
     ensures { result ≡ corner_of grid x y }
 {
     match (side_in_block(grid, x), side_in_block(grid, y)) {
@@ -59,11 +55,10 @@ pub fn in_block(corner: Corner, turn: Turn) -> Compass
 
 /// 0 in a block's left column, and 1 in its right one; of a row, 0 in the upper and 1 in the lower.
 pub(crate) fn side_in_block(grid: Grid, x: usize) -> usize
-    requires { x < SIDE }
     ensures { result ≡ side_in_block grid x }
 {
     match grid {
         Grid::Even => x % 2,
-        Grid::Odd => (x + 1) % 2,
+        Grid::Odd => 1 - x % 2,
     }
 }

@@ -1,7 +1,7 @@
 //! Laws that tie what is seen to the address that it makes, and turns to the block. Each is the
 //! contract of a function that does nothing.
 ghost use Rattle.cam6_wiring.specs.Laws.{ShowsWhatIsSeen, ShowsNothingElse};
-ghost use Rattle.cam6_wiring.specs.Laws.{LinesAreNamed, TurnsInTheBlock};
+ghost use Rattle.cam6_wiring.specs.Laws.{LinesAreNamed, IsItselfAlone, TurnsInTheBlock};
 
 /// The address of what is seen shows, on the line of each name, what is seen under the name.
 pub fn an_address_shows_what_is_seen()
@@ -18,8 +18,13 @@ pub fn lines_are_named()
     ensures law { LinesAreNamed }
 {}
 
-/// What a cell sees one, two or three places further clockwise is a cell of its own block, one, two or
-/// three corners further clockwise.
+/// A name is the same as itself, and as no other.
+pub fn a_name_is_itself_alone()
+    ensures law { IsItselfAlone }
+{}
+
+/// What a cell sees one, two or three corners further clockwise is a cell of its own block, so
+/// many corners further clockwise.
 pub fn turns_stay_in_the_block()
     ensures law { TurnsInTheBlock }
 {}

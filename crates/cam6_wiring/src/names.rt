@@ -2,7 +2,7 @@
 ghost use Rattle.std.specs.Prelude.{◌≡◌, ◌<◌};
 ghost use Rattle.cam6_wiring.specs.Name.{plane_of, other_half, phase_bit};
 
-/// A cell's own place, or a neighbour's.
+/// Where a cell itself lies, or a neighbour of it.
 #[derive(Clone, Copy, Debug, PartialEq, Eq)]
 pub enum Compass {
     Center,

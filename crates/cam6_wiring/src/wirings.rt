@@ -75,16 +75,16 @@ pub(crate) fn names_of(hood: Hood, minor: Minor) -> [Option<Name>; LINES]
     [n0, n1, n2, n3, n4, n5, n6, n7, n8, n9, n10, n11]
 }
 
-fn lower(place: Compass) -> Option<Name>
-    ensures { result ≡ lower place }
+fn lower(compass: Compass) -> Option<Name>
+    ensures { result ≡ lower compass }
 {
-    Some(Name::Beside(place, Level::Lower))
+    Some(Name::Beside(compass, Level::Lower))
 }
 
-fn upper(place: Compass) -> Option<Name>
-    ensures { result ≡ upper place }
+fn upper(compass: Compass) -> Option<Name>
+    ensures { result ≡ upper compass }
 {
-    Some(Name::Beside(place, Level::Upper))
+    Some(Name::Beside(compass, Level::Upper))
 }
 
 fn hood_names(hood: Hood) -> [Option<Name>; 10]

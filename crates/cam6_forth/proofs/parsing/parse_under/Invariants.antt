@@ -10,7 +10,7 @@ invariant-loop-token l = record {
       ≡ read l.wiring begin 1 (tokens l.text);
   short : l.token_number + length l.rest ≤ max_text + 1;
   fits : length l.text ≤ max_text;
-  found : (is_in_body l.reader.place || begins l.wiring l.reader (tokens l.rest)) ≡ true →
+  found : (is_in_body l.reader.context || begins l.wiring l.reader (tokens l.rest)) ≡ true →
       begins l.wiring begin (tokens l.text) ≡ true;
 }
 

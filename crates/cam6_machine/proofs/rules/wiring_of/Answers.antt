@@ -1,8 +1,9 @@
 use Rattle.std.proofs.Common.{◌∙◌, sym, ap, option_map, Some}
 use Rattle.std.specs.Option.{option_copied}
-use Rattle.cam6_machine.specs.Rules.{rules_of, wiring_of}
+use Rattle.cam6_machine.specs.Places.{rules_of}
+use Rattle.cam6_machine.specs.Rules.{wiring_of}
 use Rattle.cam6_machine.specs.declared.rules.KeptRule.{KeptRule}
-use Rattle.cam6_machine.proofs.KeptRules.{wiring_of-rules_of}
+use Rattle.cam6_machine.proofs.KeptRules.{rule_named-rules_of}
 use Rattle.cam6_machine.proofs.rules.wiring_of.Goals as goal
 
 pub returns-in-Some : goal.returns-in-Some
@@ -11,7 +12,7 @@ returns-in-Some c =
     ap Some c.wiring.ensures ∙
     sym (ap (λ o. option_map (λ (r : KeptRule). r.wiring) (option_copied o)) c.in-Some.is) ∙
     ap (option_map (λ (r : KeptRule). r.wiring)) c.get.ensures.value ∙
-    wiring_of-rules_of c.as_str.result.now entries ∙
+    rule_named-rules_of c.as_str.result.now entries ∙
     ap (λ name. wiring_of name (rules_of entries)) c.as_str.ensures
 
 pub returns-in-None : goal.returns-in-None
@@ -19,5 +20,5 @@ returns-in-None c =
     let entries = c.args.rules.now.entries in
     sym (ap (λ o. option_map (λ (r : KeptRule). r.wiring) (option_copied o)) c.in-None.is) ∙
     ap (option_map (λ (r : KeptRule). r.wiring)) c.get.ensures.value ∙
-    wiring_of-rules_of c.as_str.result.now entries ∙
+    rule_named-rules_of c.as_str.result.now entries ∙
     ap (λ name. wiring_of name (rules_of entries)) c.as_str.ensures

@@ -3,7 +3,7 @@ use Rattle.cam6_planes.specs.Cells.{cells}
 use Rattle.cam6_planes.proofs.WordByWord.{row_more}
 use Rattle.cam6_wiring.specs.declared.names.Level.{Level}
 use Rattle.cam6_wiring.specs.declared.names.Level.TheVariants.{Lower, Upper}
-use Rattle.cam6_machine.specs.ByTables.{bit_by_table}
+use Rattle.cam6_table.specs.NewBits.{bit_by_table}
 use Rattle.cam6_machine.proofs.stepping.rows_by_table.Goals as goal
 
 pub loop-i-preserved : goal.loop-i-preserved

@@ -2,7 +2,7 @@ use Rattle.std.proofs.Common.{◌≡◌, ℕ, ◌<◌, ◌*◌, Some, length}
 use Rattle.cam6_planes.specs.Cells.{cells}
 use Rattle.cam6_planes.specs.Row.{column_bit}
 use Rattle.cam6_wiring.specs.declared.names.Level.TheVariants.{Lower, Upper}
-use Rattle.cam6_machine.specs.ByTables.{bit_by_table}
+use Rattle.cam6_table.specs.NewBits.{bit_by_table}
 use Rattle.cam6_machine.proofs.stepping.rows_by_table.Given as goal
 
 abbrev pub invariant-loop-i : goal.invariant-loop-i

@@ -4,7 +4,7 @@ use Rattle.cam6_planes.specs.Row.{column_bit}
 use Rattle.cam6_wiring.specs.Name.{plane_of, other_half}
 use Rattle.cam6_wiring.specs.declared.names.Level.{Level}
 use Rattle.cam6_wiring.specs.declared.names.Level.TheVariants.{Upper}
-use Rattle.cam6_machine.specs.ByTables.{bit_by_table}
+use Rattle.cam6_table.specs.NewBits.{bit_by_table}
 use Rattle.cam6_machine.proofs.WrittenRows.{with_rows, rows_more, other_half_kept}
 use Rattle.cam6_machine.proofs.stepping.step_half.Goals as goal
 

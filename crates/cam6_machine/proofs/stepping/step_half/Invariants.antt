@@ -2,7 +2,7 @@ use Rattle.std.proofs.Common.{◌≡◌, ℕ, ◌<◌}
 use Rattle.cam6_planes.specs.Cells.{cells}
 use Rattle.cam6_wiring.specs.Name.{plane_of, other_half}
 use Rattle.cam6_wiring.specs.declared.names.Level.{Level}
-use Rattle.cam6_machine.specs.ByTables.{bit_by_table}
+use Rattle.cam6_table.specs.NewBits.{bit_by_table}
 use Rattle.cam6_machine.proofs.stepping.step_half.Given as goal
 
 abbrev pub invariant-loop-y : goal.invariant-loop-y

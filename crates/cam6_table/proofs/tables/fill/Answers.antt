@@ -4,8 +4,8 @@ use Rattle.std.specs.Result.{IsOk}
 use Rattle.std.proofs.lemmas.Bool.{cases_eq}
 use Rattle.std.proofs.lemmas.List.{get_or-set_same, get_or-set_other, length-set}
 use Rattle.cam6_table.specs.declared.faults.RuleFault.{RuleFault}
-use Rattle.cam6_table.specs.Codes.{answer}
-use Rattle.cam6_table.specs.Tables.{Answers}
+use Rattle.cam6_table.specs.Codes.{result_at}
+use Rattle.cam6_table.specs.Tables.{Results}
 use Rattle.cam6_table.proofs.tables.fill.Goals as goal
 
 abbrev ok_entry : ℕ → Result ℕ RuleFault
@@ -16,13 +16,13 @@ is_ok (Ok w) v same = refl
 is_ok (Err fault) v same = cc same
 
 -- one more address has its answer
-filled_more : (answers : Answers) (entries : List ℕ) (here entry : ℕ) → here < length entries →
-    Ok entry ≡ answers here →
-    ((k : ℕ) → k < here → answers k ≡ Ok (slice_index entries k)) →
-    (k : ℕ) → k < here + 1 → answers k ≡ Ok (slice_index (slice_set entries here entry) k)
-filled_more answers entries here entry within said filled k below =
+filled_more : (results : Results) (entries : List ℕ) (here entry : ℕ) → here < length entries →
+    Ok entry ≡ results here →
+    ((k : ℕ) → k < here → results k ≡ Ok (slice_index entries k)) →
+    (k : ℕ) → k < here + 1 → results k ≡ Ok (slice_index (slice_set entries here entry) k)
+filled_more results entries here entry within said filled k below =
     elim (cases_eq k here) [
-      | inl same ↦ ap answers same ∙ sym said ∙
+      | inl same ↦ ap results same ∙ sym said ∙
           sym (ap (λ j. ok_entry (slice_index (slice_set entries here entry) j)) same ∙
           ap ok_entry (get_or-set_same entries here entry 0 within))
       | inr other ↦ filled k (omega arith) ∙
@@ -32,12 +32,12 @@ filled_more answers entries here entry within said filled k below =
 pub loop-address-preserved : goal.loop-address-preserved
 loop-address-preserved c =
     let l = c.loop-address in
-    let answers = answer c.args.code.now in
+    let results = result_at c.args.code.now in
     let put = c.put.ensures in
     record {
       all = ap length put ∙ length-set l.table l.address c.in-Ok.entry ∙ l.invariant.all;
       filled = λ k below.
-          filled_more answers l.table l.address c.in-Ok.entry (omega arith) c.in-Ok.ensures.answer
+          filled_more results l.table l.address c.in-Ok.entry (omega arith) c.in-Ok.ensures.value
           l.invariant.filled k below ∙ sym (ap (λ t. ok_entry (slice_index t k)) put);
     }
 
@@ -46,8 +46,8 @@ returns-in-Err-clause-fault c =
     let l = c.loop-address in
     record {
       within = c.loop-address-test.true;
-      stops = sym c.in-Err.ensures.answer;
+      stops = sym c.in-Err.ensures.value;
       least = λ before below.
-          is_ok (answer c.args.code.now before) (slice_index l.table before)
+          is_ok (result_at c.args.code.now before) (slice_index l.table before)
           (l.invariant.filled before below);
     }

@@ -1,5 +1,5 @@
 use Rattle.std.proofs.Common.{◌≡◌, ◌<◌, slice_index, ℕ, Ok, length}
-use Rattle.cam6_table.specs.Codes.{answer}
+use Rattle.cam6_table.specs.Codes.{result_at}
 use Rattle.cam6_table.proofs.tables.fill.Given as goal
 
 -- each address so far has its answer in the table
@@ -7,5 +7,5 @@ abbrev pub invariant-loop-address : goal.invariant-loop-address
 invariant-loop-address l = record {
   all : length l.table ≡ 4096;
   filled : (before : ℕ) → before < l.address →
-      answer l.code before ≡ Ok (slice_index l.table before);
+      result_at l.code before ≡ Ok (slice_index l.table before);
 }

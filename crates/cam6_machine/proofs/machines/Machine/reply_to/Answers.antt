@@ -1,4 +1,4 @@
-use Rattle.cam6_machine.proofs.machines.Machine.answer.Goals as goal
+use Rattle.cam6_machine.proofs.machines.Machine.reply_to.Goals as goal
 
 pub returns-in_err-reply-clause-unkept : goal.returns-in_err-reply-clause-unkept
 returns-in_err-reply-clause-unkept c =

@@ -1,0 +1,423 @@
+-- Places of rules, and their names: they say the same where the names are the rules' own.
+use Rattle.std.proofs.Common.{◌≡◌, ◌≤◌, ◌<◌, ℕ, zero, suc, Bool, true, false, ◌||◌, ◌==◌, List}
+use Rattle.std.proofs.Common.{[], ◌∷◌, map, length, Option, Some, None, cond, refl, sym, ap, ◌∙◌}
+use Rattle.std.proofs.Common.{arith, subst, inl, inr, option_map, slice_get, nat_le}
+use Rattle.std.specs.List.{AllByRecursion, list_any}
+use Rattle.std.specs.Str.{bytes_eq}
+use Rattle.std.proofs.lemmas.Bool.Decides.{eqb_tells}
+use Rattle.std.proofs.lemmas.Map.Keys.{IsDistinct-head, IsDistinct-tail}
+use Rattle.std.proofs.lemmas.Slice.Eq.{bytes_eq-Decides}
+use Rattle.cam6_wiring.specs.declared.names.Half.{Half}
+use Rattle.cam6_wiring.specs.declared.names.Half.TheVariants.{A, B}
+use Rattle.cam6_wiring.specs.declared.names.Phase.{Phase}
+use Rattle.cam6_wiring.specs.declared.names.Phase.TheVariants.{P0, P1, P2, P3}
+use Rattle.cam6_machine.specs.Limits.{max_rules}
+use Rattle.cam6_machine.specs.Rules.{Rule, rule_named, rule_if_named, is_rule_name}
+use Rattle.cam6_machine.specs.Cycles.{EntryRules, phase_of, entry_rules}
+use Rattle.cam6_machine.specs.Effects.{with_rule}
+use Rattle.cam6_machine.specs.Always.{HaveOwnNames, IsNamed, IsEntry}
+use Rattle.cam6_machine.specs.Refusals.{is_name, is_used, room_refusal, rule_refusal}
+use Rattle.cam6_machine.specs.Places.{place_of, rule_at, name_of, placed, placed_entry, phase_number}
+use Rattle.cam6_machine.specs.Places.{named_entry, named_entries, rules_at, IsPlace, ArePlaced}
+use Rattle.cam6_machine.specs.Places.{is_place, uses_place}
+use Rattle.cam6_machine.specs.declared.commands.NamedEntry.{NamedEntry}
+use Rattle.cam6_machine.specs.declared.cycles.Entry.{Entry}
+use Rattle.cam6_machine.specs.declared.replies.Fault.TheVariants.{RuleInUse, TooManyRules, OutOfRange}
+
+-- names of rules
+abbrev pub names_of : List Rule → List (List ℕ)
+names_of rules = map (λ rule. rule.name) rules
+
+pub same_bytes : (a b : List ℕ) → bytes_eq a b ≡ true → a ≡ b
+same_bytes a b e = (bytes_eq-Decides a b).0 e
+
+pub bytes_eq-self : (a : List ℕ) → bytes_eq a a ≡ true
+bytes_eq-self a = (bytes_eq-Decides a a).1 refl
+
+-- names that differ by their bytes are not one
+apart_names : (a b : List ℕ) → bytes_eq a b ≡ false → a ≡ b → ⊥
+apart_names a b e same = let one = (bytes_eq-Decides a b).1 same in cc (e, one)
+
+pub bytes_eq-flip : (a b : List ℕ) (t : Bool) → bytes_eq a b ≡ t → bytes_eq b a ≡ t
+bytes_eq-flip a b true e = (bytes_eq-Decides b a).1 (sym (same_bytes a b e))
+bytes_eq-flip a b false e = by_test (bytes_eq b a) refl
+  where
+    by_test : (t : Bool) → bytes_eq b a ≡ t → bytes_eq b a ≡ false
+    by_test false f = f
+    by_test true f = absurd (apart_names a b e (sym (same_bytes b a f)))
+
+-- the first rule's name is none of the others', which are their own
+first_own : (first : Rule) (rules : List Rule) → HaveOwnNames (first ∷ rules) →
+    AllByRecursion (λ other. bytes_eq first.name other ≡ false) (names_of rules)
+first_own first rules own = IsDistinct-head bytes_eq first.name (names_of rules) own
+
+later_own : (first : Rule) (rules : List Rule) → HaveOwnNames (first ∷ rules) →
+    HaveOwnNames rules
+later_own first rules own = IsDistinct-tail bytes_eq first.name (names_of rules) own
+
+-- a name that is not among others is none of theirs
+not_later : (name : List ℕ) (rules : List Rule) (place : ℕ) (rule : Rule) →
+    AllByRecursion (λ other. bytes_eq name other ≡ false) (names_of rules) →
+    slice_get rules place ≡ Some rule → bytes_eq name rule.name ≡ false
+not_later name [] place rule apart found = cc found
+not_later name (first ∷ rules) zero rule apart found =
+    let same : first ≡ rule = cc found in ap (λ r. bytes_eq name r.name) (sym same) ∙ apart.0
+not_later name (first ∷ rules) (suc place) rule apart found =
+    not_later name rules place rule apart.1 found
+
+-- the rule of the name of the rule at a place is that rule
+pub rule_of_name : (rules : List Rule) (place : ℕ) → HaveOwnNames rules →
+    rule_if_named (name_of (slice_get rules place)) rules ≡ slice_get rules place
+rule_of_name [] place own = refl
+rule_of_name (first ∷ rules) zero own =
+    ap (λ b. cond b (Some first) (rule_named first.name rules)) (bytes_eq-self first.name)
+rule_of_name (first ∷ rules) (suc place) own =
+    at_rule (slice_get rules place) refl
+    (rule_of_name rules place (later_own first rules own))
+  where
+    at_rule : (found : Option Rule) → slice_get rules place ≡ found →
+        rule_if_named (name_of (slice_get rules place)) rules ≡ slice_get rules place →
+        rule_if_named (name_of (slice_get rules place)) (first ∷ rules) ≡ slice_get rules place
+    at_rule None e later = ap (λ o. rule_if_named (name_of o) (first ∷ rules)) e ∙ sym e
+    at_rule (Some rule) e later =
+        let other : bytes_eq rule.name first.name ≡ false =
+        bytes_eq-flip first.name rule.name false
+        (not_later first.name rules place rule (first_own first rules own) e) in
+        ap (λ o. rule_if_named (name_of o) (first ∷ rules)) e ∙
+        ap (λ b. cond b (Some first) (rule_named rule.name rules)) other ∙
+        ap (λ o. rule_if_named (name_of o) rules) (sym e) ∙ later
+
+pub phase_back : (phase : Phase) → phase_of (phase_number phase) ≡ phase
+phase_back P0 = refl
+phase_back P1 = refl
+phase_back P2 = refl
+phase_back P3 = refl
+
+half_back : (rules : List Rule) (place : Option ℕ) → HaveOwnNames rules →
+    rule_if_named (name_of (rule_at rules place)) rules ≡ rule_at rules place
+half_back rules None own = refl
+half_back rules (Some place) own = rule_of_name rules place own
+
+-- an entry with names has the rules that it has with places
+pub same_rules : (rules : List Rule) (entry : Entry) → HaveOwnNames rules →
+    entry_rules rules (named_entry rules entry) ≡ rules_at rules entry
+same_rules rules entry own =
+    let a = half_back rules entry.a own in
+    let b = half_back rules entry.b own in
+    let phase = phase_back entry.phase in
+    ap {B = EntryRules} (λ r. record {
+      a = r;
+      b = rule_if_named (name_of (rule_at rules entry.b)) rules;
+      grid = entry.grid;
+      phase = phase_of (phase_number entry.phase);
+    }) a ∙
+    ap {B = EntryRules} (λ r. record {
+      a = rule_at rules entry.a;
+      b = r;
+      grid = entry.grid;
+      phase = phase_of (phase_number entry.phase);
+    }) b ∙
+    ap {B = EntryRules} (λ p. record {
+      a = rule_at rules entry.a;
+      b = rule_at rules entry.b;
+      grid = entry.grid;
+      phase = p;
+    }) phase
+
+-- where a rule has the name there is a place, and the name is that of the rule there
+pub name_placed : (name : List ℕ) (rules : List Rule) (rule : Rule) →
+    rule_named name rules ≡ Some rule → name_of (rule_at rules (place_of name rules)) ≡ Some name
+name_placed name [] rule found = cc found
+name_placed name (first ∷ rules) rule found =
+    by_test (bytes_eq name first.name) refl found (λ f. name_placed name rules rule f)
+  where
+    later : (o : Option ℕ) →
+        name_of (rule_at (first ∷ rules) (option_map suc o)) ≡ name_of (rule_at rules o)
+    later None = refl
+    later (Some place) = refl
+
+    by_test : (b : Bool) → bytes_eq name first.name ≡ b →
+        cond b (Some first) (rule_named name rules) ≡ Some rule →
+        (rule_named name rules ≡ Some rule →
+        name_of (rule_at rules (place_of name rules)) ≡ Some name) →
+        name_of (rule_at (first ∷ rules)
+        (cond b (Some 0) (option_map suc (place_of name rules)))) ≡ Some name
+    by_test true e found rest = ap Some (sym (same_bytes name first.name e))
+    by_test false e found rest = later (place_of name rules) ∙ rest found
+
+-- a place is one of the rules'
+pub place_within : (name : List ℕ) (rules : List Rule) → IsPlace rules (place_of name rules)
+place_within name [] = tt
+place_within name (first ∷ rules) = by_test (bytes_eq name first.name) (place_within name rules)
+  where
+    later : (o : Option ℕ) → IsPlace rules o → IsPlace (first ∷ rules) (option_map suc o)
+    later None within = tt
+    later (Some place) within = omega (arith, within)
+
+    by_test : (b : Bool) → IsPlace rules (place_of name rules) →
+        IsPlace (first ∷ rules) (cond b (Some 0) (option_map suc (place_of name rules)))
+    by_test true rest = omega arith
+    by_test false rest = later (place_of name rules) rest
+
+-- the rule of a name is the rule at the name's place
+pub named_at : (name : List ℕ) (rules : List Rule) →
+    rule_named name rules ≡ rule_at rules (place_of name rules)
+named_at name [] = refl
+named_at name (first ∷ rules) = by_test (bytes_eq name first.name) (named_at name rules)
+  where
+    later : (o : Option ℕ) → rule_at rules o ≡ rule_at (first ∷ rules) (option_map suc o)
+    later None = refl
+    later (Some place) = refl
+
+    by_test : (b : Bool) → rule_named name rules ≡ rule_at rules (place_of name rules) →
+        cond b (Some first) (rule_named name rules)
+        ≡ rule_at (first ∷ rules) (cond b (Some 0) (option_map suc (place_of name rules)))
+    by_test true rest = refl
+    by_test false rest = rest ∙ later (place_of name rules)
+
+found_at : {X : Type 0} (xs : List X) (i : ℕ) → i < length xs →
+    (x : X) × (slice_get xs i ≡ Some x)
+found_at [] i within = absurd (omega (arith, within))
+found_at (x ∷ xs) zero within = (x, refl)
+found_at (x ∷ xs) (suc i) within = found_at xs i (omega (arith, within))
+
+-- rules at two places have two names
+own_place : (rules : List Rule) (first second : ℕ) (rule other : Rule) → HaveOwnNames rules →
+    slice_get rules first ≡ Some rule → slice_get rules second ≡ Some other →
+    rule.name ≡ other.name → first ≡ second
+own_place [] first second rule other own a b same = cc a
+own_place (head ∷ rules) zero zero rule other own a b same = refl
+own_place (head ∷ rules) zero (suc second) rule other own a b same =
+    let is : head ≡ rule = cc a in
+    let apart : bytes_eq head.name other.name ≡ false =
+    not_later head.name rules second other (first_own head rules own) b in
+    let equal : head.name ≡ other.name = ap (λ r. r.name) is ∙ same in
+    absurd (apart_names head.name other.name apart equal)
+own_place (head ∷ rules) (suc first) zero rule other own a b same =
+    let is : head ≡ other = cc b in
+    let apart : bytes_eq head.name rule.name ≡ false =
+    not_later head.name rules first rule (first_own head rules own) a in
+    let equal : head.name ≡ rule.name = ap (λ r. r.name) is ∙ sym same in
+    absurd (apart_names head.name rule.name apart equal)
+own_place (head ∷ rules) (suc first) (suc second) rule other own a b same =
+    ap suc (own_place rules first second rule other (later_own head rules own) a b same)
+
+-- the rule at a name's place has the name
+pub name_at_place : (name : List ℕ) (rules : List Rule) (rule : Rule) →
+    rule_named name rules ≡ Some rule → name ≡ rule.name
+name_at_place name [] rule found = cc found
+name_at_place name (first ∷ rules) rule found =
+    by_test (bytes_eq name first.name) refl found (λ f. name_at_place name rules rule f)
+  where
+    by_test : (b : Bool) → bytes_eq name first.name ≡ b →
+        cond b (Some first) (rule_named name rules) ≡ Some rule →
+        (rule_named name rules ≡ Some rule → name ≡ rule.name) → name ≡ rule.name
+    by_test true e found rest =
+        let is : first ≡ rule = cc found in
+        same_bytes name first.name e ∙ ap (λ r. r.name) is
+    by_test false e found rest = rest found
+
+module _ (rules : List Rule) (name : List ℕ) (place : ℕ) (rule : Rule) (own : HaveOwnNames rules)
+    (here : slice_get rules place ≡ Some rule) (named : name ≡ rule.name) where
+  -- a place is this one exactly where its name is this one
+  name_by_place : (o : Option ℕ) → is_name name (name_of (rule_at rules o)) ≡ is_place place o
+  name_by_place None = refl
+  name_by_place (Some other) = at_rule (slice_get rules other) refl
+    where
+      at_other : (r : Rule) → slice_get rules other ≡ Some r →
+          bytes_eq r.name name ≡ (other == place)
+      at_other r e = elim (eqb_tells other place) [
+        | inl same ↦
+            let both : Some r ≡ Some rule = sym e ∙ ap (slice_get rules) same.1 ∙ here in
+            let is : r ≡ rule = cc both in
+            ap (λ (q : Rule). bytes_eq q.name name) is ∙
+            ap (λ n. bytes_eq n name) (sym named) ∙ bytes_eq-self name ∙ sym same.0
+        | inr apart ↦ by_test (bytes_eq r.name name) refl apart.0 apart.1
+      ]
+        where
+          by_test : (t : Bool) → bytes_eq r.name name ≡ t → (other == place) ≡ false →
+              (other ≡ place → ⊥) → bytes_eq r.name name ≡ (other == place)
+          by_test false f differs apart = f ∙ sym differs
+          by_test true f differs apart =
+              absurd (apart (own_place rules other place r rule own e here
+              (same_bytes r.name name f ∙ named)))
+
+      at_rule : (found : Option Rule) → slice_get rules other ≡ found →
+          is_name name (name_of (slice_get rules other)) ≡ (other == place)
+      at_rule (Some r) e = ap (λ f. is_name name (name_of f)) e ∙ at_other r e
+      at_rule None e = elim (eqb_tells other place) [
+        | inl same ↦
+            let both : None ≡ Some rule = sym e ∙ ap (slice_get rules) same.1 ∙ here in cc both
+        | inr apart ↦ ap (λ f. is_name name (name_of f)) e ∙ sym apart.0
+      ]
+
+  -- so entries have the place exactly where they have the name
+  used_by_place : (cycle : List Entry) →
+      is_used (named_entries rules cycle) name ≡ list_any (uses_place place) cycle
+  used_by_place [] = refl
+  used_by_place (entry ∷ cycle) =
+      ap (λ a. (a || is_name name (name_of (rule_at rules entry.b)))
+      || is_used (named_entries rules cycle) name) (name_by_place entry.a) ∙
+      ap (λ b. (is_place place entry.a || b) || is_used (named_entries rules cycle) name)
+      (name_by_place entry.b) ∙
+      ap (λ later. uses_place place entry || later) (used_by_place cycle)
+
+-- a rule that is there is refused where an entry has its place
+pub room_placed : (rules : List Rule) (cycle : List Entry) (name : List ℕ) (place : ℕ) →
+    HaveOwnNames rules → place_of name rules ≡ Some place →
+    room_refusal rules (named_entries rules cycle) name (rule_named name rules)
+    ≡ cond (list_any (uses_place place) cycle) (Some RuleInUse) None
+room_placed rules cycle name place own found =
+    let within : place < length rules = subst (IsPlace rules) found (place_within name rules) in
+    let (rule, here) = found_at rules place within in
+    let is : rule_named name rules ≡ Some rule =
+    named_at name rules ∙ ap (rule_at rules) found ∙ here in
+    ap (room_refusal rules (named_entries rules cycle) name) is ∙
+    ap (λ used. cond used (Some RuleInUse) None)
+    (used_by_place rules name place rule own here (name_at_place name rules rule is) cycle)
+
+-- a new one where there are too many
+pub room_new : (rules : List Rule) (cycle : List NamedEntry) (name : List ℕ) →
+    place_of name rules ≡ None →
+    room_refusal rules cycle name (rule_named name rules)
+    ≡ cond (nat_le max_rules (length rules)) (Some TooManyRules) None
+room_new rules cycle name none =
+    ap (room_refusal rules cycle name) (named_at name rules ∙ ap (rule_at rules) none)
+
+-- a rule's name is refused as its place is
+pub refused_placed : (rules : List Rule) (cycle : List Entry) (name : List ℕ) (place : ℕ)
+    (used : Bool) → HaveOwnNames rules → true ≡ is_rule_name name →
+    place_of name rules ≡ Some place → used ≡ list_any (uses_place place) cycle →
+    cond used (Some RuleInUse) None ≡ rule_refusal rules (named_entries rules cycle) name
+refused_placed rules cycle name place used own named found is =
+    ap (λ b. cond b (Some RuleInUse) None) is ∙
+    sym (room_placed rules cycle name place own found) ∙
+    ap (λ b. cond b (room_refusal rules (named_entries rules cycle) name (rule_named name rules))
+    (Some OutOfRange)) named
+
+-- or as a new one
+pub refused_new : (rules : List Rule) (cycle : List NamedEntry) (name : List ℕ) (full : Bool) →
+    true ≡ is_rule_name name → place_of name rules ≡ None →
+    full ≡ nat_le max_rules (length rules) →
+    cond full (Some TooManyRules) None ≡ rule_refusal rules cycle name
+refused_new rules cycle name full named none is =
+    ap (λ b. cond b (Some TooManyRules) None) is ∙
+    sym (room_new rules cycle name none) ∙
+    ap (λ b. cond b (room_refusal rules cycle name (rule_named name rules))
+    (Some OutOfRange)) named
+
+-- names and places where a rule was put: rules that were there keep both
+name_with : (new : Rule) (rules : List Rule) (place : ℕ) → place < length rules →
+    name_of (slice_get (with_rule new rules) place) ≡ name_of (slice_get rules place)
+name_with new [] place within = absurd (omega (arith, within))
+name_with new (rule ∷ rules) place within =
+    by_test (bytes_eq new.name rule.name) place within
+    (λ later inside. name_with new rules later inside)
+  where
+    by_test : (b : Bool) (place : ℕ) → place < length (rule ∷ rules) →
+        ((later : ℕ) → later < length rules →
+        name_of (slice_get (with_rule new rules) later) ≡ name_of (slice_get rules later)) →
+        name_of (slice_get (cond b
+        (record rule { wiring = new.wiring; text = new.text } ∷ rules)
+        (rule ∷ with_rule new rules)) place)
+        ≡ name_of (slice_get (rule ∷ rules) place)
+    by_test true zero within rest = refl
+    by_test true (suc place) within rest = refl
+    by_test false zero within rest = refl
+    by_test false (suc place) within rest = rest place (omega (arith, within))
+
+half_with : (new : Rule) (rules : List Rule) (o : Option ℕ) → IsPlace rules o →
+    name_of (rule_at (with_rule new rules) o) ≡ name_of (rule_at rules o)
+half_with new rules None within = refl
+half_with new rules (Some place) within = name_with new rules place within
+
+pub entries_with : (new : Rule) (rules : List Rule) (cycle : List Entry) → ArePlaced rules cycle →
+    named_entries (with_rule new rules) cycle ≡ named_entries rules cycle
+entries_with new rules [] placed = refl
+entries_with new rules (entry ∷ cycle) placed =
+    let later = named_entries (with_rule new rules) cycle in
+    ap {B = List NamedEntry} (λ a. record {
+      a = a;
+      b = name_of (rule_at (with_rule new rules) entry.b);
+      grid = entry.grid;
+      phase = phase_number entry.phase;
+    } ∷ later) (half_with new rules entry.a placed.0.0) ∙
+    ap {B = List NamedEntry} (λ b. record {
+      a = name_of (rule_at rules entry.a);
+      b = b;
+      grid = entry.grid;
+      phase = phase_number entry.phase;
+    } ∷ later) (half_with new rules entry.b placed.0.1) ∙
+    ap (λ l. named_entry rules entry ∷ l) (entries_with new rules cycle placed.1)
+
+not_fewer : (new : Rule) (rules : List Rule) → length rules ≤ length (with_rule new rules)
+not_fewer new [] = omega arith
+not_fewer new (rule ∷ rules) = by_test (bytes_eq new.name rule.name) (not_fewer new rules)
+  where
+    by_test : (b : Bool) → length rules ≤ length (with_rule new rules) →
+        length (rule ∷ rules) ≤ length (cond b
+        (record rule { wiring = new.wiring; text = new.text } ∷ rules)
+        (rule ∷ with_rule new rules))
+    by_test true rest = omega arith
+    by_test false rest = omega (arith, rest)
+
+place_with : (new : Rule) (rules : List Rule) (o : Option ℕ) → IsPlace rules o →
+    IsPlace (with_rule new rules) o
+place_with new rules None within = tt
+place_with new rules (Some place) within = omega (arith, within, not_fewer new rules)
+
+pub placed_with : (new : Rule) (rules : List Rule) (cycle : List Entry) → ArePlaced rules cycle →
+    ArePlaced (with_rule new rules) cycle
+placed_with new rules [] placed = tt
+placed_with new rules (entry ∷ cycle) placed = (
+  (place_with new rules entry.a placed.0.0, place_with new rules entry.b placed.0.1),
+  placed_with new rules cycle placed.1,
+)
+
+-- names that are placed are had back
+half_named : (rules : List Rule) (half : Half) (o : Option (List ℕ)) → IsNamed rules half o →
+    name_of (rule_at rules (placed rules o)) ≡ o
+half_named rules half None named = refl
+half_named rules half (Some name) (rule, found, of_half) = name_placed name rules rule found
+
+number_back : (n : ℕ) → n < 4 → phase_number (phase_of n) ≡ n
+number_back zero within = refl
+number_back (suc zero) within = refl
+number_back (suc (suc zero)) within = refl
+number_back (suc (suc (suc n))) within = omega (arith, within)
+
+pub named_back : (rules : List Rule) (entries : List NamedEntry) →
+    AllByRecursion (IsEntry rules) entries →
+    named_entries rules (map (placed_entry rules) entries) ≡ entries
+named_back rules [] are = refl
+named_back rules (entry ∷ entries) are =
+    let later = named_entries rules (map (placed_entry rules) entries) in
+    ap {B = List NamedEntry} (λ a. record {
+      a = a;
+      b = name_of (rule_at rules (placed rules entry.b));
+      grid = entry.grid;
+      phase = phase_number (phase_of entry.phase);
+    } ∷ later) (half_named rules A entry.a are.0.0) ∙
+    ap {B = List NamedEntry} (λ b. record {
+      a = entry.a;
+      b = b;
+      grid = entry.grid;
+      phase = phase_number (phase_of entry.phase);
+    } ∷ later) (half_named rules B entry.b are.0.1) ∙
+    ap {B = List NamedEntry} (λ n. record {
+      a = entry.a;
+      b = entry.b;
+      grid = entry.grid;
+      phase = n;
+    } ∷ later) (number_back entry.phase are.0.2) ∙
+    ap (λ l. entry ∷ l) (named_back rules entries are.1)
+
+half_within : (rules : List Rule) (o : Option (List ℕ)) → IsPlace rules (placed rules o)
+half_within rules None = tt
+half_within rules (Some name) = place_within name rules
+
+pub are_placed : (rules : List Rule) (entries : List NamedEntry) →
+    ArePlaced rules (map (placed_entry rules) entries)
+are_placed rules [] = tt
+are_placed rules (entry ∷ entries) =
+    ((half_within rules entry.a, half_within rules entry.b), are_placed rules entries)

@@ -1,0 +1,426 @@
+-- A machine stays a machine, whatever it is commanded, and its rules run.
+use Rattle.std.proofs.Common.{◌≡◌, ◌≤◌, ◌<◌, ◌+◌, ◌%◌, ℕ, Bool, true, false, ◌&&◌, ◌||◌, List, []}
+use Rattle.std.proofs.Common.{◌∷◌, length, Option, Some, None, cond, refl, sym, ap, ◌∙◌, subst, arith}
+use Rattle.std.proofs.Common.{nat_lt, nat_le, IsOk, ◌⊎◌, inl, inr, Result, Ok, Err}
+use Rattle.std.specs.List.{AllByRecursion, list_any, list_all}
+use Rattle.std.specs.Str.{bytes_eq}
+use Rattle.std.proofs.lemmas.Bool.{leb-true, leb-false, ltb-true}
+use Rattle.std.proofs.lemmas.Map.Made.{IsDistinct-from_AllPairs}
+use Rattle.std.proofs.lemmas.Slice.Eq.{bytes_eq-Decides}
+use Rattle.std.proofs.Math.Nat.{mod-lt}
+use Rattle.cam6_planes.specs.Cells.{Cells}
+use Rattle.cam6_wiring.specs.Seen.{Sees}
+use Rattle.cam6_wiring.specs.declared.names.Half.{Half}
+use Rattle.cam6_wiring.specs.declared.names.Half.TheVariants as half
+use Rattle.cam6_wiring.specs.declared.wirings.Wiring.{Wiring}
+use Rattle.cam6_forth.specs.Defined.{Defined}
+use Rattle.cam6_forth.specs.Reading.{read_text}
+use Rattle.cam6_forth.specs.Tree.{IsRule}
+use Rattle.cam6_forth.specs.Trees.{tree_of}
+use Rattle.cam6_forth.proofs.OneTree.{tree_is_read}
+use Rattle.cam6_forth.proofs.TextLaws.{read_rule}
+use Rattle.cam6_table.specs.declared.faults.RuleFault.{RuleFault}
+use Rattle.cam6_table.specs.Meaning.{at_address}
+use Rattle.cam6_table.specs.Tables.{least_stop}
+use Rattle.cam6_table.proofs.TrueTables.{runs_everywhere}
+use Rattle.cam6_machine.specs.Limits.{max_rules, max_entries, max_colour}
+use Rattle.cam6_machine.specs.Rules.{Rule, rule_named, rule_if_named, wiring_for, is_rule_name}
+use Rattle.cam6_machine.specs.Steps.{words_mean}
+use Rattle.cam6_machine.specs.Machine.{Machine, own_colours, steps, machine_of}
+use Rattle.cam6_machine.specs.Places.{ArePlaced, stored}
+use Rattle.cam6_machine.specs.declared.cycles.Entry.{Entry}
+use Rattle.cam6_planes.specs.Stored.{Stored}
+use Rattle.cam6_machine.specs.Refusals as refuse
+use Rattle.cam6_machine.specs.Effects.{effect, with_rule}
+use Rattle.cam6_machine.specs.Alone.{after}
+use Rattle.cam6_machine.specs.Always.{HaveOwnNames, IsNamed, IsEntry, IsPosition, IsMachine}
+use Rattle.cam6_machine.specs.Laws.{BlankIsMachine, StaysMachine, IsRuled, RulesRun}
+use Rattle.cam6_machine.specs.declared.commands.Command.{Command}
+use Rattle.cam6_machine.specs.declared.commands.Command.TheVariants as command
+use Rattle.cam6_machine.specs.declared.commands.NamedEntry.{NamedEntry}
+use Rattle.cam6_machine.specs.declared.replies.Fault.{Fault}
+use Rattle.cam6_machine.specs.declared.replies.Fault.TheVariants.{WrongHalf, OutOfRange, TooManyRules, RuleInUse}
+use Rattle.cam6_machine.specs.declared.replies.Reply.{Reply}
+use Rattle.cam6_machine.proofs.Done.{after-refused, after-accepted}
+use Rattle.cam6_machine.proofs.KeptNames.{length_at_most, length_same, all_with}
+use Rattle.cam6_machine.proofs.KeptNames.{own_with, other_named}
+use Rattle.cam6_machine.proofs.Naming.{same_bytes}
+use Rattle.cam6_machine.proofs.StepLaws.{only_planes_and_position, position_goes_round}
+
+pub none_own : HaveOwnNames []
+none_own =
+    IsDistinct-from_AllPairs bytes_eq-Decides []
+    (λ i j d before within. absurd (omega (arith, within)))
+
+no_fault : (o : Option Fault) → refuse.fault_reply o ≡ None → o ≡ None
+no_fault None e = refl
+no_fault (Some fault) e = cc e
+
+first_none : {A : Type 0} (first next : Option A) → refuse.or_then first next ≡ None →
+    (first ≡ None) × (next ≡ None)
+first_none None next e = (refl, e)
+first_none (Some first) next e = cc e
+
+allowed : (b : Bool) (fault : Fault) → refuse.unless b fault ≡ None → b ≡ true
+allowed true fault e = refl
+allowed false fault e = cc e
+
+both : (a b : Bool) → (a && b) ≡ true → (a ≡ true) × (b ≡ true)
+both true b e = (refl, e)
+both false b e = cc e
+
+neither : (a b : Bool) → (a || b) ≡ false → (a ≡ false) × (b ≡ false)
+neither true b e = cc e
+neither false b e = (refl, e)
+
+-- other planes, and another position
+pub moved_is : (m : Machine) (planes : Cells) (position : ℕ) → IsMachine m →
+    IsPosition m.cycle position →
+    IsMachine (record m { planes = planes; position = position })
+moved_is m planes position is at = record {
+  torus = is.torus;
+  few = is.few;
+  names = is.names;
+  own = is.own;
+  sound = is.sound;
+  short = is.short;
+  entries = is.entries;
+  position = at;
+  coloured = is.coloured;
+  colours = is.colours;
+}
+
+-- a run that is accepted has a cycle
+some_cycle : (cycle : List NamedEntry) (n : ℕ) →
+    refuse.fault_reply (refuse.run_refusal cycle n) ≡ None → 0 < length cycle
+some_cycle [] n none =
+    let later = first_none _ (refuse.some_cycle []) (no_fault _ none) in cc (later.1)
+some_cycle (entry ∷ cycle) n none = omega arith
+
+position_below : (cycle : List NamedEntry) (position : ℕ) → IsPosition cycle position →
+    0 < length cycle → position < length cycle
+position_below [] position is some = absurd (omega (arith, some))
+position_below (entry ∷ cycle) position is some = is
+
+below_is : (cycle : List NamedEntry) (position : ℕ) → position < length cycle →
+    IsPosition cycle position
+below_is [] position within = absurd (omega (arith, within))
+below_is (entry ∷ cycle) position within = within
+
+pub steps_is : (m : Machine) (n : ℕ) → IsMachine m → 0 < length m.cycle → IsMachine (steps n m)
+steps_is m n is some =
+    let at = position_goes_round m n (position_below m.cycle m.position is.position some) in
+    let inside : (m.position + n) % length m.cycle < length m.cycle =
+    mod-lt (m.position + n) some in
+    subst IsMachine (sym (only_planes_and_position m n))
+    (moved_is m (steps n m).planes (steps n m).position is
+    (below_is m.cycle (steps n m).position (omega (arith, at, inside))))
+
+same_half : (first second : Half) → refuse.is_of first second ≡ true → first ≡ second
+same_half half.A half.A same = refl
+same_half half.A half.B same = cc same
+same_half half.B half.A same = cc same
+same_half half.B half.B same = refl
+
+-- a name that isn't refused for a half is that of a rule of the half
+named_rule : (rules : List Rule) (h : Half) (name : List ℕ) (o : Option Rule) →
+    rule_named name rules ≡ o → refuse.wiring_refusal h (wiring_for o) ≡ None →
+    IsNamed rules h (Some name)
+named_rule rules h name None e none = cc none
+named_rule rules h name (Some rule) e none = (rule, e, by_test (refuse.is_of rule.wiring.half h) refl none)
+  where
+    by_test : (b : Bool) → refuse.is_of rule.wiring.half h ≡ b →
+        cond b None (Some WrongHalf) ≡ None → rule.wiring.half ≡ h
+    by_test true is none = same_half rule.wiring.half h is
+    by_test false is none = cc none
+
+half_named : (rules : List Rule) (h : Half) (o : Option (List ℕ)) →
+    refuse.half_refusal rules h o ≡ None → IsNamed rules h o
+half_named rules h None none = tt
+half_named rules h (Some name) none =
+    named_rule rules h name (rule_named name rules) refl none
+
+-- a cycle that isn't refused
+cycle_entries : (rules : List Rule) (entries : List NamedEntry) →
+    refuse.first_refusal rules entries ≡ None → refuse.have_phases entries ≡ true →
+    AllByRecursion (IsEntry rules) entries
+cycle_entries rules [] none phases = tt
+cycle_entries rules (entry ∷ entries) none phases =
+    let (here, later) = first_none _ (refuse.first_refusal rules entries) none in
+    let (a, b) = first_none _ (refuse.half_refusal rules half.B entry.b) here in
+    let (phase, others) = both (nat_lt entry.phase 4) (refuse.have_phases entries) phases in (
+      (
+        half_named rules half.A entry.a a,
+        half_named rules half.B entry.b b,
+        ltb-true entry.phase 4 phase,
+      ),
+      cycle_entries rules entries later others,
+    )
+
+pub accepted_cycle : (rules : List Rule) (entries : List NamedEntry) →
+    refuse.cycle_refusal rules entries ≡ None →
+    (length entries ≤ max_entries) × AllByRecursion (IsEntry rules) entries
+accepted_cycle rules entries none = by_test (refuse.is_cycle entries) refl none
+  where
+    by_test : (b : Bool) → refuse.is_cycle entries ≡ b →
+        cond b (refuse.first_refusal rules entries) (Some OutOfRange) ≡ None →
+        (length entries ≤ max_entries) × AllByRecursion (IsEntry rules) entries
+    by_test false is none = cc none
+    by_test true is none =
+        let (bounds, phases) = both _ (refuse.have_phases entries) is in
+        let (some, few) =
+        both (nat_le 1 (length entries)) (nat_le (length entries) max_entries) bounds in
+        (leb-true (length entries) max_entries few, cycle_entries rules entries none phases)
+
+from_0 : (cycle : List NamedEntry) → IsPosition cycle 0
+from_0 [] = refl
+from_0 (entry ∷ cycle) = omega arith
+
+-- an entry has another name than a rule that is put: there was none of the name, or the entry has
+-- another one
+abbrev IsApart : List Rule → List ℕ → Option (List ℕ) → Type 0
+IsApart rules name o = (rule_named name rules ≡ None) ⊎ (refuse.is_name name o ≡ false)
+
+other_name : (rules : List Rule) (name other : List ℕ) (rule : Rule) →
+    rule_named other rules ≡ Some rule → IsApart rules name (Some other) →
+    bytes_eq other name ≡ false
+other_name rules name other rule found (inr apart) = apart
+other_name rules name other rule found (inl none) = by_test (bytes_eq other name) refl
+  where
+    by_test : (b : Bool) → bytes_eq other name ≡ b → bytes_eq other name ≡ false
+    by_test false e = e
+    by_test true e =
+        let same = ap (λ n. rule_named n rules) (same_bytes other name e) in
+        cc (same, found, none)
+
+-- so the rules that an entry names are there still
+half_with : (new : Rule) (rules : List Rule) (h : Half) (o : Option (List ℕ)) →
+    IsApart rules new.name o → IsNamed rules h o → IsNamed (with_rule new rules) h o
+half_with new rules h None apart named = tt
+half_with new rules h (Some name) apart (rule, found, of_half) = (
+  rule,
+  other_named name new rules (other_name rules new.name name rule found apart) ∙ found,
+  of_half,
+)
+
+-- each entry of a cycle is apart from it
+abbrev AreApart : List Rule → List NamedEntry → List ℕ → Type 0
+AreApart rules cycle name =
+    (rule_named name rules ≡ None) ⊎ (list_any (refuse.uses name) cycle ≡ false)
+
+entries_with : (new : Rule) (rules : List Rule) (cycle : List NamedEntry) →
+    AreApart rules cycle new.name → AllByRecursion (IsEntry rules) cycle →
+    AllByRecursion (IsEntry (with_rule new rules)) cycle
+entries_with new rules [] apart are = tt
+entries_with new rules (entry ∷ cycle) (inl none) are = (
+  (
+    half_with new rules half.A entry.a (inl none) are.0.0,
+    half_with new rules half.B entry.b (inl none) are.0.1,
+    are.0.2,
+  ),
+  entries_with new rules cycle (inl none) are.1,
+)
+entries_with new rules (entry ∷ cycle) (inr unused) are =
+    let (here, later) =
+    neither (refuse.uses new.name entry) (list_any (refuse.uses new.name) cycle) unused in
+    let (a, b) =
+    neither (refuse.is_name new.name entry.a) (refuse.is_name new.name entry.b) here in (
+      (
+        half_with new rules half.A entry.a (inr a) are.0.0,
+        half_with new rules half.B entry.b (inr b) are.0.1,
+        are.0.2,
+      ),
+      entries_with new rules cycle (inr later) are.1,
+    )
+
+-- room for a rule: there is one that no entry names, or there are fewer than the limit
+has_room : (rules : List Rule) (cycle : List NamedEntry) (new : Rule) (o : Option Rule) →
+    rule_named new.name rules ≡ o → refuse.room_refusal rules cycle new.name o ≡ None →
+    length rules ≤ max_rules →
+    AreApart rules cycle new.name × (length (with_rule new rules) ≤ max_rules)
+has_room rules cycle new None e none few =
+    (inl e, by_test (nat_le max_rules (length rules)) refl none)
+  where
+    by_test : (b : Bool) → nat_le max_rules (length rules) ≡ b →
+        cond b (Some TooManyRules) None ≡ None → length (with_rule new rules) ≤ max_rules
+    by_test true is none = cc none
+    by_test false is none =
+        let fewer = leb-false max_rules (length rules) is in
+        omega (arith, fewer, length_at_most new rules)
+has_room rules cycle new (Some old) e none few = (
+  inr (by_test (refuse.is_used cycle new.name) refl none),
+  omega (arith, few, length_same new rules old e),
+)
+  where
+    by_test : (b : Bool) → refuse.is_used cycle new.name ≡ b →
+        cond b (Some RuleInUse) None ≡ None → refuse.is_used cycle new.name ≡ false
+    by_test true is none = cc none
+    by_test false is none = is
+
+-- a rule that isn't refused is put under its name
+rule_is : (m : Machine) (new : Rule) → IsMachine m →
+    refuse.rule_refusal m.rules m.cycle new.name ≡ None →
+    refuse.words_refusal new.wiring new.text ≡ None →
+    IsMachine (record m { rules = with_rule new m.rules })
+rule_is m new is none words = by_name (is_rule_name new.name) refl none
+  where
+    by_name : (b : Bool) → is_rule_name new.name ≡ b →
+        cond b (refuse.room_refusal m.rules m.cycle new.name (rule_named new.name m.rules))
+        (Some OutOfRange) ≡ None →
+        IsMachine (record m { rules = with_rule new m.rules })
+    by_name false named none = cc none
+    by_name true named none =
+        let (apart, few) =
+        has_room m.rules m.cycle new (rule_named new.name m.rules) refl none is.few in
+        record {
+          torus = is.torus;
+          few = few;
+          names = all_with (λ rule. is_rule_name rule.name ≡ true) new m.rules named
+              (λ old same holds. holds) is.names;
+          own = own_with new m.rules none_own is.own;
+          sound = all_with (λ rule. refuse.words_refusal rule.wiring rule.text ≡ None) new m.rules
+              words (λ old same holds. words) is.sound;
+          short = is.short;
+          entries = entries_with new m.rules m.cycle apart is.entries;
+          position = is.position;
+          coloured = is.coloured;
+          colours = is.colours;
+        }
+
+-- what a command that isn't refused makes of a machine
+effect_is : (m : Machine) (c : Command) → IsMachine m → refuse.refusal m c ≡ None →
+    IsMachine (effect m c)
+effect_is m (command.Set plane row bits) is none =
+    moved_is m (effect m (command.Set plane row bits)).planes m.position is is.position
+effect_is m (command.Rule name h hood minor text) is none =
+    let wiring : Wiring = record { half = h; hood = hood; minor = minor } in
+    let new : Rule = record { name = name; wiring = wiring; text = text } in
+    let (place, words) = first_none _ (refuse.words_refusal wiring text) none in
+    rule_is m new is (no_fault _ place) words
+effect_is m (command.Cycle entries) is none =
+    let (short, are) = accepted_cycle m.rules entries (no_fault _ none) in
+    record {
+      torus = is.torus;
+      few = is.few;
+      names = is.names;
+      own = is.own;
+      sound = is.sound;
+      short = short;
+      entries = are;
+      position = from_0 entries;
+      coloured = is.coloured;
+      colours = is.colours;
+    }
+effect_is m (command.Run n) is none = steps_is m n is (some_cycle m.cycle n none)
+effect_is m (command.Plane plane) is none = is
+
+pub stays_machine : StaysMachine
+stays_machine m c is = by_refusal (refuse.refusal m c) refl
+  where
+    by_refusal : (o : Option Reply) → refuse.refusal m c ≡ o → IsMachine (after m c)
+    by_refusal None none = subst IsMachine (sym (after-accepted m c none)) (effect_is m c is none)
+    by_refusal (Some r) refused = subst IsMachine (sym (after-refused m c r refused)) is
+
+small : (colours : List ℕ) → list_all (λ colour. nat_le colour max_colour) colours ≡ true →
+    AllByRecursion (λ colour. colour ≤ max_colour) colours
+small [] are = tt
+small (colour ∷ colours) are =
+    let (here, later) =
+    both (nat_le colour max_colour) (list_all (λ colour. nat_le colour max_colour) colours) are in
+    (leb-true colour max_colour here, small colours later)
+
+pub blank_is_machine : BlankIsMachine
+blank_is_machine = record {
+  torus = refl;
+  few = omega arith;
+  names = tt;
+  own = none_own;
+  sound = tt;
+  short = omega arith;
+  entries = tt;
+  position = refl;
+  coloured = refl;
+  colours = small own_colours refl;
+}
+
+-- a machine that stores nothing yet
+pub blank_stored : (planes : Stored) (rules : List Rule) (entries : List Entry) →
+    planes.side ≡ 256 → rules ≡ [] → entries ≡ [] →
+    IsMachine (machine_of (stored planes rules entries 0 own_colours)) × ArePlaced rules entries
+blank_stored planes rules entries side no_rules no_entries =
+    let is = blank_is_machine in
+    let blank : IsMachine (machine_of (stored planes [] [] 0 own_colours)) = record {
+      torus = side;
+      few = is.few;
+      names = is.names;
+      own = is.own;
+      sound = is.sound;
+      short = is.short;
+      entries = is.entries;
+      position = is.position;
+      coloured = is.coloured;
+      colours = is.colours;
+    } in
+    subst (λ l. IsMachine (machine_of (stored planes rules l 0 own_colours)) × ArePlaced rules l)
+    (sym no_entries)
+    (subst (λ l. IsMachine (machine_of (stored planes l [] 0 own_colours)) × ArePlaced l [])
+    (sym no_rules) (blank, tt))
+
+-- a text without a fault spells a rule
+read_ok : (wiring : Wiring) (text : List ℕ) (out : Result (List Defined) (ℕ × ℕ)) →
+    read_text wiring text ≡ out → refuse.text_refusal out ≡ None → IsRule wiring (tree_of text)
+read_ok wiring text (Err fault) e none = cc none
+read_ok wiring text (Ok definitions) e none =
+    let (parts, spells, meant) = read_rule wiring text definitions e in
+    subst (IsRule wiring) (sym (tree_is_read wiring parts text spells)) spells.all.rule
+
+no_stop : (o : Option (ℕ × RuleFault)) → refuse.stop_refusal o ≡ None → o ≡ None
+no_stop None e = refl
+no_stop (Some stop) e = cc e
+
+-- a rule whose words aren't refused runs, whatever is seen
+words_run : (rule : Rule) (sees : Sees) → refuse.words_refusal rule.wiring rule.text ≡ None →
+    IsOk (words_mean rule sees)
+words_run rule sees none =
+    let wiring = rule.wiring in
+    let text = rule.text in
+    let stop = least_stop (at_address wiring (tree_of text)) in
+    let (read, runs) =
+    first_none (refuse.text_refusal (read_text wiring text)) (refuse.stop_refusal stop) none in
+    runs_everywhere wiring (tree_of text) sees
+    (read_ok wiring text (read_text wiring text) refl read) (no_stop stop runs)
+
+-- a named rule is among the rules
+rule_among : (Q : Rule → Type 0) (name : List ℕ) (rules : List Rule) (rule : Rule) →
+    AllByRecursion Q rules → rule_named name rules ≡ Some rule → Q rule
+rule_among Q name [] rule all found = cc found
+rule_among Q name (first ∷ rules) rule all found =
+    by_test (bytes_eq name first.name) found (λ f. rule_among Q name rules rule all.1 f)
+  where
+    by_test : (b : Bool) → cond b (Some first) (rule_named name rules) ≡ Some rule →
+        (rule_named name rules ≡ Some rule → Q rule) → Q rule
+    by_test true found rest = let is : first ≡ rule = cc found in subst Q is all.0
+    by_test false found rest = rest found
+
+half_runs : (m : Machine) (h : Half) (o : Option (List ℕ)) (name : List ℕ) → IsMachine m →
+    IsNamed m.rules h o → o ≡ Some name →
+    (rule : Rule) × (rule_if_named o m.rules ≡ Some rule) × ((sees : Sees) → IsOk (words_mean rule sees))
+half_runs m h None name is named e = cc e
+half_runs m h (Some other) name is (rule, found, of_half) e = (
+  rule,
+  found,
+  λ sees. words_run rule sees
+      (rule_among (λ r. refuse.words_refusal r.wiring r.text ≡ None) other m.rules rule is.sound found),
+)
+
+all_ruled : (m : Machine) (cycle : List NamedEntry) → IsMachine m →
+    AllByRecursion (IsEntry m.rules) cycle → AllByRecursion (IsRuled m) cycle
+all_ruled m [] is are = tt
+all_ruled m (entry ∷ cycle) is are = (here, all_ruled m cycle is are.1)
+  where
+    here : IsRuled m entry
+    here half.A name e = half_runs m half.A entry.a name is are.0.0 e
+    here half.B name e = half_runs m half.B entry.b name is are.0.1 e
+
+pub rules_run : RulesRun
+rules_run m is = all_ruled m m.cycle is is.entries

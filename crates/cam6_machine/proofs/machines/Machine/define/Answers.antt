@@ -1,0 +1,73 @@
+use Rattle.std.proofs.Common.{◌≡◌, ◌∙◌, Ok, ap, sym, subst}
+use Rattle.cam6_machine.specs.Effects.{with_rule}
+use Rattle.cam6_machine.specs.Stored.{StoredMachine}
+use Rattle.cam6_machine.specs.Machine.{machine_of}
+use Rattle.cam6_machine.specs.Alone.{after}
+use Rattle.cam6_machine.specs.Always.{IsMachine}
+use Rattle.cam6_machine.specs.Refusals.{rule_refusal}
+use Rattle.cam6_machine.specs.Places.{rules_of, named_entries, stored, ArePlaced}
+use Rattle.cam6_machine.specs.ByTables.{IsVerdict}
+use Rattle.cam6_machine.specs.declared.commands.Command.TheVariants.{Rule}
+use Rattle.cam6_machine.proofs.Done.{put_as, after-rule, stored-rule}
+use Rattle.cam6_machine.proofs.Naming.{placed_with}
+use Rattle.cam6_machine.proofs.Staying.{stays_machine}
+use Rattle.cam6_machine.proofs.machines.Machine.define.Goals as goal
+
+-- what the trial of the text said
+verdict : (c : goal.In_ok-put-in-Ok) → IsVerdict c.args.wiring c.args.text (Ok c.in-Ok.rule)
+verdict c = subst (IsVerdict c.args.wiring c.args.text) c.in-Ok.is c.in_ok-rule.ensures.verdict
+
+-- the rules, among which the new one was put
+put : (c : goal.In_ok-put-in-Ok) →
+    rules_of c.put.new.rules.entries
+    ≡ with_rule (record { name = c.args.name; wiring = c.args.wiring; text = c.args.text })
+    (rules_of c.self.inside.rules.entries)
+put c =
+    put_as (rules_of c.self.inside.rules.entries) (rules_of c.put.new.rules.entries) c.args.name
+    c.args.text c.in-Ok.rule.text c.args.wiring c.in-Ok.rule.wiring (verdict c).1 (verdict c).2
+    c.in_ok-put-in-Ok.ensures.ok
+
+after_put : (c : goal.In_ok-put-in-Ok) →
+    machine_of (stored c.self.inside.planes (rules_of c.put.new.rules.entries)
+    c.self.inside.cycle.items c.self.inside.position c.self.inside.colours)
+    ≡ after (machine_of (stored c.self.inside.planes (rules_of c.self.inside.rules.entries)
+    c.self.inside.cycle.items c.self.inside.position c.self.inside.colours))
+    (Rule c.args.name c.args.wiring.half c.args.wiring.hood c.args.wiring.minor c.args.text)
+after_put c =
+    let m = c.self.inside in
+    after-rule m.planes (rules_of m.rules.entries) m.cycle.items m.position m.colours
+    c.args.name c.args.text c.args.wiring (rules_of c.put.new.rules.entries)
+    c.self.invariant.1
+    (c.in_default.ensures ∙
+    ap (λ l. rule_refusal (rules_of m.rules.entries) (named_entries (rules_of m.rules.entries) l)
+    c.args.name) c.deref.ensures.value)
+    (verdict c).0 (put c)
+
+pub invariant_of-self-in-Ok : goal.invariant_of-self-in-Ok
+invariant_of-self-in-Ok c = (
+  subst IsMachine (sym (after_put c))
+      (stays_machine (machine_of (stored c.self.inside.planes
+      (rules_of c.self.inside.rules.entries) c.self.inside.cycle.items c.self.inside.position
+      c.self.inside.colours))
+      (Rule c.args.name c.args.wiring.half c.args.wiring.hood c.args.wiring.minor c.args.text)
+      c.self.invariant.0),
+  subst (λ l. ArePlaced l c.self.inside.cycle.items) (sym (put c))
+      (placed_with _ (rules_of c.self.inside.rules.entries) c.self.inside.cycle.items
+      c.self.invariant.1),
+  c.self.invariant.2,
+)
+
+pub returns-in_ok-put-in-Ok-clause-machine : goal.returns-in_ok-put-in-Ok-clause-machine
+returns-in_ok-put-in-Ok-clause-machine c =
+    let args = c.args in
+    after_put c ∙
+    ap (λ k. after (machine_of k)
+    (Rule args.name args.wiring.half args.wiring.hood args.wiring.minor args.text)) c.self.view_is
+
+pub returns-in_ok-put-in-Ok-clause-left : goal.returns-in_ok-put-in-Ok-clause-left
+returns-in_ok-put-in-Ok-clause-left c =
+    let m = c.self.inside in
+    stored-rule m.planes (rules_of m.rules.entries) m.cycle.items m.position m.colours _
+    (rules_of c.put.new.rules.entries) c.self.invariant.1 (put c) ∙
+    ap {B = StoredMachine} (λ k. record k { rules = rules_of c.put.new.rules.entries })
+    c.self.view_is

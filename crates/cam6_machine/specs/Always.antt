@@ -1,0 +1,45 @@
+-- What a machine always is.
+use Rattle.std.specs.Prelude.{◌≡◌, ℕ, ◌≤◌, ◌<◌, List, [], ◌∷◌, map, length, true, Option, None, Some}
+use Rattle.std.specs.Prelude.{⊤}
+use Rattle.std.specs.List.{AllByRecursion, IsDistinct}
+use Rattle.std.specs.Str.{bytes_eq}
+use Rattle.cam6_wiring.specs.declared.names.Half.{Half}
+use Rattle.cam6_wiring.specs.declared.names.Half.TheVariants.{A, B}
+use Rattle.cam6_machine.specs.Limits.{side, max_rules, max_entries, states, max_colour}
+use Rattle.cam6_machine.specs.Rules.{Rule, rule_named, is_rule_name}
+use Rattle.cam6_machine.specs.Refusals.{words_refusal}
+use Rattle.cam6_machine.specs.Machine.{Machine}
+use Rattle.cam6_machine.specs.declared.commands.NamedEntry.{NamedEntry}
+
+-- no two rules have one name
+abbrev pub HaveOwnNames : List Rule → Type 0
+HaveOwnNames rules = IsDistinct bytes_eq (map (λ rule. rule.name) rules)
+
+-- an entry's name for a half, if it has one, is that of a rule of this half
+abbrev pub IsNamed : List Rule → Half → Option (List ℕ) → Type 0
+IsNamed rules half None = ⊤
+IsNamed rules half (Some name) =
+    (rule : Rule) × (rule_named name rules ≡ Some rule) × (rule.wiring.half ≡ half)
+
+-- an entry of a cycle, whose rules are there and of its halves, and whose phase is one
+abbrev pub IsEntry : List Rule → NamedEntry → Type 0
+IsEntry rules entry = IsNamed rules A entry.a × IsNamed rules B entry.b × (entry.phase < 4)
+
+-- a position below the length, or 0 without a cycle
+abbrev pub IsPosition : List NamedEntry → ℕ → Type 0
+IsPosition [] position = position ≡ 0
+IsPosition (entry ∷ cycle) position = position < length (entry ∷ cycle)
+
+-- a few rules with rule names of their own, the texts of which have no fault and stop nowhere; a
+-- few entries, and a position among them; and a colour for each state of a cell
+pub record IsMachine (m : Machine) : Type 0 where
+  pub torus : m.side ≡ side
+  pub few : length m.rules ≤ max_rules
+  pub names : AllByRecursion (λ rule. is_rule_name rule.name ≡ true) m.rules
+  pub own : HaveOwnNames m.rules
+  pub sound : AllByRecursion (λ rule. words_refusal rule.wiring rule.text ≡ None) m.rules
+  pub short : length m.cycle ≤ max_entries
+  pub entries : AllByRecursion (IsEntry m.rules) m.cycle
+  pub position : IsPosition m.cycle m.position
+  pub coloured : length m.colours ≡ states
+  pub colours : AllByRecursion (λ colour. colour ≤ max_colour) m.colours

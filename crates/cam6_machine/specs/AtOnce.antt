@@ -1,0 +1,49 @@
+-- What a machine says of a command at once: a reply, or that there are steps to do.
+use Rattle.std.specs.Prelude.{◌≡◌, ℕ, ◌≤◌, Option, Some, None, ⊤}
+use Rattle.cam6_machine.specs.Stored.{StoredMachine}
+use Rattle.cam6_machine.specs.Machine.{Machine}
+use Rattle.cam6_machine.specs.Refusals.{refusal}
+use Rattle.cam6_machine.specs.Alone.{reply as reply_to, after, command_of}
+use Rattle.cam6_machine.specs.declared.commands.Command.{Command}
+use Rattle.cam6_machine.specs.declared.commands.Direction.{Direction}
+use Rattle.cam6_machine.specs.declared.commands.Now.{Now}
+use Rattle.cam6_machine.specs.declared.commands.Now.TheVariants as now
+use Rattle.cam6_machine.specs.declared.replies.Reply.{Reply}
+use Rattle.cam6_machine.specs.declared.replies.Reply.TheVariants as reply
+
+-- the steps that are left to do, and their direction, if there are any
+abbrev pub work_left : Now → Option (ℕ × Direction)
+work_left (now.Reply r) = None
+work_left (now.Work n direction) = Some (n, direction)
+
+-- a reply is the reply to the command
+abbrev pub IsReplyTo : Now → Machine → Command → Type 0
+IsReplyTo (now.Reply r) m c = r ≡ reply_to m c
+IsReplyTo (now.Work n direction) m c = ⊤
+
+-- with a reply the command is done, and with steps left to do nothing is done yet
+abbrev pub machine_after : Now → Machine → Command → Machine
+machine_after (now.Reply r) m c = after m c
+machine_after (now.Work n direction) m c = m
+
+-- what a reply leaves, of all that is stored: everything but planes, rules, or the cycle with the
+-- position; a refusal leaves everything
+abbrev pub IsLeftBy : Reply → StoredMachine → StoredMachine → Type 0
+IsLeftBy reply.Set old new = new ≡ record old { planes = new.planes }
+IsLeftBy reply.Rule old new = new ≡ record old { rules = new.rules }
+IsLeftBy reply.Cycle old new = new ≡ record old { cycle = new.cycle; position = 0 }
+IsLeftBy (reply.Run position) old new = new ≡ old
+IsLeftBy (reply.Plane rows) old new = new ≡ old
+IsLeftBy (reply.Fault fault) old new = new ≡ old
+IsLeftBy (reply.RuleText fault) old new = new ≡ old
+IsLeftBy (reply.RuleStops address fault) old new = new ≡ old
+
+-- the same of what is said at once; where steps are left, nothing is done yet
+abbrev pub Leaves : Now → StoredMachine → StoredMachine → Type 0
+Leaves (now.Reply r) old new = IsLeftBy r old new
+Leaves (now.Work n direction) old new = new ≡ old
+
+-- steps that are left can be done: there is at least one, and their command is not refused
+abbrev pub CanWork : Now → Machine → Type 0
+CanWork (now.Reply r) m = ⊤
+CanWork (now.Work n direction) m = (1 ≤ n) × (refusal m (command_of n direction) ≡ None)

@@ -1,0 +1,124 @@
+-- How the code keeps rules and a cycle: rules in a map by name, each with its code, and entries with
+-- the places of their rules in place of the names.
+use Rattle.std.specs.Prelude.{ℕ, suc, ◌<◌, Bool, false, ◌||◌, ◌==◌, List, [], ◌∷◌, map, length}
+use Rattle.std.specs.Prelude.{Option, Some, None, ⊤, String, string_bytes, if◌then◌else◌}
+use Rattle.std.specs.List.{slice_get, AllByRecursion}
+use Rattle.std.specs.Option.{option_map}
+use Rattle.std.specs.Str.{bytes_eq}
+use Rattle.std.specs.declared.alloc.Global.{Global}
+use Rattle.cam6_planes.specs.Stored.{Stored}
+use Rattle.cam6_wiring.specs.declared.names.Phase.{Phase}
+use Rattle.cam6_wiring.specs.declared.names.Phase.TheVariants.{P0, P1, P2, P3}
+use Rattle.cam6_wiring.specs.declared.wirings.Wiring.{Wiring}
+use Rattle.cam6_table.specs.declared.codes.Instruction.{Instruction}
+use Rattle.cam6_machine.specs.Rules.{Rule, wiring_for}
+use Rattle.cam6_machine.specs.Cycles.{EntryRules, phase_of}
+use Rattle.cam6_machine.specs.Stored.{StoredMachine}
+use Rattle.cam6_machine.specs.declared.commands.NamedEntry.{NamedEntry}
+use Rattle.cam6_machine.specs.declared.cycles.Entry.{Entry}
+
+-- a rule as it is kept, beside its name
+pub record Compiled : Type 0 where
+  pub wiring : Wiring
+  pub text : List ℕ
+  pub code : List Instruction
+
+-- the rules of a map from names
+abbrev pub rules_of : List (String Global × Compiled) → List Rule
+rules_of entries =
+    map (λ e. record { name = string_bytes e.0; wiring = e.1.wiring; text = e.1.text }) entries
+
+-- the place of the rule with this name
+abbrev pub place_of : List ℕ → List Rule → Option ℕ
+place_of name [] = None
+place_of name (rule ∷ rules) =
+    if bytes_eq name rule.name then Some 0 else option_map suc (place_of name rules)
+
+-- the rule at a place, if there is a place and a rule at it
+abbrev pub rule_at : List Rule → Option ℕ → Option Rule
+rule_at rules None = None
+rule_at rules (Some place) = slice_get rules place
+
+-- what it is written for
+abbrev pub wiring_at : List Rule → Option ℕ → Option Wiring
+wiring_at rules place = wiring_for (rule_at rules place)
+
+-- its name
+abbrev pub name_of : Option Rule → Option (List ℕ)
+name_of None = None
+name_of (Some rule) = Some rule.name
+
+-- the place of a name's rule, if there is a name and such a rule
+abbrev pub placed : List Rule → Option (List ℕ) → Option ℕ
+placed rules None = None
+placed rules (Some name) = place_of name rules
+
+-- an entry with the places of the rules that it names
+abbrev pub placed_entry : List Rule → NamedEntry → Entry
+placed_entry rules entry =
+    record {
+      a = placed rules entry.a;
+      b = placed rules entry.b;
+      grid = entry.grid;
+      phase = phase_of entry.phase;
+    }
+
+abbrev pub phase_number : Phase → ℕ
+phase_number P0 = 0
+phase_number P1 = 1
+phase_number P2 = 2
+phase_number P3 = 3
+
+-- an entry with the names of the rules at its places
+abbrev pub named_entry : List Rule → Entry → NamedEntry
+named_entry rules entry =
+    record {
+      a = name_of (rule_at rules entry.a);
+      b = name_of (rule_at rules entry.b);
+      grid = entry.grid;
+      phase = phase_number entry.phase;
+    }
+
+-- a cycle's entries, with names
+abbrev pub named_entries : List Rule → List Entry → List NamedEntry
+named_entries rules entries = map (named_entry rules) entries
+
+-- an entry with the rules at its places
+abbrev pub rules_at : List Rule → Entry → EntryRules
+rules_at rules entry =
+    record {
+      a = rule_at rules entry.a;
+      b = rule_at rules entry.b;
+      grid = entry.grid;
+      phase = entry.phase;
+    }
+
+-- a rule stands at the place, if there is a place
+abbrev pub IsPlace : List Rule → Option ℕ → Type 0
+IsPlace rules None = ⊤
+IsPlace rules (Some place) = place < length rules
+
+-- whether this is the place, if there is one
+abbrev pub is_place : ℕ → Option ℕ → Bool
+is_place place None = false
+is_place place (Some other) = other == place
+
+-- whether an entry has the rule at this place
+abbrev pub uses_place : ℕ → Entry → Bool
+uses_place place entry = is_place place entry.a || is_place place entry.b
+
+-- rules stand at all places of the entries
+abbrev pub ArePlaced : List Rule → List Entry → Type 0
+ArePlaced rules entries =
+    AllByRecursion (λ entry. IsPlace rules entry.a × IsPlace rules entry.b) entries
+
+-- the machine of which these are kept
+abbrev pub stored : Stored → List Rule → List Entry → ℕ → List ℕ → StoredMachine
+stored planes rules entries position colours =
+    record {
+      planes = planes;
+      rules = rules;
+      cycle = named_entries rules entries;
+      position = position;
+      colours = colours;
+    }

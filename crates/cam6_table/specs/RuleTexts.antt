@@ -1,0 +1,23 @@
+-- What code and a table are to the text of a rule.
+use Rattle.std.specs.Prelude.{◌≡◌, ℕ, ◌<◌, List, IsOk}
+use Rattle.cam6_wiring.specs.declared.wirings.Wiring.{Wiring}
+use Rattle.cam6_forth.specs.Texts.{IsTextOf}
+use Rattle.cam6_forth.specs.Tree.{IsRule}
+use Rattle.cam6_forth.specs.Trees.{tree_of}
+use Rattle.cam6_table.specs.declared.codes.Instruction.{Instruction}
+use Rattle.cam6_table.specs.Limits.{addresses}
+use Rattle.cam6_table.specs.Codes.{result_at}
+use Rattle.cam6_table.specs.Meaning.{at_address}
+use Rattle.cam6_table.specs.Tables.{IsTrueTable}
+
+-- code that a kept rule runs by: its text spells a rule, the code results at each address what the
+-- rule's words mean there, and it stops nowhere
+pub record IsCodeFor (wiring : Wiring) (text : List ℕ) (code : List Instruction) : Type 0 where
+  pub spells : IsTextOf wiring (tree_of text) text
+  pub means : (address : ℕ) → result_at code address ≡ at_address wiring (tree_of text) address
+  pub runs : (address : ℕ) → address < addresses → IsOk (result_at code address)
+
+-- the true table of the rule that a text spells
+pub record IsTableOf (wiring : Wiring) (text : List ℕ) (entries : List ℕ) : Type 0 where
+  pub rule : IsRule wiring (tree_of text)
+  pub holds : IsTrueTable wiring (tree_of text) entries
