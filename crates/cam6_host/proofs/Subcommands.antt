@@ -2,8 +2,7 @@
 use Rattle.std.proofs.Common.{◌≡◌, ℕ, List, [], ◌∷◌, Bool, true, false, not, cond, Option, Some}
 use Rattle.std.proofs.Common.{None, IfSome, ◌&&◌, ◌||◌, codes, refl, sym, ap, subst, ◌∙◌, is_some}
 use Rattle.std.proofs.Common.{option_map}
-use Rattle.std.specs.Prelude.{⊤, fold}
-use Rattle.std.specs.Prelude.{Box}
+use Rattle.std.specs.Prelude.{⊤, fold, Box}
 use Rattle.std.specs.Box.{box_value}
 use Rattle.std.specs.Str.{bytes_eq}
 use Rattle.std.proofs.lemmas.Slice.Eq.{bytes_eq-Decides}
@@ -15,8 +14,7 @@ use Rattle.clap.specs.Walk.{to_positional, after_step, walked_from, walked, walk
 use Rattle.clap.specs.Walk.{nothing_held}
 use Rattle.clap.specs.Kinds.{Kinds, or_else}
 use Rattle.clap.specs.Faults.{other_fault, word_fault, turn_fault, walk_fault}
-use Rattle.clap.specs.Faults.{built_fault, fault_of}
-use Rattle.clap.specs.Faults.{is_simple_and_free}
+use Rattle.clap.specs.Faults.{built_fault, fault_of, is_simple_and_free}
 use Rattle.clap.specs.Simple.{App, HasMatchesOf, Shape, argument_words, built, entered, names_of}
 use Rattle.clap.specs.Simple.{rows_at, subcommand_of, subcommand_rows}
 use Rattle.clap.specs.Matches.{subcommand_name_of}
