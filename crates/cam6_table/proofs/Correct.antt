@@ -41,7 +41,7 @@ entry-same wiring sees shows agree (Ok s) =
     (agree (Beside Center Upper) 1 (line_of-center_upper wiring.hood wiring.minor))
 entry-same wiring sees shows agree (Err fault) = refl
 
--- the code results as the rule does, whatever lines and names show
+-- the code answers as the rule does, whatever lines and names show
 pub tree_does : (wiring : Wiring) (parts : List Part) (sees : Sees) (shows : Lines) →
     IsRule wiring parts → Agree wiring sees shows →
     entry_by shows (exec shows (tree_code wiring parts) 0 None begin) ≡ meaning wiring parts sees

@@ -66,7 +66,7 @@ last-length rule codes code made last tree =
     last ∙ ap (λ cs. code_at cs (length codes - 1)) of_tree in
     omega (arith, ap length at_tree, code_length rule.wiring parts (length codes - 1) tree.1)
 
--- it results what the rule means
+-- it answers what the rule means
 pub last-is_code : (rule : RuleWords) (codes : List Instructions) (code : Instructions) →
     codes ≡ all_codes rule.wiring [] rule.definitions → code ≡ last_code codes →
     IsCodeOf code rule

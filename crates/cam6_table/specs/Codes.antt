@@ -88,7 +88,7 @@ result_at code address = entry_at address (exec (shown address) code 0 None begi
 abbrev pub turns_at : List Instruction → ℕ → ℕ
 turns_at code address = turns_of (shown address) code 0 None begin
 
--- the code of a rule: at each address it results what the rule means there, whichever tree of the
+-- the code of a rule: at each address it answers what the rule means there, whichever tree of the
 -- rule is read
 abbrev pub IsCodeOf : List Instruction → RuleWords → Type 0
 IsCodeOf code rule =

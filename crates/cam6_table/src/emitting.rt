@@ -12,7 +12,7 @@ use std::alloc::Global;
 use std::marker::Model;
 
 impl Code {
-    /// The code of a rule, which at each address results what the rule means there. Its jumps lead
+    /// The code of a rule, which at each address answers what the rule means there. Its jumps lead
     /// forward alone.
     pub fn of(alloc: Global, rule: &Rule) -> Result<Code, NoMemory>
         ensures meaning { IfOk result (λ code. IsCodeOf code rule.now) }

@@ -1,6 +1,6 @@
 //! Flat code and tables: a rule compiled to instructions with forward jumps, run at each address.
 //!
-//! Contract: the code of a rule results at each address what the rule means there
+//! Contract: the code of a rule answers at each address what the rule means there
 //! (`specs/Meaning.antt`), the two new bits or the first fault. `eval` gives that result in at most
 //! 4,096 turns, one instruction each; `fill` leaves the table of all results, or names the least
 //! address at which any fault comes, with the fault there.
