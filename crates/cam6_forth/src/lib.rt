@@ -28,6 +28,6 @@ pub use faults::{
     OTHER_HALF, OUT_OF_PLACE, ParseFault, TOO_LARGE, TOO_LONG, TOO_MANY_IFS, TextFault,
     UNKNOWN_WORD,
 };
-pub use parsing::parse;
+pub use parsing::{parse, parse_under};
 pub use rules::{Definition, Rule};
 pub use words::{Output, StackWord, Target, Word};

@@ -1,6 +1,7 @@
 //! A rule's text is read as a rule, or as its first fault.
 ghost use Rattle.std.specs.Prelude.{◌≡◌, ℕ, List, Err, true};
 ghost use Rattle.cam6_forth.specs.declared.faults.ParseFault.TheVariants.{NoMemory, Text};
+ghost use Rattle.cam6_wiring.specs.Wiring.{wired};
 ghost use Rattle.cam6_forth.specs.Reading.{read_text, keeps};
 ghost use Rattle.cam6_forth.specs.Tree.{Part, rule_of};
 ghost use Rattle.cam6_forth.specs.Texts.{IsTextOf};
@@ -23,33 +24,45 @@ pub fn parse(
     minor: Minor,
 ) -> Result<Rule, ParseFault>
     // An accepted text is the tree of the rule, and a refused one has the fault.
-    ensures accepted { IsAccepted
-        (record { half = half; hood = hood; minor = minor }) text.now result }
-    ensures refused { IsRefused
-        (record { half = half; hood = hood; minor = minor }) text.now result }
+    ensures accepted { IsAccepted (wired half hood minor) text.now result }
+    ensures refused { IsRefused (wired half hood minor) text.now result }
     // A text that is a rule is accepted, and one that has a fault is refused with it, unless
     // memory runs out.
-    ensures rule { (parts : List Part) →
-        IsTextOf (record { half = half; hood = hood; minor = minor }) parts text.now →
-        IsThisRule (rule_of (record { half = half; hood = hood; minor = minor }) parts) result }
+    ensures rule { (parts : List Part) → IsTextOf (wired half hood minor) parts text.now →
+        IsThisRule (rule_of (wired half hood minor) parts) result }
     ensures fault { (number token_number : ℕ) →
-        HasFault (record { half = half; hood = hood; minor = minor }) text.now
-        number token_number →
+        HasFault (wired half hood minor) text.now number token_number →
         IsThisFault number token_number result }
     // The same as a function of the text.
     ensures exact { IsReadAs
-        (read_text (record { half = half; hood = hood; minor = minor }) text.now)
-        (record { half = half; hood = hood; minor = minor })
-        result }
+        (read_text (wired half hood minor) text.now) (wired half hood minor) result }
     // Memory is wanted only where something of the text is kept.
-    ensures memory { result ≡ Err NoMemory →
-        keeps (record { half = half; hood = hood; minor = minor }) text.now ≡ true }
+    ensures memory { result ≡ Err NoMemory → keeps (wired half hood minor) text.now ≡ true }
 {
     parse_under(alloc, text, Wiring { half, hood, minor })
 }
 
+/// The same for a wiring.
+pub fn parse_under(alloc: Global, text: &str, wiring: Wiring) -> Result<Rule, ParseFault>
+    // An accepted text is the tree of the rule, and a refused one has the fault.
+    ensures accepted { IsAccepted wiring text.now result }
+    ensures refused { IsRefused wiring text.now result }
+    // A text that is a rule is accepted, and one that has a fault is refused with it, unless
+    // memory runs out.
+    ensures rule { (parts : List Part) → IsTextOf wiring parts text.now →
+        IsThisRule (rule_of wiring parts) result }
+    ensures fault { (number token_number : ℕ) → HasFault wiring text.now number token_number →
+        IsThisFault number token_number result }
+    // The same as a function of the text.
+    ensures exact { IsReadAs (read_text wiring text.now) wiring result }
+    // Memory is wanted only where something of the text is kept.
+    ensures memory { result ≡ Err NoMemory → keeps wiring text.now ≡ true }
+{
+    read_text(alloc, text, wiring)
+}
+
 #[tactic(auto, unfolding(crate::specs::Reading::read_text))]
-fn parse_under(alloc: Global, text: &str, wiring: Wiring) -> Result<Rule, ParseFault>
+fn read_text(alloc: Global, text: &str, wiring: Wiring) -> Result<Rule, ParseFault>
     ensures exact { IsReadAs (read_text wiring text.now) wiring result }
     ensures memory { result ≡ Err NoMemory → keeps wiring text.now ≡ true }
 {

@@ -11,6 +11,8 @@ use Rattle.cam6_wiring.specs.declared.names.Name.{Name}
 use Rattle.cam6_wiring.specs.declared.names.Name.TheVariants.{Beside, InBlock, Phase, Horz}
 use Rattle.cam6_wiring.specs.declared.names.Name.TheVariants.{Vert, MinorCenter, MinorPhase}
 use Rattle.cam6_wiring.specs.declared.names.Name.TheVariants.{MinorHorz, MinorVert}
+use Rattle.cam6_wiring.specs.declared.names.Half.{Half}
+use Rattle.cam6_wiring.specs.declared.wirings.Wiring.{Wiring}
 use Rattle.cam6_wiring.specs.declared.wirings.Hood.{Hood}
 use Rattle.cam6_wiring.specs.declared.wirings.Hood.TheVariants.{Moore, VonNeumann, Margolus}
 use Rattle.cam6_wiring.specs.declared.wirings.Hood.TheVariants.{MargolusPhase, MargolusHorzVert}
@@ -66,3 +68,7 @@ is_at name (Some known) = is_same_name known name
 -- the line of a name, where the wiring has the name
 unfoldable pub line_of : Hood → Minor → Name → Option ℕ
 line_of hood minor name = position_from (is_at name) 0 (names_of hood minor)
+
+-- a half with the names on its lines
+abbrev pub wired : Half → Hood → Minor → Wiring
+wired half hood minor = record { half = half; hood = hood; minor = minor }

@@ -1,15 +1,18 @@
-use Rattle.std.proofs.Common.{sym, ap, ◌∙◌}
-use Rattle.cam6_forth.specs.Reading.{read, numbered}
-use Rattle.cam6_forth.proofs.TextLaws.{read_is_tree}
+use Rattle.cam6_forth.proofs.TextLaws.{accepted_from, refused_from, rule_from, fault_from}
 use Rattle.cam6_forth.proofs.parsing.parse_under.Goals as goal
 
-pub new-requires : goal.new-requires
-new-requires c =
-    let w = c.args.wiring in
-    let reader = c.loop-token.reader in
-    let n = c.loop-token.token_number in
-    record {
-      definitions = read_is_tree w c.args.text.now c.in-Ok-finish.definitions.items
-          (sym c.loop-token.invariant.same ∙ ap (read w reader n) c.in_default.ensures.token
-          ∙ ap (λ r. numbered r n) c.in-Ok-finish.ensures);
-    }
+pub returns-clause-accepted : goal.returns-clause-accepted
+returns-clause-accepted c =
+    accepted_from _ c.args.text.now c.read_text.result c.read_text.ensures.exact
+
+pub returns-clause-refused : goal.returns-clause-refused
+returns-clause-refused c =
+    refused_from _ c.args.text.now c.read_text.result c.read_text.ensures.exact
+
+pub returns-clause-rule : goal.returns-clause-rule
+returns-clause-rule c =
+    rule_from _ c.args.text.now c.read_text.result c.read_text.ensures.exact
+
+pub returns-clause-fault : goal.returns-clause-fault
+returns-clause-fault c =
+    fault_from _ c.args.text.now c.read_text.result c.read_text.ensures.exact

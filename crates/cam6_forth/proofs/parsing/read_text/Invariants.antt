@@ -2,7 +2,7 @@ use Rattle.std.proofs.Common.{length, ◌≡◌, ◌+◌, ◌≤◌, ◌||◌, t
 use Rattle.cam6_forth.specs.Limits.{max_text}
 use Rattle.cam6_forth.specs.Tokens.{tokens}
 use Rattle.cam6_forth.specs.Reading.{read, begin, begins, is_in_body}
-use Rattle.cam6_forth.proofs.parsing.parse_under.Given as goal
+use Rattle.cam6_forth.proofs.parsing.read_text.Given as goal
 
 abbrev pub invariant-loop-token : goal.invariant-loop-token
 invariant-loop-token l = record {
