@@ -1,4 +1,10 @@
+-- Lemmas, in the order of reading.
+
+-- A number by its bits.
 pub mod Numbers
+-- The lines of names, and what an address shows on them.
 pub mod Lines
+-- Turns round a block, by the sides of the block on which cells lie.
 pub mod Turning
+-- Each name stands on one line, so its line and the lines' names say the same.
 pub mod Named

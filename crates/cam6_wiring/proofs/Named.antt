@@ -128,7 +128,7 @@ other_at : (name : Name) (known : Option Name) (lines : List (Option Name)) →
     is_at name known ≡ b → is_at name known ≡ false
 unfolding is_new
 other_at name known lines new later false e = e
-other_at name None lines new later true e = cc e
+other_at name None lines new later true e = cc
 other_at name (Some known) lines new later true e =
     let found : list_any (is_at known) lines ≡ true =
     ap (λ n. list_any (is_at n) lines) (same_name known name e) ∙ later in

@@ -1,11 +1,12 @@
 -- Turns round a block, by the sides of the block on which cells lie.
 use Rattle.std.proofs.Common.{◌≡◌, ◌<◌, ℕ, zero, suc, ◌+◌, ◌-◌, ◌*◌, ◌%◌, ◌⊎◌, inl, inr, arith}
 use Rattle.std.proofs.Common.{refl, ap, ◌∙◌, sym, subst}
-use Rattle.std.proofs.Math.Nat.{add-mod_right}
+use Rattle.std.proofs.Math.Nat.{add-mod_right, mod-add-mod, mod-mod_of_dvd, dvd-mul_right}
+use Rattle.cam6_planes.specs.Row.{west_of, east_of}
 use Rattle.cam6_planes.specs.Cells.{Cells}
 use Rattle.cam6_wiring.specs.Block.{side_in_block, origin_of, block_of, corner_at, corner_of}
-use Rattle.cam6_wiring.specs.Block.{in_block, turned, column_beside, row_beside}
-use Rattle.cam6_wiring.specs.Seen.{seen_beside}
+use Rattle.cam6_wiring.specs.Block.{in_block, turned}
+use Rattle.cam6_wiring.specs.Seen.{column_beside, row_beside, seen_beside}
 use Rattle.cam6_wiring.specs.declared.blocks.Grid.{Grid}
 use Rattle.cam6_wiring.specs.declared.blocks.Corner.{Corner}
 use Rattle.cam6_wiring.specs.declared.names.Turn.{Turn}
@@ -32,12 +33,24 @@ Moved s grid old new side = (side_in_block grid new ≡ side) × (block_of s gri
 stays : (s : ℕ) (grid : Grid) (x side : ℕ) → side_in_block grid x ≡ side → Moved s grid x x side
 stays s grid x side h = (h, refl)
 
+-- and round the torus, whose side is even
+wraps : (k : ℕ) (grid : Grid) (x z side : ℕ) → Moved (2 * k) grid x z side →
+    Moved (2 * k) grid x (z % (2 * k)) side
+wraps k grid x z side (there, same) =
+    let even : z % (2 * k) % 2 ≡ z % 2 = mod-mod_of_dvd 2 z (dvd-mul_right 2 k) in
+    let kept : side_in_block grid (z % (2 * k)) ≡ side_in_block grid z = omega (arith, even) in (
+      kept ∙ there,
+      ap (λ n. (z % (2 * k) + (2 * k - n)) % (2 * k)) kept
+          ∙ mod-add-mod z (2 * k) (2 * k - side_in_block grid z) ∙ same,
+    )
+
 -- one on from a block's first side
 goes_on : (k : ℕ) (grid : Grid) (x : ℕ) → 0 < k → side_in_block grid x ≡ 0 →
-    Moved (2 * k) grid x (x + 1) 1
+    Moved (2 * k) grid x (east_of (2 * k) x) 1
 goes_on k grid x some h =
     let there : side_in_block grid (x + 1) ≡ 1 =
-    ap (λ n. n % 2) (omega arith) ∙ on (x + origin_of grid) h in (
+    ap (λ n. n % 2) (omega arith) ∙ on (x + origin_of grid) h in
+    wraps k grid x (x + 1) 1 (
       there,
       ap (λ n. (x + 1 + (2 * k - n)) % (2 * k)) there
           ∙ ap (λ n. n % (2 * k)) (omega (arith, some))
@@ -46,10 +59,11 @@ goes_on k grid x some h =
 
 -- one back from its last
 goes_back : (k : ℕ) (grid : Grid) (x : ℕ) → 0 < k → side_in_block grid x ≡ 1 →
-    Moved (2 * k) grid x (x + (2 * k - 1)) 0
+    Moved (2 * k) grid x (west_of (2 * k) x) 0
 goes_back k grid x some h =
     let there : side_in_block grid (x + (2 * k - 1)) ≡ 0 =
-    ap (λ n. n % 2) (omega arith) ∙ back k (x + origin_of grid) some h in (
+    ap (λ n. n % 2) (omega arith) ∙ back k (x + origin_of grid) some h in
+    wraps k grid x (x + (2 * k - 1)) 0 (
       there,
       ap (λ n. (x + (2 * k - 1) + (2 * k - n)) % (2 * k)) there
           ∙ ap (λ n. (x + (2 * k - 1) + n) % (2 * k)) (omega arith)

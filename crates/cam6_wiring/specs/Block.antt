@@ -9,7 +9,7 @@ use Rattle.cam6_wiring.specs.declared.blocks.Corner.{Corner}
 use Rattle.cam6_wiring.specs.declared.blocks.Corner.TheVariants.{UpperLeft, UpperRight}
 use Rattle.cam6_wiring.specs.declared.blocks.Corner.TheVariants.{LowerRight, LowerLeft}
 use Rattle.cam6_wiring.specs.declared.names.Compass.{Compass}
-use Rattle.cam6_wiring.specs.declared.names.Compass.TheVariants.{Center, North, South, West, East}
+use Rattle.cam6_wiring.specs.declared.names.Compass.TheVariants.{North, South, West, East}
 use Rattle.cam6_wiring.specs.declared.names.Compass.TheVariants.{NorthWest, NorthEast}
 use Rattle.cam6_wiring.specs.declared.names.Compass.TheVariants.{SouthWest, SouthEast}
 use Rattle.cam6_wiring.specs.declared.names.Turn.{Turn}
@@ -62,30 +62,6 @@ abbrev pub turned : Turn → Corner → Corner
 turned Clockwise corner = clockwise corner
 turned Opposite corner = clockwise (clockwise corner)
 turned CounterClockwise corner = clockwise (clockwise (clockwise corner))
-
--- the column of the cell that lies there, on a torus of side s, where s - 1 further on is one back
-abbrev pub column_beside : ℕ → Compass → ℕ → ℕ
-column_beside s Center x = x
-column_beside s North x = x
-column_beside s South x = x
-column_beside s West x = x + (s - 1)
-column_beside s East x = x + 1
-column_beside s NorthWest x = x + (s - 1)
-column_beside s NorthEast x = x + 1
-column_beside s SouthWest x = x + (s - 1)
-column_beside s SouthEast x = x + 1
-
--- and its row
-abbrev pub row_beside : ℕ → Compass → ℕ → ℕ
-row_beside s Center y = y
-row_beside s North y = y + (s - 1)
-row_beside s South y = y + 1
-row_beside s West y = y
-row_beside s East y = y
-row_beside s NorthWest y = y + (s - 1)
-row_beside s NorthEast y = y + (s - 1)
-row_beside s SouthWest y = y + 1
-row_beside s SouthEast y = y + 1
 
 -- the coordinate at which the block begins in which a column or a row lies
 abbrev pub block_of : ℕ → Grid → ℕ → ℕ

@@ -1,7 +1,7 @@
 -- The laws that tie what is seen to the address that it makes, and the table of turns to the block.
 use Rattle.std.specs.Prelude.{◌≡◌, ◌<◌, ℕ, ◌*◌, true, false, Some, None, get_or}
 use Rattle.cam6_planes.specs.Cells.{Cells}
-use Rattle.cam6_wiring.specs.Block.{corner_of, in_block, turned, column_beside, row_beside, block_of}
+use Rattle.cam6_wiring.specs.Block.{corner_of, in_block, turned, block_of}
 use Rattle.cam6_wiring.specs.declared.blocks.Grid.{Grid}
 use Rattle.cam6_wiring.specs.declared.names.Name.{Name}
 use Rattle.cam6_wiring.specs.declared.names.Turn.{Turn}
@@ -9,7 +9,8 @@ use Rattle.cam6_wiring.specs.declared.wirings.Hood.{Hood}
 use Rattle.cam6_wiring.specs.declared.wirings.Minor.{Minor}
 use Rattle.cam6_wiring.specs.Name.{is_same_name}
 use Rattle.cam6_wiring.specs.Wiring.{line_of, names_of}
-use Rattle.cam6_wiring.specs.Seen.{Sees, address_of, shown, seen_in_block}
+use Rattle.cam6_wiring.specs.Seen.{Sees, address_of, shown, column_beside, row_beside}
+use Rattle.cam6_wiring.specs.Seen.{seen_in_block}
 
 -- the address of what is seen shows, on the line of each name, what is seen under the name
 abbrev pub ShowsWhatIsSeen : Type 0

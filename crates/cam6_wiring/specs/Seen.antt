@@ -1,9 +1,8 @@
--- What a cell sees, and the address that it shows. The planes f are a torus of side s, so a
--- coordinate past the edge wraps round; s - 1 further on is one back.
-use Rattle.std.specs.Prelude.{ℕ, ◌+◌, ◌-◌, ◌*◌, ◌==◌, Bool, false}
+-- What a cell sees, and the address that it shows, on planes f that are a torus of side s.
+use Rattle.std.specs.Prelude.{ℕ, ◌+◌, ◌*◌, ◌==◌, Bool, false}
 use Rattle.std.specs.Prelude.{List, [], ◌∷◌, map, Option, Some, None}
 use Rattle.std.specs.Int.{bit_at}
-use Rattle.cam6_planes.specs.Row.{bit_number}
+use Rattle.cam6_planes.specs.Row.{bit_number, west_of, east_of}
 use Rattle.cam6_planes.specs.Cells.{Cells}
 use Rattle.cam6_wiring.specs.Block.{corner_of, in_block, side_in_block}
 use Rattle.cam6_wiring.specs.Name.{plane_of, other_half, phase_bit}
@@ -20,17 +19,33 @@ use Rattle.cam6_wiring.specs.declared.names.Compass.TheVariants.{East, NorthWest
 use Rattle.cam6_wiring.specs.declared.names.Compass.TheVariants.{SouthWest, SouthEast}
 use Rattle.cam6_wiring.specs.declared.names.Turn.{Turn}
 
+-- the column of the cell that lies there, seen from column x
+abbrev pub column_beside : ℕ → Compass → ℕ → ℕ
+column_beside s Center x = x
+column_beside s North x = x
+column_beside s South x = x
+column_beside s West x = west_of s x
+column_beside s East x = east_of s x
+column_beside s NorthWest x = west_of s x
+column_beside s NorthEast x = east_of s x
+column_beside s SouthWest x = west_of s x
+column_beside s SouthEast x = east_of s x
+
+-- and its row: north of a row is what west of a column is, and south what east is
+abbrev pub row_beside : ℕ → Compass → ℕ → ℕ
+row_beside s Center y = y
+row_beside s North y = west_of s y
+row_beside s South y = east_of s y
+row_beside s West y = y
+row_beside s East y = y
+row_beside s NorthWest y = west_of s y
+row_beside s NorthEast y = west_of s y
+row_beside s SouthWest y = east_of s y
+row_beside s SouthEast y = east_of s y
+
 -- the bit of plane p that the cell at column x of row y sees beside it
 abbrev pub seen_beside : ℕ → Cells → Compass → Cells
-seen_beside s f Center p x y = f p x y
-seen_beside s f North p x y = f p x (y + (s - 1))
-seen_beside s f South p x y = f p x (y + 1)
-seen_beside s f West p x y = f p (x + (s - 1)) y
-seen_beside s f East p x y = f p (x + 1) y
-seen_beside s f NorthWest p x y = f p (x + (s - 1)) (y + (s - 1))
-seen_beside s f NorthEast p x y = f p (x + 1) (y + (s - 1))
-seen_beside s f SouthWest p x y = f p (x + (s - 1)) (y + 1)
-seen_beside s f SouthEast p x y = f p (x + 1) (y + 1)
+seen_beside s f compass p x y = f p (column_beside s compass x) (row_beside s compass y)
 
 -- the bit of plane p that it sees in its block
 abbrev pub seen_in_block : ℕ → Cells → Grid → Turn → Cells

@@ -1,10 +1,11 @@
 //! What a cell sees, and the address that it shows.
 ghost use Rattle.std.specs.Prelude.{◌≡◌, ◌<◌, ◌^◌};
 ghost use Rattle.cam6_planes.specs.Cells.{cells};
-ghost use Rattle.cam6_planes.specs.Row.{bit_number};
+ghost use Rattle.cam6_planes.specs.Row.{bit_number, west_of, east_of};
 ghost use Rattle.cam6_planes.specs.declared.row.TheConstants.{SIDE};
 ghost use Rattle.cam6_wiring.specs.declared.wirings.TheConstants.{LINES};
 ghost use Rattle.cam6_wiring.specs.Seen.{seen, seen_beside, seen_in_block, line_shows, address};
+ghost use Rattle.cam6_wiring.specs.Seen.{column_beside, row_beside};
 
 use crate::blocks::{Grid, corner_of, in_block, side_in_block};
 use crate::names::{Compass, Half, Name, Phase, Turn};
@@ -86,19 +87,51 @@ fn seen_beside(planes: &Planes, compass: Compass, p: usize, x: usize, y: usize) 
     requires row { y < SIDE }
     ensures { result ≡ seen_beside SIDE (cells planes.now) compass p x y }
 {
-    let (west, east) = (x + (SIDE - 1), x + 1);
-    let (north, south) = (y + (SIDE - 1), y + 1);
+    planes.bit(p, column_beside(compass, x), row_beside(compass, y))
+}
+
+/// The column of the cell that lies there, seen from column `x`.
+fn column_beside(compass: Compass, x: usize) -> usize
+    requires { x < SIDE }
+    ensures column { result ≡ column_beside SIDE compass x }
+    ensures within { result < SIDE }
+{
     match compass {
-        Compass::Center => wrapped(planes, p, x, y),
-        Compass::North => wrapped(planes, p, x, north),
-        Compass::South => wrapped(planes, p, x, south),
-        Compass::West => wrapped(planes, p, west, y),
-        Compass::East => wrapped(planes, p, east, y),
-        Compass::NorthWest => wrapped(planes, p, west, north),
-        Compass::NorthEast => wrapped(planes, p, east, north),
-        Compass::SouthWest => wrapped(planes, p, west, south),
-        Compass::SouthEast => wrapped(planes, p, east, south),
+        Compass::Center | Compass::North | Compass::South => x,
+        Compass::West | Compass::NorthWest | Compass::SouthWest => west_of(x),
+        Compass::East | Compass::NorthEast | Compass::SouthEast => east_of(x),
     }
+}
+
+/// Its row. North of a row is what west of a column is, and south what east is.
+fn row_beside(compass: Compass, y: usize) -> usize
+    requires { y < SIDE }
+    ensures row { result ≡ row_beside SIDE compass y }
+    ensures within { result < SIDE }
+{
+    match compass {
+        Compass::Center | Compass::West | Compass::East => y,
+        Compass::North | Compass::NorthWest | Compass::NorthEast => west_of(y),
+        Compass::South | Compass::SouthWest | Compass::SouthEast => east_of(y),
+    }
+}
+
+/// The column to the west of `x`, round the torus.
+fn west_of(x: usize) -> usize
+    requires { x < SIDE }
+    ensures column { result ≡ west_of SIDE x }
+    ensures within { result < SIDE }
+{
+    (x + (SIDE - 1)) % SIDE
+}
+
+/// The column to the east of `x`, round the torus.
+fn east_of(x: usize) -> usize
+    requires { x < SIDE }
+    ensures column { result ≡ east_of SIDE x }
+    ensures within { result < SIDE }
+{
+    (x + 1) % SIDE
 }
 
 /// The bit of plane `p` that the cell sees in its block.
@@ -110,12 +143,4 @@ fn seen_in_block(planes: &Planes, grid: Grid, turn: Turn, p: usize, x: usize, y:
 {
     let compass = in_block(corner_of(grid, x, y), turn);
     seen_beside(planes, compass, p, x, y)
-}
-
-/// The bit at any coordinates: past the last column or row the torus begins again.
-fn wrapped(planes: &Planes, p: usize, x: usize, y: usize) -> bool
-    requires { p < 4 }
-    ensures { result ≡ cells planes.now p x y }
-{
-    planes.bit(p, x % SIDE, y % SIDE)
 }
