@@ -3,7 +3,7 @@
 use crate::examples::Sent;
 use crate::sessions::{add_line, no_memory};
 use crate::settings::{half_text, hood_text, minor_text};
-use cam6_forth::{Definition, ParseFault, Rule, TextFault, parse};
+use cam6_forth::{Definition, ParseFault, Rule, TextFault, Word, parse};
 use cam6_table::{Code, ENTRIES, MAX_TURNS, RuleFault, Table, eval, fill};
 use cam6_wiring::Wiring;
 use std::alloc::Global;
@@ -79,10 +79,18 @@ fn add_definition(alloc: Global, answers: &mut Vec<u8>, definition: &Definition)
     let size = format!(in alloc; " {}", definition.size)?;
     answers.extend_from_slice(size.as_bytes())?;
     for word in &definition.words {
-        let word = format!(in alloc; " {word:?}")?;
+        let word = word_text(alloc, *word)?;
         answers.extend_from_slice(word.as_bytes())?;
     }
     Ok(())
+}
+
+/// A space and the word, a single one by what it says.
+fn word_text(alloc: Global, word: Word) -> io::Result<String> {
+    match word {
+        Word::Single(said) => Ok(format!(in alloc; " {said:?}")?),
+        mark => Ok(format!(in alloc; " {mark:?}")?),
+    }
 }
 
 /// The entries of each rule at these addresses, one after another.

@@ -1,12 +1,12 @@
 -- A token has the first of its faults.
 use Rattle.std.proofs.Common.{◌≡◌, ◌+◌, ℕ, Bool, true, false, not, ◌&&◌, List, [], ◌∷◌}
-use Rattle.std.proofs.Common.{length, refl, sym, ap, ◌∙◌, arith, Option, Some, None, cond, if◌then◌else◌}
-use Rattle.std.proofs.Common.{is_some, nat_lt, nat_le, max, Ok, Err}
+use Rattle.std.proofs.Common.{length, refl, sym, ap, ◌∙◌, arith, Option, Some, None}
+use Rattle.std.proofs.Common.{cond, if◌then◌else◌, is_some, nat_lt, nat_le, max, Ok, Err}
 use Rattle.std.proofs.lemmas.Bool.{le-leb}
 use Rattle.cam6_wiring.specs.declared.wirings.Wiring.{Wiring}
 use Rattle.cam6_wiring.specs.Wiring.{line_of}
-use Rattle.cam6_forth.specs.declared.words.Word.{Word}
-use Rattle.cam6_forth.specs.declared.words.Word.TheVariants as word
+use Rattle.cam6_forth.specs.declared.words.SingleWord.{SingleWord}
+use Rattle.cam6_forth.specs.declared.words.SingleWord.TheVariants as single
 use Rattle.cam6_forth.specs.declared.kinds.Kind.{Kind}
 use Rattle.cam6_forth.specs.declared.kinds.Kind.TheVariants as kind
 use Rattle.cam6_forth.specs.Tokens.{Token}
@@ -14,7 +14,8 @@ use Rattle.cam6_forth.specs.Limits.{max_size, max_open_ifs, max_definitions}
 use Rattle.cam6_forth.specs.Limits.{unknown_word, out_of_place, too_large}
 use Rattle.cam6_forth.specs.Limits.{too_many_ifs, other_half, too_long}
 use Rattle.cam6_forth.specs.Defined.{Defined}
-use Rattle.cam6_forth.specs.SingleWords.{place_of, is_same_half, defined_word}
+use Rattle.cam6_wiring.specs.Name.{is_same_half}
+use Rattle.cam6_forth.specs.SingleWords.{place_of, defined_word}
 use Rattle.cam6_forth.specs.Tree.{Part, case_size, meant}
 use Rattle.cam6_forth.specs.Unfinished.{OpenIf, Opened, Whole, Unnamed, Within, Braced}
 use Rattle.cam6_forth.specs.Unfinished.{opened_size}
@@ -60,7 +61,8 @@ module _ (size : ℕ) (fits : nat_le size max_size ≡ true) where
       size_fault (from + own) ≡ fault_if (takes_above size more) too_large
   by_size from own more sum = ap size_fault sum ∙ sized size more fits
 
-  known_or : (from more : ℕ) → from + 1 ≡ size + more → (said : Word) (number : ℕ) (b : Bool) →
+  known_or : (from more : ℕ) → from + 1 ≡ size + more →
+      (said : SingleWord) (number : ℕ) (b : Bool) →
       word_fault from (cond b (Ok (said, 1)) (Err number))
       ≡ cond (not b) (Some number) (fault_if (takes_above size more) too_large)
   known_or from more sum said number true = by_size from 1 more sum
@@ -149,10 +151,10 @@ inside wiring parts last token k fits = at_kind k
     at_kind (kind.Digits (Some value)) = sized size 1 fits
     at_kind (kind.Stack stack) = sized size 1 fits
     at_kind (kind.Output output) =
-        known_or size fits size 1 refl (word.Output output.target) other_half
+        known_or size fits size 1 refl (single.Output output.target) other_half
         (is_same_half output.half wiring.half)
     at_kind (kind.Name name) =
-        known_or size fits size 1 refl (word.Name name) unknown_word
+        known_or size fits size 1 refl (single.Name name) unknown_word
         (is_some (line_of wiring.hood wiring.minor name))
     at_kind kind.Other =
         defined_or size fits size (λ own. own) (λ own. refl) (place_of token done)
@@ -185,10 +187,10 @@ braced wiring parts last words token k fits = at_kind k
     at_kind (kind.Digits (Some value)) = by_size size fits (size + 1) 1 2 two
     at_kind (kind.Stack stack) = by_size size fits (size + 1) 1 2 two
     at_kind (kind.Output output) =
-        known_or size fits (size + 1) 2 two (word.Output output.target) other_half
+        known_or size fits (size + 1) 2 two (single.Output output.target) other_half
         (is_same_half output.half wiring.half)
     at_kind (kind.Name name) =
-        known_or size fits (size + 1) 2 two (word.Name name) unknown_word
+        known_or size fits (size + 1) 2 two (single.Name name) unknown_word
         (is_some (line_of wiring.hood wiring.minor name))
     at_kind kind.Other =
         defined_or size fits (size + 1) (λ own. own + 1) (λ own. omega arith)

@@ -3,6 +3,7 @@ use Rattle.std.proofs.Common.{◌≡◌, ◌+◌, ℕ, Bool, true, false, List, 
 use Rattle.std.proofs.Common.{length, refl, ap, ◌∙◌, arith, Option, Some, None}
 use Rattle.std.proofs.Common.{is_some, Result, Ok, Err, cond, nat_lt, nat_le, suc}
 use Rattle.cam6_wiring.specs.declared.wirings.Wiring.{Wiring}
+use Rattle.cam6_forth.specs.declared.words.SingleWord.{SingleWord}
 use Rattle.cam6_forth.specs.declared.words.Word.{Word}
 use Rattle.cam6_forth.specs.declared.words.Word.TheVariants as word
 use Rattle.cam6_forth.specs.declared.kinds.Kind.{Kind}
@@ -49,10 +50,10 @@ grown-fault : (n : ℕ) (said : Word) (s : State) →
     fault_in (grown n said s) ≡ size_fault (s.size + n)
 grown-fault n said s = by_test State (nat_le (s.size + n) max_size) _ too_large refl
 
-grown_by-fault : (more size : ℕ) (r : Result (Word × ℕ) ℕ) (s : State) → size ≡ s.size + more →
-    fault_in (grown_by more r s) ≡ word_fault size r
+grown_by-fault : (more size : ℕ) (r : Result (SingleWord × ℕ) ℕ) (s : State) →
+    size ≡ s.size + more → fault_in (grown_by more r s) ≡ word_fault size r
 grown_by-fault more size (Ok (said, n)) s e =
-    grown-fault (n + more) said s ∙ ap size_fault (omega (arith, e))
+    grown-fault (n + more) (word.Single said) s ∙ ap size_fault (omega (arith, e))
 grown_by-fault more size (Err number) s e = refl
 
 -- a fault outside definitions

@@ -13,8 +13,8 @@ use Rattle.cam6_forth.specs.Unfinished.{Braced, spell_unfinished, IsSound}
 use Rattle.cam6_forth.specs.Reading.{State, step, step_at}
 use Rattle.cam6_forth.proofs.States.{state_of}
 use Rattle.cam6_forth.proofs.Runs.{ok_state, ok-same, and_then, run, then_run}
-use Rattle.cam6_forth.proofs.Grows.{mode_of, Grows}
-use Rattle.cam6_forth.proofs.Growing.{grows}
+use Rattle.cam6_forth.proofs.OneMore.{mode_of, Grows}
+use Rattle.cam6_forth.proofs.MoreByTokens.{grows}
 
 -- the same state in a comment or not
 abbrev pub with_comment : Bool → State → State

@@ -1,12 +1,13 @@
 -- Items after items, and definitions after definitions.
-use Rattle.std.proofs.Common.{◌≡◌, ◌+◌, List, [], ◌∷◌, ◌++◌, refl, ap, append_assoc, arith, max}
+use Rattle.std.proofs.Common.{◌≡◌, ◌+◌, List, [], ◌∷◌, ◌++◌, refl, sym, ap, append_assoc}
+use Rattle.std.proofs.Common.{append-nil, arith, max}
 use Rattle.cam6_wiring.specs.declared.wirings.Wiring.{Wiring}
 use Rattle.cam6_forth.specs.Tokens.{Token}
 use Rattle.cam6_forth.specs.Defined.{Defined}
 use Rattle.cam6_forth.specs.Tree.{Body, End, Says, Choice, Either, Cases, Part}
 use Rattle.cam6_forth.specs.Tree.{spell_body, spell, words_of, size_of, depth_of, IsKnown}
 use Rattle.cam6_forth.specs.Tree.{AreWords, case_words, case_size, defined, IsDefinition}
-use Rattle.cam6_forth.specs.Tree.{AreDefinitions, meant, word_at, word_in, size_in}
+use Rattle.cam6_forth.specs.Tree.{AreDefinitions, meant, word_at, words_in, size_in}
 use Rattle.cam6_forth.specs.Trees.{join}
 
 -- the spelling of both
@@ -31,7 +32,7 @@ module _ (w : Wiring) (done : List Defined) where
       words_of w done (join a b) ≡ words_of w done a ++ words_of w done b
   words_of-join End b = refl
   words_of-join (Says t rest) b =
-      ap (λ x. word_in (word_at w done t) ∷ x) (words_of-join rest b)
+      rw (words_of-join rest b) (sym (append_assoc (words_in (word_at w done t)) _ _))
   words_of-join (Choice on rest) b = rw (words_of-join rest b) (simp append_assoc)
   words_of-join (Either on off rest) b = rw (words_of-join rest b) (simp append_assoc)
   words_of-join (Cases ws rest) b = rw (words_of-join rest b) (simp append_assoc)
@@ -56,10 +57,10 @@ module _ (w : Wiring) (done : List Defined) where
 
   -- words between braces, and one more
   pub case_words-more : (ws : List Token) (t : Token) →
-      case_words w done (ws ++ t ∷ []) ≡ case_words w done ws ++ word_in (word_at w done t) ∷ []
-  case_words-more [] t = refl
+      case_words w done (ws ++ t ∷ []) ≡ case_words w done ws ++ words_in (word_at w done t)
+  case_words-more [] t = append-nil (words_in (word_at w done t))
   case_words-more (first ∷ ws) t =
-      ap (λ x. word_in (word_at w done first) ∷ x) (case_words-more ws t)
+      rw (case_words-more ws t) (sym (append_assoc (words_in (word_at w done first)) _ _))
 
   pub case_size-more : (ws : List Token) (t : Token) →
       case_size w done (ws ++ t ∷ []) ≡ case_size w done ws + (size_in (word_at w done t) + 1)

@@ -19,7 +19,7 @@ use Rattle.cam6_forth.proofs.Runs.{ok_state, run, length-all}
 use Rattle.cam6_forth.proofs.FaultsOfSteps.{fault_in, step-fault, finish-fault}
 use Rattle.cam6_forth.proofs.Following.{with_comment, plain_state, step_plain}
 use Rattle.cam6_forth.proofs.Following.{follows, with_comments, Follows}
-use Rattle.cam6_forth.proofs.Complete.{run-unfinished}
+use Rattle.cam6_forth.proofs.SpelledIsRead.{run-unfinished}
 use Rattle.cam6_forth.proofs.Steps.{some-is}
 use Rattle.cam6_forth.proofs.Counting.{read-run, read-stops, read-ok, read-fault}
 

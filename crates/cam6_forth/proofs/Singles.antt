@@ -1,7 +1,7 @@
 -- What a known token says by itself.
 use Rattle.std.proofs.Common.{◌≡◌, ℕ, ◌+◌, Bool, true, false, List, [], ◌∷◌, ◌++◌, length}
-use Rattle.std.proofs.Common.{◌∙◌, max, refl, ap, arith, Option, Some, None, Result, Ok, Err, cond}
-use Rattle.std.specs.Result.{IsOk}
+use Rattle.std.proofs.Common.{◌∙◌, max, refl, ap, subst, arith, Option}
+use Rattle.std.proofs.Common.{Some, None, Result, Ok, Err, cond}
 use Rattle.std.specs.Option.{is_some}
 use Rattle.std.proofs.lemmas.Option.{same_Some}
 use Rattle.std.specs.Str.{bytes_eq}
@@ -11,8 +11,8 @@ use Rattle.cam6_wiring.specs.declared.names.Half.TheVariants.{A, B}
 use Rattle.cam6_wiring.specs.declared.wirings.Wiring.{Wiring}
 use Rattle.cam6_wiring.specs.declared.names.Name.{Name}
 use Rattle.cam6_wiring.specs.Wiring.{line_of}
-use Rattle.cam6_forth.specs.declared.words.Word.{Word}
-use Rattle.cam6_forth.specs.declared.words.Word.TheVariants as word
+use Rattle.cam6_forth.specs.declared.words.SingleWord.{SingleWord}
+use Rattle.cam6_forth.specs.declared.words.SingleWord.TheVariants as single
 use Rattle.cam6_forth.specs.declared.words.Output.{Output}
 use Rattle.cam6_forth.specs.declared.kinds.Kind.{Kind}
 use Rattle.cam6_forth.specs.declared.kinds.Kind.TheVariants as kind
@@ -20,17 +20,17 @@ use Rattle.cam6_forth.specs.Tokens.{Token}
 use Rattle.cam6_forth.specs.Kinds.{kind_of}
 use Rattle.cam6_forth.specs.Limits.{other_half, unknown_word}
 use Rattle.cam6_forth.specs.Defined.{Defined}
-use Rattle.cam6_forth.specs.SingleWords.{place_from, place_of, is_same_half}
+use Rattle.cam6_wiring.specs.Name.{is_same_half}
+use Rattle.cam6_forth.specs.SingleWords.{place_from, place_of}
 use Rattle.cam6_forth.specs.SingleWords.{literal_word, defined_word, word_of, IsSingle}
-use Rattle.cam6_forth.specs.Tree.{word_in, size_in}
 use Rattle.cam6_forth.specs.Laws.{KnownIsSingle}
 use Rattle.cam6_forth.specs.Spellings.{output_word, neighbour_name}
 use Rattle.cam6_forth.proofs.Marks.{IsOfKind, of_kind}
 
 abbrev Said : Type 0
-Said = Result (Word × ℕ) ℕ
+Said = Result (SingleWord × ℕ) ℕ
 
-abbrev some_word : Word → Said
+abbrev some_word : SingleWord → Said
 some_word said = Ok (said, 1)
 
 -- a place that is found from a start on, with the size there: it is the first of the name
@@ -90,23 +90,24 @@ same_half B B same = refl
 
 module _ (wiring : Wiring) (done : List Defined) (token : Token) where
   abbrev Holds : Said → Type 0
-  Holds said = IsOk said → IsSingle wiring done token (word_in said) (size_in said)
+  Holds (Ok (said, size)) = IsSingle wiring done token said size
+  Holds (Err number) = Unit {0}
 
   single_literal : (o : Option ℕ) → IsOfKind token (kind.Digits o) → Holds (literal_word o)
-  single_literal None of_digits ok = cc ok
-  single_literal (Some value) of_digits ok = (of_digits.0, of_digits.1, refl)
+  single_literal None of_digits = tt
+  single_literal (Some value) of_digits = (of_digits.0, of_digits.1, refl)
 
   single_name : (name : Name) (o : Option ℕ) → neighbour_name token ≡ Some name →
       line_of wiring.hood wiring.minor name ≡ o →
-      Holds (cond (is_some o) (some_word (word.Name name)) (Err unknown_word))
-  single_name name None named e ok = cc ok
-  single_name name (Some line) named e ok = (named, (line, e), refl)
+      Holds (cond (is_some o) (some_word (single.Name name)) (Err unknown_word))
+  single_name name None named e = tt
+  single_name name (Some line) named e = (named, (line, e), refl)
 
   single_output : (output : Output) (b : Bool) → output_word token ≡ Some output →
       is_same_half output.half wiring.half ≡ b →
-      Holds (cond b (some_word (word.Output output.target)) (Err other_half))
-  single_output output false spelled same ok = cc ok
-  single_output output true spelled same ok = (
+      Holds (cond b (some_word (single.Output output.target)) (Err other_half))
+  single_output output false spelled same = tt
+  single_output output true spelled same = (
     spelled ∙
         ap (λ half. Some (record { half = half; target = output.target }))
         (same_half output.half wiring.half same),
@@ -114,23 +115,24 @@ module _ (wiring : Wiring) (done : List Defined) (token : Token) where
   )
 
   single_defined : (o : Option (ℕ × ℕ)) → place_of token done ≡ o → Holds (defined_word o)
-  single_defined None e ok = cc ok
-  single_defined (Some (place, size)) e ok =
+  single_defined None e = tt
+  single_defined (Some (place, size)) e =
       let (before, definition, later, split, at, named, none, is) =
       placed 0 token done place size e in
       (before, definition, later, split, omega (arith, at), named, none 0, ap (λ n. max n 1) is)
 
-  single : (k : Kind) → IsOfKind token k → Holds (word_of wiring done k token)
-  single (kind.Digits value) is ok = single_literal value is ok
-  single (kind.Stack stack) is ok = (is, refl)
-  single (kind.Output output) is ok =
-      single_output output (is_same_half output.half wiring.half) is refl ok
-  single (kind.Name name) is ok =
-      single_name name (line_of wiring.hood wiring.minor name) is refl ok
-  single kind.Other is ok = single_defined (place_of token done) refl ok
-  single _ is ok = cc ok
+  single_word : (k : Kind) → IsOfKind token k → Holds (word_of wiring done k token)
+  single_word (kind.Digits value) is = single_literal value is
+  single_word (kind.Stack stack) is = (is, refl)
+  single_word (kind.Output output) is =
+      single_output output (is_same_half output.half wiring.half) is refl
+  single_word (kind.Name name) is =
+      single_name name (line_of wiring.hood wiring.minor name) is refl
+  single_word kind.Other is = single_defined (place_of token done) refl
+  single_word _ is = tt
 
 -- a known token says a single word
 pub known_is_single : KnownIsSingle
-known_is_single wiring done token ok =
-    single wiring done token (kind_of token) (of_kind token) ok
+known_is_single wiring done token said size is =
+    subst (Holds wiring done token) is
+    (single_word wiring done token (kind_of token) (of_kind token))

@@ -4,6 +4,7 @@ use Rattle.std.proofs.Common.{refl, ap, ◌∙◌, arith, None, Result, Ok, Err,
 use Rattle.std.specs.Result.{IsOk}
 use Rattle.std.proofs.lemmas.Bool.{le-leb, lt-ltb, false≢true}
 use Rattle.cam6_wiring.specs.declared.wirings.Wiring.{Wiring}
+use Rattle.cam6_forth.specs.declared.words.SingleWord.{SingleWord}
 use Rattle.cam6_forth.specs.declared.words.Word.{Word}
 use Rattle.cam6_forth.specs.declared.words.Word.TheVariants as word
 use Rattle.cam6_forth.specs.declared.kinds.Kind.{Kind}
@@ -14,20 +15,20 @@ use Rattle.cam6_forth.specs.Limits.{max_definitions, max_size, max_open_ifs}
 use Rattle.cam6_forth.specs.Limits.{not_definable, too_large, too_many_ifs, too_long}
 use Rattle.cam6_forth.specs.Defined.{Defined}
 use Rattle.cam6_forth.specs.SingleWords.{word_of, place_of}
-use Rattle.cam6_forth.specs.Tree.{word_at, word_in, size_in}
+use Rattle.cam6_forth.specs.Tree.{word_at, words_in, size_in}
 use Rattle.cam6_forth.specs.Reading.{State, step, grown, grown_by, outside}
 use Rattle.cam6_forth.specs.Reading.{naming, inside, braces, some_definition}
 use Rattle.cam6_forth.proofs.States.{after_all, after_colon, in_body, in_braces}
 use Rattle.cam6_forth.proofs.Runs.{ok_state}
 
 -- a word with its size
-abbrev ok_word : Word → ℕ → Result (Word × ℕ) ℕ
+abbrev ok_word : SingleWord → ℕ → Result (SingleWord × ℕ) ℕ
 ok_word said size = Ok (said, size)
 
 -- in a body a single word is added
-pub inside-word : (wiring : Wiring) (s : State) (k : Kind) (token : Token) (said : Word)
+pub inside-word : (wiring : Wiring) (s : State) (k : Kind) (token : Token) (said : SingleWord)
     (size : ℕ) → word_of wiring s.done k token ≡ ok_word said size →
-    inside wiring s k token ≡ grown (size + 0) said s
+    inside wiring s k token ≡ grown (size + 0) (word.Single said) s
 inside-word wiring s kind.Semicolon token said size is = cc
 inside-word wiring s kind.Open token said size is = cc
 inside-word wiring s kind.If token said size is = cc
@@ -37,9 +38,9 @@ inside-word wiring s kind.OpenBrace token said size is = cc
 inside-word wiring s k token said size is = ap (λ result. grown_by 0 result s) is
 
 -- between braces a single word is added
-pub braces-word : (wiring : Wiring) (s : State) (k : Kind) (token : Token) (said : Word)
+pub braces-word : (wiring : Wiring) (s : State) (k : Kind) (token : Token) (said : SingleWord)
     (size : ℕ) → word_of wiring s.done k token ≡ ok_word said size →
-    braces wiring s k token ≡ grown (size + 1) said s
+    braces wiring s k token ≡ grown (size + 1) (word.Single said) s
 braces-word wiring s kind.Open token said size is = cc
 braces-word wiring s kind.CloseBrace token said size is = cc
 braces-word wiring s k token said size is = ap (λ result. grown_by 1 result s) is
@@ -50,12 +51,6 @@ pub grown-fits : (size : ℕ) (added : Word) (s : State) → s.size + size ≤ m
 grown-fits size added s fits =
     let next : State = record s { size = s.size + size; words = s.words ++ added ∷ [] } in
     ap (λ test. cond test (ok_state next) (Err too_large)) (le-leb (s.size + size) max_size fits)
-
--- a known word, as what is said and its size
-pub known_is : (result : Result (Word × ℕ) ℕ) → IsOk result →
-    result ≡ ok_word (word_in result) (size_in result)
-known_is (Ok (said, size)) known = refl
-known_is (Err number) known = absurd (false≢true known)
 
 pub kind-if : kind_of (codes "IF") ≡ kind.If
 unfolding kind_of mark
@@ -94,38 +89,52 @@ module _ (wiring : Wiring) (done : List Defined) (name : Token) where
       ok_state (in_braces done name ws m open_ifs) ≡ ok_state (in_braces done name vs n open_ifs)
   same_braces ws vs m n open_ifs words sizes = cc
 
-  -- the word that a token says, and its size
-  abbrev pub said_by : Token → Word
-  said_by token = word_in (word_at wiring done token)
+  -- the word that a token says, or none, and its size
+  abbrev pub said_by : Token → List Word
+  said_by token = words_in (word_at wiring done token)
 
   abbrev pub size_by : Token → ℕ
   size_by token = size_in (word_at wiring done token)
 
+  -- in a body the word is added
+  step-said : (token : Token) (ws : List Word) (n : ℕ) (open_ifs : List Bool)
+      (result : Result (SingleWord × ℕ) ℕ) → word_at wiring done token ≡ result → IsOk result →
+      n + size_in result ≤ max_size →
+      step wiring (in_body done name ws n open_ifs) token
+      ≡ Ok (in_body done name (ws ++ words_in result) (n + size_in result) open_ifs)
+  step-said token ws n open_ifs (Ok (said, size)) is known fits =
+      let s = in_body done name ws n open_ifs in
+      let words = ws ++ word.Single said ∷ [] in
+      inside-word wiring s (kind_of token) token said size is
+      ∙ grown-fits (size + 0) (word.Single said) s (omega arith)
+      ∙ same_body words words (n + (size + 0)) (n + size) open_ifs refl (omega arith)
+  step-said token ws n open_ifs (Err number) is known fits = absurd (false≢true known)
+
   pub step-word : (token : Token) (ws : List Word) (n : ℕ) (open_ifs : List Bool) →
       IsOk (word_at wiring done token) → n + size_by token ≤ max_size →
       step wiring (in_body done name ws n open_ifs) token
-      ≡ Ok (in_body done name (ws ++ said_by token ∷ []) (n + size_by token) open_ifs)
+      ≡ Ok (in_body done name (ws ++ said_by token) (n + size_by token) open_ifs)
   step-word token ws n open_ifs known fits =
-      let said = said_by token in
-      let size = size_by token in
-      let s = in_body done name ws n open_ifs in
-      let known_word = known_is (word_at wiring done token) known in
-      inside-word wiring s (kind_of token) token said size known_word
-      ∙ grown-fits (size + 0) said s (omega arith)
-      ∙ same_body (ws ++ said ∷ []) (ws ++ said ∷ []) (n + (size + 0)) (n + size) open_ifs refl
-      (omega arith)
+      step-said token ws n open_ifs (word_at wiring done token) refl known fits
+
+  -- and so it is between braces
+  step-said_case : (token : Token) (ws : List Word) (n : ℕ) (open_ifs : List Bool)
+      (result : Result (SingleWord × ℕ) ℕ) → word_at wiring done token ≡ result → IsOk result →
+      n + (size_in result + 1) ≤ max_size →
+      step wiring (in_braces done name ws n open_ifs) token
+      ≡ Ok (in_braces done name (ws ++ words_in result) (n + (size_in result + 1)) open_ifs)
+  step-said_case token ws n open_ifs (Ok (said, size)) is known fits =
+      let s = in_braces done name ws n open_ifs in
+      braces-word wiring s (kind_of token) token said size is
+      ∙ grown-fits (size + 1) (word.Single said) s fits
+  step-said_case token ws n open_ifs (Err number) is known fits = absurd (false≢true known)
 
   pub step-case : (token : Token) (ws : List Word) (n : ℕ) (open_ifs : List Bool) →
       IsOk (word_at wiring done token) → n + (size_by token + 1) ≤ max_size →
       step wiring (in_braces done name ws n open_ifs) token
-      ≡ Ok (in_braces done name (ws ++ said_by token ∷ []) (n + (size_by token + 1)) open_ifs)
+      ≡ Ok (in_braces done name (ws ++ said_by token) (n + (size_by token + 1)) open_ifs)
   step-case token ws n open_ifs known fits =
-      let said = said_by token in
-      let size = size_by token in
-      let s = in_braces done name ws n open_ifs in
-      let known_word = known_is (word_at wiring done token) known in
-      braces-word wiring s (kind_of token) token said size known_word
-      ∙ grown-fits (size + 1) said s fits
+      step-said_case token ws n open_ifs (word_at wiring done token) refl known fits
 
   pub step-if : (ws : List Word) (n : ℕ) (open_ifs : List Bool) → n + 1 ≤ max_size →
       length open_ifs < max_open_ifs →

@@ -19,7 +19,7 @@ use Rattle.cam6_forth.specs.Laws.{HasRuleOrFault, HasOneFault, CanBeCompleted}
 use Rattle.cam6_forth.specs.Laws.{FaultStays, FaultIsFirst, EndIsTooEarly}
 use Rattle.cam6_forth.proofs.Readings.{sound_run, token_fault_read, end_fault_read}
 use Rattle.cam6_forth.proofs.Readings.{rule_read, rule_back, fault_back}
-use Rattle.cam6_forth.proofs.Completing.{run_begins}
+use Rattle.cam6_forth.proofs.Completions.{run_begins}
 
 -- what a text is read as
 abbrev Out : Type 0

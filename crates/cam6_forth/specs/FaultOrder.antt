@@ -13,7 +13,8 @@ use Rattle.cam6_forth.specs.Limits.{max_definitions, max_size, max_open_ifs}
 use Rattle.cam6_forth.specs.Limits.{unknown_word, not_definable, out_of_place, too_large}
 use Rattle.cam6_forth.specs.Limits.{too_many_ifs, other_half, literal_range, too_long}
 use Rattle.cam6_forth.specs.Defined.{Defined}
-use Rattle.cam6_forth.specs.SingleWords.{place_of, is_same_half}
+use Rattle.cam6_wiring.specs.Name.{is_same_half}
+use Rattle.cam6_forth.specs.SingleWords.{place_of}
 use Rattle.cam6_forth.specs.Tree.{case_size, meant}
 use Rattle.cam6_forth.specs.Unfinished.{OpenIf, Unfinished, Whole, Unnamed, Within, Braced}
 use Rattle.cam6_forth.specs.Unfinished.{opened_size}

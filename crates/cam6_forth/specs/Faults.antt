@@ -3,7 +3,7 @@ use Rattle.std.specs.Prelude.{◌≡◌, ◌<◌, ◌≤◌, ◌⊎◌, ℕ, ◌
 use Rattle.std.specs.Prelude.{◌∷◌, ◌++◌, length, Option, Some, None, is_some}
 use Rattle.std.specs.Prelude.{Result, Ok, Err, if◌then◌else◌, nat_lt, nat_le}
 use Rattle.cam6_wiring.specs.declared.wirings.Wiring.{Wiring}
-use Rattle.cam6_forth.specs.declared.words.Word.{Word}
+use Rattle.cam6_forth.specs.declared.words.SingleWord.{SingleWord}
 use Rattle.cam6_forth.specs.declared.kinds.Kind.{Kind}
 use Rattle.cam6_forth.specs.declared.kinds.Kind.TheVariants.{Colon, Semicolon, Open, OpenBrace}
 use Rattle.cam6_forth.specs.declared.kinds.Kind.TheVariants.{CloseBrace, If, Else, Then, Other}
@@ -24,7 +24,7 @@ abbrev pub size_fault : ℕ → Option ℕ
 size_fault size = if nat_le size max_size then None else Some too_large
 
 -- a single word, in a definition of this size, or what else such a token is there
-abbrev pub word_fault : ℕ → Result (Word × ℕ) ℕ → Option ℕ
+abbrev pub word_fault : ℕ → Result (SingleWord × ℕ) ℕ → Option ℕ
 word_fault size (Err number) = Some number
 word_fault size (Ok (said, more)) = size_fault (size + more)
 

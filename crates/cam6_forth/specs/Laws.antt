@@ -1,11 +1,12 @@
 -- The laws that tie texts, trees and faults.
-use Rattle.std.specs.Prelude.{◌≡◌, ℕ, ◌-◌, ◌≤◌, ◌⊎◌, List, ◌++◌, length, take, IsOk, true}
+use Rattle.std.specs.Prelude.{◌≡◌, ℕ, ◌-◌, ◌≤◌, ◌⊎◌, List, ◌++◌, length, take, Ok, true}
 use Rattle.cam6_wiring.specs.declared.wirings.Wiring.{Wiring}
+use Rattle.cam6_forth.specs.declared.words.SingleWord.{SingleWord}
 use Rattle.cam6_forth.specs.declared.kinds.Kind.{Kind}
 use Rattle.cam6_forth.specs.Tokens.{Token}
 use Rattle.cam6_forth.specs.Defined.{Defined}
 use Rattle.cam6_forth.specs.SingleWords.{IsSingle}
-use Rattle.cam6_forth.specs.Tree.{Part, spell, IsRule, word_at, word_in, size_in}
+use Rattle.cam6_forth.specs.Tree.{Part, spell, IsRule, word_at}
 use Rattle.cam6_forth.specs.Trees.{tree_of}
 use Rattle.cam6_forth.specs.Texts.{AreTokensOf, IsTextOf, Begins}
 use Rattle.cam6_forth.specs.Unfinished.{Unfinished, IsSound}
@@ -84,6 +85,5 @@ OneBetween =
 -- a known token says a single word
 abbrev pub KnownIsSingle : Type 0
 KnownIsSingle =
-    (wiring : Wiring) (done : List Defined) (token : Token) → IsOk (word_at wiring done token) →
-    IsSingle wiring done token
-    (word_in (word_at wiring done token)) (size_in (word_at wiring done token))
+    (wiring : Wiring) (done : List Defined) (token : Token) (said : SingleWord) (size : ℕ) →
+    word_at wiring done token ≡ Ok (said, size) → IsSingle wiring done token said size

@@ -1,5 +1,11 @@
 -- The limits of a text, and the numbers of its faults.
 use Rattle.std.specs.Prelude.{ℕ}
+use Rattle.cam6_forth.specs.declared.faults.TokenFault.{TokenFault}
+use Rattle.cam6_forth.specs.declared.faults.TokenFault.TheVariants.{UnknownWord, NotDefinable}
+use Rattle.cam6_forth.specs.declared.faults.TokenFault.TheVariants.{OutOfPlace, TooLarge}
+use Rattle.cam6_forth.specs.declared.faults.TokenFault.TheVariants.{TooManyIfs, OtherHalf}
+use Rattle.cam6_forth.specs.declared.faults.TokenFault.TheVariants.{LiteralRange, NoDefinition}
+use Rattle.cam6_forth.specs.declared.faults.TokenFault.TheVariants.{TooLong}
 
 -- the most bytes of a text, definitions of a text, size of a definition, and IFs that are open
 -- together in one definition
@@ -50,3 +56,15 @@ no_definition = 27
 -- one more definition than a text may have, or a longer text
 abbrev pub too_long : ℕ
 too_long = 28
+
+-- the number of a fault
+abbrev pub fault_number : TokenFault → ℕ
+fault_number UnknownWord = unknown_word
+fault_number NotDefinable = not_definable
+fault_number OutOfPlace = out_of_place
+fault_number TooLarge = too_large
+fault_number TooManyIfs = too_many_ifs
+fault_number OtherHalf = other_half
+fault_number LiteralRange = literal_range
+fault_number NoDefinition = no_definition
+fault_number TooLong = too_long

@@ -6,22 +6,24 @@ use Rattle.cam6_forth.specs.declared.faults.ParseFault.{ParseFault}
 use Rattle.cam6_forth.specs.declared.faults.ParseFault.TheVariants as parse_fault
 use Rattle.cam6_forth.specs.declared.faults.StepFault.{StepFault}
 use Rattle.cam6_forth.specs.declared.faults.StepFault.TheVariants as step_fault
+use Rattle.cam6_forth.specs.declared.faults.TokenFault.{TokenFault}
+use Rattle.cam6_forth.specs.Limits.{fault_number}
 use Rattle.cam6_forth.specs.Defined.{Defined, RuleWords}
 use Rattle.cam6_forth.specs.Tree.{Part, rule_of}
 use Rattle.cam6_forth.specs.Texts.{IsTextOf}
 use Rattle.cam6_forth.specs.Faults.{HasFault}
 use Rattle.cam6_forth.specs.Reading.{State}
 
--- the new state, or the number of the token's fault
+-- the new state, or the token's fault
 abbrev pub Steps : Result State ℕ → State → Result (Unit {0}) StepFault → Type 0
 Steps reading new (Ok done) = reading ≡ Ok new
 Steps reading new (Err step_fault.NoMemory) = Unit {0}
-Steps reading new (Err (step_fault.Number number)) = reading ≡ Err number
+Steps reading new (Err (step_fault.Token fault)) = reading ≡ Err (fault_number fault)
 
--- the definitions, or the number of the end's fault
-abbrev pub Finishes : Result (List Defined) ℕ → Result (Vec Defined Global) ℕ → Type 0
+-- the definitions, or the end's fault
+abbrev pub Finishes : Result (List Defined) ℕ → Result (Vec Defined Global) TokenFault → Type 0
 Finishes reading (Ok definitions) = reading ≡ Ok definitions.items
-Finishes reading (Err number) = reading ≡ Err number
+Finishes reading (Err fault) = reading ≡ Err (fault_number fault)
 
 -- the rule of this wiring with the definitions that were read, or the first fault
 abbrev pub IsReadAs :

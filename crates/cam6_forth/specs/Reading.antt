@@ -4,6 +4,7 @@ use Rattle.std.specs.Prelude.{ℕ, ◌+◌, Bool, true, false, not, ◌&&◌, �
 use Rattle.std.specs.Prelude.{length}
 use Rattle.std.specs.Prelude.{is_some, Result, Ok, Err, if◌then◌else◌, nat_lt, nat_le}
 use Rattle.cam6_wiring.specs.declared.wirings.Wiring.{Wiring}
+use Rattle.cam6_forth.specs.declared.words.SingleWord.{SingleWord}
 use Rattle.cam6_forth.specs.declared.words.Word.{Word}
 use Rattle.cam6_forth.specs.declared.words.Word.TheVariants as word
 use Rattle.cam6_forth.specs.declared.kinds.Kind.{Kind}
@@ -51,9 +52,9 @@ grown size added state =
     else Err too_large
 
 -- a word that a token says by itself, of so much more size
-abbrev pub grown_by : ℕ → Result (Word × ℕ) ℕ → State → Result State ℕ
+abbrev pub grown_by : ℕ → Result (SingleWord × ℕ) ℕ → State → Result State ℕ
 grown_by more (Err number) state = Err number
-grown_by more (Ok (added, size)) state = grown (size + more) added state
+grown_by more (Ok (added, size)) state = grown (size + more) (word.Single added) state
 
 -- outside definitions: `:` begins one, unless it is one too many
 abbrev pub outside : State → Kind → Result State ℕ

@@ -2,12 +2,11 @@
 use Rattle.std.specs.Prelude.{◌≡◌, ℕ, ◌+◌, ◌++◌, length, Bool, true, false, List, [], ◌∷◌, max}
 use Rattle.std.specs.Prelude.{Option, Some, None, is_some, Result, Ok, Err, if◌then◌else◌}
 use Rattle.std.specs.Str.{bytes_eq}
-use Rattle.cam6_wiring.specs.declared.names.Half.{Half}
-use Rattle.cam6_wiring.specs.declared.names.Half.TheVariants.{A, B}
 use Rattle.cam6_wiring.specs.declared.wirings.Wiring.{Wiring}
+use Rattle.cam6_wiring.specs.Name.{is_same_half}
 use Rattle.cam6_wiring.specs.Wiring.{line_of}
-use Rattle.cam6_forth.specs.declared.words.Word.{Word}
-use Rattle.cam6_forth.specs.declared.words.Word.TheVariants as word
+use Rattle.cam6_forth.specs.declared.words.SingleWord.{SingleWord}
+use Rattle.cam6_forth.specs.declared.words.SingleWord.TheVariants as single
 use Rattle.cam6_forth.specs.declared.kinds.Kind.{Kind}
 use Rattle.cam6_forth.specs.declared.kinds.Kind.TheVariants.{Digits, Stack, Output, Name, Other}
 use Rattle.cam6_forth.specs.Tokens.{Token}
@@ -27,56 +26,44 @@ place_from place name (definition ∷ later) =
 abbrev pub place_of : Token → List Defined → Option (ℕ × ℕ)
 place_of name done = place_from 0 name done
 
--- whether two halves are one
-abbrev pub is_same_half : Half → Half → Bool
-is_same_half A A = true
-is_same_half A B = false
-is_same_half B A = false
-is_same_half B B = true
-
 -- a literal has size 1, and a value of at most 65,535
-abbrev pub literal_word : Option ℕ → Result (Word × ℕ) ℕ
+abbrev pub literal_word : Option ℕ → Result (SingleWord × ℕ) ℕ
 literal_word None = Err literal_range
-literal_word (Some value) = Ok (word.Literal value, 1)
+literal_word (Some value) = Ok (single.Literal value, 1)
 
 -- a defined name has its definition's size, or 1 where that is 0
-abbrev pub defined_word : Option (ℕ × ℕ) → Result (Word × ℕ) ℕ
+abbrev pub defined_word : Option (ℕ × ℕ) → Result (SingleWord × ℕ) ℕ
 defined_word None = Err unknown_word
-defined_word (Some (place, size)) = Ok (word.Defined place, max size 1)
+defined_word (Some (place, size)) = Ok (single.Defined place, max size 1)
 
 -- the word that a token says by itself, with its size, or the number of the token's fault
-abbrev pub word_of : Wiring → List Defined → Kind → Token → Result (Word × ℕ) ℕ
+abbrev pub word_of : Wiring → List Defined → Kind → Token → Result (SingleWord × ℕ) ℕ
 word_of wiring done (Digits value) token = literal_word value
-word_of wiring done (Stack stack) token = Ok (word.Stack stack, 1)
+word_of wiring done (Stack stack) token = Ok (single.Stack stack, 1)
 word_of wiring done (Output output) token =
-    if is_same_half output.half wiring.half then Ok (word.Output output.target, 1)
+    if is_same_half output.half wiring.half then Ok (single.Output output.target, 1)
     else Err other_half
 word_of wiring done (Name name) token =
-    if is_some (line_of wiring.hood wiring.minor name) then Ok (word.Name name, 1)
+    if is_some (line_of wiring.hood wiring.minor name) then Ok (single.Name name, 1)
     else Err unknown_word
 word_of wiring done Other token = defined_word (place_of token done)
 word_of wiring done kind token = Err out_of_place
 
--- a token says this single word, of this size: a literal in range its value; a stack word, an output
--- word of the half and a neighbour name of the wiring what the tables of spellings say; each has
--- size 1. A name says the first definition of that name, and has its size, or 1 where that is 0
-abbrev pub IsSingle : Wiring → List Defined → Token → Word → ℕ → Type 0
-IsSingle wiring done token (word.Literal value) size =
+-- a token says this single word, of this size: a literal in range its value; a stack word, an
+-- output word of the half and a neighbour name of the wiring what the tables of spellings say; each
+-- has size 1. A name says the first definition of that name, and has its size, or 1 where that is 0
+abbrev pub IsSingle : Wiring → List Defined → Token → SingleWord → ℕ → Type 0
+IsSingle wiring done token (single.Literal value) size =
     (is_digits token ≡ true) × (literal token ≡ Some value) × (size ≡ 1)
-IsSingle wiring done token (word.Name name) size =
+IsSingle wiring done token (single.Name name) size =
     (neighbour_name token ≡ Some name)
     × ((line : ℕ) × (line_of wiring.hood wiring.minor name ≡ Some line)) × (size ≡ 1)
-IsSingle wiring done token (word.Stack stack) size =
+IsSingle wiring done token (single.Stack stack) size =
     (stack_word token ≡ Some stack) × (size ≡ 1)
-IsSingle wiring done token (word.Output target) size =
+IsSingle wiring done token (single.Output target) size =
     (output_word token ≡ Some (record { half = wiring.half; target = target })) × (size ≡ 1)
-IsSingle wiring done token (word.Defined place) size =
+IsSingle wiring done token (single.Defined place) size =
     (before : List Defined) × (definition : Defined) × (later : List Defined)
     × (done ≡ before ++ definition ∷ later) × (place ≡ length before)
     × (definition.name ≡ token) × (place_of token before ≡ None)
     × (size ≡ max definition.size 1)
-IsSingle wiring done token word.If size = ⊥
-IsSingle wiring done token word.Else size = ⊥
-IsSingle wiring done token word.Then size = ⊥
-IsSingle wiring done token word.Cases size = ⊥
-IsSingle wiring done token word.EndCases size = ⊥

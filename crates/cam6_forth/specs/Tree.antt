@@ -3,6 +3,7 @@ use Rattle.std.specs.Prelude.{◌≡◌, ℕ, ◌+◌, ◌<◌, ◌≤◌, List,
 use Rattle.std.specs.Prelude.{length, max, codes, None, Result, Ok, Err, IsOk}
 use Rattle.cam6_wiring.specs.declared.wirings.Wiring.{Wiring}
 use Rattle.cam6_forth.specs.declared.kinds.Kind.TheVariants as kind
+use Rattle.cam6_forth.specs.declared.words.SingleWord.{SingleWord}
 use Rattle.cam6_forth.specs.declared.words.Word.{Word}
 use Rattle.cam6_forth.specs.declared.words.Word.TheVariants as word
 use Rattle.cam6_forth.specs.Tokens.{Token}
@@ -46,16 +47,16 @@ spell (part ∷ parts) =
     codes ":" ∷ (part.name ∷ (spell_body part.body ++ (codes ";" ∷ spell parts)))
 
 -- what a token says as a single word, after these definitions
-abbrev pub word_at : Wiring → List Defined → Token → Result (Word × ℕ) ℕ
+abbrev pub word_at : Wiring → List Defined → Token → Result (SingleWord × ℕ) ℕ
 word_at wiring done token = word_of wiring done (kind_of token) token
 
--- the word that a token says
-abbrev pub word_in : Result (Word × ℕ) ℕ → Word
-word_in (Ok (said, size)) = said
-word_in (Err number) = word.Then
+-- the word that a token says, or none
+abbrev pub words_in : Result (SingleWord × ℕ) ℕ → List Word
+words_in (Ok (said, size)) = word.Single said ∷ []
+words_in (Err number) = []
 
 -- by how much the definition grows
-abbrev pub size_in : Result (Word × ℕ) ℕ → ℕ
+abbrev pub size_in : Result (SingleWord × ℕ) ℕ → ℕ
 size_in (Ok (said, size)) = size
 size_in (Err number) = 0
 
@@ -63,7 +64,7 @@ size_in (Err number) = 0
 abbrev pub case_words : Wiring → List Defined → List Token → List Word
 case_words wiring done [] = []
 case_words wiring done (token ∷ tokens) =
-    word_in (word_at wiring done token) ∷ case_words wiring done tokens
+    words_in (word_at wiring done token) ++ case_words wiring done tokens
 
 -- each of them has one more than its size
 abbrev pub case_size : Wiring → List Defined → List Token → ℕ
@@ -81,7 +82,7 @@ AreWords wiring done (token ∷ tokens) =
 abbrev pub words_of : Wiring → List Defined → Body → List Word
 words_of wiring done End = []
 words_of wiring done (Says token rest) =
-    word_in (word_at wiring done token) ∷ words_of wiring done rest
+    words_in (word_at wiring done token) ++ words_of wiring done rest
 words_of wiring done (Choice on rest) =
     word.If ∷ (words_of wiring done on ++ (word.Then ∷ words_of wiring done rest))
 words_of wiring done (Either on off rest) =

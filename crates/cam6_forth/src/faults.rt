@@ -1,46 +1,50 @@
-//! The faults of a text with their numbers, and the limits that some of them keep.
+//! The faults of a text with their numbers.
 ghost use Rattle.std.specs.Prelude.{◌≡◌};
 
 use std::alloc::{AllocError, AllocFailed};
 
-/// In a body: a name that isn't known there, or that this hood and minor lack.
-pub const UNKNOWN_WORD: u8 = 20;
+/// The fault of a token, or of the end of a text.
+#[derive(Clone, Copy, Debug, PartialEq, Eq)]
+pub(crate) enum TokenFault {
+    /// In a body: a name that isn't known there, or that this hood and minor lack.
+    UnknownWord,
+    /// After `:`, a reserved token or a name already defined.
+    NotDefinable,
+    /// A token, or the end of the text, where none such may stand.
+    OutOfPlace,
+    /// The definition's size passes `MAX_SIZE`.
+    TooLarge,
+    /// An IF where `MAX_OPEN_IFS` of the definition are open.
+    TooManyIfs,
+    /// An output word of the other half.
+    OtherHalf,
+    /// A literal above 65,535.
+    LiteralRange,
+    /// The text ends with no definition.
+    NoDefinition,
+    /// One more than `MAX_DEFINITIONS`; with token 0, more than `MAX_TEXT` bytes.
+    TooLong,
+}
 
-/// After `:`, a reserved token or a name already defined.
-pub const NOT_DEFINABLE: u8 = 21;
+impl TokenFault {
+    ghost use Rattle.cam6_forth.specs.Limits.{fault_number};
 
-/// A token, or the end of the text, where none such may stand.
-pub const OUT_OF_PLACE: u8 = 22;
-
-/// The definition's size passes `MAX_SIZE`.
-pub const TOO_LARGE: u8 = 23;
-
-/// An IF where `MAX_OPEN_IFS` of the definition are open.
-pub const TOO_MANY_IFS: u8 = 24;
-
-/// An output word of the other half.
-pub const OTHER_HALF: u8 = 25;
-
-/// A literal above 65,535.
-pub const LITERAL_RANGE: u8 = 26;
-
-/// The text ends with no definition.
-pub const NO_DEFINITION: u8 = 27;
-
-/// One more than `MAX_DEFINITIONS`; with token 0, more than `MAX_TEXT` bytes.
-pub const TOO_LONG: u8 = 28;
-
-/// Bytes of a text.
-pub const MAX_TEXT: usize = 8192;
-
-/// Definitions of a text.
-pub const MAX_DEFINITIONS: usize = 64;
-
-/// Size of a definition.
-pub const MAX_SIZE: u16 = 4096;
-
-/// IFs of one definition that are open together.
-pub const MAX_OPEN_IFS: usize = 16;
+    pub(crate) fn number(self) -> u8
+        ensures { result ≡ fault_number self }
+    {
+        match self {
+            TokenFault::UnknownWord => 20,
+            TokenFault::NotDefinable => 21,
+            TokenFault::OutOfPlace => 22,
+            TokenFault::TooLarge => 23,
+            TokenFault::TooManyIfs => 24,
+            TokenFault::OtherHalf => 25,
+            TokenFault::LiteralRange => 26,
+            TokenFault::NoDefinition => 27,
+            TokenFault::TooLong => 28,
+        }
+    }
+}
 
 /// A text's first fault, and the token where it comes. Tokens are numbered from 1, and the end of
 /// the text counts as one more.
@@ -63,8 +67,8 @@ pub enum ParseFault {
 #[derive(Clone, Copy, Debug)]
 pub(crate) enum StepFault {
     NoMemory,
-    /// The number of the token's fault.
-    Number(u8),
+    /// The token has this fault.
+    Token(TokenFault),
 }
 
 impl From<AllocError> for StepFault {

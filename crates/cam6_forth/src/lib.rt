@@ -15,6 +15,7 @@
 mod faults;
 mod kinds;
 pub mod laws;
+mod limits;
 mod open_ifs;
 mod parsing;
 mod reader;
@@ -23,11 +24,7 @@ mod spellings;
 mod tokens;
 mod words;
 
-pub use faults::{
-    LITERAL_RANGE, MAX_DEFINITIONS, MAX_OPEN_IFS, MAX_SIZE, MAX_TEXT, NO_DEFINITION, NOT_DEFINABLE,
-    OTHER_HALF, OUT_OF_PLACE, ParseFault, TOO_LARGE, TOO_LONG, TOO_MANY_IFS, TextFault,
-    UNKNOWN_WORD,
-};
+pub use faults::{ParseFault, TextFault};
 pub use parsing::{parse, parse_under};
 pub use rules::{Definition, Rule};
-pub use words::{Output, StackWord, Target, Word};
+pub use words::{Output, SingleWord, StackWord, Target, Word};

@@ -1,8 +1,8 @@
 //! The open IFs of a definition.
 ghost use Rattle.std.specs.Prelude.{◌≡◌, ◌<◌, ◌≤◌, [], ◌∷◌, length};
-ghost use Rattle.cam6_forth.specs.declared.faults.TheConstants.{MAX_OPEN_IFS};
+ghost use Rattle.cam6_forth.specs.declared.limits.TheConstants.{MAX_OPEN_IFS};
 
-use crate::faults::MAX_OPEN_IFS;
+use crate::limits::MAX_OPEN_IFS;
 use std::marker::Model;
 
 /// The open IFs, each with whether its ELSE has come. A contract sees the innermost first.
@@ -14,7 +14,7 @@ pub(crate) struct OpenIfs {
 
 impl Model for OpenIfs {
     ghost use Rattle.std.specs.Prelude.{List, Bool, reverse, take, ◌≤◌};
-    ghost use Rattle.cam6_forth.specs.declared.faults.TheConstants.{MAX_OPEN_IFS};
+    ghost use Rattle.cam6_forth.specs.declared.limits.TheConstants.{MAX_OPEN_IFS};
 
     ghost Value = { List Bool };
 

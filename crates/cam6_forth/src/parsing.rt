@@ -2,13 +2,16 @@
 ghost use Rattle.std.specs.Prelude.{◌≡◌, ℕ, List, Err, true};
 ghost use Rattle.cam6_forth.specs.declared.faults.ParseFault.TheVariants.{NoMemory, Text};
 ghost use Rattle.cam6_wiring.specs.Wiring.{wired};
+ghost use Rattle.cam6_forth.specs.Limits.{fault_number};
 ghost use Rattle.cam6_forth.specs.Reading.{read_text, keeps};
 ghost use Rattle.cam6_forth.specs.Tree.{Part, rule_of};
 ghost use Rattle.cam6_forth.specs.Texts.{IsTextOf};
 ghost use Rattle.cam6_forth.specs.Faults.{HasFault};
-ghost use Rattle.cam6_forth.specs.Outcome.{IsReadAs, IsAccepted, IsRefused, IsThisRule, IsThisFault};
+ghost use Rattle.cam6_forth.specs.Outcome.{IsReadAs, IsAccepted, IsRefused, IsThisRule};
+ghost use Rattle.cam6_forth.specs.Outcome.{IsThisFault};
 
-use crate::faults::{MAX_TEXT, ParseFault, StepFault, TOO_LONG, TextFault};
+use crate::faults::{ParseFault, StepFault, TextFault, TokenFault};
+use crate::limits::MAX_TEXT;
 use crate::reader::Reader;
 use crate::rules::Rule;
 use crate::tokens::first_token;
@@ -67,7 +70,7 @@ fn read_text(alloc: Global, text: &str, wiring: Wiring) -> Result<Rule, ParseFau
     ensures memory { result ≡ Err NoMemory → keeps wiring text.now ≡ true }
 {
     if text.len() > MAX_TEXT {
-        return Err(text_fault(TOO_LONG, 0));
+        return Err(text_fault(TokenFault::TooLong, 0));
     }
     let mut reader = Reader::new(alloc);
     let mut rest = text.as_bytes();
@@ -76,19 +79,22 @@ fn read_text(alloc: Global, text: &str, wiring: Wiring) -> Result<Rule, ParseFau
         match reader.step(wiring, token) {
             Ok(()) => {}
             Err(StepFault::NoMemory) => return Err(ParseFault::NoMemory),
-            Err(StepFault::Number(number)) => return Err(text_fault(number, token_number)),
+            Err(StepFault::Token(fault)) => return Err(text_fault(fault, token_number)),
         }
         rest = after;
         token_number += 1;
     }
     match reader.finish() {
         Ok(definitions) => Ok(Rule::new(wiring, definitions)),
-        Err(number) => Err(text_fault(number, token_number)),
+        Err(fault) => Err(text_fault(fault, token_number)),
     }
 }
 
-fn text_fault(number: u8, token: u32) -> ParseFault
-    ensures { result ≡ Text (record { number = number; token = token }) }
+fn text_fault(fault: TokenFault, token: u32) -> ParseFault
+    ensures { result ≡ Text (record { number = fault_number fault; token = token }) }
 {
-    ParseFault::Text(TextFault { number, token })
+    ParseFault::Text(TextFault {
+        number: fault.number(),
+        token,
+    })
 }

@@ -1,15 +1,14 @@
 //! A text is read token by token: what was read so far, and one more token.
-ghost use Rattle.std.specs.Prelude.{◌≡◌, ◌≢◌, ◌||◌, Err, true};
+ghost use Rattle.std.specs.Prelude.{◌≡◌, ◌≢◌, ◌||◌, Ok, Err, MatchResult, true};
+ghost use Rattle.cam6_forth.specs.Limits.{fault_number};
 ghost use Rattle.cam6_forth.specs.SingleWords.{place_of};
 
-use crate::faults::{
-    LITERAL_RANGE, MAX_DEFINITIONS, MAX_OPEN_IFS, MAX_SIZE, NO_DEFINITION, NOT_DEFINABLE,
-    OTHER_HALF, OUT_OF_PLACE, StepFault, TOO_LARGE, TOO_LONG, TOO_MANY_IFS, UNKNOWN_WORD,
-};
+use crate::faults::{StepFault, TokenFault};
 use crate::kinds::{Kind, ends_comment, kind_of};
+use crate::limits::{MAX_DEFINITIONS, MAX_OPEN_IFS, MAX_SIZE};
 use crate::open_ifs::OpenIfs;
 use crate::rules::Definition;
-use crate::words::Word;
+use crate::words::{SingleWord, Word};
 use cam6_wiring::{Wiring, line_of};
 use std::alloc::Global;
 use std::marker::Model;
@@ -101,14 +100,14 @@ impl Reader {
         }
     }
 
-    /// The definitions, at the end of the text, or the number of its fault.
-    pub(crate) fn finish(self) -> Result<Vec<Definition>, u8>
+    /// The definitions, at the end of the text, or its fault.
+    pub(crate) fn finish(self) -> Result<Vec<Definition>, TokenFault>
         ensures { Finishes (finish self) result }
     {
         if self.comment || self.context != Context::Outside {
-            Err(OUT_OF_PLACE)
+            Err(TokenFault::OutOfPlace)
         } else if self.definitions.is_empty() {
-            Err(NO_DEFINITION)
+            Err(TokenFault::NoDefinition)
         } else {
             Ok(self.definitions)
         }
@@ -121,7 +120,7 @@ impl Reader {
         match kind {
             Kind::Colon => {
                 if self.definitions.len() >= MAX_DEFINITIONS {
-                    return Err(StepFault::Number(TOO_LONG));
+                    return Err(StepFault::Token(TokenFault::TooLong));
                 }
                 self.context = Context::Naming;
                 Ok(())
@@ -130,7 +129,7 @@ impl Reader {
                 self.comment = true;
                 Ok(())
             }
-            _ => Err(StepFault::Number(OUT_OF_PLACE)),
+            _ => Err(StepFault::Token(TokenFault::OutOfPlace)),
         }
     }
 
@@ -140,7 +139,7 @@ impl Reader {
             then_so (naming self.old kind token.now) (λ next. is_in_body next.context) ≡ true }
     {
         if kind != Kind::Other || place_of(token, &self.definitions).is_some() {
-            return Err(StepFault::Number(NOT_DEFINABLE));
+            return Err(StepFault::Token(TokenFault::NotDefinable));
         }
         self.name = token.to_vec(self.alloc)?;
         self.words = Vec::new(self.alloc);
@@ -167,8 +166,8 @@ impl Reader {
                 self.grow(1, Word::Cases)
             }
             _ => match self.word_of(wiring, kind, token) {
-                Ok((word, size)) => self.grow(size.into(), word),
-                Err(number) => Err(StepFault::Number(number)),
+                Ok((word, size)) => self.grow(size.into(), Word::Single(word)),
+                Err(fault) => Err(StepFault::Token(fault)),
             },
         }
     }
@@ -187,8 +186,8 @@ impl Reader {
                 Ok(())
             }
             _ => match self.word_of(wiring, kind, token) {
-                Ok((word, size)) => self.grow(u32::from(size) + 1, word),
-                Err(number) => Err(StepFault::Number(number)),
+                Ok((word, size)) => self.grow(u32::from(size) + 1, Word::Single(word)),
+                Err(fault) => Err(StepFault::Token(fault)),
             },
         }
     }
@@ -197,7 +196,7 @@ impl Reader {
         ensures { Steps (with_if self.old) self.new result }
     {
         if self.open_ifs.len() >= MAX_OPEN_IFS {
-            return Err(StepFault::Number(TOO_MANY_IFS));
+            return Err(StepFault::Token(TokenFault::TooManyIfs));
         }
         self.open_ifs.push(false);
         self.grow(1, Word::If)
@@ -207,7 +206,7 @@ impl Reader {
         ensures { Steps (with_else self.old.open_ifs self.old) self.new result }
     {
         if self.open_ifs.len() == 0 || self.open_ifs.pop() {
-            return Err(StepFault::Number(OUT_OF_PLACE));
+            return Err(StepFault::Token(TokenFault::OutOfPlace));
         }
         self.open_ifs.push(true);
         self.grow(1, Word::Else)
@@ -217,7 +216,7 @@ impl Reader {
         ensures { Steps (with_then self.old.open_ifs self.old) self.new result }
     {
         if self.open_ifs.len() == 0 {
-            return Err(StepFault::Number(OUT_OF_PLACE));
+            return Err(StepFault::Token(TokenFault::OutOfPlace));
         }
         let _ = self.open_ifs.pop();
         self.words.push(Word::Then)?;
@@ -228,7 +227,7 @@ impl Reader {
         ensures { Steps (with_end self.old.open_ifs self.old) self.new result }
     {
         if self.open_ifs.len() != 0 {
-            return Err(StepFault::Number(OUT_OF_PLACE));
+            return Err(StepFault::Token(TokenFault::OutOfPlace));
         }
         let name = mem::replace(&mut self.name, Vec::new(self.alloc));
         let words = mem::replace(&mut self.words, Vec::new(self.alloc));
@@ -244,40 +243,47 @@ impl Reader {
     {
         let total = u64::from(self.size) + u64::from(size);
         if total > u64::from(MAX_SIZE) {
-            return Err(StepFault::Number(TOO_LARGE));
+            return Err(StepFault::Token(TokenFault::TooLarge));
         }
         self.words.push(word)?;
         self.size = total as u16;
         Ok(())
     }
 
-    // The word that a token says by itself, with its size, or the number of the token's fault.
-    fn word_of(&self, wiring: Wiring, kind: Kind, token: &[u8]) -> Result<(Word, u16), u8>
-        ensures { result ≡ word_of wiring self.now.done kind token.now }
+    // The word that a token says by itself, with its size, or the token's fault.
+    fn word_of(
+        &self,
+        wiring: Wiring,
+        kind: Kind,
+        token: &[u8],
+    ) -> Result<(SingleWord, u16), TokenFault>
+        ensures { MatchResult result
+            (λ said. word_of wiring self.now.done kind token.now ≡ Ok said)
+            (λ fault. word_of wiring self.now.done kind token.now ≡ Err (fault_number fault)) }
     {
         match kind {
-            Kind::Digits(Some(value)) => Ok((Word::Literal(value), 1)),
-            Kind::Digits(None) => Err(LITERAL_RANGE),
-            Kind::Stack(word) => Ok((Word::Stack(word), 1)),
+            Kind::Digits(Some(value)) => Ok((SingleWord::Literal(value), 1)),
+            Kind::Digits(None) => Err(TokenFault::LiteralRange),
+            Kind::Stack(word) => Ok((SingleWord::Stack(word), 1)),
             Kind::Output(output) => {
                 if output.half == wiring.half {
-                    Ok((Word::Output(output.target), 1))
+                    Ok((SingleWord::Output(output.target), 1))
                 } else {
-                    Err(OTHER_HALF)
+                    Err(TokenFault::OtherHalf)
                 }
             }
             Kind::Name(name) => {
                 if line_of(wiring.hood, wiring.minor, name).is_some() {
-                    Ok((Word::Name(name), 1))
+                    Ok((SingleWord::Name(name), 1))
                 } else {
-                    Err(UNKNOWN_WORD)
+                    Err(TokenFault::UnknownWord)
                 }
             }
             Kind::Other => match place_of(token, &self.definitions) {
-                Some((place, size)) => Ok((Word::Defined(place), size.max(1))),
-                None => Err(UNKNOWN_WORD),
+                Some((place, size)) => Ok((SingleWord::Defined(place), size.max(1))),
+                None => Err(TokenFault::UnknownWord),
             },
-            _ => Err(OUT_OF_PLACE),
+            _ => Err(TokenFault::OutOfPlace),
         }
     }
 }

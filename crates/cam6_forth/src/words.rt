@@ -44,16 +44,22 @@ pub struct Output {
     pub target: Target,
 }
 
-/// A word of a definition's body. IF, ELSE, THEN and the braces stand in a row with the others, as
-/// they are written.
+/// What a token says by itself in a body.
 #[derive(Clone, Copy, Debug, PartialEq, Eq)]
-pub enum Word {
+pub enum SingleWord {
     Literal(u16),
     Name(Name),
     Stack(StackWord),
     Output(Target),
     /// The definition at this place, counted from 0; it stands before the one that uses it.
     Defined(usize),
+}
+
+/// A word of a definition's body. IF, ELSE, THEN and the braces stand in a row with the others, as
+/// they are written.
+#[derive(Clone, Copy, Debug, PartialEq, Eq)]
+pub enum Word {
+    Single(SingleWord),
     If,
     Else,
     Then,

@@ -1,7 +1,7 @@
 -- The code of a body does what the body means.
 use Rattle.std.proofs.Common.{◌≡◌, ◌≤◌, ◌<◌, ℕ, zero, suc, Bool, true, false, List}
 use Rattle.std.proofs.Common.{[], ◌∷◌, ◌++◌, length, refl, sym, ap, ◌∙◌, append_assoc}
-use Rattle.std.proofs.Common.{arith, Some, None, Err, cond, nat_lt, length-append}
+use Rattle.std.proofs.Common.{arith, Some, None, Result, Ok, Err, cond, nat_lt, length-append}
 use Rattle.std.specs.Result.{IsOk}
 use Rattle.std.proofs.lemmas.Bool.{ltb-true, ltb-false}
 use Rattle.cam6_planes.specs.Row.{bit_number}
@@ -12,19 +12,19 @@ use Rattle.cam6_forth.specs.SingleWords.{IsSingle}
 use Rattle.cam6_forth.proofs.Singles.{known_is_single}
 use Rattle.cam6_forth.specs.Defined.{Defined}
 use Rattle.cam6_forth.specs.Tree.{Body, End, Says, Choice, Either, Cases, Part, word_at}
-use Rattle.cam6_forth.specs.Tree.{word_in, size_in, defined, AreWords, IsKnown, AreDefinitions}
-use Rattle.cam6_forth.specs.declared.words.Word.{Word}
-use Rattle.cam6_forth.specs.declared.words.Word.TheVariants as word
+use Rattle.cam6_forth.specs.Tree.{defined, AreWords, IsKnown, AreDefinitions}
+use Rattle.cam6_forth.specs.declared.words.SingleWord.{SingleWord}
+use Rattle.cam6_forth.specs.declared.words.SingleWord.TheVariants as single
 use Rattle.cam6_table.specs.declared.codes.Instruction.TheVariants.{Case}
 use Rattle.cam6_table.specs.declared.faults.RuleFault.TheVariants.{CaseIndex}
 use Rattle.cam6_table.specs.declared.outputs.State.{State}
 use Rattle.cam6_table.specs.Words.{pushed, on_stack}
 use Rattle.cam6_table.specs.Outputs.{written}
 use Rattle.cam6_table.specs.Meaning.{Meaning, then_do, with_stack, with_top}
-use Rattle.cam6_table.specs.Meaning.{word_means, case_means, means, meanings}
+use Rattle.cam6_table.specs.Meaning.{word_means, token_means, case_means, means, meanings}
 use Rattle.cam6_table.specs.Codes.{Lines, go, exec}
 use Rattle.cam6_table.specs.Emitting.{Instructions, word_code, line_code}
-use Rattle.cam6_table.proofs.BodyCodes.{token_code, case_code, body_code}
+use Rattle.cam6_table.proofs.BodyCodes.{said_code, token_code, case_code, body_code}
 use Rattle.cam6_table.proofs.BodyCodes.{tree_codes, IsCode, AreCodes, Agree}
 use Rattle.cam6_table.proofs.Segments.{then_do-assoc, then_do-same, on_next, leads, runs, below_of}
 use Rattle.cam6_table.proofs.Segments.{exec-pass, exec-over, then_is, choice_is, either_is}
@@ -32,30 +32,34 @@ use Rattle.cam6_table.proofs.Segments.{exec-pass, exec-over, then_is, choice_is,
 module _ (wiring : Wiring) (sees : Sees) (shows : Lines) (agree : Agree wiring sees shows) where
   module _ (known : List Defined) (codes : List Instructions) (done : List Meaning)
       (codes_are : AreCodes shows codes done) where
-    word_is : (token : Token) (said : Word) (size : ℕ) →
+    word_is : (token : Token) (said : SingleWord) (size : ℕ) →
         IsSingle wiring known token said size →
         IsCode shows (word_code wiring codes said) (word_means sees done said)
-    word_is token (word.Literal v) size single later s =
+    word_is token (single.Literal v) size is later s =
         on_next (with_stack s (pushed v s.stack)) (runs shows later)
-    word_is token (word.Name name) size single later s =
-        let (spelled, (line, found), one) = single in
+    word_is token (single.Name name) size is later s =
+        let (spelled, (line, found), one) = is in
         ap (λ o. exec shows (line_code o ++ later) 0 None s) found ∙
         on_next (with_stack s (pushed (bit_number (shows line)) s.stack)) (runs shows later) ∙
         ap (λ b. then_do (with_stack s (pushed (bit_number b) s.stack)) (exec shows later 0 None))
         (agree name line found)
-    word_is token (word.Stack stack) size single later s =
+    word_is token (single.Stack stack) size is later s =
         on_next (with_stack s (on_stack stack s.stack)) (runs shows later)
-    word_is token (word.Output target) size single later s =
+    word_is token (single.Output target) size is later s =
         on_next (written target s) (runs shows later)
-    word_is token (word.Defined place) size single later s = codes_are place later s
-    word_is token _ size single later s = absurd single
+    word_is token (single.Defined place) size is later s = codes_are place later s
+
+    said_is : (token : Token) (result : Result (SingleWord × ℕ) ℕ) →
+        word_at wiring known token ≡ result → IsOk result →
+        IsCode shows (said_code wiring codes result) (token_means sees done result)
+    said_is token (Ok (said, size)) is ok =
+        word_is token said size (known_is_single wiring known token said size is)
+    said_is token (Err number) is ok = cc ok
 
     token_is : (token : Token) → IsOk (word_at wiring known token) →
         IsCode shows (token_code wiring known codes token)
-        (word_means sees done (word_in (word_at wiring known token)))
-    token_is token ok =
-        word_is token (word_in (word_at wiring known token)) (size_in (word_at wiring known token))
-        (known_is_single wiring known token ok)
+        (token_means sees done (word_at wiring known token))
+    token_is token ok = said_is token (word_at wiring known token) refl ok
 
     -- after a word of a case the rest of the case is passed
     leaves : (tokens : List Token) (later : Instructions) (s : State) →
@@ -79,7 +83,7 @@ module _ (wiring : Wiring) (sees : Sees) (shows : Lines) (agree : Agree wiring s
         let b = case_code wiring known codes tokens in
         ap (λ c. exec shows c 0 None s) (append_assoc a b later) ∙
         token_is token are.0 (b ++ later) s ∙
-        then_do-same (word_means sees done (word_in (word_at wiring known token)) s)
+        then_do-same (token_means sees done (word_at wiring known token) s)
         (exec shows (b ++ later) 0 None) (exec shows later 0 None) (leaves tokens later)
     finds (token ∷ tokens) (suc i) within are later s =
         exec-over shows (token_code wiring known codes token)
@@ -137,7 +141,7 @@ module _ (wiring : Wiring) (sees : Sees) (shows : Lines) (agree : Agree wiring s
     body_is End ok = λ later s. refl
     body_is (Says token rest) ok =
         then_is shows (token_code wiring known codes token) (body_code wiring known codes rest)
-        (word_means sees done (word_in (word_at wiring known token)))
+        (token_means sees done (word_at wiring known token))
         (means sees wiring known done rest)
         (token_is token ok.0) (body_is rest ok.1)
     body_is (Choice on rest) ok =

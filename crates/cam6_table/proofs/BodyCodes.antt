@@ -1,13 +1,15 @@
 -- The code of a tree, body by body, and what it is for code to do what is meant.
 use Rattle.std.proofs.Common.{◌≡◌, ℕ, ◌+◌, List, [], ◌∷◌, ◌++◌, length, Some, None}
+use Rattle.std.proofs.Common.{Result, Ok, Err}
 use Rattle.cam6_wiring.specs.Seen.{Sees}
 use Rattle.cam6_wiring.specs.Wiring.{line_of}
 use Rattle.cam6_wiring.specs.declared.wirings.Wiring.{Wiring}
 use Rattle.cam6_wiring.specs.declared.names.Name.{Name}
+use Rattle.cam6_forth.specs.declared.words.SingleWord.{SingleWord}
 use Rattle.cam6_forth.specs.Tokens.{Token}
 use Rattle.cam6_forth.specs.Defined.{Defined}
 use Rattle.cam6_forth.specs.Tree.{Body, End, Says, Choice, Either, Cases}
-use Rattle.cam6_forth.specs.Tree.{Part, word_at, word_in, defined}
+use Rattle.cam6_forth.specs.Tree.{Part, word_at, defined}
 use Rattle.cam6_table.specs.declared.codes.Instruction.TheVariants.{SkipIfZero, Skip}
 use Rattle.cam6_table.specs.declared.codes.Instruction.TheVariants.{Case, CaseWord}
 use Rattle.cam6_table.specs.declared.outputs.State.{State}
@@ -15,9 +17,14 @@ use Rattle.cam6_table.specs.Meaning.{Meaning, then_do, meaning_at}
 use Rattle.cam6_table.specs.Codes.{Lines, exec}
 use Rattle.cam6_table.specs.Emitting.{Instructions, word_code, code_at}
 
--- the code of a token as a single word
+-- the code of the word that a token says, if it says one
+abbrev pub said_code : Wiring → List Instructions → Result (SingleWord × ℕ) ℕ → Instructions
+said_code wiring codes (Ok (said, size)) = word_code wiring codes said
+said_code wiring codes (Err number) = []
+
+-- the code of a token
 abbrev pub token_code : Wiring → List Defined → List Instructions → Token → Instructions
-token_code wiring known codes token = word_code wiring codes (word_in (word_at wiring known token))
+token_code wiring known codes token = said_code wiring codes (word_at wiring known token)
 
 -- the words of a case, each with its head
 abbrev pub case_code : Wiring → List Defined → List Instructions → List Token → Instructions

@@ -1,21 +1,22 @@
 -- The code of a body's words in a row is the code of the body.
-use Rattle.std.proofs.Common.{◌≡◌, ℕ, suc, ◌+◌, ◌-◌, Bool, true, false, List, []}
+use Rattle.std.proofs.Common.{◌≡◌, ℕ, suc, ◌+◌, ◌-◌, List, []}
 use Rattle.std.proofs.Common.{◌∷◌, ◌++◌, length, sym, ap, ◌∙◌, refl, append_assoc}
-use Rattle.std.proofs.Common.{append-nil, length-append, arith, Some, None}
+use Rattle.std.proofs.Common.{append-nil, length-append, arith, Some, None, Result, Ok, Err}
 use Rattle.std.specs.Result.{IsOk}
 use Rattle.cam6_wiring.specs.declared.wirings.Wiring.{Wiring}
+use Rattle.cam6_forth.specs.declared.words.SingleWord.{SingleWord}
 use Rattle.cam6_forth.specs.declared.words.Word.{Word}
 use Rattle.cam6_forth.specs.declared.words.Word.TheVariants as word
 use Rattle.cam6_forth.specs.Tokens.{Token}
 use Rattle.cam6_forth.specs.Defined.{Defined}
 use Rattle.cam6_forth.specs.Tree.{Body, End, Says, Choice, Either, Cases, Part}
-use Rattle.cam6_forth.specs.Tree.{word_at, word_in, words_of, case_words, AreWords}
+use Rattle.cam6_forth.specs.Tree.{word_at, words_in, words_of, case_words, AreWords}
 use Rattle.cam6_forth.specs.Tree.{IsKnown, defined, meant, AreDefinitions, IsRule}
 use Rattle.cam6_table.specs.declared.codes.Instruction.TheVariants.{SkipIfZero, Skip}
 use Rattle.cam6_table.specs.declared.codes.Instruction.TheVariants.{Case, CaseWord}
-use Rattle.cam6_table.specs.Emitting.{Instructions, Emitted, word_code, emit}
+use Rattle.cam6_table.specs.Emitting.{Instructions, Emitted, emit}
 use Rattle.cam6_table.specs.Emitting.{emit_word, emit_all, words_code, all_codes}
-use Rattle.cam6_table.proofs.BodyCodes.{token_code, case_code, body_code, tree_codes}
+use Rattle.cam6_table.proofs.BodyCodes.{said_code, token_code, case_code, body_code, tree_codes}
 
 -- code with open IFs, outside a case
 abbrev pub at_code : Instructions → List ℕ → Emitted
@@ -25,30 +26,6 @@ at_code c landings = record { code = c; landings = landings; case = None }
 abbrev in_case : Instructions → List ℕ → (end count : ℕ) → Emitted
 in_case c landings end count =
     record { code = c; landings = landings; case = Some (record { end = end; count = count }) }
-
--- whether a word is one that a token can't say by itself
-abbrev pub is_mark : Word → Bool
-is_mark word.If = true
-is_mark word.Else = true
-is_mark word.Then = true
-is_mark word.Cases = true
-is_mark word.EndCases = true
-is_mark _ = false
-
-pub said-unmarked : (wiring : Wiring) (known : List Defined) (token : Token) →
-    IsOk (word_at wiring known token) → is_mark (word_in (word_at wiring known token)) ≡ false
-said-unmarked wiring known token ok = grind arith
-
--- a word that is no mark is emitted as a single word
-emit-single : (wiring : Wiring) (codes : List Instructions) (said : Word) (e : Emitted) →
-    is_mark said ≡ false →
-    emit wiring codes said e ≡ emit_word e.case (word_code wiring codes said) e
-emit-single wiring codes word.If e plain = cc plain
-emit-single wiring codes word.Else e plain = cc plain
-emit-single wiring codes word.Then e plain = cc plain
-emit-single wiring codes word.Cases e plain = cc plain
-emit-single wiring codes word.EndCases e plain = cc plain
-emit-single wiring codes said e plain = refl
 
 -- the last words come first
 all-append : (wiring : Wiring) (codes : List Instructions) (xs ys : List Word) (e : Emitted) →
@@ -61,13 +38,12 @@ length_before : (xs ys : Instructions) → length (xs ++ ys) - length ys ≡ len
 length_before xs ys = omega (arith, length-append xs ys)
 
 module _ (wiring : Wiring) (known : List Defined) (codes : List Instructions) where
-  -- a token that is a single word
-  emit-token : (token : Token) (e : Emitted) → IsOk (word_at wiring known token) →
-      emit wiring codes (word_in (word_at wiring known token)) e
-      ≡ emit_word e.case (token_code wiring known codes token) e
-  emit-token token e ok =
-      emit-single wiring codes (word_in (word_at wiring known token)) e
-      (said-unmarked wiring known token ok)
+  -- a token that says a word
+  emit-said : (result : Result (SingleWord × ℕ) ℕ) (e : Emitted) → IsOk result →
+      emit_all wiring codes (words_in result) e
+      ≡ emit_word e.case (said_code wiring codes result) e
+  emit-said (Ok (said, size)) e ok = refl
+  emit-said (Err number) e ok = cc ok
 
   -- the words of a case
   emitted-case : (tokens : List Token) (c : Instructions) (landings : List ℕ) →
@@ -78,14 +54,16 @@ module _ (wiring : Wiring) (known : List Defined) (codes : List Instructions) wh
   emitted-case (token ∷ tokens) c landings are =
       let a = token_code wiring known codes token in
       let z = case_code wiring known codes tokens in
-      let said = word_in (word_at wiring known token) in
+      let result = word_at wiring known token in
       let behind = in_case (z ++ c) landings (length c) (length tokens) in
       let own = length_before a (z ++ c) in
       let after : length (a ++ (z ++ c)) - length c ≡ length a + length z =
       omega (arith, length-append a (z ++ c), length-append z c) in
       let counted : length tokens + 1 ≡ suc (length tokens) = omega arith in
-      ap (emit wiring codes said) (emitted-case tokens c landings are.1)
-      ∙ emit-token token behind are.0
+      all-append wiring codes (words_in result) (case_words wiring known tokens)
+      (in_case c landings (length c) 0)
+      ∙ ap (emit_all wiring codes (words_in result)) (emitted-case tokens c landings are.1)
+      ∙ emit-said result behind are.0
       ∙ ap (λ n. in_case (CaseWord n (length (a ++ (z ++ c)) - length c) ∷ (a ++ (z ++ c)))
       landings (length c) (length tokens + 1)) own
       ∙ ap (λ n. in_case (CaseWord (length a) n ∷ (a ++ (z ++ c)))
@@ -104,9 +82,10 @@ module _ (wiring : Wiring) (known : List Defined) (codes : List Instructions) wh
   emitted-body (Says token rest) c landings are =
       let a = token_code wiring known codes token in
       let z = body_code wiring known codes rest in
-      ap (emit wiring codes (word_in (word_at wiring known token)))
-      (emitted-body rest c landings are.1)
-      ∙ emit-token token (at_code (z ++ c) landings) are.0
+      let result = word_at wiring known token in
+      all-append wiring codes (words_in result) (words_of wiring known rest) (at_code c landings)
+      ∙ ap (emit_all wiring codes (words_in result)) (emitted-body rest c landings are.1)
+      ∙ emit-said result (at_code (z ++ c) landings) are.0
       ∙ ap (λ x. at_code x landings) (sym (append_assoc a z c))
   emitted-body (Choice on rest) c landings are =
       let a = body_code wiring known codes on in

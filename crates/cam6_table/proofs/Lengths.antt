@@ -1,44 +1,22 @@
 -- Code is no longer than its size allows.
-use Rattle.std.proofs.Common.{◌≡◌, ℕ, zero, suc, ◌+◌, ◌≤◌, Bool, true, false}
-use Rattle.std.proofs.Common.{List, [], ◌∷◌, ◌++◌, length, refl, ap, subst}
-use Rattle.std.proofs.Common.{length-append, arith, Option, Some, None, cond}
-use Rattle.std.specs.Str.{bytes_eq}
+use Rattle.std.proofs.Common.{◌≡◌, ℕ, zero, suc, ◌≤◌}
+use Rattle.std.proofs.Common.{List, [], ◌∷◌, ◌++◌, length, refl, sym, subst}
+use Rattle.std.proofs.Common.{length-append, arith, Option, Some, None, Result, Ok, Err}
 use Rattle.cam6_wiring.specs.declared.wirings.Wiring.{Wiring}
 use Rattle.cam6_wiring.specs.Wiring.{line_of}
-use Rattle.cam6_forth.specs.declared.words.Word.{Word}
-use Rattle.cam6_forth.specs.declared.words.Word.TheVariants as word
+use Rattle.cam6_forth.specs.declared.words.SingleWord.{SingleWord}
+use Rattle.cam6_forth.specs.declared.words.SingleWord.TheVariants as single
 use Rattle.cam6_forth.specs.Tokens.{Token}
 use Rattle.cam6_forth.specs.Limits.{max_size}
 use Rattle.cam6_forth.specs.Defined.{Defined}
-use Rattle.cam6_forth.specs.SingleWords.{place_from, place_of}
+use Rattle.cam6_forth.specs.SingleWords.{IsSingle}
+use Rattle.cam6_forth.proofs.Singles.{known_is_single}
 use Rattle.cam6_forth.specs.Tree.{Body, End, Says, Choice, Either, Cases, Part}
-use Rattle.cam6_forth.specs.Tree.{word_at, word_in, size_in, size_of, case_size}
+use Rattle.cam6_forth.specs.Tree.{word_at, size_in, size_of, case_size}
 use Rattle.cam6_forth.specs.Tree.{defined, meant, AreDefinitions, IsRule}
 use Rattle.cam6_table.specs.declared.codes.Instruction.TheVariants.{Skip}
 use Rattle.cam6_table.specs.Emitting.{Instructions, line_code, word_code, code_at}
-use Rattle.cam6_table.proofs.BodyCodes.{token_code, case_code, body_code, tree_codes}
-use Rattle.cam6_table.proofs.Emission.{is_mark}
-
--- what a token says has size 1 or more
-said-size : (wiring : Wiring) (known : List Defined) (token : Token) →
-    is_mark (word_in (word_at wiring known token)) ≡ false →
-    1 ≤ size_in (word_at wiring known token)
-said-size wiring known token plain = grind arith
-
--- a defined name has a place, and at least its definition's size
-unplaced : (wiring : Wiring) (known : List Defined) (token : Token) (place : ℕ) →
-    word_in (word_at wiring known token) ≡ word.Defined place → place_of token known ≡ None → ⊥
-unplaced wiring known token place is none = grind arith
-
-placed : (wiring : Wiring) (known : List Defined) (token : Token) (place found size : ℕ) →
-    word_in (word_at wiring known token) ≡ word.Defined place →
-    place_of token known ≡ Some (found, size) → found ≡ place
-placed wiring known token place found size is some = grind arith
-
-placed-size : (wiring : Wiring) (known : List Defined) (token : Token) (place found size : ℕ) →
-    word_in (word_at wiring known token) ≡ word.Defined place →
-    place_of token known ≡ Some (found, size) → size ≤ size_in (word_at wiring known token)
-placed-size wiring known token place found size is some = grind arith
+use Rattle.cam6_table.proofs.BodyCodes.{said_code, token_code, case_code, body_code, tree_codes}
 
 line-length : (line : Option ℕ) → length (line_code line) ≤ 1
 line-length None = omega arith
@@ -51,44 +29,15 @@ AreFit (definition ∷ known) (code ∷ codes) =
     (length code ≤ definition.size) × (definition.size ≤ max_size) × AreFit known codes
 AreFit _ _ = ⊥
 
-abbrev found_at : ℕ → ℕ → ℕ × ℕ
-found_at place size = (place, size)
-
-abbrev some_place : ℕ → ℕ → Option (ℕ × ℕ)
-some_place place size = Some (found_at place size)
-
--- the code at the place of a name, among definitions that are counted from a place on
-abbrev FitsAt : List Instructions → ℕ → ℕ → ℕ → Type 0
-FitsAt codes from place size =
-    (i : ℕ) × (place ≡ from + i) × (length (code_at codes i) ≤ size)
-
-fit-later : (codes : List Instructions) (code : Instructions) (from place size : ℕ) →
-    FitsAt codes (from + 1) place size → FitsAt (code ∷ codes) from place size
-fit-later codes code from place size fits = (suc fits.0, omega (arith, fits.1), fits.2)
-
-fit-test : (definition : Defined) (known : List Defined) (codes : List Instructions)
-    (code : Instructions) (token : Token) (from place size : ℕ) (test : Bool) →
-    length code ≤ definition.size →
-    (place_from (from + 1) token known ≡ some_place place size →
-    FitsAt codes (from + 1) place size) →
-    cond test (some_place from definition.size) (place_from (from + 1) token known)
-    ≡ some_place place size → FitsAt (code ∷ codes) from place size
-fit-test definition known codes code token from place size true short later is =
-    let same : found_at from definition.size ≡ found_at place size = cc is in
-    let at_place : from ≡ place = ap (λ found. found.0) same in
-    let at_size : definition.size ≡ size = ap (λ found. found.1) same in
-    (0, omega arith, omega (arith, short))
-fit-test definition known codes code token from place size false short later is =
-    fit-later codes code from place size (later is)
-
-fit-from : (known : List Defined) (codes : List Instructions) (token : Token)
-    (from place size : ℕ) → AreFit known codes →
-    place_from from token known ≡ some_place place size → FitsAt codes from place size
-fit-from [] codes token from place size fit is = cc is
-fit-from (definition ∷ known) [] token from place size fit is = absurd fit
-fit-from (definition ∷ known) (code ∷ codes) token from place size fit is =
-    fit-test definition known codes code token from place size (bytes_eq definition.name token)
-    fit.0 (λ later. fit-from known codes token (from + 1) place size fit.2 later) is
+-- the code at the place of a definition
+fit-at : (before : List Defined) (definition : Defined) (later : List Defined)
+    (codes : List Instructions) → AreFit (before ++ definition ∷ later) codes →
+    length (code_at codes (length before)) ≤ definition.size
+fit-at [] definition later [] fit = absurd fit
+fit-at [] definition later (code ∷ codes) fit = fit.0
+fit-at (first ∷ before) definition later [] fit = absurd fit
+fit-at (first ∷ before) definition later (code ∷ codes) fit =
+    fit-at before definition later codes fit.2
 
 -- one definition more
 fit-more : (known : List Defined) (codes : List Instructions) (definition : Defined)
@@ -111,37 +60,30 @@ fit-length (definition ∷ known) (code ∷ codes) (suc place) fit = fit-length 
 
 module _ (wiring : Wiring) (known : List Defined) (codes : List Instructions)
     (fit : AreFit known codes) where
-  -- a defined name
-  name-length : (token : Token) (place : ℕ) (found : Option (ℕ × ℕ)) →
-      word_in (word_at wiring known token) ≡ word.Defined place → place_of token known ≡ found →
-      length (code_at codes place) ≤ size_in (word_at wiring known token)
-  name-length token place None is at = absurd (unplaced wiring known token place is at)
-  name-length token place (Some found) is at =
-      let fits = fit-from known codes token 0 found.0 found.1 fit at in
-      let same = placed wiring known token place found.0 found.1 is at in
-      let at_place : fits.0 ≡ place = omega (arith, fits.1) in
-      let more = placed-size wiring known token place found.0 found.1 is at in
-      let short = subst (λ i. length (code_at codes i) ≤ found.1) at_place fits.2 in
-      omega arith
-
   -- a single word
-  word-length : (token : Token) (said : Word) → word_in (word_at wiring known token) ≡ said →
-      length (word_code wiring codes said) ≤ size_in (word_at wiring known token)
-  word-length token (word.Literal value) is = said-size wiring known token (ap is_mark is)
-  word-length token (word.Name name) is =
-      omega (
-        arith,
-        line-length (line_of wiring.hood wiring.minor name),
-        said-size wiring known token (ap is_mark is),
-      )
-  word-length token (word.Stack stack) is = said-size wiring known token (ap is_mark is)
-  word-length token (word.Output target) is = said-size wiring known token (ap is_mark is)
-  word-length token (word.Defined place) is = name-length token place (place_of token known) is refl
-  word-length token said is = omega arith
+  word-length : (token : Token) (said : SingleWord) (size : ℕ) →
+      IsSingle wiring known token said size → length (word_code wiring codes said) ≤ size
+  word-length token (single.Literal value) size is = omega (arith, is.2)
+  word-length token (single.Name name) size is =
+      omega (arith, line-length (line_of wiring.hood wiring.minor name), is.2)
+  word-length token (single.Stack stack) size is = omega (arith, is.1)
+  word-length token (single.Output target) size is = omega (arith, is.1)
+  word-length token (single.Defined place) size is =
+      let (before, definition, later, split, at, named, none, sized) = is in
+      let fits = fit-at before definition later codes (subst (λ l. AreFit l codes) split fit) in
+      let short = subst (λ i. length (code_at codes i) ≤ definition.size) (sym at) fits in
+      omega (arith, sized)
+
+  said-length : (token : Token) (result : Result (SingleWord × ℕ) ℕ) →
+      word_at wiring known token ≡ result →
+      length (said_code wiring codes result) ≤ size_in result
+  said-length token (Ok (said, size)) is =
+      word-length token said size (known_is_single wiring known token said size is)
+  said-length token (Err number) is = omega arith
 
   token-length : (token : Token) →
       length (token_code wiring known codes token) ≤ size_in (word_at wiring known token)
-  token-length token = word-length token (word_in (word_at wiring known token)) refl
+  token-length token = said-length token (word_at wiring known token) refl
 
   -- the words of a case
   case-length : (tokens : List Token) →

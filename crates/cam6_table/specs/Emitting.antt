@@ -5,6 +5,8 @@ use Rattle.std.specs.Prelude.{Option, Some, None, slice_index_or}
 use Rattle.cam6_wiring.specs.declared.wirings.Wiring.{Wiring}
 use Rattle.cam6_wiring.specs.Wiring.{line_of}
 use Rattle.cam6_forth.specs.Defined.{Defined}
+use Rattle.cam6_forth.specs.declared.words.SingleWord.{SingleWord}
+use Rattle.cam6_forth.specs.declared.words.SingleWord.TheVariants as single
 use Rattle.cam6_forth.specs.declared.words.Word.{Word}
 use Rattle.cam6_forth.specs.declared.words.Word.TheVariants as word
 use Rattle.cam6_table.specs.declared.codes.Instruction.{Instruction}
@@ -37,13 +39,12 @@ line_code None = []
 line_code (Some line) = Line line ∷ []
 
 -- a single word; a defined name becomes its definition's code
-abbrev pub word_code : Wiring → List Instructions → Word → Instructions
-word_code wiring codes (word.Literal v) = Literal v ∷ []
-word_code wiring codes (word.Name name) = line_code (line_of wiring.hood wiring.minor name)
-word_code wiring codes (word.Stack stack) = Stack stack ∷ []
-word_code wiring codes (word.Output target) = Output target ∷ []
-word_code wiring codes (word.Defined place) = code_at codes place
-word_code wiring codes _ = []
+abbrev pub word_code : Wiring → List Instructions → SingleWord → Instructions
+word_code wiring codes (single.Literal v) = Literal v ∷ []
+word_code wiring codes (single.Name name) = line_code (line_of wiring.hood wiring.minor name)
+word_code wiring codes (single.Stack stack) = Stack stack ∷ []
+word_code wiring codes (single.Output target) = Output target ∷ []
+word_code wiring codes (single.Defined place) = code_at codes place
 
 abbrev pub emit_then : Emitted → Emitted
 emit_then e = record e { landings = length e.code ∷ e.landings }
@@ -78,12 +79,12 @@ emit_word (Some case) code e = with_head case (code ++ e.code) e
 
 -- one more word in front
 abbrev pub emit : Wiring → List Instructions → Word → Emitted → Emitted
+emit wiring codes (word.Single said) e = emit_word e.case (word_code wiring codes said) e
 emit wiring codes word.Then e = emit_then e
 emit wiring codes word.Else e = emit_else e.landings e
 emit wiring codes word.If e = emit_if e.landings e
 emit wiring codes word.EndCases e = emit_end_cases e
 emit wiring codes word.Cases e = emit_cases e.case e
-emit wiring codes said e = emit_word e.case (word_code wiring codes said) e
 
 abbrev pub emit_all : Wiring → List Instructions → List Word → Emitted → Emitted
 emit_all wiring codes [] e = e

@@ -10,9 +10,9 @@ use Rattle.cam6_wiring.specs.declared.names.Level.TheVariants.{Lower, Upper}
 use Rattle.cam6_forth.specs.Tokens.{Token}
 use Rattle.cam6_forth.specs.Defined.{Defined}
 use Rattle.cam6_forth.specs.Tree.{Body, End, Says, Choice, Either, Cases}
-use Rattle.cam6_forth.specs.Tree.{Part, word_at, word_in, defined}
-use Rattle.cam6_forth.specs.declared.words.Word.{Word}
-use Rattle.cam6_forth.specs.declared.words.Word.TheVariants as word
+use Rattle.cam6_forth.specs.Tree.{Part, word_at, defined}
+use Rattle.cam6_forth.specs.declared.words.SingleWord.{SingleWord}
+use Rattle.cam6_forth.specs.declared.words.SingleWord.TheVariants as single
 use Rattle.cam6_table.specs.declared.faults.RuleFault.{RuleFault}
 use Rattle.cam6_table.specs.declared.faults.RuleFault.TheVariants.{MissingValue, CaseIndex}
 use Rattle.cam6_table.specs.declared.outputs.State.{State}
@@ -52,19 +52,23 @@ meaning_at (first ∷ later) zero = first
 meaning_at (first ∷ later) (suc place) = meaning_at later place
 
 -- a single word; a defined name means what its definition means
-abbrev pub word_means : Sees → List Meaning → Word → Meaning
-word_means sees done (word.Literal v) s = with_stack s (pushed v s.stack)
-word_means sees done (word.Name name) s = with_stack s (pushed (bit_number (sees name)) s.stack)
-word_means sees done (word.Stack stack) s = with_stack s (on_stack stack s.stack)
-word_means sees done (word.Output target) s = written target s
-word_means sees done (word.Defined place) s = meaning_at done place s
-word_means sees done _ s = Ok s
+abbrev pub word_means : Sees → List Meaning → SingleWord → Meaning
+word_means sees done (single.Literal v) s = with_stack s (pushed v s.stack)
+word_means sees done (single.Name name) s = with_stack s (pushed (bit_number (sees name)) s.stack)
+word_means sees done (single.Stack stack) s = with_stack s (on_stack stack s.stack)
+word_means sees done (single.Output target) s = written target s
+word_means sees done (single.Defined place) s = meaning_at done place s
+
+-- what a token means; one that says no word means nothing
+abbrev pub token_means : Sees → List Meaning → Result (SingleWord × ℕ) ℕ → Meaning
+token_means sees done (Ok (said, size)) s = word_means sees done said s
+token_means sees done (Err number) s = Ok s
 
 -- the word of a case with this index, counted from 0
 abbrev pub case_means : Sees → Wiring → List Defined → List Meaning → List Token → ℕ → Meaning
 case_means sees wiring known done [] i s = Err CaseIndex
 case_means sees wiring known done (token ∷ tokens) zero s =
-    word_means sees done (word_in (word_at wiring known token)) s
+    token_means sees done (word_at wiring known token) s
 case_means sees wiring known done (token ∷ tokens) (suc i) s =
     case_means sees wiring known done tokens i s
 
@@ -72,7 +76,7 @@ case_means sees wiring known done (token ∷ tokens) (suc i) s =
 abbrev pub means : Sees → Wiring → List Defined → List Meaning → Body → Meaning
 means sees wiring known done End s = Ok s
 means sees wiring known done (Says token rest) s =
-    then_do (word_means sees done (word_in (word_at wiring known token)) s)
+    then_do (token_means sees done (word_at wiring known token) s)
     (means sees wiring known done rest)
 means sees wiring known done (Choice on rest) s =
     with_top s.stack s (λ v below.

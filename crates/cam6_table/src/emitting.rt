@@ -5,7 +5,7 @@ ghost use Rattle.cam6_table.specs.Codes.{IsCodeOf};
 ghost use Rattle.cam6_table.specs.Emitting.{words_code, all_codes};
 
 use crate::codes::{Code, Instruction, Instructions};
-use cam6_forth::{Definition, Rule, Word};
+use cam6_forth::{Definition, Rule, SingleWord, Word};
 use cam6_planes::NoMemory;
 use cam6_wiring::{Wiring, line_of};
 use std::alloc::Global;
@@ -108,6 +108,7 @@ impl Emitter {
         ensures { OnOk result (self.new ≡ emit wiring codes.now word self.old) }
     {
         match word {
+            Word::Single(word) => self.emit_word(wiring, word, codes),
             Word::Then => self.emit_then(),
             Word::Else => self.emit_else(),
             Word::If => self.emit_if(),
@@ -116,7 +117,6 @@ impl Emitter {
                 Ok(())
             }
             Word::Cases => self.emit_cases(),
-            _ => self.emit_word(wiring, word, codes),
         }
     }
 
@@ -175,7 +175,7 @@ impl Emitter {
     fn emit_word(
         &mut self,
         wiring: Wiring,
-        word: Word,
+        word: SingleWord,
         codes: &[Instructions],
     ) -> Result<(), NoMemory>
         ensures { OnOk result (self.new ≡
@@ -201,25 +201,24 @@ impl Emitter {
     fn put_word(
         &mut self,
         wiring: Wiring,
-        word: Word,
+        word: SingleWord,
         codes: &[Instructions],
     ) -> Result<(), NoMemory>
         ensures { OnOk result (self.new ≡
             record self.old { code = word_code wiring codes.now word ++ self.old.code }) }
     {
         match word {
-            Word::Literal(value) => self.code.put(Instruction::Literal(value)),
-            Word::Name(name) => match line_of(wiring.hood, wiring.minor, name) {
+            SingleWord::Literal(value) => self.code.put(Instruction::Literal(value)),
+            SingleWord::Name(name) => match line_of(wiring.hood, wiring.minor, name) {
                 Some(line) => self.code.put(Instruction::Line(line)),
                 None => Ok(()),
             },
-            Word::Stack(word) => self.code.put(Instruction::Stack(word)),
-            Word::Output(target) => self.code.put(Instruction::Output(target)),
-            Word::Defined(place) => match codes.get(place) {
+            SingleWord::Stack(word) => self.code.put(Instruction::Stack(word)),
+            SingleWord::Output(target) => self.code.put(Instruction::Output(target)),
+            SingleWord::Defined(place) => match codes.get(place) {
                 Some(code) => self.code.put_all(code),
                 None => Ok(()),
             },
-            _ => Ok(()),
         }
     }
 }

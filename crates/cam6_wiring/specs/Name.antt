@@ -26,6 +26,13 @@ abbrev pub other_half : Half → Half
 other_half A = B
 other_half B = A
 
+-- whether two halves are one
+abbrev pub is_same_half : Half → Half → Bool
+is_same_half A A = true
+is_same_half A B = false
+is_same_half B A = false
+is_same_half B B = true
+
 -- a bit for each of the four planes from a bit for each plane of a half
 abbrev pub on_plane : ℕ → (Half → Level → Bool) → Bool
 on_plane zero bit = bit A Lower

@@ -21,9 +21,9 @@ use Rattle.cam6_forth.proofs.States.{after_all, after_colon, in_body, open_flags
 use Rattle.cam6_forth.proofs.Runs.{ok_state, ok-same, length-all}
 use Rattle.cam6_forth.proofs.Joined.{spell-more, meant-more, definitions-more}
 use Rattle.cam6_forth.proofs.Marks.{kind_is}
-use Rattle.cam6_forth.proofs.Grows.{mode_of, Grows, if_ok, opened}
-use Rattle.cam6_forth.proofs.GrowingBodies.{if_grows, else_grows, then_grows, brace_grows}
-use Rattle.cam6_forth.proofs.GrowingBodies.{word_grows, case_grows, cases_grow}
+use Rattle.cam6_forth.proofs.OneMore.{mode_of, Grows, if_ok, opened}
+use Rattle.cam6_forth.proofs.MoreInBodies.{if_grows, else_grows, then_grows, brace_grows}
+use Rattle.cam6_forth.proofs.MoreInBodies.{word_grows, case_grows, cases_grow}
 
 module _ (w : Wiring) (parts : List Part) where
   abbrev done : List Defined

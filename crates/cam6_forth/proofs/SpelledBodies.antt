@@ -34,12 +34,12 @@ module _ (wiring : Wiring) (done : List Defined) (name : Token) where
       let words = case_words wiring done tokens in
       let more = case_size wiring done tokens in
       then_run wiring (in_braces done name ws n open_ifs)
-      (in_braces done name (ws ++ said ∷ []) (n + (size + 1)) open_ifs) token tokens _
+      (in_braces done name (ws ++ said) (n + (size + 1)) open_ifs) token tokens _
       (step-case wiring done name token ws n open_ifs known.0 (omega arith))
-      (run-cases tokens (ws ++ said ∷ []) (n + (size + 1)) open_ifs known.1 (omega arith)
-      ∙ same_braces wiring done name ((ws ++ said ∷ []) ++ words) (ws ++ said ∷ words)
+      (run-cases tokens (ws ++ said) (n + (size + 1)) open_ifs known.1 (omega arith)
+      ∙ same_braces wiring done name ((ws ++ said) ++ words) (ws ++ (said ++ words))
       (n + (size + 1) + more) (n + (size + 1 + more)) open_ifs
-      (append_assoc ws (said ∷ []) words) (omega arith))
+      (append_assoc ws said words) (omega arith))
 
   -- a body
   pub run-body : (b : Body) (ws : List Word) (n : ℕ) (open_ifs : List Bool) →
@@ -56,11 +56,11 @@ module _ (wiring : Wiring) (done : List Defined) (name : Token) where
       let words = words_of wiring done rest in
       let more = size_of wiring done rest in
       then_run wiring (in_body done name ws n open_ifs)
-      (in_body done name (ws ++ said ∷ []) (n + size) open_ifs) token (spell_body rest) _
+      (in_body done name (ws ++ said) (n + size) open_ifs) token (spell_body rest) _
       (step-word wiring done name token ws n open_ifs known.0 (omega arith))
-      (run-body rest (ws ++ said ∷ []) (n + size) open_ifs known.1 (omega arith) few
-      ∙ same_body wiring done name ((ws ++ said ∷ []) ++ words) (ws ++ said ∷ words)
-      (n + size + more) (n + (size + more)) open_ifs (append_assoc ws (said ∷ []) words)
+      (run-body rest (ws ++ said) (n + size) open_ifs known.1 (omega arith) few
+      ∙ same_body wiring done name ((ws ++ said) ++ words) (ws ++ (said ++ words))
+      (n + size + more) (n + (size + more)) open_ifs (append_assoc ws said words)
       (omega arith))
   run-body (Choice on rest) ws n open_ifs known fits few =
       let said = words_of wiring done on in

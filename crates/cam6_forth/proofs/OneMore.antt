@@ -4,12 +4,14 @@ use Rattle.std.proofs.Common.{◌++◌, refl, ap, ◌∙◌, Result, Ok, Err, co
 use Rattle.std.specs.Result.{IsOk}
 use Rattle.std.proofs.lemmas.Bool.{leb-true}
 use Rattle.cam6_wiring.specs.declared.wirings.Wiring.{Wiring}
+use Rattle.cam6_forth.specs.declared.words.SingleWord.{SingleWord}
 use Rattle.cam6_forth.specs.declared.words.Word.{Word}
+use Rattle.cam6_forth.specs.declared.words.Word.TheVariants as word
 use Rattle.cam6_forth.specs.Tokens.{Token}
 use Rattle.cam6_forth.specs.Comments.{Mode, Plain, AfterColon}
 use Rattle.cam6_forth.specs.Limits.{max_size, too_large}
 use Rattle.cam6_forth.specs.Defined.{Defined}
-use Rattle.cam6_forth.specs.Tree.{Body, word_in, size_in}
+use Rattle.cam6_forth.specs.Tree.{Body, words_in, size_in}
 use Rattle.cam6_forth.specs.Unfinished.{OpenIf, Opened, Unfinished}
 use Rattle.cam6_forth.specs.Unfinished.{Unnamed, spell_unfinished, IsSound}
 use Rattle.cam6_forth.specs.Reading.{State, grown, grown_by}
@@ -49,12 +51,12 @@ grown_ok n said s s1 e =
     (record s { size = s.size + n; words = s.words ++ said ∷ [] }) s1 too_large e in
     (leb-true (s.size + n) max_size both.0, both.1)
 
-pub grown_by_ok : (more : ℕ) (r : Result (Word × ℕ) ℕ) (s s1 : State) →
+pub grown_by_ok : (more : ℕ) (r : Result (SingleWord × ℕ) ℕ) (s s1 : State) →
     grown_by more r s ≡ ok_state s1 →
     IsOk r × (s.size + (size_in r + more) ≤ max_size)
-    × (record s { size = s.size + (size_in r + more); words = s.words ++ word_in r ∷ [] } ≡ s1)
+    × (record s { size = s.size + (size_in r + more); words = s.words ++ words_in r } ≡ s1)
 grown_by_ok more (Ok (said, n)) s s1 e =
-    let both = grown_ok (n + more) said s s1 e in
+    let both = grown_ok (n + more) (word.Single said) s s1 e in
     (refl, both.0, both.1)
 grown_by_ok more (Err number) s s1 e = cc
 

@@ -18,7 +18,7 @@ use Rattle.cam6_forth.proofs.Runs.{run, ok_state, then_run, append_run, length-m
 use Rattle.cam6_forth.proofs.FaultsOfSteps.{length-flags}
 use Rattle.cam6_forth.proofs.Steps.{same_braces, step-open, step-name}
 use Rattle.cam6_forth.proofs.Steps.{step-colon, step-end, after_end}
-use Rattle.cam6_forth.proofs.CompleteBodies.{run-cases, run-body, run-open_ifs}
+use Rattle.cam6_forth.proofs.SpelledBodies.{run-cases, run-body, run-open_ifs}
 
 -- definitions
 pub run-parts : (wiring : Wiring) (parts : List Part) (done : List Defined) →

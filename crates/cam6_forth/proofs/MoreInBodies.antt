@@ -19,8 +19,8 @@ use Rattle.cam6_forth.specs.Trees.{join}
 use Rattle.cam6_forth.proofs.Joined.{spell_body-join, depth_of-join, words_of-join, size_of-join}
 use Rattle.cam6_forth.proofs.Joined.{known-join, case_words-more, case_size-more, words-more}
 use Rattle.cam6_forth.proofs.FaultsOfSteps.{length-flags}
-use Rattle.cam6_forth.proofs.Grows.{Grows, if_then_ok, grown_ok, grown_by_ok}
-use Rattle.cam6_forth.proofs.Grows.{opened, same_body, same_braces}
+use Rattle.cam6_forth.proofs.OneMore.{Grows, if_then_ok, grown_ok, grown_by_ok}
+use Rattle.cam6_forth.proofs.OneMore.{opened, same_body, same_braces}
 
 module _ (w : Wiring) (parts : List Part) where
   abbrev done : List Defined
@@ -235,7 +235,7 @@ module _ (w : Wiring) (parts : List Part) where
         );
         spelled = rw (spell_body-join last.said item) (simp append_assoc);
         state = sym g.2 ∙ same_body done last.name _ _ _ _ (open_flags last.open_ifs)
-            (rw (words_of-join w done last.said item) (simp append_assoc))
+            (rw (words_of-join w done last.said item) (simp (append_assoc, append-nil)))
             (omega (arith, size_of-join w done last.said item));
         mode = refl;
       }
