@@ -16,18 +16,12 @@ fn value_of(alloc: Global, command: &Command) -> Result<Value, AllocError> {
             let bits = hex::encode(alloc, bits.as_slice())?;
             json!(in alloc; {"bits": bits, "do": "set", "plane": *plane, "row": *row})
         }
-        Command::Rule {
-            name,
-            half,
-            hood,
-            minor,
-            text,
-        } => {
+        Command::Rule { name, wiring, text } => {
             json!(in alloc; {
                 "do": "rule",
-                "half": half_text(*half),
-                "hood": hood_text(*hood),
-                "minor": minor_text(*minor),
+                "half": half_text(wiring.half),
+                "hood": hood_text(wiring.hood),
+                "minor": minor_text(wiring.minor),
                 "name": name.as_str(),
                 "text": text.as_str()
             })

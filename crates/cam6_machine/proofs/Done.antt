@@ -17,8 +17,8 @@ use Rattle.cam6_machine.specs.Alone.{if_refused, reply, after, some_steps, work_
 use Rattle.cam6_machine.specs.Places.{placed_entry, named_entries, ArePlaced, stored}
 use Rattle.cam6_machine.specs.declared.commands.Command.{Command}
 use Rattle.cam6_machine.specs.declared.commands.Command.TheVariants.{Set, Rule, Cycle, Run, Plane}
-use Rattle.cam6_machine.specs.declared.commands.Direction.{Direction}
-use Rattle.cam6_machine.specs.declared.commands.Direction.TheVariants.{Forward}
+use Rattle.cam6_machine.specs.declared.replies.Direction.{Direction}
+use Rattle.cam6_machine.specs.declared.replies.Direction.TheVariants.{Forward}
 use Rattle.cam6_machine.specs.declared.commands.NamedEntry.{NamedEntry}
 use Rattle.cam6_machine.specs.declared.cycles.Entry.{Entry}
 use Rattle.cam6_machine.specs.declared.replies.Reply.{Reply}
@@ -44,7 +44,7 @@ after-accepted m c e = ap (λ o. if_refused o (λ r. m) (effect m c)) e
 pub command_is : (m : Machine) (c : Command) (n : ℕ) (direction : Direction) →
     work_of m c ≡ Some (n, direction) → command_of n direction ≡ c
 command_is m (Set plane row bits) n direction e = cc e
-command_is m (Rule name half hood minor text) n direction e = cc e
+command_is m (Rule name wiring text) n direction e = cc e
 command_is m (Cycle entries) n direction e = cc e
 command_is m (Plane plane) n direction e = cc e
 command_is m (Run steps) n direction e = by_refusal (refusal m (Run steps)) e
@@ -97,11 +97,11 @@ module _ (planes : Stored) (rules : List rule.Rule) (cycle : List Entry) (positi
       words_refusal wiring text ≡ None →
       new ≡ with_rule (record { name = name; wiring = wiring; text = text }) rules →
       machine_of (stored planes new cycle position colours)
-      ≡ after before (Rule name wiring.half wiring.hood wiring.minor text)
+      ≡ after before (Rule name wiring text)
   after-rule name text wiring new placed room words put =
       let m = machine_of (stored planes rules cycle position colours) in
       let put_rule : rule.Rule = record { name = name; wiring = wiring; text = text } in
-      let command = Rule name wiring.half wiring.hood wiring.minor text in
+      let command = Rule name wiring text in
       let accepted : refusal m command ≡ None =
       ap (λ o. or_then (fault_reply o) (words_refusal wiring text)) (sym room) ∙ words in
       ap (λ l. machine_of (stored planes l cycle position colours)) put ∙

@@ -22,7 +22,7 @@ use Rattle.cam6_machine.specs.Places.{named_entry, named_entries, rules_at, IsPl
 use Rattle.cam6_machine.specs.Places.{is_place, uses_place}
 use Rattle.cam6_machine.specs.declared.commands.NamedEntry.{NamedEntry}
 use Rattle.cam6_machine.specs.declared.cycles.Entry.{Entry}
-use Rattle.cam6_machine.specs.declared.replies.Fault.TheVariants.{RuleInUse, TooManyRules, OutOfRange}
+use Rattle.cam6_machine.specs.declared.faults.Fault.TheVariants.{RuleInUse, TooManyRules, OutOfRange}
 
 -- names of rules
 abbrev pub names_of : List Rule → List (List ℕ)

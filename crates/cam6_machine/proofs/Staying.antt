@@ -9,6 +9,7 @@ use Rattle.std.proofs.lemmas.Map.Made.{IsDistinct-from_AllPairs}
 use Rattle.std.proofs.lemmas.Slice.Eq.{bytes_eq-Decides}
 use Rattle.std.proofs.Math.Nat.{mod-lt}
 use Rattle.cam6_planes.specs.Cells.{Cells}
+use Rattle.cam6_wiring.specs.Name.{is_same_half}
 use Rattle.cam6_wiring.specs.Seen.{Sees}
 use Rattle.cam6_wiring.specs.declared.names.Half.{Half}
 use Rattle.cam6_wiring.specs.declared.names.Half.TheVariants as half
@@ -38,8 +39,8 @@ use Rattle.cam6_machine.specs.Laws.{BlankIsMachine, StaysMachine, IsRuled, Rules
 use Rattle.cam6_machine.specs.declared.commands.Command.{Command}
 use Rattle.cam6_machine.specs.declared.commands.Command.TheVariants as command
 use Rattle.cam6_machine.specs.declared.commands.NamedEntry.{NamedEntry}
-use Rattle.cam6_machine.specs.declared.replies.Fault.{Fault}
-use Rattle.cam6_machine.specs.declared.replies.Fault.TheVariants.{WrongHalf, OutOfRange, TooManyRules, RuleInUse}
+use Rattle.cam6_machine.specs.declared.faults.Fault.{Fault}
+use Rattle.cam6_machine.specs.declared.faults.Fault.TheVariants.{WrongHalf, OutOfRange, TooManyRules, RuleInUse}
 use Rattle.cam6_machine.specs.declared.replies.Reply.{Reply}
 use Rattle.cam6_machine.proofs.Done.{after-refused, after-accepted}
 use Rattle.cam6_machine.proofs.KeptNames.{length_at_most, length_same, all_with}
@@ -116,7 +117,7 @@ steps_is m n is some =
     (moved_is m (steps n m).planes (steps n m).position is
     (below_is m.cycle (steps n m).position (omega (arith, at, inside))))
 
-same_half : (first second : Half) → refuse.is_of first second ≡ true → first ≡ second
+same_half : (first second : Half) → is_same_half first second ≡ true → first ≡ second
 same_half half.A half.A same = refl
 same_half half.A half.B same = cc same
 same_half half.B half.A same = cc same
@@ -127,9 +128,9 @@ named_rule : (rules : List Rule) (h : Half) (name : List ℕ) (o : Option Rule) 
     rule_named name rules ≡ o → refuse.wiring_refusal h (wiring_for o) ≡ None →
     IsNamed rules h (Some name)
 named_rule rules h name None e none = cc none
-named_rule rules h name (Some rule) e none = (rule, e, by_test (refuse.is_of rule.wiring.half h) refl none)
+named_rule rules h name (Some rule) e none = (rule, e, by_test (is_same_half rule.wiring.half h) refl none)
   where
-    by_test : (b : Bool) → refuse.is_of rule.wiring.half h ≡ b →
+    by_test : (b : Bool) → is_same_half rule.wiring.half h ≡ b →
         cond b None (Some WrongHalf) ≡ None → rule.wiring.half ≡ h
     by_test true is none = same_half rule.wiring.half h is
     by_test false is none = cc none
@@ -292,8 +293,7 @@ effect_is : (m : Machine) (c : Command) → IsMachine m → refuse.refusal m c �
     IsMachine (effect m c)
 effect_is m (command.Set plane row bits) is none =
     moved_is m (effect m (command.Set plane row bits)).planes m.position is is.position
-effect_is m (command.Rule name h hood minor text) is none =
-    let wiring : Wiring = record { half = h; hood = hood; minor = minor } in
+effect_is m (command.Rule name wiring text) is none =
     let new : Rule = record { name = name; wiring = wiring; text = text } in
     let (place, words) = first_none _ (refuse.words_refusal wiring text) none in
     rule_is m new is (no_fault _ place) words

@@ -5,8 +5,8 @@ use Rattle.cam6_machine.specs.Refusals.{refusal}
 use Rattle.cam6_machine.specs.Effects.{accepted_reply, effect}
 use Rattle.cam6_machine.specs.declared.commands.Command.{Command}
 use Rattle.cam6_machine.specs.declared.commands.Command.TheVariants.{Run}
-use Rattle.cam6_machine.specs.declared.commands.Direction.{Direction}
-use Rattle.cam6_machine.specs.declared.commands.Direction.TheVariants.{Forward}
+use Rattle.cam6_machine.specs.declared.replies.Direction.{Direction}
+use Rattle.cam6_machine.specs.declared.replies.Direction.TheVariants.{Forward}
 use Rattle.cam6_machine.specs.declared.replies.Reply.{Reply}
 
 -- the first where there is a refusal, and else the second

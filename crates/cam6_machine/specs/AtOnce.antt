@@ -5,9 +5,9 @@ use Rattle.cam6_machine.specs.Machine.{Machine}
 use Rattle.cam6_machine.specs.Refusals.{refusal}
 use Rattle.cam6_machine.specs.Alone.{reply as reply_to, after, command_of}
 use Rattle.cam6_machine.specs.declared.commands.Command.{Command}
-use Rattle.cam6_machine.specs.declared.commands.Direction.{Direction}
-use Rattle.cam6_machine.specs.declared.commands.Now.{Now}
-use Rattle.cam6_machine.specs.declared.commands.Now.TheVariants as now
+use Rattle.cam6_machine.specs.declared.replies.Direction.{Direction}
+use Rattle.cam6_machine.specs.declared.replies.Now.{Now}
+use Rattle.cam6_machine.specs.declared.replies.Now.TheVariants as now
 use Rattle.cam6_machine.specs.declared.replies.Reply.{Reply}
 use Rattle.cam6_machine.specs.declared.replies.Reply.TheVariants as reply
 

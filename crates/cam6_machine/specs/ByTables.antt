@@ -8,14 +8,21 @@ use Rattle.cam6_machine.specs.Cycles.{EntryRules}
 use Rattle.cam6_machine.specs.Places.{Compiled, rules_at}
 use Rattle.cam6_machine.specs.Refusals.{words_refusal}
 use Rattle.cam6_machine.specs.declared.cycles.Entry.{Entry}
-use Rattle.cam6_machine.specs.declared.replies.Reply.{Reply}
+use Rattle.cam6_machine.specs.declared.replies.Reply.TheVariants as reply
+use Rattle.cam6_machine.specs.declared.rules.RuleRefusal.{RuleRefusal}
+use Rattle.cam6_machine.specs.declared.rules.RuleRefusal.TheVariants as refused
 use Rattle.cam6_machine.specs.declared.tables.TablePair.{TablePair}
 
--- a text was tried: it is a rule that stops nowhere and is kept, or it is refused with this reply
-abbrev pub IsVerdict : Wiring → List ℕ → Result Compiled Reply → Type 0
+-- a text was tried: it is a rule that stops nowhere and is kept, or it is refused for its fault, or
+-- for the least address at which it stops; for want of memory nothing is said
+abbrev pub IsVerdict : Wiring → List ℕ → Result Compiled RuleRefusal → Type 0
 IsVerdict wiring text (Ok rule) =
     (words_refusal wiring text ≡ None) × (rule.wiring ≡ wiring) × (rule.text ≡ text)
-IsVerdict wiring text (Err r) = words_refusal wiring text ≡ Some r
+IsVerdict wiring text (Err (refused.Text fault)) =
+    words_refusal wiring text ≡ Some (reply.RuleText fault)
+IsVerdict wiring text (Err (refused.Stops address fault)) =
+    words_refusal wiring text ≡ Some (reply.RuleStops address fault)
+IsVerdict wiring text (Err refused.NoMemory) = ⊤
 
 -- a rule's table, where there is a rule
 abbrev pub IsTableFor : Option Rule → List ℕ → Type 0

@@ -27,7 +27,7 @@ with_rule new (rule ∷ rules) =
 -- the reply to a command that is not refused
 abbrev pub accepted_reply : Machine → Command → Reply
 accepted_reply m (Set plane row bits) = reply.Set
-accepted_reply m (SetRule name half hood minor text) = reply.Rule
+accepted_reply m (SetRule name wiring text) = reply.Rule
 accepted_reply m (Cycle entries) = reply.Cycle
 accepted_reply m (Run n) = reply.Run (steps n m).position
 accepted_reply m (Plane plane) = reply.Plane (plane_rows m.side (m.side / 4) m.planes plane)
@@ -36,14 +36,8 @@ accepted_reply m (Plane plane) = reply.Plane (plane_rows m.side (m.side / 4) m.p
 abbrev pub effect : Machine → Command → Machine
 effect m (Set plane row bits) =
     record m { planes = with_row m.side m.planes plane row (byte_column bits) }
-effect m (SetRule name half hood minor text) =
-    record m {
-      rules = with_rule (record {
-        name = name;
-        wiring = record { half = half; hood = hood; minor = minor };
-        text = text;
-      }) m.rules;
-    }
+effect m (SetRule name wiring text) =
+    record m { rules = with_rule (record { name = name; wiring = wiring; text = text }) m.rules }
 effect m (Cycle entries) = record m { cycle = entries; position = 0 }
 effect m (Run n) = steps n m
 effect m (Plane plane) = m

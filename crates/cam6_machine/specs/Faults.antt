@@ -1,8 +1,8 @@
 -- The numbers of the refusals of commands.
 use Rattle.std.specs.Prelude.{ℕ}
-use Rattle.cam6_machine.specs.declared.replies.Fault.{Fault}
-use Rattle.cam6_machine.specs.declared.replies.Fault.TheVariants.{NoRule, RuleInUse, TooManyRules}
-use Rattle.cam6_machine.specs.declared.replies.Fault.TheVariants.{NoCycle, OutOfRange, WrongHalf}
+use Rattle.cam6_machine.specs.declared.faults.Fault.{Fault}
+use Rattle.cam6_machine.specs.declared.faults.Fault.TheVariants.{NoRule, RuleInUse, TooManyRules}
+use Rattle.cam6_machine.specs.declared.faults.Fault.TheVariants.{NoCycle, OutOfRange, WrongHalf}
 
 abbrev pub fault_number : Fault → ℕ
 fault_number NoRule = 60

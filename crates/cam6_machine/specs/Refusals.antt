@@ -3,6 +3,7 @@ use Rattle.std.specs.Prelude.{ℕ, Bool, true, false, ◌&&◌, ◌||◌, List, 
 use Rattle.std.specs.Prelude.{nat_le, nat_lt, Option, Some, None, Result, Ok, Err, if◌then◌else◌}
 use Rattle.std.specs.List.{list_all, list_any}
 use Rattle.std.specs.Str.{bytes_eq}
+use Rattle.cam6_wiring.specs.Name.{is_same_half}
 use Rattle.cam6_wiring.specs.declared.names.Half.{Half}
 use Rattle.cam6_wiring.specs.declared.names.Half.TheVariants as half
 use Rattle.cam6_wiring.specs.declared.wirings.Wiring.{Wiring}
@@ -19,9 +20,9 @@ use Rattle.cam6_machine.specs.declared.commands.NamedEntry.{NamedEntry}
 use Rattle.cam6_machine.specs.declared.commands.Command.{Command}
 use Rattle.cam6_machine.specs.declared.commands.Command.TheVariants.{Set, Rule as SetRule}
 use Rattle.cam6_machine.specs.declared.commands.Command.TheVariants.{Cycle, Run, Plane}
-use Rattle.cam6_machine.specs.declared.replies.Fault.{Fault}
-use Rattle.cam6_machine.specs.declared.replies.Fault.TheVariants.{NoRule, RuleInUse, TooManyRules}
-use Rattle.cam6_machine.specs.declared.replies.Fault.TheVariants.{NoCycle, OutOfRange, WrongHalf}
+use Rattle.cam6_machine.specs.declared.faults.Fault.{Fault}
+use Rattle.cam6_machine.specs.declared.faults.Fault.TheVariants.{NoRule, RuleInUse, TooManyRules}
+use Rattle.cam6_machine.specs.declared.faults.Fault.TheVariants.{NoCycle, OutOfRange, WrongHalf}
 use Rattle.cam6_machine.specs.declared.replies.Reply.{Reply}
 use Rattle.cam6_machine.specs.declared.replies.Reply.TheVariants as reply
 
@@ -80,16 +81,10 @@ abbrev pub is_cycle : List NamedEntry → Bool
 is_cycle entries =
     nat_le 1 (length entries) && nat_le (length entries) max_entries && have_phases entries
 
-abbrev pub is_of : Half → Half → Bool
-is_of half.A half.A = true
-is_of half.A half.B = false
-is_of half.B half.A = false
-is_of half.B half.B = true
-
 -- a name must be a rule's, and the rule one of this half
 abbrev pub wiring_refusal : Half → Option Wiring → Option Fault
 wiring_refusal h None = Some NoRule
-wiring_refusal h (Some wiring) = if is_of wiring.half h then None else Some WrongHalf
+wiring_refusal h (Some wiring) = if is_same_half wiring.half h then None else Some WrongHalf
 
 abbrev pub half_refusal : List Rule → Half → Option (List ℕ) → Option Fault
 half_refusal rules h None = None
@@ -132,9 +127,8 @@ fault_reply (Some fault) = Some (reply.Fault fault)
 -- the reply with which a machine refuses a command, if it does
 abbrev pub refusal : Machine → Command → Option Reply
 refusal m (Set plane row bits) = fault_reply (set_refusal m.side plane row)
-refusal m (SetRule name half hood minor text) =
-    or_then (fault_reply (rule_refusal m.rules m.cycle name))
-    (words_refusal (record { half = half; hood = hood; minor = minor }) text)
+refusal m (SetRule name wiring text) =
+    or_then (fault_reply (rule_refusal m.rules m.cycle name)) (words_refusal wiring text)
 refusal m (Cycle entries) = fault_reply (cycle_refusal m.rules entries)
 refusal m (Run n) = fault_reply (run_refusal m.cycle n)
 refusal m (Plane plane) = fault_reply (plane_refusal plane)

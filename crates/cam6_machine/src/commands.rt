@@ -1,8 +1,7 @@
 //! What a user asks of his machine.
 
-use crate::replies::Reply;
 use crate::texts::Text;
-use cam6_wiring::{Grid, Half, Hood, Minor};
+use cam6_wiring::{Grid, Wiring};
 use std::marker::Model;
 
 /// Steps that one command can do.
@@ -20,9 +19,7 @@ pub enum Command {
     /// Keeps a rule under a name, in place of the one that has the name already.
     Rule {
         name: Text,
-        half: Half,
-        hood: Hood,
-        minor: Minor,
+        wiring: Wiring,
         text: Text,
     },
     /// Sets the cycle, and the position to 0.
@@ -84,17 +81,4 @@ impl NamedEntries {
         let NamedEntries { entries } = self;
         entries
     }
-}
-
-/// Which way a run goes along the cycle.
-#[derive(Clone, Copy, Debug, PartialEq, Eq)]
-pub enum Direction {
-    Forward,
-}
-
-/// What a command comes to at once: a reply, or so many steps to do.
-#[derive(Debug, Drop)]
-pub enum Now {
-    Reply(Reply),
-    Work(u16, Direction),
 }

@@ -9,14 +9,15 @@
 //!
 //! Stands on: `cam6_planes`, `cam6_wiring`, `cam6_forth`, `cam6_table`, and on `indexmap`.
 //!
-//! Read next: `commands` and `replies`; `rules` and `cycles`, what a machine keeps; `stepping`, one
-//! step of all cells, with the `tables` that it reads, and `running`, steps along a cycle;
-//! `refusing`, when a command is refused; then `machines` and `alone`; and `laws`.
+//! Read next: `commands`, and `replies` with the `faults`; `rules` and `cycles`, what a machine
+//! keeps; `stepping`, one step of all cells, with the `tables` that it reads, and `running`, steps
+//! along a cycle; `refusing`, when a command is refused; then `machines` and `alone`; and `laws`.
 #![tactic(auto)]
 
 mod alone;
 mod commands;
 mod cycles;
+mod faults;
 pub mod laws;
 mod machines;
 mod refusing;
@@ -28,9 +29,10 @@ mod tables;
 mod texts;
 
 pub use alone::replies_alone;
-pub use commands::{Command, Direction, MAX_STEPS, NamedEntries, NamedEntry, Now};
+pub use commands::{Command, MAX_STEPS, NamedEntries, NamedEntry};
 pub use cycles::{Entry, MAX_ENTRIES};
+pub use faults::Fault;
 pub use machines::Machine;
-pub use replies::{Fault, PlaneRows, Reply};
+pub use replies::{Direction, Now, PlaneRows, Reply};
 pub use rules::MAX_RULES;
 pub use texts::Text;

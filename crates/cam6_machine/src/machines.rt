@@ -5,11 +5,11 @@ ghost use Rattle.cam6_planes.specs.Cells.{cells};
 ghost use Rattle.cam6_planes.specs.declared.row.TheConstants.{SIDE};
 ghost use Rattle.cam6_machine.specs.Effects.{plane_rows};
 
-use crate::commands::{Command, Direction, NamedEntries, Now};
+use crate::commands::{Command, NamedEntries};
 use crate::cycles::{Entry, MAX_ENTRIES, placed_entries};
 use crate::refusing::{cycle_refusal, plane_refusal, rule_refusal, run_refusal, set_refusal};
-use crate::replies::{PlaneRows, Reply};
-use crate::rules::{KeptRule, put, tried_rule};
+use crate::replies::{Direction, Now, PlaneRows, Reply};
+use crate::rules::{KeptRule, RuleRefusal, put, tried_rule};
 use crate::running::run_along;
 use crate::tables::{TablePair, fill_tables};
 use crate::texts::Text;
@@ -62,7 +62,7 @@ impl Machine {
     ghost use Rattle.std.specs.Prelude.{OnErr};
     ghost use Rattle.cam6_machine.specs.Machine.{blank, machine_of};
     ghost use Rattle.cam6_machine.specs.Refusals.{refusal};
-    ghost use Rattle.cam6_machine.specs.declared.replies.Fault.{Fault};
+    ghost use Rattle.cam6_machine.specs.declared.faults.Fault.{Fault};
     ghost use Rattle.cam6_forth.specs.declared.faults.TextFault.{TextFault};
     ghost use Rattle.cam6_forth.specs.Reading.{keeps};
     ghost use Rattle.cam6_machine.specs.Alone.{reply, after, work_of, command_of};
@@ -109,24 +109,17 @@ impl Machine {
         ensures refused { (fault : Fault) →
             refusal (machine_of self.old) command ≡ Some (Reply.Fault fault) → IsOk result }
         ensures unkept { (name text : List ℕ) (wiring : Wiring) (fault : TextFault) →
-            command ≡ Command.Rule name wiring.half wiring.hood wiring.minor text →
+            command ≡ Command.Rule name wiring text →
             refusal (machine_of self.old) command ≡ Some (Reply.RuleText fault) →
             keeps wiring text ≡ false → IsOk result }
     {
         match command {
             Command::Set { plane, row, bits } => Ok(Now::Reply(self.set(plane, row, &bits))),
-            Command::Rule {
-                name,
-                half,
-                hood,
-                minor,
-                text,
-            } => {
-                let wiring = Wiring { half, hood, minor };
+            Command::Rule { name, wiring, text } => {
                 Ok(Now::Reply(self.define(name, wiring, text)?))
             }
-            Command::Cycle { entries } => Ok(Now::Reply(self.turn_by(&entries)?)),
-            Command::Run { n } => Ok(self.run(n)),
+            Command::Cycle { entries } => Ok(Now::Reply(self.set_cycle(&entries)?)),
+            Command::Run { n } => Ok(self.work_of_run(n)),
             Command::Plane { plane } => Ok(Now::Reply(self.show(plane)?)),
         }
     }
@@ -146,34 +139,34 @@ impl Machine {
     }
 
     fn define(&mut self, name: Text, wiring: Wiring, text: Text) -> Result<Reply, NoMemory>
-        ensures reply { IfOk result (λ r. r ≡ reply (machine_of self.old)
-            (Command.Rule name wiring.half wiring.hood wiring.minor text)) }
-        ensures machine { IfOk result (λ r. machine_of self.new ≡ after (machine_of self.old)
-            (Command.Rule name wiring.half wiring.hood wiring.minor text)) }
+        ensures reply { IfOk result (λ r.
+            r ≡ reply (machine_of self.old) (Command.Rule name wiring text)) }
+        ensures machine { IfOk result (λ r.
+            machine_of self.new ≡ after (machine_of self.old) (Command.Rule name wiring text)) }
         ensures left { IfOk result (λ r. IsLeftBy r self.old self.new) }
         ensures err { OnErr result (self.new ≡ self.old) }
         ensures refused { (fault : Fault) →
-            refusal (machine_of self.old)
-            (Command.Rule name wiring.half wiring.hood wiring.minor text)
+            refusal (machine_of self.old) (Command.Rule name wiring text)
             ≡ Some (Reply.Fault fault) → IsOk result }
         ensures unkept { (fault : TextFault) →
-            refusal (machine_of self.old)
-            (Command.Rule name wiring.half wiring.hood wiring.minor text)
+            refusal (machine_of self.old) (Command.Rule name wiring text)
             ≡ Some (Reply.RuleText fault) → keeps wiring text ≡ false → IsOk result }
     {
         if let Some(fault) = rule_refusal(&self.rules, &self.cycle, &name) {
             return Ok(Reply::Fault(fault));
         }
-        match tried_rule(self.alloc, wiring, text, &mut self.trial)? {
+        match tried_rule(self.alloc, wiring, text, &mut self.trial) {
             Ok(rule) => {
                 put(&mut self.rules, name, rule)?;
                 Ok(Reply::Rule)
             }
-            Err(refused) => Ok(refused),
+            Err(RuleRefusal::Text(fault)) => Ok(Reply::RuleText(fault)),
+            Err(RuleRefusal::Stops { address, fault }) => Ok(Reply::RuleStops { address, fault }),
+            Err(RuleRefusal::NoMemory) => Err(NoMemory),
         }
     }
 
-    fn turn_by(&mut self, entries: &NamedEntries) -> Result<Reply, NoMemory>
+    fn set_cycle(&mut self, entries: &NamedEntries) -> Result<Reply, NoMemory>
         ensures reply { IfOk result (λ r.
             r ≡ reply (machine_of self.old) (Command.Cycle entries.now)) }
         ensures machine { IfOk result (λ r.
@@ -192,7 +185,8 @@ impl Machine {
         Ok(Reply::Cycle)
     }
 
-    fn run(&self, n: u64) -> Now
+    /// The steps that a run has to do, or the reply where there are none.
+    fn work_of_run(&self, n: u64) -> Now
         ensures work { work_left result ≡ work_of (machine_of self.now) (Command.Run n) }
         ensures reply { IsReplyTo result (machine_of self.now) (Command.Run n) }
         ensures machine { machine_of self.now
@@ -266,7 +260,7 @@ impl Machine {
         ensures refused { (fault : Fault) →
             refusal (machine_of self.old) command ≡ Some (Reply.Fault fault) → IsOk result }
         ensures unkept { (name text : List ℕ) (wiring : Wiring) (fault : TextFault) →
-            command ≡ Command.Rule name wiring.half wiring.hood wiring.minor text →
+            command ≡ Command.Rule name wiring text →
             refusal (machine_of self.old) command ≡ Some (Reply.RuleText fault) →
             keeps wiring text ≡ false → IsOk result }
     {

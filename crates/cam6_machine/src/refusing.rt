@@ -14,7 +14,7 @@ ghost use Rattle.cam6_machine.specs.Always.{HaveOwnNames};
 
 use crate::commands::{MAX_STEPS, NamedEntries, NamedEntry};
 use crate::cycles::{Entry, MAX_ENTRIES};
-use crate::replies::Fault;
+use crate::faults::Fault;
 use crate::rules::{KeptRule, MAX_RULES, is_rule_name, place_of, wiring_of};
 use crate::texts::Text;
 use cam6_planes::SIDE;

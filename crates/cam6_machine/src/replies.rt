@@ -1,7 +1,6 @@
-//! What a machine answers.
-ghost use Rattle.std.specs.Prelude.{◌≡◌};
-ghost use Rattle.cam6_machine.specs.Faults.{fault_number};
+//! What a machine says of a command: a reply, or at once that there are steps to do.
 
+use crate::faults::Fault;
 use cam6_forth::TextFault;
 use cam6_table::RuleFault;
 use std::marker::Model;
@@ -22,37 +21,17 @@ pub enum Reply {
     RuleStops { address: u16, fault: RuleFault },
 }
 
-/// Why a command is refused, apart from faults of a rule.
-#[derive(Clone, Copy, Debug, PartialEq, Eq)]
-pub enum Fault {
-    /// No rule has the name.
-    NoRule,
-    /// The cycle uses the rule.
-    RuleInUse,
-    /// There are 16 rules, and the name is a new one.
-    TooManyRules,
-    /// No cycle is set.
-    NoCycle,
-    /// A number, a name or a cycle is outside its limits.
-    OutOfRange,
-    /// A rule of half B stands for half A, or the other way round.
-    WrongHalf,
+/// What a command comes to at once: a reply, or so many steps to do.
+#[derive(Debug, Drop)]
+pub enum Now {
+    Reply(Reply),
+    Work(u16, Direction),
 }
 
-impl Fault {
-    /// The fault's number in replies.
-    pub fn number(self) -> u8
-        ensures { result ≡ fault_number self }
-    {
-        match self {
-            Fault::NoRule => 60,
-            Fault::RuleInUse => 61,
-            Fault::TooManyRules => 62,
-            Fault::NoCycle => 63,
-            Fault::OutOfRange => 65,
-            Fault::WrongHalf => 66,
-        }
-    }
+/// Which way a run goes along the cycle.
+#[derive(Clone, Copy, Debug, PartialEq, Eq)]
+pub enum Direction {
+    Forward,
 }
 
 /// The rows of a plane, each as 64 hexadecimal digits. Contracts see them as a list.

@@ -1,5 +1,5 @@
 //! The rules of a machine, by name, in the order in which their names came first.
-ghost use Rattle.std.specs.Prelude.{◌≡◌, false, Some, IsOk, IfOk, OnOk, OnErr};
+ghost use Rattle.std.specs.Prelude.{◌≡◌, ◌≢◌, false, Some, Err, OnOk, OnErr};
 ghost use Rattle.std.specs.List.{list_all};
 ghost use Rattle.cam6_forth.specs.Reading.{read_text, keeps};
 ghost use Rattle.cam6_forth.specs.declared.faults.TextFault.{TextFault};
@@ -8,12 +8,12 @@ ghost use Rattle.cam6_machine.specs.Refusals.{text_refusal};
 ghost use Rattle.cam6_machine.specs.Rules.{wiring_of, is_rule_name, is_name_byte};
 ghost use Rattle.cam6_machine.specs.Places.{rules_of, place_of, wiring_at};
 ghost use Rattle.cam6_machine.specs.ByTables.{IsVerdict};
+ghost use Rattle.cam6_machine.specs.declared.replies.Reply.{Reply};
 
-use crate::replies::Reply;
 use crate::texts::Text;
-use cam6_forth::{ParseFault, parse};
+use cam6_forth::{ParseFault, TextFault, parse_under};
 use cam6_planes::NoMemory;
-use cam6_table::{Code, Table, fill};
+use cam6_table::{Code, RuleFault, Table, fill};
 use cam6_wiring::Wiring;
 use indexmap::IndexMap;
 use std::alloc::Global;
@@ -73,31 +73,50 @@ impl KeptRule {
     }
 }
 
-/// Reads a rule's text and tries the rule at every address: the rule, or the reply with which it is
-/// refused. The table is room for the trial.
+/// Why a rule isn't kept.
+#[derive(Debug, Drop)]
+pub(crate) enum RuleRefusal {
+    /// The text's first fault.
+    Text(TextFault),
+    /// The least address at which the rule stops, and why it stops there.
+    Stops { address: u16, fault: RuleFault },
+    /// Memory was asked for and refused.
+    NoMemory,
+}
+
+impl From<NoMemory> for RuleRefusal {
+    ghost use Rattle.cam6_machine.specs.declared.rules.RuleRefusal.TheVariants.{NoMemory};
+
+    ghost from_gives = { λ _ e. e ≡ NoMemory };
+
+    fn from(_refused: NoMemory) -> RuleRefusal {
+        RuleRefusal::NoMemory
+    }
+}
+
+/// Reads a rule's text and tries the rule at every address. The table is room for the trial.
 pub(crate) fn tried_rule(
     alloc: Global,
     wiring: Wiring,
     text: Text,
     trial: &mut Table,
-) -> Result<Result<KeptRule, Reply>, NoMemory>
-    ensures verdict { IfOk result (λ tried. IsVerdict wiring text tried) }
+) -> Result<KeptRule, RuleRefusal>
+    ensures verdict { IsVerdict wiring text result }
     // No memory is wanted for a text of which nothing is kept.
     ensures unkept { (fault : TextFault) →
         text_refusal (read_text wiring text) ≡ Some (Reply.RuleText fault) →
-        keeps wiring text ≡ false → IsOk result }
+        keeps wiring text ≡ false → result ≢ Err RuleRefusal.NoMemory }
 {
-    let Wiring { half, hood, minor } = wiring;
-    let rule = match parse(alloc, text.as_str(), half, hood, minor) {
+    let rule = match parse_under(alloc, text.as_str(), wiring) {
         Ok(rule) => rule,
-        Err(ParseFault::Text(fault)) => return Ok(Err(Reply::RuleText(fault))),
-        Err(ParseFault::NoMemory) => return Err(NoMemory),
+        Err(ParseFault::Text(fault)) => return Err(RuleRefusal::Text(fault)),
+        Err(ParseFault::NoMemory) => return Err(RuleRefusal::NoMemory),
     };
     let code = Code::of(alloc, &rule)?;
-    if let Err((address, fault)) = fill(&code, trial) {
-        return Ok(Err(Reply::RuleStops { address, fault }));
+    match fill(&code, trial) {
+        Ok(()) => Ok(KeptRule::new(wiring, text, code)),
+        Err((address, fault)) => Err(RuleRefusal::Stops { address, fault }),
     }
-    Ok(Ok(KeptRule::new(wiring, text, code)))
 }
 
 /// Whether a text can be a rule's name: 1 to 24 printable bytes without `"` and `\`, and not `-`.

@@ -8,9 +8,7 @@ use Rattle.std.proofs.lemmas.Slice.Eq.{bytes_eq-Decides}
 use Rattle.serde_json.specs.Data.{Data, string, array, object, Members, no_members, member}
 use Rattle.serde_json.specs.Find.{get}
 use Rattle.serde_json.specs.Read.{read}
-use Rattle.cam6_wiring.specs.declared.names.Half.{Half}
-use Rattle.cam6_wiring.specs.declared.wirings.Hood.{Hood}
-use Rattle.cam6_wiring.specs.declared.wirings.Minor.{Minor}
+use Rattle.cam6_wiring.specs.Wiring.{wired}
 use Rattle.cam6_wiring.specs.declared.wirings.Wiring.{Wiring}
 use Rattle.cam6_machine.specs.declared.commands.Command.{Command}
 use Rattle.cam6_machine.specs.declared.commands.Command.TheVariants.{Set, Rule, Cycle, Run, Plane}
@@ -98,37 +96,31 @@ plane_shown d given =
     of_object 2 (λ x. option_map Plane (number_at (codes "plane") x)) (HasWord (codes "plane"))
     Shows plane_held d given
 
--- the setting of a rule
-abbrev HasSetting : Data → Wiring → Type 0
-HasSetting d wiring =
+-- the wiring of a rule
+abbrev HasWiring : Data → Wiring → Type 0
+HasWiring d wiring =
     (get (codes "half") d ≡ Some (string (half_text wiring.half))) ×
     (get (codes "hood") d ≡ Some (string (hood_text wiring.hood))) ×
     (get (codes "minor") d ≡ Some (string (minor_text wiring.minor)))
 
-abbrev setting : Half → Hood → Minor → Wiring
-setting half hood minor = record { half = half; hood = hood; minor = minor }
-
-wiring_found : (d : Data) → IfSome (wiring_in d) (HasSetting d)
+wiring_found : (d : Data) → IfSome (wiring_in d) (HasWiring d)
 unfolding wiring_in
 wiring_found d =
     of_three (λ half. get (codes "half") d ≡ Some (string (half_text half)))
     (λ hood. get (codes "hood") d ≡ Some (string (hood_text hood)))
     (λ minor. get (codes "minor") d ≡ Some (string (minor_text minor)))
-    (HasSetting d) setting
+    (HasWiring d) wired
     (λ half hood minor at_half at_hood at_minor. (at_half, at_hood, at_minor))
     (text_at (codes "half") d >>= half_named) (text_at (codes "hood") d >>= hood_named)
     (text_at (codes "minor") d >>= minor_named)
     (half_found (codes "half") d) (hood_found (codes "hood") d) (minor_found (codes "minor") d)
 
-abbrev rule_in : List ℕ → Wiring → List ℕ → Command
-rule_in name wiring text = Rule name wiring.half wiring.hood wiring.minor text
-
 rule_held : (held : Members) → count held ≡ 6 → HasWord (codes "rule") (object held) →
     IfSome (rule_fields (object held)) (Shows (object held))
 rule_held held same given =
     of_three (λ name. get (codes "name") (object held) ≡ Some (string name))
-    (HasSetting (object held))
-    (λ text. get (codes "text") (object held) ≡ Some (string text)) (Shows (object held)) rule_in
+    (HasWiring (object held))
+    (λ text. get (codes "text") (object held) ≡ Some (string text)) (Shows (object held)) Rule
     (λ name wiring text at_name has at_text.
     these
     (member (codes "do") (string (codes "rule"))

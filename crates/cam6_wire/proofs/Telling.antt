@@ -15,6 +15,7 @@ use Rattle.cam6_wiring.specs.declared.wirings.Hood.TheVariants.{MargolusPhase, M
 use Rattle.cam6_wiring.specs.declared.wirings.Minor.{Minor}
 use Rattle.cam6_wiring.specs.declared.wirings.Minor.TheVariants.{Centers, Phases, HorzVert}
 use Rattle.cam6_wiring.specs.declared.wirings.Wiring.{Wiring}
+use Rattle.cam6_wiring.specs.Wiring.{wired}
 use Rattle.cam6_wiring.specs.declared.blocks.Grid.{Grid}
 use Rattle.cam6_wiring.specs.declared.blocks.Grid.TheVariants.{Even, Odd}
 use Rattle.cam6_machine.specs.declared.commands.Command.{Command}
@@ -73,37 +74,33 @@ unfolding set_of
 set_said plane row bits digits is =
     ap (λ r. option_and_then (λ bits. Some (Set plane row bits)) (result_ok r)) is
 
-wiring_said : (half : Half) (hood : Hood) (minor : Minor) (name text : List ℕ) →
+wiring_said : (wiring : Wiring) (name text : List ℕ) →
     wiring_in
     (object
     (member (codes "do") (string (codes "rule"))
-    (member (codes "half") (string (half_text half))
-    (member (codes "hood") (string (hood_text hood))
-    (member (codes "minor") (string (minor_text minor))
+    (member (codes "half") (string (half_text wiring.half))
+    (member (codes "hood") (string (hood_text wiring.hood))
+    (member (codes "minor") (string (minor_text wiring.minor))
     (member (codes "name") (string name) (member (codes "text") (string text) no_members)))))))
-    ≡ Some (record { half = half; hood = hood; minor = minor })
+    ≡ Some wiring
 unfolding wiring_in
-wiring_said half hood minor name text =
-    three_steps (half_named (half_text half)) (hood_named (hood_text hood))
-    (minor_named (minor_text minor))
-    (λ half hood minor. record { half = half; hood = hood; minor = minor }) half hood minor
-    (half_of_text half) (hood_of_text hood) (minor_of_text minor)
+wiring_said wiring name text =
+    three_steps (half_named (half_text wiring.half)) (hood_named (hood_text wiring.hood))
+    (minor_named (minor_text wiring.minor)) wired wiring.half wiring.hood wiring.minor
+    (half_of_text wiring.half) (hood_of_text wiring.hood) (minor_of_text wiring.minor)
 
-rule_said : (half : Half) (hood : Hood) (minor : Minor) (name text : List ℕ) →
+rule_said : (wiring : Wiring) (name text : List ℕ) →
     rule_of
     (object
     (member (codes "do") (string (codes "rule"))
-    (member (codes "half") (string (half_text half))
-    (member (codes "hood") (string (hood_text hood))
-    (member (codes "minor") (string (minor_text minor))
+    (member (codes "half") (string (half_text wiring.half))
+    (member (codes "hood") (string (hood_text wiring.hood))
+    (member (codes "minor") (string (minor_text wiring.minor))
     (member (codes "name") (string name) (member (codes "text") (string text) no_members)))))))
-    ≡ Some (Rule name half hood minor text)
+    ≡ Some (Rule name wiring text)
 unfolding rule_of
-rule_said half hood minor name text =
-    ap
-    (option_and_then
-    (λ (wiring : Wiring). Some (Rule name wiring.half wiring.hood wiring.minor text)))
-    (wiring_said half hood minor name text)
+rule_said wiring name text =
+    ap (option_and_then (λ wiring. Some (Rule name wiring text))) (wiring_said wiring name text)
 
 entry_said : (entry : NamedEntry) (a b : List ℕ) → rule_named a ≡ entry.a →
     rule_named b ≡ entry.b →
@@ -183,10 +180,10 @@ shown_in d (Set plane row bits) shows accepted =
     of_same d _ (Set plane row bits) shows.2
     (by_its_word _ (codes "set") (Set plane row bits) refl
     (set_said plane row bits shows.0 shows.1) accepted)
-shown_in d (Rule name half hood minor text) shows accepted =
-    of_same d _ (Rule name half hood minor text) shows
-    (by_its_word _ (codes "rule") (Rule name half hood minor text) refl
-    (rule_said half hood minor name text) accepted)
+shown_in d (Rule name wiring text) shows accepted =
+    of_same d _ (Rule name wiring text) shows
+    (by_its_word _ (codes "rule") (Rule name wiring text) refl
+    (rule_said wiring name text) accepted)
 shown_in d (Cycle entries) shows accepted =
     of_same d _ (Cycle entries) shows.2
     (by_its_word _ (codes "cycle") (Cycle entries) refl (cycle_said shows.0 entries shows.1)

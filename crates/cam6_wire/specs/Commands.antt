@@ -36,7 +36,7 @@ rule_fields d = do
   name ← text_at (codes "name") d
   wiring ← wiring_in d
   text ← text_at (codes "text") d
-  Some (Rule name wiring.half wiring.hood wiring.minor text)
+  Some (Rule name wiring text)
 
 -- {"do":"rule","name":n,"half":h,"hood":o,"minor":m,"text":t}
 unfoldable pub rule_of : Data → Option Command

@@ -10,6 +10,7 @@ use Rattle.cam6_wiring.specs.declared.wirings.Hood.TheVariants.{MargolusPhase, M
 use Rattle.cam6_wiring.specs.declared.wirings.Minor.{Minor}
 use Rattle.cam6_wiring.specs.declared.wirings.Minor.TheVariants.{Centers, Phases, HorzVert}
 use Rattle.cam6_wiring.specs.declared.wirings.Wiring.{Wiring}
+use Rattle.cam6_wiring.specs.Wiring.{wired}
 use Rattle.cam6_wiring.specs.declared.blocks.Grid.{Grid}
 use Rattle.cam6_wiring.specs.declared.blocks.Grid.TheVariants.{Even, Odd}
 use Rattle.cam6_wire.specs.Fields.{text_at, ◌>>=◌}
@@ -76,4 +77,4 @@ wiring_in d = do
   half ← text_at (codes "half") d >>= half_named
   hood ← text_at (codes "hood") d >>= hood_named
   minor ← text_at (codes "minor") d >>= minor_named
-  Some (record { half = half; hood = hood; minor = minor })
+  Some (wired half hood minor)

@@ -42,13 +42,13 @@ Shows d (Set plane row bits) =
     (member (codes "row") (natural row)
     no_members)))))
 -- {"do":"rule","half":h,"hood":o,"minor":m,"name":n,"text":t}
-Shows d (Rule name half hood minor text) =
+Shows d (Rule name wiring text) =
     d
     ≡ object
     (member (codes "do") (string (codes "rule"))
-    (member (codes "half") (string (half_text half))
-    (member (codes "hood") (string (hood_text hood))
-    (member (codes "minor") (string (minor_text minor))
+    (member (codes "half") (string (half_text wiring.half))
+    (member (codes "hood") (string (hood_text wiring.hood))
+    (member (codes "minor") (string (minor_text wiring.minor))
     (member (codes "name") (string name)
     (member (codes "text") (string text)
     no_members))))))

@@ -3,7 +3,7 @@ ghost use Rattle.std.specs.Prelude.{◌≡◌};
 ghost use Rattle.cam6_wire.specs.Fragment.{is_in_fragment};
 
 use cam6_machine::Command;
-use cam6_wiring::{Grid, Half, Hood, Minor};
+use cam6_wiring::{Grid, Half, Hood, Minor, Wiring};
 
 /// A rule has to be one of half A with the von Neumann neighbours, and a cycle a single entry with
 /// no rule for half B, on the even grid and at phase 0.
@@ -12,9 +12,11 @@ pub(crate) fn is_in_fragment(command: &Command) -> bool
 {
     match command {
         Command::Rule {
-            half: Half::A,
-            hood: Hood::VonNeumann,
-            minor: Minor::Centers,
+            wiring: Wiring {
+                half: Half::A,
+                hood: Hood::VonNeumann,
+                minor: Minor::Centers,
+            },
             ..
         } => true,
         Command::Rule { .. } => false,

@@ -107,9 +107,7 @@ fn rule_of(alloc: Global, value: &Value) -> Result<Option<Command>, AllocError>
     };
     Ok(Some(Command::Rule {
         name: Text::new(String::from_str(alloc, name)?),
-        half: wiring.half,
-        hood: wiring.hood,
-        minor: wiring.minor,
+        wiring,
         text: Text::new(String::from_str(alloc, text)?),
     }))
 }

@@ -15,7 +15,7 @@ use Rattle.cam6_machine.proofs.machines.Machine.define.Goals as goal
 
 -- what the trial of the text said
 verdict : (c : goal.In_ok-put-in-Ok) → IsVerdict c.args.wiring c.args.text (Ok c.in-Ok.rule)
-verdict c = subst (IsVerdict c.args.wiring c.args.text) c.in-Ok.is c.in_ok-rule.ensures.verdict
+verdict c = subst (IsVerdict c.args.wiring c.args.text) c.in-Ok.is c.tried_rule.ensures.verdict
 
 -- the rules, among which the new one was put
 put : (c : goal.In_ok-put-in-Ok) →
@@ -32,7 +32,7 @@ after_put : (c : goal.In_ok-put-in-Ok) →
     c.self.inside.cycle.items c.self.inside.position c.self.inside.colours)
     ≡ after (machine_of (stored c.self.inside.planes (rules_of c.self.inside.rules.entries)
     c.self.inside.cycle.items c.self.inside.position c.self.inside.colours))
-    (Rule c.args.name c.args.wiring.half c.args.wiring.hood c.args.wiring.minor c.args.text)
+    (Rule c.args.name c.args.wiring c.args.text)
 after_put c =
     let m = c.self.inside in
     after-rule m.planes (rules_of m.rules.entries) m.cycle.items m.position m.colours
@@ -49,23 +49,20 @@ invariant_of-self-in-Ok c = (
       (stays_machine (machine_of (stored c.self.inside.planes
       (rules_of c.self.inside.rules.entries) c.self.inside.cycle.items c.self.inside.position
       c.self.inside.colours))
-      (Rule c.args.name c.args.wiring.half c.args.wiring.hood c.args.wiring.minor c.args.text)
-      c.self.invariant.0),
+      (Rule c.args.name c.args.wiring c.args.text) c.self.invariant.0),
   subst (λ l. ArePlaced l c.self.inside.cycle.items) (sym (put c))
       (placed_with _ (rules_of c.self.inside.rules.entries) c.self.inside.cycle.items
       c.self.invariant.1),
   c.self.invariant.2,
 )
 
-pub returns-in_ok-put-in-Ok-clause-machine : goal.returns-in_ok-put-in-Ok-clause-machine
-returns-in_ok-put-in-Ok-clause-machine c =
-    let args = c.args in
+pub returns-in-Ok-clause-machine : goal.returns-in-Ok-clause-machine
+returns-in-Ok-clause-machine c =
     after_put c ∙
-    ap (λ k. after (machine_of k)
-    (Rule args.name args.wiring.half args.wiring.hood args.wiring.minor args.text)) c.self.view_is
+    ap (λ k. after (machine_of k) (Rule c.args.name c.args.wiring c.args.text)) c.self.view_is
 
-pub returns-in_ok-put-in-Ok-clause-left : goal.returns-in_ok-put-in-Ok-clause-left
-returns-in_ok-put-in-Ok-clause-left c =
+pub returns-in-Ok-clause-left : goal.returns-in-Ok-clause-left
+returns-in-Ok-clause-left c =
     let m = c.self.inside in
     stored-rule m.planes (rules_of m.rules.entries) m.cycle.items m.position m.colours _
     (rules_of c.put.new.rules.entries) c.self.invariant.1 (put c) ∙

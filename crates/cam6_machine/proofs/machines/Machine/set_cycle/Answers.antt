@@ -7,7 +7,7 @@ use Rattle.cam6_machine.specs.declared.commands.Command.TheVariants.{Cycle}
 use Rattle.cam6_machine.proofs.Done.{after-cycle}
 use Rattle.cam6_machine.proofs.Naming.{are_placed}
 use Rattle.cam6_machine.proofs.Staying.{accepted_cycle, stays_machine}
-use Rattle.cam6_machine.proofs.machines.Machine.turn_by.Goals as goal
+use Rattle.cam6_machine.proofs.machines.Machine.set_cycle.Goals as goal
 
 -- the entries, with the places of the rules that they name
 entries_placed : (c : goal.After-self-1) →
