@@ -2,106 +2,109 @@
 use Rattle.std.proofs.Common.{◌≡◌, ℕ, List, [], ◌∷◌, ◌++◌, Option, None, Some, refl, sym, ap, ◌∙◌}
 use Rattle.std.proofs.Common.{subst, inl, inr, append-nil, append_assoc, true, false}
 use Rattle.cam6_machine.specs.Machine.{Machine, blank}
-use Rattle.cam6_wire.specs.Lines.{lines}
-use Rattle.cam6_wire.specs.Answers.{answer, answers, after_line, after_lines}
-use Rattle.cam6_wire.proofs.Splitting.{ended_lines_are_first}
-use Rattle.cam6_wire.proofs.Answering.{answers_to_both, answers_are_replies}
+use Rattle.cam6_session.specs.Lines.{lines}
+use Rattle.cam6_session.specs.Answering.{Answering, answers, after_lines}
+use Rattle.cam6_session.specs.Answers.{by_machine}
+use Rattle.cam6_session.proofs.Splitting.{ended_lines_are_first}
+use Rattle.cam6_session.proofs.Answering.{answers_to_both, answers_are_replies}
 use Rattle.cam6_session.specs.Sessions.{StopsAt, AnswersUntil, AnswersReader}
-use Rattle.cam6_session.specs.Alone.{WritesRepliesAlone}
+use Rattle.cam6_session.specs.Headline.{WritesRepliesAlone}
 use Rattle.cam6_session.specs.declared.serving.End.{End}
 use Rattle.cam6_session.specs.declared.serving.End.TheVariants as end
 
--- of the answers to all lines a front was written, or all of them
-record IsFront (e : End) (m : Machine) (all written : List ℕ) : Type 0 where
-  pub missing : List ℕ
-  pub is : answers m (lines all) ≡ written ++ missing
-  pub whole : e ≡ end.EndOfInput → missing ≡ []
+module _ {S : Type 0} (by : Answering S) where
+  -- of the answers to all lines a front was written, or all of them
+  record IsFront (e : End) (s : S) (all written : List ℕ) : Type 0 where
+    pub missing : List ℕ
+    pub is : answers by s (lines all) ≡ written ++ missing
+    pub whole : e ≡ end.EndOfInput → missing ≡ []
 
-module _ (m : Machine) (all written : List ℕ) (done later : List (List ℕ))
-    (are : lines all ≡ done ++ later) where
-  abbrev after_done : List ℕ
-  after_done = answers (after_lines m done) later
+  module _ (s : S) (all written : List ℕ) (done later : List (List ℕ))
+      (are : lines all ≡ done ++ later) where
+    abbrev after_done : List ℕ
+    after_done = answers by (after_lines by s done) later
 
-  both : answers m (lines all) ≡ answers m done ++ after_done
-  both = ap (answers m) are ∙ answers_to_both m done later
+    both : answers by s (lines all) ≡ answers by s done ++ after_done
+    both = ap (answers by s) are ∙ answers_to_both by s done later
 
-  front_of_done : (e : End) → (e ≡ end.EndOfInput → after_done ≡ []) → written ≡ answers m done
-      → IsFront e m all written
-  front_of_done e whole is = record {
-    missing = after_done;
-    is = both ∙ ap (λ l. l ++ after_done) (sym is);
-    whole = whole;
-  }
+    front_of_done : (e : End) → (e ≡ end.EndOfInput → after_done ≡ []) → written ≡ answers by s done
+        → IsFront e s all written
+    front_of_done e whole is = record {
+      missing = after_done;
+      is = both ∙ ap (λ l. l ++ after_done) (sym is);
+      whole = whole;
+    }
 
-module _ (m : Machine) (taken left written : List ℕ) (stop : StopsAt taken left) where
-  -- the lines before the one at which it stopped, and that one with those behind it
-  lines_of : lines (taken ++ left) ≡ stop.done ++ (stop.line ∷ lines left)
-  lines_of =
-      stop.whole ∙ ap (λ ls. ls ++ lines left) stop.are
-      ∙ append_assoc stop.done (stop.line ∷ []) (lines left)
+  module _ (s : S) (taken left written : List ℕ) (stop : StopsAt taken left) where
+    -- the lines before the one at which it stopped, and that one with those behind it
+    lines_of : lines (taken ++ left) ≡ stop.done ++ (stop.line ∷ lines left)
+    lines_of =
+        stop.whole ∙ ap (λ ls. ls ++ lines left) stop.are
+        ∙ append_assoc stop.done (stop.line ∷ []) (lines left)
 
-  front_before : (e : End) → (e ≡ end.EndOfInput → ⊥) → written ≡ answers m stop.done
-      → IsFront e m (taken ++ left) written
-  front_before e other is =
-      front_of_done m (taken ++ left) written stop.done (stop.line ∷ lines left) lines_of e
-      (λ same. absurd (other same)) is
+    front_before : (e : End) → (e ≡ end.EndOfInput → ⊥) → written ≡ answers by s stop.done
+        → IsFront e s (taken ++ left) written
+    front_before e other is =
+        front_of_done s (taken ++ left) written stop.done (stop.line ∷ lines left) lines_of e
+        (λ same. absurd (other same)) is
 
-  front_within : (front rest : List ℕ)
-      → answer (after_lines m stop.done) stop.line ≡ front ++ rest
-      → written ≡ answers m stop.done ++ front
-      → IsFront end.WriteFault m (taken ++ left) written
-  front_within front rest parts is =
-      let first = answers m stop.done in
-      let later = answers (after_line (after_lines m stop.done) stop.line) (lines left) in
-      record {
-        missing = rest ++ later;
-        is = both m (taken ++ left) written stop.done (stop.line ∷ lines left) lines_of
-            ∙ ap (λ l. first ++ (l ++ later)) parts
-            ∙ ap (λ l. first ++ l) (append_assoc front rest later)
-            ∙ sym (append_assoc first front (rest ++ later))
-            ∙ ap (λ l. l ++ (rest ++ later)) (sym is);
-        whole = λ same. let never : ⊥ = cc in absurd never;
-      }
+    front_within : (front rest : List ℕ)
+        → by.answer (after_lines by s stop.done) stop.line ≡ front ++ rest
+        → written ≡ answers by s stop.done ++ front
+        → IsFront end.WriteFault s (taken ++ left) written
+    front_within front rest parts is =
+        let first = answers by s stop.done in
+        let stopped = by.after_line (after_lines by s stop.done) stop.line in
+        let later = answers by stopped (lines left) in
+        record {
+          missing = rest ++ later;
+          is = both s (taken ++ left) written stop.done (stop.line ∷ lines left) lines_of
+              ∙ ap (λ l. first ++ (l ++ later)) parts
+              ∙ ap (λ l. first ++ l) (append_assoc front rest later)
+              ∙ sym (append_assoc first front (rest ++ later))
+              ∙ ap (λ l. l ++ (rest ++ later)) (sym is);
+          whole = λ same. let never : ⊥ = cc in absurd never;
+        }
 
-is_front : (e : End) (m n : Machine) (taken left written : List ℕ)
-    → AnswersUntil e m taken left written n → IsFront e m (taken ++ left) written
-is_front end.EndOfInput m n taken left written serves =
-    let are : lines (taken ++ left) ≡ lines taken ++ [] =
-    ap (λ l. lines (taken ++ l)) serves.0 ∙ ap lines (append-nil taken)
-    ∙ sym (append-nil (lines taken)) in
-    front_of_done m (taken ++ left) written (lines taken) [] are end.EndOfInput (λ same. refl)
-    serves.1.0
-is_front end.ReadFault m n taken left written serves =
-    let first = ended_lines_are_first taken left in
-    front_of_done m (taken ++ left) written _ first.0 first.1 end.ReadFault
-    (λ same. let never : ⊥ = cc in absurd never) serves.0
-is_front end.TurnBound m n taken left written serves =
-    let first = ended_lines_are_first taken left in
-    front_of_done m (taken ++ left) written _ first.0 first.1 end.TurnBound
-    (λ same. let never : ⊥ = cc in absurd never) serves.0
-is_front end.WriteFault m n taken left written serves =
-    front_within m taken left written serves.0 serves.1 serves.2 serves.3 serves.4
-is_front (end.NoMemory true) m n taken left written serves =
-    front_before m taken left written serves.0 (end.NoMemory true) (λ same. cc) serves.1
-is_front (end.NoMemory false) m n taken left written (inl none) =
-    front_of_done m (taken ++ left) written [] (lines (taken ++ left)) refl (end.NoMemory false)
-    (λ same. let never : ⊥ = cc in absurd never) none.1.0
-is_front (end.NoMemory false) m n taken left written (inr stopped) =
-    front_before m taken left written stopped.0 (end.NoMemory false) (λ same. cc) stopped.1.0
+  is_front : (e : End) (s t : S) (taken left written : List ℕ)
+      → AnswersUntil by e s taken left written t → IsFront e s (taken ++ left) written
+  is_front end.EndOfInput s t taken left written serves =
+      let are : lines (taken ++ left) ≡ lines taken ++ [] =
+      ap (λ l. lines (taken ++ l)) serves.0 ∙ ap lines (append-nil taken)
+      ∙ sym (append-nil (lines taken)) in
+      front_of_done s (taken ++ left) written (lines taken) [] are end.EndOfInput (λ same. refl)
+      serves.1.0
+  is_front end.ReadFault s t taken left written serves =
+      let first = ended_lines_are_first taken left in
+      front_of_done s (taken ++ left) written _ first.0 first.1 end.ReadFault
+      (λ same. let never : ⊥ = cc in absurd never) serves.0
+  is_front end.TurnBound s t taken left written serves =
+      let first = ended_lines_are_first taken left in
+      front_of_done s (taken ++ left) written _ first.0 first.1 end.TurnBound
+      (λ same. let never : ⊥ = cc in absurd never) serves.0
+  is_front end.WriteFault s t taken left written serves =
+      front_within s taken left written serves.0 serves.1 serves.2 serves.3 serves.4
+  is_front (end.NoMemory true) s t taken left written serves =
+      front_before s taken left written serves.0 (end.NoMemory true) (λ same. cc) serves.1
+  is_front (end.NoMemory false) s t taken left written (inl none) =
+      front_of_done s (taken ++ left) written [] (lines (taken ++ left)) refl (end.NoMemory false)
+      (λ same. let never : ⊥ = cc in absurd never) none.1.0
+  is_front (end.NoMemory false) s t taken left written (inr stopped) =
+      front_before s taken left written stopped.0 (end.NoMemory false) (λ same. cc) stopped.1.0
 
 writes_from_blank : (e : End) (read unread old new : Option (List ℕ)) (n : Machine)
-    → AnswersReader e read unread old new blank n → WritesRepliesAlone e read old new
+    → AnswersReader by_machine e read unread old new blank n → WritesRepliesAlone e read old new
 writes_from_blank e None unread old new n served = tt
 writes_from_blank e (Some all) unread None new n served = tt
 writes_from_blank e (Some all) unread (Some out) new n served =
     let written = served.2 in
-    let front = is_front e blank n served.0 served.1 written served.6 in
+    let front = is_front by_machine e blank n served.0 served.1 written served.6 in
     let are = sym (answers_are_replies blank (lines all)).0
-    ∙ ap (λ l. answers blank (lines l)) served.3 ∙ front.is in
+    ∙ ap (λ l. answers by_machine blank (lines l)) served.3 ∙ front.is in
     (written, front.missing, are, served.5, front.whole)
 
 pub writes_alone : (e : End) (read unread old new : Option (List ℕ)) (m n : Machine) → m ≡ blank
-    → AnswersReader e read unread old new m n → WritesRepliesAlone e read old new
+    → AnswersReader by_machine e read unread old new m n → WritesRepliesAlone e read old new
 writes_alone e read unread old new m n is served =
     writes_from_blank e read unread old new n
-    (subst (λ x. AnswersReader e read unread old new x n) is served)
+    (subst (λ x. AnswersReader by_machine e read unread old new x n) is served)

@@ -1,6 +1,9 @@
+pub mod Splitting
+pub mod Answering
 pub mod Taking
 pub mod Parts
 pub mod Runs
 pub mod Known
 pub mod Fronts
 pub mod Writes
+pub mod Stopping

@@ -1,53 +1,25 @@
 -- A session so far: the lines that it took, each answered, and how it goes on or ends from there.
 use Rattle.std.proofs.Common.{◌≡◌, ℕ, List, [], ◌∷◌, ◌++◌, Option, None, Some, refl, sym, ap}
 use Rattle.std.proofs.Common.{◌∙◌, subst, inr, append-nil, append_assoc, true, false}
+use Rattle.std.proofs.Common.{Result, Ok, Err}
 use Rattle.std.proofs.lemmas.List.Elements.{All-push}
 use Rattle.std.specs.Prelude.{All}
 use Rattle.std.specs.Io.KnownBytes.{Appends, Keeps}
-use Rattle.cam6_machine.specs.Machine.{Machine}
-use Rattle.cam6_wire.specs.Lines.{lines, ended_lines, joined}
-use Rattle.cam6_wire.specs.Answers.{answer, answers, after_line, after_lines}
+use Rattle.cam6_session.specs.Lines.{lines, ended_lines, joined}
+use Rattle.cam6_session.specs.Answering.{Answering, answers, after_lines}
 use Rattle.cam6_wire.specs.OneLine.{HasNoLf}
-use Rattle.cam6_wire.proofs.Splitting.{lines_joined, ended_lines_joined, joined_more, only_line}
-use Rattle.cam6_wire.proofs.Splitting.{first_line, no_ended_line}
-use Rattle.cam6_wire.proofs.Answering.{answers_to_more, after_more}
+use Rattle.cam6_session.proofs.Splitting.{lines_joined, ended_lines_joined, joined_more, only_line}
+use Rattle.cam6_session.proofs.Splitting.{first_line, no_ended_line}
+use Rattle.cam6_session.proofs.Answering.{answers_to_more, after_more}
 use Rattle.cam6_session.specs.Held.{Held, Holds}
 use Rattle.cam6_session.specs.Reading.{Reads}
-use Rattle.cam6_session.specs.Responding.{Responds}
+use Rattle.cam6_session.specs.Responding.{Responds, end_at}
 use Rattle.cam6_session.specs.Sessions.{StopsAt, AnswersReader, AnswersUntil}
 use Rattle.cam6_session.specs.declared.lines.Line.TheVariants as read
 use Rattle.cam6_session.specs.declared.serving.End.{End}
 use Rattle.cam6_session.specs.declared.serving.End.TheVariants as end
-
--- of a reader with all these bytes some lines have been taken, and a writer with these bytes has
--- their answers behind them
-pub record HasRun (m : Machine) (all out : List ℕ) (unread new : Option (List ℕ)) (n : Machine)
-    : Type 0 where
-  pub done : List (List ℕ)
-  pub left : List ℕ
-  pub free : All HasNoLf done
-  pub taken : all ≡ joined done ++ left
-  pub leaves : unread ≡ Some left
-  pub writes : new ≡ Some (out ++ answers m done)
-  pub stands : n ≡ after_lines m done
-
--- one more whole line has been taken, which isn't answered
-pub record HasTaken (m : Machine) (all out : List ℕ) (unread new : Option (List ℕ)) (n : Machine)
-    (held : Held) : Type 0 where
-  pub taken : List ℕ
-  pub left : List ℕ
-  pub is : all ≡ taken ++ left
-  pub leaves : unread ≡ Some left
-  pub stop : StopsAt taken left
-  pub writes : new ≡ Some (out ++ answers m stop.done)
-  pub stands : n ≡ after_lines m stop.done
-  pub holds : Holds held stop.line
-
--- the line is responded to so
-abbrev pub RespondsTo : Option End → Held → Option (List ℕ) → Option (List ℕ) → Machine
-    → Machine → Type 0
-RespondsTo end held old new m n =
-    (line : List ℕ) → Holds held line → Responds end line old new m n
+use Rattle.cam6_session.specs.declared.serving.Stop.{Stop}
+use Rattle.cam6_session.specs.declared.serving.Stop.TheVariants as stop
 
 appended : (old new : Option (List ℕ)) (bytes more : List ℕ) → old ≡ Some bytes
     → Appends old new more → new ≡ Some (bytes ++ more)
@@ -62,192 +34,224 @@ kept None new bytes e keeps = let never : ⊥ = cc in absurd never
 kept (Some b) None bytes e keeps = absurd keeps
 kept (Some b) (Some c) bytes e keeps = ap Some keeps ∙ e
 
-module _ (m : Machine) (all out : List ℕ) (unread after new : Option (List ℕ)) (n : Machine)
-    (held : Held) (run : HasRun m all out unread new n) where
-  lines_done : (rest : List ℕ) → lines (joined run.done ++ rest) ≡ run.done ++ lines rest
-  lines_done rest = lines_joined run.done rest run.free
+module _ {S : Type 0} (by : Answering S) where
+  -- of a reader with all these bytes some lines have been taken, and a writer with these bytes has
+  -- their answers behind them
+  pub record HasRun (s : S) (all out : List ℕ) (unread new : Option (List ℕ)) (t : S)
+      : Type 0 where
+    pub done : List (List ℕ)
+    pub left : List ℕ
+    pub free : All HasNoLf done
+    pub taken : all ≡ joined done ++ left
+    pub leaves : unread ≡ Some left
+    pub writes : new ≡ Some (out ++ answers by s done)
+    pub stands : t ≡ after_lines by s done
 
-  -- the reader ended, or failed, or the turns ran out
-  pub ends_input : Reads read.EndOfInput unread after held
-      → AnswersReader end.EndOfInput (Some all) after (Some out) new m n
-  ends_input reads =
-      let at = subst (λ u. Reads read.EndOfInput u after held) run.leaves reads in
-      let are : run.done ≡ lines (joined run.done) =
-      sym (append-nil run.done) ∙ sym (lines_done [])
-      ∙ ap lines (append-nil (joined run.done)) in (
-        joined run.done,
-        [],
-        answers m run.done,
-        run.taken ∙ ap (λ l. joined run.done ++ l) at.2.0,
-        at.1 ∙ ap Some at.2.1,
-        run.writes,
-        (refl, (ap (answers m) are, run.stands ∙ ap (after_lines m) are)),
-      )
+  -- one more whole line has been taken, which isn't answered
+  pub record HasTaken (s : S) (all out : List ℕ) (unread new : Option (List ℕ)) (t : S)
+      (held : Held) : Type 0 where
+    pub taken : List ℕ
+    pub left : List ℕ
+    pub is : all ≡ taken ++ left
+    pub leaves : unread ≡ Some left
+    pub stop : StopsAt taken left
+    pub writes : new ≡ Some (out ++ answers by s stop.done)
+    pub stands : t ≡ after_lines by s stop.done
+    pub holds : Holds held stop.line
 
-  pub gives_up : (left part : List ℕ) → after ≡ Some left → HasNoLf part
-      → run.left ≡ part ++ left → AnswersReader end.ReadFault (Some all) after (Some out) new m n
-  gives_up left part leaves free is =
-      let are : run.done ≡ ended_lines (joined run.done ++ part) =
-      sym (append-nil run.done) ∙ ap (λ ls. run.done ++ ls) (sym (no_ended_line part free))
-      ∙ sym (ended_lines_joined run.done part run.free) in (
-        joined run.done ++ part,
-        left,
-        answers m run.done,
-        run.taken ∙ ap (λ l. joined run.done ++ l) is
-            ∙ sym (append_assoc (joined run.done) part left),
-        leaves,
-        run.writes,
-        (ap (answers m) are, run.stands ∙ ap (after_lines m) are),
-      )
+  -- the line is responded to so
+  abbrev pub RespondsTo : Result (Unit {0}) Stop → Held → Option (List ℕ) → Option (List ℕ)
+      → S → S → Type 0
+  RespondsTo result held old new s t =
+      (line : List ℕ) → Holds held line → Responds by result line old new s t
 
-  pub fails_reading : Reads read.ReadFault unread after held
-      → AnswersReader end.ReadFault (Some all) after (Some out) new m n
-  fails_reading reads =
-      let at = subst (λ u. Reads read.ReadFault u after held) run.leaves reads in
-      gives_up at.0 at.2.0 at.1 at.2.1 at.2.2
+  module _ (s : S) (all out : List ℕ) (unread after new : Option (List ℕ)) (t : S)
+      (held : Held) (run : HasRun s all out unread new t) where
+    lines_done : (rest : List ℕ) → lines (joined run.done ++ rest) ≡ run.done ++ lines rest
+    lines_done rest = lines_joined run.done rest run.free
 
-  pub meets_bound : Reads read.TurnBound unread after held
-      → AnswersReader end.TurnBound (Some all) after (Some out) new m n
-  meets_bound reads =
-      let at = subst (λ u. Reads read.TurnBound u after held) run.leaves reads in
-      gives_up at.0 at.2.0 at.1 at.2.1 at.2.2
+    -- the reader ended, or failed, or the turns ran out
+    pub ends_input : Reads read.EndOfInput unread after held
+        → AnswersReader by end.EndOfInput (Some all) after (Some out) new s t
+    ends_input reads =
+        let at = subst (λ u. Reads read.EndOfInput u after held) run.leaves reads in
+        let are : run.done ≡ lines (joined run.done) =
+        sym (append-nil run.done) ∙ sym (lines_done [])
+        ∙ ap lines (append-nil (joined run.done)) in (
+          joined run.done,
+          [],
+          answers by s run.done,
+          run.taken ∙ ap (λ l. joined run.done ++ l) at.2.0,
+          at.1 ∙ ap Some at.2.1,
+          run.writes,
+          (refl, (ap (answers by s) are, run.stands ∙ ap (after_lines by s) are)),
+        )
 
-  -- a line was taken with its LF
-  pub takes_ended : Reads read.Ended unread after held → HasTaken m all out after new n held
-  takes_ended reads =
-      let at = subst (λ u. Reads read.Ended u after held) run.leaves reads in
-      let line = at.2.0 in
-      let taken = joined run.done ++ (line ++ 10 ∷ []) in
-      let behind : (rest : List ℕ) → lines (taken ++ rest) ≡ (run.done ++ line ∷ []) ++ lines rest =
-      λ rest.
-      ap lines (append_assoc (joined run.done) (line ++ 10 ∷ []) rest
-      ∙ ap (λ l. joined run.done ++ l) (append_assoc line (10 ∷ []) rest))
-      ∙ lines_done (line ++ 10 ∷ rest)
-      ∙ ap (λ ls. run.done ++ ls) (first_line line rest at.2.1)
-      ∙ sym (append_assoc run.done (line ∷ []) (lines rest)) in
-      let are = ap lines (sym (append-nil taken)) ∙ behind []
-      ∙ append-nil (run.done ++ line ∷ []) in
-      record {
-        taken = taken;
-        left = at.0;
-        is = run.taken ∙ ap (λ l. joined run.done ++ l) at.2.2
-            ∙ sym (append_assoc (joined run.done) (line ++ 10 ∷ []) at.0
-            ∙ ap (λ l. joined run.done ++ l) (append_assoc line (10 ∷ []) at.0));
-        leaves = at.1;
-        stop = record {
-          done = run.done;
-          line = line;
-          are = are;
-          whole = behind at.0 ∙ ap (λ ls. ls ++ lines at.0) (sym are);
-        };
-        writes = run.writes;
-        stands = run.stands;
-        holds = at.2.3;
-      }
+    pub gives_up : (left part : List ℕ) → after ≡ Some left → HasNoLf part
+        → run.left ≡ part ++ left
+        → AnswersReader by end.ReadFault (Some all) after (Some out) new s t
+    gives_up left part leaves free is =
+        let are : run.done ≡ ended_lines (joined run.done ++ part) =
+        sym (append-nil run.done) ∙ ap (λ ls. run.done ++ ls) (sym (no_ended_line part free))
+        ∙ sym (ended_lines_joined run.done part run.free) in (
+          joined run.done ++ part,
+          left,
+          answers by s run.done,
+          run.taken ∙ ap (λ l. joined run.done ++ l) is
+              ∙ sym (append_assoc (joined run.done) part left),
+          leaves,
+          run.writes,
+          (ap (answers by s) are, run.stands ∙ ap (after_lines by s) are),
+        )
 
-  -- the last line was taken, which none ends
-  pub takes_last : Reads read.Last unread after held
-      → (t : HasTaken m all out after new n held) × (t.left ≡ [])
-  takes_last reads =
-      let at = subst (λ u. Reads read.Last u after held) run.leaves reads in
-      let line = at.2.0 in
-      let taken = joined run.done ++ line in
-      let are = lines_done line ∙ ap (λ ls. run.done ++ ls) (only_line line at.2.1 at.2.2) in (
+    pub fails_reading : Reads read.ReadFault unread after held
+        → AnswersReader by end.ReadFault (Some all) after (Some out) new s t
+    fails_reading reads =
+        let at = subst (λ u. Reads read.ReadFault u after held) run.leaves reads in
+        gives_up at.0 at.2.0 at.1 at.2.1 at.2.2
+
+    pub meets_bound : Reads read.TurnBound unread after held
+        → AnswersReader by end.TurnBound (Some all) after (Some out) new s t
+    meets_bound reads =
+        let at = subst (λ u. Reads read.TurnBound u after held) run.leaves reads in
+        gives_up at.0 at.2.0 at.1 at.2.1 at.2.2
+
+    -- a line was taken with its LF
+    pub takes_ended : Reads read.Ended unread after held → HasTaken s all out after new t held
+    takes_ended reads =
+        let at = subst (λ u. Reads read.Ended u after held) run.leaves reads in
+        let line = at.2.0 in
+        let taken = joined run.done ++ (line ++ 10 ∷ []) in
+        let behind : (rest : List ℕ)
+        → lines (taken ++ rest) ≡ (run.done ++ line ∷ []) ++ lines rest =
+        λ rest.
+        ap lines (append_assoc (joined run.done) (line ++ 10 ∷ []) rest
+        ∙ ap (λ l. joined run.done ++ l) (append_assoc line (10 ∷ []) rest))
+        ∙ lines_done (line ++ 10 ∷ rest)
+        ∙ ap (λ ls. run.done ++ ls) (first_line line rest at.2.1)
+        ∙ sym (append_assoc run.done (line ∷ []) (lines rest)) in
+        let are = ap lines (sym (append-nil taken)) ∙ behind []
+        ∙ append-nil (run.done ++ line ∷ []) in
         record {
           taken = taken;
-          left = [];
-          is = run.taken ∙ ap (λ l. joined run.done ++ l) at.2.3 ∙ sym (append-nil taken);
-          leaves = at.1 ∙ ap Some at.2.4;
+          left = at.0;
+          is = run.taken ∙ ap (λ l. joined run.done ++ l) at.2.2
+              ∙ sym (append_assoc (joined run.done) (line ++ 10 ∷ []) at.0
+              ∙ ap (λ l. joined run.done ++ l) (append_assoc line (10 ∷ []) at.0));
+          leaves = at.1;
           stop = record {
             done = run.done;
             line = line;
             are = are;
-            whole = ap lines (append-nil taken) ∙ sym (append-nil (lines taken));
+            whole = behind at.0 ∙ ap (λ ls. ls ++ lines at.0) (sym are);
           };
           writes = run.writes;
           stands = run.stands;
-          holds = at.2.5;
-        },
-        refl,
-      )
+          holds = at.2.3;
+        }
 
-  -- a line was answered, and the session goes on
-  pub goes_on : (then : Option (List ℕ)) (p : Machine) → Reads read.Ended unread after held
-      → RespondsTo None held new then n p → HasRun m all out after then p
-  goes_on then p reads responds =
-      let at = subst (λ u. Reads read.Ended u after held) run.leaves reads in
-      let line = at.2.0 in
-      let done = responds line at.2.3 in
-      let written = subst (λ x. Appends new then (answer x line)) run.stands done.0 in
-      record {
-        done = run.done ++ line ∷ [];
-        left = at.0;
-        free = All-push HasNoLf run.done line run.free at.2.1;
-        taken = run.taken ∙ ap (λ l. joined run.done ++ l) at.2.2
-            ∙ sym (joined_more run.done line at.0);
-        leaves = at.1;
-        writes = appended new then _ _ run.writes written
-            ∙ ap Some (append_assoc out (answers m run.done) _
-            ∙ ap (λ l. out ++ l) (sym (answers_to_more m run.done line)));
-        stands = done.1 ∙ ap (λ x. after_line x line) run.stands
-            ∙ sym (after_more m run.done line);
-      }
+    -- the last line was taken, which none ends
+    pub takes_last : Reads read.Last unread after held
+        → (took : HasTaken s all out after new t held) × (took.left ≡ [])
+    takes_last reads =
+        let at = subst (λ u. Reads read.Last u after held) run.leaves reads in
+        let line = at.2.0 in
+        let taken = joined run.done ++ line in
+        let are = lines_done line ∙ ap (λ ls. run.done ++ ls) (only_line line at.2.1 at.2.2) in (
+          record {
+            taken = taken;
+            left = [];
+            is = run.taken ∙ ap (λ l. joined run.done ++ l) at.2.3 ∙ sym (append-nil taken);
+            leaves = at.1 ∙ ap Some at.2.4;
+            stop = record {
+              done = run.done;
+              line = line;
+              are = are;
+              whole = ap lines (append-nil taken) ∙ sym (append-nil (lines taken));
+            };
+            writes = run.writes;
+            stands = run.stands;
+            holds = at.2.5;
+          },
+          refl,
+        )
 
-module _ (m : Machine) (all out : List ℕ) (after new then : Option (List ℕ)) (n p : Machine)
-    (held : Held) (t : HasTaken m all out after new n held) where
-  stands_after : p ≡ after_line n t.stop.line → p ≡ after_lines m (t.stop.done ++ t.stop.line ∷ [])
-  stands_after is =
-      is ∙ ap (λ x. after_line x t.stop.line) t.stands ∙ sym (after_more m t.stop.done t.stop.line)
+    -- a line was answered, and the session goes on
+    pub goes_on : (then : Option (List ℕ)) (u : S) → Reads read.Ended unread after held
+        → RespondsTo (Ok tt) held new then t u → HasRun s all out after then u
+    goes_on then u reads responds =
+        let at = subst (λ u. Reads read.Ended u after held) run.leaves reads in
+        let line = at.2.0 in
+        let done = responds line at.2.3 in
+        let written = subst (λ x. Appends new then (by.answer x line)) run.stands done.0 in
+        record {
+          done = run.done ++ line ∷ [];
+          left = at.0;
+          free = All-push HasNoLf run.done line run.free at.2.1;
+          taken = run.taken ∙ ap (λ l. joined run.done ++ l) at.2.2
+              ∙ sym (joined_more run.done line at.0);
+          leaves = at.1;
+          writes = appended new then _ _ run.writes written
+              ∙ ap Some (append_assoc out (answers by s run.done) _
+              ∙ ap (λ l. out ++ l) (sym (answers_to_more by s run.done line)));
+          stands = done.1 ∙ ap (λ x. by.after_line x line) run.stands
+              ∙ sym (after_more by s run.done line);
+        }
 
-  served : (e : End) (written : List ℕ) → then ≡ Some (out ++ written)
-      → AnswersUntil e m t.taken t.left written p
-      → AnswersReader e (Some all) after (Some out) then m p
-  served e written is serves = (t.taken, t.left, written, t.is, t.leaves, is, serves)
+  module _ (s : S) (all out : List ℕ) (after new then : Option (List ℕ)) (t u : S)
+      (held : Held) (took : HasTaken s all out after new t held) where
+    stands_after : u ≡ by.after_line t took.stop.line
+        → u ≡ after_lines by s (took.stop.done ++ took.stop.line ∷ [])
+    stands_after is =
+        is ∙ ap (λ x. by.after_line x took.stop.line) took.stands
+        ∙ sym (after_more by s took.stop.done took.stop.line)
 
-  fails_writing : RespondsTo (Some end.WriteFault) held new then n p
-      → AnswersReader end.WriteFault (Some all) after (Some out) then m p
-  fails_writing responds =
-      let at = responds t.stop.line t.holds in
-      let front = at.0.0 in
-      let is = ap (λ x. answer x t.stop.line) (sym t.stands) ∙ at.0.2 in
-      let writes = appended new then _ front t.writes at.0.3
-      ∙ ap Some (append_assoc out (answers m t.stop.done) front) in
-      served end.WriteFault (answers m t.stop.done ++ front) writes
-      (t.stop, front, at.0.1, is, refl, stands_after at.1)
+    served : (e : End) (written : List ℕ) → then ≡ Some (out ++ written)
+        → AnswersUntil by e s took.taken took.left written u
+        → AnswersReader by e (Some all) after (Some out) then s u
+    served e written is serves = (took.taken, took.left, written, took.is, took.leaves, is, serves)
 
-  finds_none_done : RespondsTo (Some (end.NoMemory true)) held new then n p
-      → AnswersReader (end.NoMemory true) (Some all) after (Some out) then m p
-  finds_none_done responds =
-      let at = responds t.stop.line t.holds in
-      served (end.NoMemory true) (answers m t.stop.done) (kept new then _ t.writes at.0)
-      (t.stop, refl, stands_after at.1, at.2)
+    fails_writing : RespondsTo (Err stop.WriteFault) held new then t u
+        → AnswersReader by end.WriteFault (Some all) after (Some out) then s u
+    fails_writing responds =
+        let at = responds took.stop.line took.holds in
+        let front = at.0.0 in
+        let is = ap (λ x. by.answer x took.stop.line) (sym took.stands) ∙ at.0.2 in
+        let writes = appended new then _ front took.writes at.0.3
+        ∙ ap Some (append_assoc out (answers by s took.stop.done) front) in
+        served end.WriteFault (answers by s took.stop.done ++ front) writes
+        (took.stop, front, at.0.1, is, refl, stands_after at.1)
 
-  finds_none_undone : RespondsTo (Some (end.NoMemory false)) held new then n p
-      → AnswersReader (end.NoMemory false) (Some all) after (Some out) then m p
-  finds_none_undone responds =
-      let at = responds t.stop.line t.holds in
-      served (end.NoMemory false) (answers m t.stop.done) (kept new then _ t.writes at.0)
-      (inr (t.stop, (refl, at.1 ∙ t.stands), at.2))
+    finds_none_done : RespondsTo (Err (stop.NoMemory true)) held new then t u
+        → AnswersReader by (end.NoMemory true) (Some all) after (Some out) then s u
+    finds_none_done responds =
+        let at = responds took.stop.line took.holds in
+        served (end.NoMemory true) (answers by s took.stop.done) (kept new then _ took.writes at.0)
+        (took.stop, refl, stands_after at.1, at.2)
 
-  -- a line was taken, and the session stops at it
-  pub stops : (e : End) → RespondsTo (Some e) held new then n p
-      → AnswersReader e (Some all) after (Some out) then m p
-  stops end.WriteFault responds = fails_writing responds
-  stops (end.NoMemory true) responds = finds_none_done responds
-  stops (end.NoMemory false) responds = finds_none_undone responds
-  stops end.EndOfInput responds = absurd (responds t.stop.line t.holds)
-  stops end.ReadFault responds = absurd (responds t.stop.line t.holds)
-  stops end.TurnBound responds = absurd (responds t.stop.line t.holds)
+    finds_none_undone : RespondsTo (Err (stop.NoMemory false)) held new then t u
+        → AnswersReader by (end.NoMemory false) (Some all) after (Some out) then s u
+    finds_none_undone responds =
+        let at = responds took.stop.line took.holds in
+        served (end.NoMemory false) (answers by s took.stop.done) (kept new then _ took.writes at.0)
+        (inr (took.stop, (refl, at.1 ∙ took.stands), at.2))
 
-  -- or nothing is left behind it
-  pub answers_last : t.left ≡ [] → RespondsTo None held new then n p
-      → AnswersReader end.EndOfInput (Some all) after (Some out) then m p
-  answers_last none responds =
-      let at = responds t.stop.line t.holds in
-      let written = subst (λ x. Appends new then (answer x t.stop.line)) t.stands at.0 in
-      let writes = appended new then _ _ t.writes written
-      ∙ ap Some (append_assoc out (answers m t.stop.done) _
-      ∙ ap (λ l. out ++ l) (sym (answers_to_more m t.stop.done t.stop.line)
-      ∙ ap (answers m) (sym t.stop.are))) in
-      served end.EndOfInput (answers m (lines t.taken)) writes
-      (none, (refl, stands_after at.1 ∙ ap (after_lines m) (sym t.stop.are)))
+    -- a line was taken, and the session stops at it
+    pub stops : (at : Stop) → RespondsTo (Err at) held new then t u
+        → AnswersReader by (end_at at) (Some all) after (Some out) then s u
+    stops stop.WriteFault responds = fails_writing responds
+    stops (stop.NoMemory true) responds = finds_none_done responds
+    stops (stop.NoMemory false) responds = finds_none_undone responds
+
+    -- or nothing is left behind it
+    pub answers_last : took.left ≡ [] → RespondsTo (Ok tt) held new then t u
+        → AnswersReader by end.EndOfInput (Some all) after (Some out) then s u
+    answers_last none responds =
+        let at = responds took.stop.line took.holds in
+        let written = subst (λ x. Appends new then (by.answer x took.stop.line)) took.stands at.0 in
+        let writes = appended new then _ _ took.writes written
+        ∙ ap Some (append_assoc out (answers by s took.stop.done) _
+        ∙ ap (λ l. out ++ l) (sym (answers_to_more by s took.stop.done took.stop.line)
+        ∙ ap (answers by s) (sym took.stop.are))) in
+        served end.EndOfInput (answers by s (lines took.taken)) writes
+        (none, (refl, stands_after at.1 ∙ ap (after_lines by s) (sym took.stop.are)))

@@ -1,10 +1,12 @@
 -- Writes one after another make one front.
-use Rattle.std.proofs.Common.{◌≡◌, [], ◌∷◌, ◌++◌, ◌-◌, ◌≤◌, ℕ, List, Option, Bool, true, false}
+use Rattle.std.proofs.Common.{◌≡◌, [], ◌∷◌, ◌++◌, ◌-◌, ◌≤◌, ℕ, List, Option, Result, Ok, Err}
 use Rattle.std.proofs.Common.{length, take, drop, sym, ap, ◌∙◌, append-nil, append_assoc, arith}
 use Rattle.std.proofs.Common.{take-append-drop, take_all, length-drop}
 use Rattle.std.proofs.KnownBytes.{Appends-trans, Appends-kept}
+use Rattle.std.specs.Prelude.{IsErr}
 use Rattle.std.specs.Io.KnownBytes.{Appends, Keeps}
 use Rattle.cam6_session.specs.Front.{WritesSome, WritesFront}
+use Rattle.cam6_session.specs.declared.writing.WriteFault.{WriteFault}
 
 -- of these bytes all but a rest have been written
 pub record Written (old new : Option (List ℕ)) (bytes rest : List ℕ) : Type 0 where
@@ -29,6 +31,13 @@ more_is_written old now new bytes rest n within before more =
       appends = Appends-trans old now new before.part (take n rest) before.appends more;
     }
 
+-- where it failed, some front was written
+pub front_at_fault : (old new : Option (List ℕ)) (bytes : List ℕ)
+    (result : Result (Unit {0}) WriteFault) → IsErr result → WritesSome old new bytes
+    → WritesFront result old new bytes
+front_at_fault old new bytes (Ok done) failed front = let never : ⊥ = cc in absurd never
+front_at_fault old new bytes (Err fault) failed front = front
+
 module _ (old : Option (List ℕ)) (text : List ℕ) where
   pub front_of_text : (new : Option (List ℕ)) → WritesSome old new text
       → WritesSome old new (text ++ 10 ∷ [])
@@ -42,14 +51,17 @@ module _ (old : Option (List ℕ)) (text : List ℕ) where
       let is = ap (λ l. text ++ l) front.2 ∙ sym (append_assoc text front.0 front.1) in
       (text ++ front.0, front.1, is, Appends-trans old now new text front.0 first front.3)
 
-  pub text_and_newline : (now then new : Option (List ℕ)) (ok : Bool) → Appends old now text
-      → Appends now then (10 ∷ []) → Keeps then new → WritesFront ok old new (text ++ 10 ∷ [])
-  text_and_newline now then new ok first newline kept = go ok
-    where
-      whole : Appends old new (text ++ 10 ∷ [])
-      whole = Appends-kept old then new (text ++ 10 ∷ [])
-          (Appends-trans old now then text (10 ∷ []) first newline) kept
+  pub text_and_newline : (now then new : Option (List ℕ)) → Appends old now text
+      → Appends now then (10 ∷ []) → Keeps then new → Appends old new (text ++ 10 ∷ [])
+  text_and_newline now then new first newline kept =
+      Appends-kept old then new (text ++ 10 ∷ [])
+      (Appends-trans old now then text (10 ∷ []) first newline) kept
 
-      go : (ok : Bool) → WritesFront ok old new (text ++ 10 ∷ [])
-      go true = whole
-      go false = (text ++ 10 ∷ [], [], sym (append-nil (text ++ 10 ∷ [])), whole)
+  pub text_and_no_flush : (now then new : Option (List ℕ)) → Appends old now text
+      → Appends now then (10 ∷ []) → Keeps then new → WritesSome old new (text ++ 10 ∷ [])
+  text_and_no_flush now then new first newline kept = (
+    text ++ 10 ∷ [],
+    [],
+    sym (append-nil (text ++ 10 ∷ [])),
+    text_and_newline now then new first newline kept,
+  )

@@ -1,34 +1,12 @@
--- What is written by a session with a machine that nobody shares, from a blank machine on.
-use Rattle.std.specs.Prelude.{◌≡◌, ℕ, List, [], ◌++◌, Option, Some, IfSome, Result, map}
+-- How a session ends with a machine that nobody shares, from a blank machine on.
+use Rattle.std.specs.Prelude.{ℕ, List, Option}
 use Rattle.cam6_machine.specs.Machine.{Machine, blank}
-use Rattle.cam6_machine.specs.Alone.{replies}
-use Rattle.cam6_machine.specs.declared.commands.Command.{Command}
-use Rattle.cam6_wire.specs.declared.faults.LineFault.{LineFault}
-use Rattle.cam6_wire.specs.Commands.{command}
-use Rattle.cam6_wire.specs.Lines.{lines}
-use Rattle.cam6_wire.specs.Answers.{commands, texts_of}
+use Rattle.cam6_session.specs.Answers.{by_machine}
 use Rattle.cam6_session.specs.Sessions.{AnswersReader}
 use Rattle.cam6_session.specs.declared.serving.End.{End}
-use Rattle.cam6_session.specs.declared.serving.End.TheVariants.{EndOfInput}
-
--- what each line of a text says
-abbrev pub said_in : List ℕ → List (Result Command LineFault)
-said_in all = map command (lines all)
-
--- the texts of the machine's replies to the commands among the lines, and of the faults of the
--- others, in the order of the lines
-abbrev pub answers_alone : List ℕ → List ℕ
-answers_alone all = texts_of (said_in all) (replies blank (commands (said_in all)))
-
--- these were written, or a front of them; all of them where the input's end was met
-abbrev pub WritesRepliesAlone : End → Option (List ℕ) → Option (List ℕ) → Option (List ℕ) → Type 0
-WritesRepliesAlone end read old new =
-    IfSome read (λ all. IfSome old (λ out.
-    (written missing : List ℕ) × (answers_alone all ≡ written ++ missing) ×
-    (new ≡ Some (out ++ written)) × (end ≡ EndOfInput → missing ≡ [])))
 
 -- the session ends as one over a blank machine does, at some machine
 abbrev pub AnswersReaderAlone : End → Option (List ℕ) → Option (List ℕ) → Option (List ℕ)
     → Option (List ℕ) → Type 0
 AnswersReaderAlone end read unread old new =
-    (n : Machine) × AnswersReader end read unread old new blank n
+    (n : Machine) × AnswersReader by_machine end read unread old new blank n

@@ -1,7 +1,14 @@
--- In the order of reading: Held, Reading, Front, Responding, Sessions, Alone.
+-- In the order of reading: the lines of a text, what is kept of a line, reading one, writing; ways
+-- of answering lines, answering one, how serving ends, and what the machine answers; a session
+-- alone, its main theorem, and the laws.
+pub mod Lines
 pub mod Held
 pub mod Reading
 pub mod Front
+pub mod Answering
 pub mod Responding
 pub mod Sessions
+pub mod Answers
 pub mod Alone
+pub mod Headline
+pub mod Laws

@@ -1,29 +1,32 @@
--- What answering one line does to a writer, whose bytes may not be known, and to a machine.
-use Rattle.std.specs.Prelude.{◌≡◌, ◌≢◌, ◌≤◌, ℕ, List, [], length, Option, None, Some, IsOk}
+-- What answering one line does to a writer, whose bytes may not be known, and to what is asked.
+use Rattle.std.specs.Prelude.{◌≡◌, ◌≢◌, ◌≤◌, ℕ, List, [], length, Option, Result, Ok, Err}
 use Rattle.std.specs.Prelude.{true, false}
 use Rattle.std.specs.Io.KnownBytes.{Appends, Keeps}
-use Rattle.cam6_machine.specs.Machine.{Machine}
 use Rattle.cam6_wire.specs.Limits.{max_line}
-use Rattle.cam6_wire.specs.Commands.{command}
-use Rattle.cam6_wire.specs.Answers.{answer, after_line}
+use Rattle.cam6_session.specs.Answering.{Answering}
 use Rattle.cam6_session.specs.Front.{WritesSome}
 use Rattle.cam6_session.specs.declared.serving.End.{End}
-use Rattle.cam6_session.specs.declared.serving.End.TheVariants.{EndOfInput, ReadFault, TurnBound}
-use Rattle.cam6_session.specs.declared.serving.End.TheVariants.{WriteFault, NoMemory}
+use Rattle.cam6_session.specs.declared.serving.End.TheVariants as end
+use Rattle.cam6_session.specs.declared.serving.Stop.{Stop}
+use Rattle.cam6_session.specs.declared.serving.Stop.TheVariants as stop
 
 -- memory is taken for a line that is neither empty nor too long
 abbrev pub TakesMemory : List ℕ → Type 0
 TakesMemory line = (line ≢ []) × (length line ≤ max_line)
 
--- a line's answer was written and serving goes on, or ends so
-abbrev pub Responds : Option End → List ℕ → Option (List ℕ) → Option (List ℕ) → Machine → Machine
-    → Type 0
-Responds None line old new m n = Appends old new (answer m line) × (n ≡ after_line m line)
-Responds (Some WriteFault) line old new m n =
-    WritesSome old new (answer m line) × (n ≡ after_line m line)
-Responds (Some (NoMemory true)) line old new m n =
-    Keeps old new × (n ≡ after_line m line) × IsOk (command line)
-Responds (Some (NoMemory false)) line old new m n = Keeps old new × (n ≡ m) × TakesMemory line
-Responds (Some EndOfInput) line old new m n = ⊥
-Responds (Some ReadFault) line old new m n = ⊥
-Responds (Some TurnBound) line old new m n = ⊥
+-- how serving ends where it stops so
+abbrev pub end_at : Stop → End
+end_at stop.WriteFault = end.WriteFault
+end_at (stop.NoMemory done) = end.NoMemory done
+
+-- a line's answer was written and serving goes on, or stops so
+abbrev pub Responds : {S : Type 0} → Answering S → Result (Unit {0}) Stop → List ℕ
+    → Option (List ℕ) → Option (List ℕ) → S → S → Type 0
+Responds by (Ok done) line old new s t =
+    Appends old new (by.answer s line) × (t ≡ by.after_line s line)
+Responds by (Err stop.WriteFault) line old new s t =
+    WritesSome old new (by.answer s line) × (t ≡ by.after_line s line)
+Responds by (Err (stop.NoMemory true)) line old new s t =
+    Keeps old new × (t ≡ by.after_line s line) × (by.says line ≡ true)
+Responds by (Err (stop.NoMemory false)) line old new s t =
+    Keeps old new × (t ≡ s) × TakesMemory line

@@ -1,19 +1,17 @@
--- How serving ends: which lines were taken, what was written, and at which machine n the one that
--- is asked stands then; it stood at m.
-use Rattle.std.specs.Prelude.{◌≡◌, ℕ, List, [], ◌∷◌, ◌++◌, Option, Some, IfSome, IsOk, ◌⊎◌}
+-- How serving ends: which lines were taken, what was written, and at which t what is asked stands
+-- then; it stood at s.
+use Rattle.std.specs.Prelude.{◌≡◌, ℕ, List, [], ◌∷◌, ◌++◌, Option, Some, IfSome, ◌⊎◌}
 use Rattle.std.specs.Prelude.{true, false}
-use Rattle.cam6_machine.specs.Machine.{Machine}
-use Rattle.cam6_wire.specs.Commands.{command}
-use Rattle.cam6_wire.specs.Lines.{lines, ended_lines}
-use Rattle.cam6_wire.specs.Answers.{answer, answers, after_lines}
+use Rattle.cam6_session.specs.Lines.{lines, ended_lines}
+use Rattle.cam6_session.specs.Answering.{Answering, answers, after_lines}
 use Rattle.cam6_session.specs.Responding.{TakesMemory}
 use Rattle.cam6_session.specs.declared.serving.End.{End}
 use Rattle.cam6_session.specs.declared.serving.End.TheVariants.{EndOfInput, ReadFault, TurnBound}
 use Rattle.cam6_session.specs.declared.serving.End.TheVariants.{WriteFault, NoMemory}
 
--- what was written is the answers of m to these lines, and n is the machine after them
-abbrev pub AreAnswered : Machine → List (List ℕ) → List ℕ → Machine → Type 0
-AreAnswered m done written n = (written ≡ answers m done) × (n ≡ after_lines m done)
+-- what was written is the answers to these lines from s on, and t is what is asked after them
+abbrev pub AreAnswered : {S : Type 0} → Answering S → S → List (List ℕ) → List ℕ → S → Type 0
+AreAnswered by s done written t = (written ≡ answers by s done) × (t ≡ after_lines by s done)
 
 -- whole lines were taken, the last of them the one at which serving stops; the others are left
 pub record StopsAt (taken left : List ℕ) : Type 0 where
@@ -22,39 +20,42 @@ pub record StopsAt (taken left : List ℕ) : Type 0 where
   pub are : lines taken ≡ done ++ line ∷ []
   pub whole : lines (taken ++ left) ≡ lines taken ++ lines left
 
--- the lines before it were answered, and a front of its answer was written; its command is done
-abbrev pub StopsWriting : Machine → List ℕ → List ℕ → List ℕ → Machine → Type 0
-StopsWriting m taken left written n =
+-- the lines before it were answered, and a front of its answer was written; what it says is done
+abbrev pub StopsWriting : {S : Type 0} → Answering S → S → List ℕ → List ℕ → List ℕ → S → Type 0
+StopsWriting by s taken left written t =
     (stop : StopsAt taken left) × (front rest : List ℕ) ×
-    (answer (after_lines m stop.done) stop.line ≡ front ++ rest) ×
-    (written ≡ answers m stop.done ++ front) × (n ≡ after_lines m (stop.done ++ stop.line ∷ []))
+    (by.answer (after_lines by s stop.done) stop.line ≡ front ++ rest) ×
+    (written ≡ answers by s stop.done ++ front) ×
+    (t ≡ after_lines by s (stop.done ++ stop.line ∷ []))
 
--- the lines before it were answered, and it says a command, which is done
-abbrev pub StopsDone : Machine → List ℕ → List ℕ → List ℕ → Machine → Type 0
-StopsDone m taken left written n =
-    (stop : StopsAt taken left) × (written ≡ answers m stop.done) ×
-    (n ≡ after_lines m (stop.done ++ stop.line ∷ [])) × IsOk (command stop.line)
+-- the lines before it were answered, and it says something to be done, which is done
+abbrev pub StopsDone : {S : Type 0} → Answering S → S → List ℕ → List ℕ → List ℕ → S → Type 0
+StopsDone by s taken left written t =
+    (stop : StopsAt taken left) × (written ≡ answers by s stop.done) ×
+    (t ≡ after_lines by s (stop.done ++ stop.line ∷ [])) × (by.says stop.line ≡ true)
 
--- the lines before it were answered, and memory is taken for it, but its command isn't done; or no
+-- the lines before it were answered, and memory is taken for it, but what it says isn't done; or no
 -- line was taken
-abbrev pub StopsUndone : Machine → List ℕ → List ℕ → List ℕ → Machine → Type 0
-StopsUndone m taken left written n =
-    ((taken ≡ []) × AreAnswered m [] written n) ⊎
-    ((stop : StopsAt taken left) × AreAnswered m stop.done written n × TakesMemory stop.line)
+abbrev pub StopsUndone : {S : Type 0} → Answering S → S → List ℕ → List ℕ → List ℕ → S → Type 0
+StopsUndone by s taken left written t =
+    ((taken ≡ []) × AreAnswered by s [] written t) ⊎
+    ((stop : StopsAt taken left) × AreAnswered by s stop.done written t × TakesMemory stop.line)
 
 -- for each end, by the bytes taken, those that are left, and those written
-abbrev pub AnswersUntil : End → Machine → List ℕ → List ℕ → List ℕ → Machine → Type 0
-AnswersUntil EndOfInput m taken left written n = (left ≡ []) × AreAnswered m (lines taken) written n
-AnswersUntil ReadFault m taken left written n = AreAnswered m (ended_lines taken) written n
-AnswersUntil TurnBound m taken left written n = AreAnswered m (ended_lines taken) written n
-AnswersUntil WriteFault m taken left written n = StopsWriting m taken left written n
-AnswersUntil (NoMemory true) m taken left written n = StopsDone m taken left written n
-AnswersUntil (NoMemory false) m taken left written n = StopsUndone m taken left written n
+abbrev pub AnswersUntil : {S : Type 0} → Answering S → End → S → List ℕ → List ℕ → List ℕ → S
+    → Type 0
+AnswersUntil by EndOfInput s taken left written t =
+    (left ≡ []) × AreAnswered by s (lines taken) written t
+AnswersUntil by ReadFault s taken left written t = AreAnswered by s (ended_lines taken) written t
+AnswersUntil by TurnBound s taken left written t = AreAnswered by s (ended_lines taken) written t
+AnswersUntil by WriteFault s taken left written t = StopsWriting by s taken left written t
+AnswersUntil by (NoMemory true) s taken left written t = StopsDone by s taken left written t
+AnswersUntil by (NoMemory false) s taken left written t = StopsUndone by s taken left written t
 
 -- the same of a reader and a writer that tell their bytes, those before and those after
-abbrev pub AnswersReader : End → Option (List ℕ) → Option (List ℕ) → Option (List ℕ)
-    → Option (List ℕ) → Machine → Machine → Type 0
-AnswersReader end read unread old new m n =
+abbrev pub AnswersReader : {S : Type 0} → Answering S → End → Option (List ℕ) → Option (List ℕ)
+    → Option (List ℕ) → Option (List ℕ) → S → S → Type 0
+AnswersReader by end read unread old new s t =
     IfSome read (λ all. IfSome old (λ out.
     (taken left written : List ℕ) × (all ≡ taken ++ left) × (unread ≡ Some left) ×
-    (new ≡ Some (out ++ written)) × AnswersUntil end m taken left written n))
+    (new ≡ Some (out ++ written)) × AnswersUntil by end s taken left written t))

@@ -1,5 +1,6 @@
 //! A session with a machine that nobody shares.
-ghost use Rattle.cam6_session.specs.Alone.{AnswersReaderAlone, WritesRepliesAlone};
+ghost use Rattle.cam6_session.specs.Alone.{AnswersReaderAlone};
+ghost use Rattle.cam6_session.specs.Headline.{WritesRepliesAlone};
 
 use crate::serving::{End, serve};
 use cam6_machine::Machine;
@@ -16,8 +17,10 @@ pub fn serve_alone<R: BufRead, W: Write>(
 ) -> End
     ensures served { AnswersReaderAlone result (R.remaining reader.old) (R.remaining reader.new)
         (W.contents writer.old) (W.contents writer.new) }
-    // What was written is the replies of the machine alone and the faults of lines, in their order.
-    ensures replies { WritesRepliesAlone result (R.remaining reader.old)
+    // The texts of the machine's replies to all commands among the input's lines, and of the faults
+    // of the other lines, in the order of the lines, were written, or a front of them; all of them
+    // where the input's end was met.
+    ensures headline { WritesRepliesAlone result (R.remaining reader.old)
         (W.contents writer.old) (W.contents writer.new) }
 {
     let Ok(mut machine) = Machine::new(alloc) else {

@@ -3,6 +3,7 @@ ghost use Rattle.std.specs.Prelude.{◌≡◌, List, ℕ, Ok, Err};
 ghost use Rattle.cam6_machine.specs.Machine.{Machine};
 ghost use Rattle.cam6_wire.specs.declared.faults.LineFault.TheVariants.{NoMemory};
 ghost use Rattle.cam6_wire.specs.Commands.{command as what_is_said, IsFaultOf, IsSaid};
+ghost use Rattle.cam6_session.specs.Answers.{by_machine};
 ghost use Rattle.cam6_session.specs.Held.{Holds};
 ghost use Rattle.cam6_session.specs.Responding.{Responds, TakesMemory};
 ghost use Rattle.cam6_session.specs.Sessions.{AnswersReader};
@@ -10,7 +11,7 @@ ghost use Rattle.cam6_session.specs.Sessions.{AnswersReader};
 use crate::asking::Ask;
 use crate::line_buffer::LineBuf;
 use crate::lines::{Line, next_line};
-use crate::writing::send;
+use crate::writing::{WriteFault, send};
 use cam6_machine::Command;
 use cam6_wire::{LineFault, fault_text, read_command, reply_text};
 use std::alloc::Global;
@@ -34,6 +35,41 @@ pub enum End {
     TurnBound,
 }
 
+/// Why serving stops at a line.
+#[derive(Clone, Copy)]
+pub(crate) enum Stop {
+    /// The writer failed, or took no byte.
+    WriteFault,
+    /// No memory was found for the line. Nothing is written for it.
+    NoMemory {
+        /// Whether the line's command was done.
+        done: bool,
+    },
+}
+
+impl From<WriteFault> for Stop {
+    ghost use Rattle.cam6_session.specs.declared.serving.Stop.TheVariants.{WriteFault};
+
+    ghost from_gives = { λ _ stop. stop ≡ WriteFault };
+
+    fn from(_fault: WriteFault) -> Stop {
+        Stop::WriteFault
+    }
+}
+
+impl From<Stop> for End {
+    ghost use Rattle.cam6_session.specs.Responding.{end_at};
+
+    ghost from_gives = { λ stop end. end ≡ end_at stop };
+
+    fn from(stop: Stop) -> End {
+        match stop {
+            Stop::WriteFault => End::WriteFault,
+            Stop::NoMemory { done } => End::NoMemory { done },
+        }
+    }
+}
+
 /// Answers each line of the reader by one line, until the input ends or something fails. Each look
 /// at the reader takes a turn.
 pub fn serve<R: BufRead, W: Write, D: Ask>(
@@ -45,7 +81,8 @@ pub fn serve<R: BufRead, W: Write, D: Ask>(
 ) -> End
     requires { D.is_ready desk.old }
     ensures ready { D.is_ready desk.new }
-    ensures served { AnswersReader result (R.remaining reader.old) (R.remaining reader.new)
+    ensures served { AnswersReader by_machine result
+        (R.remaining reader.old) (R.remaining reader.new)
         (W.contents writer.old) (W.contents writer.new)
         (D.stands_at desk.old) (D.stands_at desk.new) }
 {
@@ -59,25 +96,30 @@ pub fn serve<R: BufRead, W: Write, D: Ask>(
             Line::ReadFault => return End::ReadFault,
             Line::TurnBound => return End::TurnBound,
             Line::Ended => {
-                if let Some(end) = respond(alloc, &line, writer, desk) {
-                    return end;
+                if let Err(stop) = respond(alloc, &line, writer, desk) {
+                    return End::from(stop);
                 }
             }
-            Line::Last => return respond(alloc, &line, writer, desk).unwrap_or(End::EndOfInput),
+            Line::Last => {
+                return match respond(alloc, &line, writer, desk) {
+                    Ok(()) => End::EndOfInput,
+                    Err(stop) => End::from(stop),
+                };
+            }
         }
     }
 }
 
-/// Answers a whole line, or says how serving ends there.
+/// Answers a whole line, or says why serving stops there.
 fn respond<W: Write, D: Ask>(
     alloc: Global,
     line: &LineBuf,
     writer: &mut W,
     desk: &mut D,
-) -> Option<End>
+) -> Result<(), Stop>
     requires { D.is_ready desk.old }
     ensures ready { D.is_ready desk.new }
-    ensures responds { (l : List ℕ) → Holds line.now l → Responds result l
+    ensures responds { (l : List ℕ) → Holds line.now l → Responds by_machine result l
         (W.contents writer.old) (W.contents writer.new)
         (D.stands_at desk.old) (D.stands_at desk.new) }
 {
@@ -104,37 +146,33 @@ fn respond_to<W: Write, D: Ask>(
     command: Command,
     writer: &mut W,
     desk: &mut D,
-) -> Option<End>
+) -> Result<(), Stop>
     requires { D.is_ready desk.old }
     ensures ready { D.is_ready desk.new }
-    ensures responds { (l : List ℕ) → what_is_said l ≡ Ok command → Responds result l
+    ensures responds { (l : List ℕ) → what_is_said l ≡ Ok command → Responds by_machine result l
         (W.contents writer.old) (W.contents writer.new)
         (D.stands_at desk.old) (D.stands_at desk.new) }
 {
     let Ok(reply) = desk.ask(command) else {
-        return Some(End::NoMemory { done: false });
+        return Err(Stop::NoMemory { done: false });
     };
     let Ok(text) = reply_text(alloc, &reply) else {
-        return Some(End::NoMemory { done: true });
+        return Err(Stop::NoMemory { done: true });
     };
-    if !send(writer, text.as_bytes()) {
-        return Some(End::WriteFault);
-    }
-    None
+    send(writer, text.as_bytes())?;
+    Ok(())
 }
 
-fn respond_fault<W: Write>(fault: LineFault, writer: &mut W) -> Option<End>
+fn respond_fault<W: Write>(fault: LineFault, writer: &mut W) -> Result<(), Stop>
     ensures { (l : List ℕ) (m : Machine) → IsFaultOf fault (what_is_said l) →
         (fault ≡ NoMemory → TakesMemory l) →
-        Responds result l (W.contents writer.old) (W.contents writer.new) m m }
+        Responds by_machine result l (W.contents writer.old) (W.contents writer.new) m m }
 {
     match fault {
-        LineFault::NoMemory => Some(End::NoMemory { done: false }),
+        LineFault::NoMemory => Err(Stop::NoMemory { done: false }),
         _ => {
-            if !send(writer, fault_text(fault).as_bytes()) {
-                return Some(End::WriteFault);
-            }
-            None
+            send(writer, fault_text(fault).as_bytes())?;
+            Ok(())
         }
     }
 }

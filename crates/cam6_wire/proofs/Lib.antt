@@ -10,5 +10,3 @@ pub mod ShownEntries
 pub mod Showing
 pub mod Telling
 pub mod Plain
-pub mod Splitting
-pub mod Answering

@@ -1,6 +1,6 @@
 -- In the order of reading: faults, the limit of a line, what stands at a key, settings, entries,
--- what is accepted so far, commands, replies; then texts of one line, the lines of a text and the
--- answers to them, the values by which commands are shown, and the laws.
+-- what is accepted so far, commands, replies; then texts of one line, the values by which commands
+-- are shown, and the laws.
 pub mod Faults
 pub mod Limits
 pub mod Fields
@@ -10,7 +10,5 @@ pub mod Fragment
 pub mod Commands
 pub mod Replies
 pub mod OneLine
-pub mod Lines
-pub mod Answers
 pub mod Shown
 pub mod Laws

@@ -4,8 +4,8 @@ use Rattle.std.proofs.Common.{sym, ap, ◌∙◌, append_assoc, append-nil, ne_e
 use Rattle.std.proofs.lemmas.List.Elements.{All-head, All-tail}
 use Rattle.std.specs.Prelude.{All, ◌==◌}
 use Rattle.cam6_wire.specs.OneLine.{HasNoLf}
-use Rattle.cam6_wire.specs.Lines.{lines, ended_lines, begin_line, grow_line, joined}
-use Rattle.cam6_wire.specs.Laws.{LinesAreFound}
+use Rattle.cam6_session.specs.Lines.{lines, ended_lines, begin_line, grow_line, joined}
+use Rattle.cam6_session.specs.Laws.{LinesAreFound}
 
 -- up to its first LF a text is its first line
 pub first_line : (line rest : List ℕ) → HasNoLf line

@@ -1,5 +1,5 @@
 -- What a machine answers to lines.
-use Rattle.std.specs.Prelude.{ℕ, List, [], ◌∷◌, ◌++◌, Result, Ok, Err}
+use Rattle.std.specs.Prelude.{ℕ, List, [], ◌∷◌, ◌++◌, Result, Ok, Err, is_ok}
 use Rattle.cam6_machine.specs.Machine.{Machine}
 use Rattle.cam6_machine.specs.Alone.{reply, after}
 use Rattle.cam6_machine.specs.declared.commands.Command.{Command}
@@ -7,6 +7,7 @@ use Rattle.cam6_machine.specs.declared.replies.Reply.{Reply}
 use Rattle.cam6_wire.specs.declared.faults.LineFault.{LineFault}
 use Rattle.cam6_wire.specs.Commands.{command}
 use Rattle.cam6_wire.specs.Replies.{reply_bytes, fault_bytes}
+use Rattle.cam6_session.specs.Answering.{Answering}
 
 -- the text of what a machine answers to what a line says: its reply, or the line's fault
 abbrev pub text_to : Machine → Result Command LineFault → List ℕ
@@ -18,22 +19,13 @@ abbrev pub machine_after : Machine → Result Command LineFault → Machine
 machine_after m (Ok c) = after m c
 machine_after m (Err fault) = m
 
--- the text that answers a line, with its LF
-abbrev pub answer : Machine → List ℕ → List ℕ
-answer m line = text_to m (command line) ++ 10 ∷ []
-
-abbrev pub after_line : Machine → List ℕ → Machine
-after_line m line = machine_after m (command line)
-
--- the answers to lines, one after another
-abbrev pub answers : Machine → List (List ℕ) → List ℕ
-answers m [] = []
-answers m (line ∷ later) = answer m line ++ answers (after_line m line) later
-
--- the machine after them
-abbrev pub after_lines : Machine → List (List ℕ) → Machine
-after_lines m [] = m
-after_lines m (line ∷ later) = after_lines (after_line m line) later
+-- the machine answers what a line says, and does the command that it says
+abbrev pub by_machine : Answering Machine
+by_machine = record {
+  answer = λ m line. text_to m (command line) ++ 10 ∷ [];
+  after_line = λ m line. machine_after m (command line);
+  says = λ line. is_ok (command line);
+}
 
 -- the commands among what lines say
 abbrev pub commands : List (Result Command LineFault) → List Command

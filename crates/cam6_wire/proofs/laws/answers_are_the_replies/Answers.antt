@@ -1,5 +1,0 @@
-use Rattle.cam6_wire.proofs.Answering.{answers_are_replies}
-use Rattle.cam6_wire.proofs.laws.answers_are_the_replies.Goals as goal
-
-pub returns : goal.returns
-returns c = record { law = answers_are_replies }
