@@ -3,13 +3,23 @@
 //! Contract: `parse` accepts a text exactly where its tokens, comments left out, spell a
 //! well-formed tree (`specs/Texts.antt`), and gives that tree's rule; any other text is refused
 //! with the number and the token of its first fault (`specs/Faults.antt`). Either may give way to
-//! want of memory.
+//! want of memory, which is answered only for a text of which something is kept.
+//!
+//! So `: P CENTER NORTH XOR >PLN0 ;` is a rule of half A under N/VONN, of one definition with four
+//! words; `: P CENTER FOO ;` has fault 20 at token 4, as no earlier definition is called FOO, and
+//! `: P CENTER` has fault 22 at token 4, its end, as the definition is open.
+//!
+//! The laws: trees that are spelled alike are one, and the tree of a text can be read from it by a
+//! plain function; a text is a rule or has exactly one fault; tokens without a fault begin a rule;
+//! a fault stays whatever follows its token; that token is the first with which the tokens begin no
+//! rule; a token has the first of its faults, 21 before 22 and 23 after all others; a token that is
+//! known in a body says a single word, the one that the tables of spellings say.
 //!
 //! Stands on: `cam6_wiring`.
 //!
 //! Read next: `words`, the words of a body, and `rules`; `tokens` and `kinds`, how a text is cut
-//! and what a token is; `reader`, what was read so far; then `parsing`; `laws`, what holds of
-//! trees, texts and faults by themselves.
+//! and what a token is; `reader`, what was read so far; then `parser`; `laws`, what holds of trees,
+//! texts and faults by themselves.
 #![tactic(auto)]
 
 mod faults;
@@ -17,7 +27,7 @@ mod kinds;
 pub mod laws;
 mod limits;
 mod open_ifs;
-mod parsing;
+mod parser;
 mod reader;
 mod rules;
 mod spellings;
@@ -25,6 +35,6 @@ mod tokens;
 mod words;
 
 pub use faults::{ParseFault, TextFault};
-pub use parsing::{parse, parse_under};
+pub use parser::{parse, parse_under};
 pub use rules::{Definition, Rule};
 pub use words::{Output, SingleWord, StackWord, Target, Word};

@@ -2,9 +2,9 @@
 use Rattle.std.specs.Prelude.{ℕ, List, Option, None, Some, codes, string_bytes}
 use Rattle.cam6_host.specs.declared.modes.Refused.{Refused}
 use Rattle.cam6_host.specs.declared.modes.Refused.TheVariants as refused
-use Rattle.cam6_session.specs.declared.serving.End.{End}
-use Rattle.cam6_session.specs.declared.serving.End.TheVariants.{EndOfInput, ReadFault, TurnBound}
-use Rattle.cam6_session.specs.declared.serving.End.TheVariants.{WriteFault, NoMemory}
+use Rattle.cam6_session.specs.declared.sessions.End.{End}
+use Rattle.cam6_session.specs.declared.sessions.End.TheVariants.{EndOfInput, ReadFault, TurnBound}
+use Rattle.cam6_session.specs.declared.sessions.End.TheVariants.{WriteFault, NoMemory}
 
 -- none at the end of input, where the program succeeds
 abbrev pub failure : End → Option (ℕ × List ℕ)

@@ -1,13 +1,28 @@
+-- Lemmas, in the order of reading.
+
+-- Places of rules, and their names: they say the same where the names are the rules' own.
 pub mod Naming
+-- A step by the entry at the position, with places and with names.
 pub mod Along
+-- Rules after one was put under its name: what held of them holds.
 pub mod KeptNames
+-- Tables that are filled entry by entry.
 pub mod FilledTables
+-- The rules of a map, looked up by name.
 pub mod KeptRules
+-- The texts of a plane's rows, row by row.
 pub mod PlaneTexts
+-- What the reading of a text and the trial of its rule's code say of the verdict.
 pub mod Verdicts
+-- The reply to a command and the machine after it, where it is refused and where it is not.
 pub mod Done
+-- A word that is made column by column, from column 0, its highest bit, on.
 pub mod MadeWords
+-- New rows, word by word, and planes in which the rows of a half are written.
 pub mod WrittenRows
+-- A step by true tables is the step by the rules' words.
 pub mod TrueSteps
+-- What follows of steps.
 pub mod StepLaws
+-- A machine stays a machine, whatever it is commanded, and its rules run.
 pub mod Staying

@@ -7,11 +7,24 @@
 //! command, or one that found no memory, leaves the machine. `replies_alone` does a whole list of
 //! commands.
 //!
+//! So, of a blank machine: `Run { n: 1 }` is refused with `Fault::NoCycle`, and nothing changes.
+//! After a rule R of half A, `: R NORTH >PLN0 ;`, a cycle of the one entry R and a cell set at row
+//! 5, `now(Run { n: 1 })` says `Work(1, Forward)`, `work(1, Forward)` replies `Run { position: 0
+//! }`, and the cell stands at row 6: each cell took what its northern neighbour was.
+//!
+//! `Machine::now` leaves steps to do exactly for a run that is accepted and has at least one;
+//! memory is wanted neither for a row or a run, nor where a number, a name or a cycle is refused,
+//! nor for a text of which nothing is kept. `Machine::work` takes none; its tables are proved to be
+//! the rules' words. The laws: what a machine always is (`specs/Always.antt`) the blank one is, and
+//! stays whatever it is commanded; the rules that its cycle names run, whatever is seen; a half
+//! without a rule keeps its planes; some steps and then more are all of them together; steps change
+//! planes and position alone; the position goes round the cycle.
+//!
 //! Stands on: `cam6_planes`, `cam6_wiring`, `cam6_forth`, `cam6_table`, and on `indexmap`.
 //!
-//! Read next: `commands`, and `replies` with the `faults`; `rules` and `cycles`, what a machine
-//! keeps; `stepping`, one step of all cells, with the `tables` that it reads, and `running`, steps
-//! along a cycle; `refusing`, when a command is refused; then `machines` and `alone`; and `laws`.
+//! Read next: `commands`, `replies` and `faults`; `rules` and `cycles`, what a machine keeps;
+//! `steps`, one step of all cells, with the `tables` that it reads, and `runs`, steps along a
+//! cycle; `refusals`, when a command is refused; then `machines` and `alone`; and `laws`.
 #![tactic(auto)]
 
 mod alone;
@@ -20,11 +33,11 @@ mod cycles;
 mod faults;
 pub mod laws;
 mod machines;
-mod refusing;
+mod refusals;
 mod replies;
 mod rules;
-mod running;
-mod stepping;
+mod runs;
+mod steps;
 mod tables;
 mod texts;
 

@@ -7,10 +7,10 @@ ghost use Rattle.cam6_machine.specs.Effects.{plane_rows};
 
 use crate::commands::{Command, NamedEntries};
 use crate::cycles::{Entry, MAX_ENTRIES, placed_entries};
-use crate::refusing::{cycle_refusal, plane_refusal, rule_refusal, run_refusal, set_refusal};
+use crate::refusals::{cycle_refusal, plane_refusal, rule_refusal, run_refusal, set_refusal};
 use crate::replies::{Direction, Now, PlaneRows, Reply};
 use crate::rules::{KeptRule, RuleRefusal, put, tried_rule};
-use crate::running::run_along;
+use crate::runs::run_along;
 use crate::tables::{TablePair, fill_tables};
 use crate::texts::Text;
 use cam6_planes::{NoMemory, Planes, SIDE};

@@ -2,21 +2,15 @@
 
 -- The bits of a word that is shifted by one, with a bit of another word put in.
 pub mod Words
-
 -- A row of words, filled word by word.
 pub mod WordByWord
-
 -- The bytes of a word, of which the first is the highest.
 pub mod Bytes
-
 -- A row of bytes in hexadecimal digits.
 pub mod HexText
-
 -- The digits of a row are ASCII.
 pub mod AsciiTexts
-
 -- Within the side, coordinates stand for themselves.
 pub mod CellsAt
-
 -- Words that are 0 show no cell.
 pub mod Blank

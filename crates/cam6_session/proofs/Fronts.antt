@@ -9,8 +9,8 @@ use Rattle.cam6_session.proofs.Splitting.{ended_lines_are_first}
 use Rattle.cam6_session.proofs.Answering.{answers_to_both, answers_are_replies}
 use Rattle.cam6_session.specs.Sessions.{StopsAt, AnswersUntil, AnswersReader}
 use Rattle.cam6_session.specs.Headline.{WritesRepliesAlone}
-use Rattle.cam6_session.specs.declared.serving.End.{End}
-use Rattle.cam6_session.specs.declared.serving.End.TheVariants as end
+use Rattle.cam6_session.specs.declared.sessions.End.{End}
+use Rattle.cam6_session.specs.declared.sessions.End.TheVariants as end
 
 module _ {S : Type 0} (by : Answering S) where
   -- of the answers to all lines a front was written, or all of them

@@ -10,8 +10,8 @@ use Rattle.cam6_session.specs.Reading.{Reads}
 use Rattle.cam6_session.specs.Responding.{end_at}
 use Rattle.cam6_session.specs.Sessions.{AnswersReader}
 use Rattle.cam6_session.specs.declared.lines.Line.TheVariants as read
-use Rattle.cam6_session.specs.declared.serving.End.TheVariants as end
-use Rattle.cam6_session.specs.declared.serving.Stop.{Stop}
+use Rattle.cam6_session.specs.declared.sessions.End.TheVariants as end
+use Rattle.cam6_session.specs.declared.sessions.Stop.{Stop}
 use Rattle.cam6_session.proofs.Runs.{HasRun, RespondsTo, ends_input, fails_reading, meets_bound}
 use Rattle.cam6_session.proofs.Runs.{takes_ended, takes_last, goes_on, stops, answers_last}
 

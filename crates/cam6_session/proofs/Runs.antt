@@ -16,10 +16,10 @@ use Rattle.cam6_session.specs.Reading.{Reads}
 use Rattle.cam6_session.specs.Responding.{Responds, end_at}
 use Rattle.cam6_session.specs.Sessions.{StopsAt, AnswersReader, AnswersUntil}
 use Rattle.cam6_session.specs.declared.lines.Line.TheVariants as read
-use Rattle.cam6_session.specs.declared.serving.End.{End}
-use Rattle.cam6_session.specs.declared.serving.End.TheVariants as end
-use Rattle.cam6_session.specs.declared.serving.Stop.{Stop}
-use Rattle.cam6_session.specs.declared.serving.Stop.TheVariants as stop
+use Rattle.cam6_session.specs.declared.sessions.End.{End}
+use Rattle.cam6_session.specs.declared.sessions.End.TheVariants as end
+use Rattle.cam6_session.specs.declared.sessions.Stop.{Stop}
+use Rattle.cam6_session.specs.declared.sessions.Stop.TheVariants as stop
 
 appended : (old new : Option (List ℕ)) (bytes more : List ℕ) → old ≡ Some bytes
     → Appends old new more → new ≡ Some (bytes ++ more)

@@ -10,8 +10,8 @@ use Rattle.cam6_wire.specs.Replies.{reply_bytes}
 use Rattle.cam6_session.specs.Answers.{text_to, machine_after, by_machine}
 use Rattle.cam6_session.specs.Front.{WritesSome}
 use Rattle.cam6_session.specs.Responding.{Responds}
-use Rattle.cam6_session.specs.declared.serving.Stop.{Stop}
-use Rattle.cam6_session.specs.declared.serving.Stop.TheVariants.{WriteFault, NoMemory}
+use Rattle.cam6_session.specs.declared.sessions.Stop.{Stop}
+use Rattle.cam6_session.specs.declared.sessions.Stop.TheVariants.{WriteFault, NoMemory}
 
 -- it stops as the writing of a reply did, of which a front was written
 pub stops_at_reply : (result : Result (Unit {0}) Stop) (line : List ℕ) (c : Command)

@@ -6,7 +6,7 @@ use Rattle.std.proofs.KnownBytes.{Appends-trans, Appends-kept}
 use Rattle.std.specs.Prelude.{IsErr}
 use Rattle.std.specs.Io.KnownBytes.{Appends, Keeps}
 use Rattle.cam6_session.specs.Front.{WritesSome, WritesFront}
-use Rattle.cam6_session.specs.declared.writing.WriteFault.{WriteFault}
+use Rattle.cam6_session.specs.declared.writers.WriteFault.{WriteFault}
 
 -- of these bytes all but a rest have been written
 pub record Written (old new : Option (List ℕ)) (bytes rest : List ℕ) : Type 0 where

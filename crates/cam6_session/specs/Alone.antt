@@ -3,7 +3,7 @@ use Rattle.std.specs.Prelude.{ℕ, List, Option}
 use Rattle.cam6_machine.specs.Machine.{Machine, blank}
 use Rattle.cam6_session.specs.Answers.{by_machine}
 use Rattle.cam6_session.specs.Sessions.{AnswersReader}
-use Rattle.cam6_session.specs.declared.serving.End.{End}
+use Rattle.cam6_session.specs.declared.sessions.End.{End}
 
 -- the session ends as one over a blank machine does, at some machine
 abbrev pub AnswersReaderAlone : End → Option (List ℕ) → Option (List ℕ) → Option (List ℕ)

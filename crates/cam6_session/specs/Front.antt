@@ -1,7 +1,7 @@
 -- What writing adds to a writer, whose bytes may not be known.
 use Rattle.std.specs.Prelude.{◌≡◌, ℕ, List, ◌++◌, Option, Result, Ok, Err}
 use Rattle.std.specs.Io.KnownBytes.{Appends}
-use Rattle.cam6_session.specs.declared.writing.WriteFault.{WriteFault}
+use Rattle.cam6_session.specs.declared.writers.WriteFault.{WriteFault}
 
 -- some front of these bytes was written
 abbrev pub WritesSome : Option (List ℕ) → Option (List ℕ) → List ℕ → Type 0

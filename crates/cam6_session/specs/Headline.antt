@@ -7,8 +7,8 @@ use Rattle.cam6_wire.specs.declared.faults.LineFault.{LineFault}
 use Rattle.cam6_wire.specs.Commands.{command}
 use Rattle.cam6_session.specs.Lines.{lines}
 use Rattle.cam6_session.specs.Answers.{commands, texts_of}
-use Rattle.cam6_session.specs.declared.serving.End.{End}
-use Rattle.cam6_session.specs.declared.serving.End.TheVariants.{EndOfInput}
+use Rattle.cam6_session.specs.declared.sessions.End.{End}
+use Rattle.cam6_session.specs.declared.sessions.End.TheVariants.{EndOfInput}
 
 -- what each line of a text says
 abbrev pub said_in : List ℕ → List (Result Command LineFault)

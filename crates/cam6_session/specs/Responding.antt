@@ -5,10 +5,10 @@ use Rattle.std.specs.Io.KnownBytes.{Appends, Keeps}
 use Rattle.cam6_wire.specs.Limits.{max_line}
 use Rattle.cam6_session.specs.Answering.{Answering}
 use Rattle.cam6_session.specs.Front.{WritesSome}
-use Rattle.cam6_session.specs.declared.serving.End.{End}
-use Rattle.cam6_session.specs.declared.serving.End.TheVariants as end
-use Rattle.cam6_session.specs.declared.serving.Stop.{Stop}
-use Rattle.cam6_session.specs.declared.serving.Stop.TheVariants as stop
+use Rattle.cam6_session.specs.declared.sessions.End.{End}
+use Rattle.cam6_session.specs.declared.sessions.End.TheVariants as end
+use Rattle.cam6_session.specs.declared.sessions.Stop.{Stop}
+use Rattle.cam6_session.specs.declared.sessions.Stop.TheVariants as stop
 
 -- memory is taken for a line that is neither empty nor too long
 abbrev pub TakesMemory : List ℕ → Type 0

@@ -5,9 +5,9 @@ use Rattle.std.specs.Prelude.{true, false}
 use Rattle.cam6_session.specs.Lines.{lines, ended_lines}
 use Rattle.cam6_session.specs.Answering.{Answering, answers, after_lines}
 use Rattle.cam6_session.specs.Responding.{TakesMemory}
-use Rattle.cam6_session.specs.declared.serving.End.{End}
-use Rattle.cam6_session.specs.declared.serving.End.TheVariants.{EndOfInput, ReadFault, TurnBound}
-use Rattle.cam6_session.specs.declared.serving.End.TheVariants.{WriteFault, NoMemory}
+use Rattle.cam6_session.specs.declared.sessions.End.{End}
+use Rattle.cam6_session.specs.declared.sessions.End.TheVariants.{EndOfInput, ReadFault, TurnBound}
+use Rattle.cam6_session.specs.declared.sessions.End.TheVariants.{WriteFault, NoMemory}
 
 -- what was written is the answers to these lines from s on, and t is what is asked after them
 abbrev pub AreAnswered : {S : Type 0} → Answering S → S → List (List ℕ) → List ℕ → S → Type 0

@@ -2,7 +2,7 @@
 ghost use Rattle.cam6_session.specs.Alone.{AnswersReaderAlone};
 ghost use Rattle.cam6_session.specs.Headline.{WritesRepliesAlone};
 
-use crate::serving::{End, serve};
+use crate::sessions::{End, serve};
 use cam6_machine::Machine;
 use std::alloc::Global;
 use std::io::{BufRead, Write};

@@ -1,27 +1,38 @@
 //! Sessions: streams of command lines, each answered by one line.
 //!
-//! Contract: for each end of `serve`, which lines it took, what it wrote, and at which machine the
-//! one it asked then stands (`specs/Sessions.antt`, for the machine's way of answering lines in
-//! `specs/Answers.antt`); `serve_alone` is that over a blank machine, and its clause `headline`
-//! says it in the replies of the machine alone (`specs/Headline.antt`).
+//! Contract: `serve_alone` writes the texts of a blank machine's replies to the commands among its
+//! input's lines, and of the faults of the others, in their order (`specs/Headline.antt`). `serve`
+//! does this for anything that stands at a machine and answers as it does: for each of its five
+//! ends it is exact which lines were taken, what was written, and at which machine the one that was
+//! asked then stands (`specs/Sessions.antt`), so that a session can be taken up again where it
+//! ended. For want of memory it ends only at a line for which memory is taken. `next_line` takes
+//! exactly one line, or says why it stopped, and counts its turns. The premise is that the reader
+//! and the writer tell their bytes, as those over memory do.
+//!
+//! So of the two lines `{"do":"run","n":1}` and `{"do":"fly"}` the machine alone makes the two
+//! lines `{"fault":63}` and `{"fault":3}`: no cycle is set, and the second says no command.
+//!
+//! The laws: a text has the lines that it was joined of; the answers to lines are the machine's
+//! replies to the commands among them, and the faults of the others, in the order of the lines, and
+//! go on from where lines before left the machine.
 //!
 //! Stands on: `cam6_planes`, `cam6_machine`, `cam6_wire`.
 //!
-//! Read next: `serving` and `alone`; then their parts, `line_buffer`, `lines`, `asking` and
-//! `writing`; and `laws`.
+//! Read next: `sessions` and `alone`; then their parts, `line_buffer`, `lines`, `desks` and
+//! `writers`; and `laws`.
 #![tactic(auto)]
 
 mod alone;
-mod asking;
+mod desks;
 pub mod laws;
 mod line_buffer;
 mod lines;
-mod serving;
-mod writing;
+mod sessions;
+mod writers;
 
 pub use alone::serve_alone;
-pub use asking::Ask;
+pub use desks::Ask;
 pub use line_buffer::LineBuf;
 pub use lines::{Line, next_line};
-pub use serving::{End, serve};
-pub use writing::{WriteFault, send};
+pub use sessions::{End, serve};
+pub use writers::{WriteFault, send};

@@ -2,36 +2,25 @@
 
 -- The code of a tree, body by body, and what it is for code to do what is meant.
 pub mod BodyCodes
-
 -- The code of a body's words in a row is the code of the body.
 pub mod Emission
-
 -- Code is no longer than its size allows.
 pub mod Lengths
-
 -- Codes one behind another, and choices between them.
 pub mod Segments
-
 -- The code of a body does what the body means.
 pub mod BodiesDo
-
 -- The code of a rule does what the rule means.
 pub mod Correct
-
 -- The last code of a rule's definitions is the rule's code.
 pub mod LastCode
-
 -- The search for the least address at which a rule stops.
 pub mod Stops
-
 -- A true table, read at the address of what is seen, is the rule.
 pub mod TrueTables
-
 -- Trees of one rule mean the same.
 pub mod OneMeaning
-
 -- Jumps of flat code: instructions passed over are instructions left out.
 pub mod Jumps
-
 -- How many values a stack word wants.
 pub mod Wants

@@ -13,7 +13,7 @@ use Rattle.cam6_table.specs.declared.codes.Instruction.{Instruction}
 use Rattle.cam6_table.specs.declared.codes.Instruction.TheVariants.{Literal, Line, Stack}
 use Rattle.cam6_table.specs.declared.codes.Instruction.TheVariants.{Output, SkipIfZero}
 use Rattle.cam6_table.specs.declared.codes.Instruction.TheVariants.{Skip, Case, CaseWord}
-use Rattle.cam6_table.specs.declared.emitting.OpenCase.{OpenCase}
+use Rattle.cam6_table.specs.declared.emitter.OpenCase.{OpenCase}
 
 -- instructions in a row
 abbrev pub Instructions : Type 0

@@ -17,8 +17,8 @@ use Rattle.cam6_wiring.specs.declared.wirings.Minor.TheVariants.{Centers, Phases
 use Rattle.cam6_wiring.specs.declared.blocks.Grid.TheVariants.{Even, Odd}
 use Rattle.cam6_wire.specs.Fields.{count, has_size, number_at, text_at, bits_at, ◌>>=◌}
 use Rattle.cam6_wire.specs.Replies.{natural}
-use Rattle.cam6_wire.specs.Settings.{half_text, hood_text, minor_text, grid_text}
-use Rattle.cam6_wire.specs.Settings.{half_named, hood_named, minor_named, grid_named}
+use Rattle.cam6_wire.specs.Wirings.{half_text, hood_text, minor_text, grid_text}
+use Rattle.cam6_wire.specs.Wirings.{half_named, hood_named, minor_named, grid_named}
 use Rattle.cam6_wire.proofs.Steps.{of_step, of_test}
 
 at_key : {A : Type 0} (shown : A → Data) (f : Data → Option A) →

@@ -1,12 +1,26 @@
+-- Lemmas, in the order of reading.
+
+-- A map's length is the count of its keys.
 pub mod Members
+-- No reply has a float in it.
 pub mod Floats
+-- No reply nests deep.
 pub mod Flat
+-- What a line says, step by step as it is read.
 pub mod Saying
+-- What holds of a value that is there after some steps, if there is one.
 pub mod Steps
+-- Of what is read, each object has its keys in byte order, each once.
 pub mod Ordered
+-- An object with as many keys as are found in it has these keys and no others.
 pub mod Exactly
+-- What stands at a key, where something is read there.
 pub mod Found
+-- A list that is read as a cycle's entries shows them.
 pub mod ShownEntries
+-- A line that says a command has a value that shows it.
 pub mod Showing
+-- A line whose value shows a command says it.
 pub mod Telling
+-- JSON's compact text has no control character, so it is one line.
 pub mod Plain

@@ -16,8 +16,8 @@ use Rattle.cam6_wire.specs.declared.faults.LineFault.{LineFault}
 use Rattle.cam6_wire.specs.declared.faults.LineFault.TheVariants.{NoCommand, TooLong}
 use Rattle.cam6_wire.specs.Fields.{count, number_at, text_at, bits_at, ◌>>=◌}
 use Rattle.cam6_wire.specs.Replies.{natural}
-use Rattle.cam6_wire.specs.Settings.{half_text, hood_text, minor_text}
-use Rattle.cam6_wire.specs.Settings.{half_named, hood_named, minor_named, wiring_in}
+use Rattle.cam6_wire.specs.Wirings.{half_text, hood_text, minor_text}
+use Rattle.cam6_wire.specs.Wirings.{half_named, hood_named, minor_named, wiring_in}
 use Rattle.cam6_wire.specs.Entries.{entries_at}
 use Rattle.cam6_wire.specs.Fragment.{is_in_fragment}
 use Rattle.cam6_wire.specs.Limits.{max_line}

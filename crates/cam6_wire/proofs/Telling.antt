@@ -24,8 +24,8 @@ use Rattle.cam6_machine.specs.declared.commands.NamedEntry.{NamedEntry}
 use Rattle.cam6_wire.specs.declared.faults.LineFault.TheVariants.{NoCommand}
 use Rattle.cam6_wire.specs.Fields.{text_at, ◌>>=◌}
 use Rattle.cam6_wire.specs.Replies.{natural}
-use Rattle.cam6_wire.specs.Settings.{half_text, hood_text, minor_text, grid_text}
-use Rattle.cam6_wire.specs.Settings.{half_named, hood_named, minor_named, grid_named, wiring_in}
+use Rattle.cam6_wire.specs.Wirings.{half_text, hood_text, minor_text, grid_text}
+use Rattle.cam6_wire.specs.Wirings.{half_named, hood_named, minor_named, grid_named, wiring_in}
 use Rattle.cam6_wire.specs.Entries.{rule_named, entry_of, entries_of}
 use Rattle.cam6_wire.specs.Fragment.{is_in_fragment}
 use Rattle.cam6_wire.specs.Commands.{set_of, rule_of, cycle_of, run_of, plane_of}

@@ -14,7 +14,7 @@ use Rattle.cam6_wire.specs.declared.faults.LineFault.TheVariants.{NoMemory, TooL
 use Rattle.cam6_wire.specs.declared.faults.LineFault.TheVariants.{NoJson, NoCommand}
 use Rattle.cam6_wire.specs.Limits.{max_line}
 use Rattle.cam6_wire.specs.Fields.{has_size, number_at, text_at, bits_at, ◌>>=◌}
-use Rattle.cam6_wire.specs.Settings.{wiring_in}
+use Rattle.cam6_wire.specs.Wirings.{wiring_in}
 use Rattle.cam6_wire.specs.Entries.{entries_at}
 use Rattle.cam6_wire.specs.Fragment.{is_in_fragment}
 

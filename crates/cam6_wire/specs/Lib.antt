@@ -4,7 +4,7 @@
 pub mod Faults
 pub mod Limits
 pub mod Fields
-pub mod Settings
+pub mod Wirings
 pub mod Entries
 pub mod Fragment
 pub mod Commands

@@ -7,7 +7,7 @@ use Rattle.cam6_machine.specs.declared.commands.Command.{Command}
 use Rattle.cam6_machine.specs.declared.commands.Command.TheVariants.{Set, Rule, Cycle, Run, Plane}
 use Rattle.cam6_machine.specs.declared.commands.NamedEntry.{NamedEntry}
 use Rattle.cam6_wire.specs.Replies.{natural}
-use Rattle.cam6_wire.specs.Settings.{half_text, hood_text, minor_text, grid_text}
+use Rattle.cam6_wire.specs.Wirings.{half_text, hood_text, minor_text, grid_text}
 use Rattle.cam6_wire.specs.Entries.{rule_named}
 
 -- {"a":n,"b":n,"grid":g,"phase":f}

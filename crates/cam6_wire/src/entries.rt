@@ -4,7 +4,7 @@ ghost use Rattle.serde_json.specs.View.{view, items_view};
 ghost use Rattle.cam6_wire.specs.Entries.{rule_named, entry_of, entries_of, entries_at};
 
 use crate::fields::{has_size, number_at, text_at};
-use crate::settings::grid_named;
+use crate::wirings::grid_named;
 use cam6_machine::{NamedEntries, NamedEntry, Text};
 use serde_json::Value;
 use std::alloc::{AllocError, Global};

@@ -1,26 +1,32 @@
-//! The wire: a line of JSON as a command, and a reply or a line's fault as a line of JSON.
+//! The wire: command lines as JSON, and replies as JSON texts.
 //!
-//! Contract: `read_command` answers what the line says (`specs/Commands.antt`) unless memory runs
-//! out, and `reply_text` and `fault_text` are exactly the compact JSON of what they are given
-//! (`specs/Replies.antt`).
+//! Contract: `read_command` answers exactly the command that a line says, or fault 1, 2 or 3
+//! (`specs/Commands.antt`), by `serde_json`'s own reading; memory is wanted neither for an empty
+//! line nor for one that is too long. `command_shown` is the command that a JSON value shows, those
+//! that no line may say yet among them, and wants memory for a rule and a cycle alone. `reply_text`
+//! is exactly the compact JSON text of a reply (`specs/Replies.antt`), which reads back as the
+//! reply's value; `fault_text` is that of a line's fault, and takes no memory.
 //!
-//! Stands on: `cam6_wiring` for the texts of a rule's setting, `cam6_machine` for commands and
-//! replies with the faults of `cam6_forth` and `cam6_table` in them, `cam6_planes` for its
-//! `NoMemory`, and on `serde_json` and `hex`.
+//! The laws: a line says a command exactly where it has at most 16,384 bytes and its JSON value
+//! shows the command, with its keys and no others; the text of a reply, and of a line's fault, is
+//! one line.
 //!
-//! Read next: `faults`; `fields`, what stands at a key; `settings` and `entries`; `reading`, the
-//! commands; `fragment`, those that are accepted so far; then `writing`; and `laws`.
+//! Stands on: `cam6_planes`, `cam6_wiring`, `cam6_forth`, `cam6_table`, `cam6_machine`;
+//! `serde_json` with its grammar in `json`, and `hex`.
+//!
+//! Read next: `faults`, `commands` and `replies`; what they read, `fields`, `wirings`, `entries`
+//! and `fragment`; then `laws`.
 #![tactic(auto)]
 
+mod commands;
 mod entries;
 mod faults;
 mod fields;
 mod fragment;
 pub mod laws;
-mod reading;
-mod settings;
-mod writing;
+mod replies;
+mod wirings;
 
+pub use commands::{LINE_LIMIT, command_shown, read_command};
 pub use faults::LineFault;
-pub use reading::{LINE_LIMIT, command_shown, read_command};
-pub use writing::{fault_text, reply_text};
+pub use replies::{fault_text, reply_text};

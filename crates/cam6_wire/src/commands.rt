@@ -1,0 +1,148 @@
+//! A line as a command.
+ghost use Rattle.std.specs.Prelude.{◌≡◌, ◌<◌, ◌≤◌, length, Err, IfOk, IsOk, false};
+ghost use Rattle.cam6_wire.specs.declared.faults.LineFault.TheVariants.{NoMemory};
+ghost use Rattle.serde_json.specs.View.{view};
+ghost use Rattle.cam6_wire.specs.Commands.{set_of, rule_of, cycle_of, run_of, plane_of, by_word};
+ghost use Rattle.cam6_wire.specs.Commands.{shown_in, command_in, command, IsSaid};
+ghost use Rattle.cam6_wire.specs.Commands.{is_of_texts, takes_text};
+ghost use Rattle.cam6_wire.specs.Limits.{max_line};
+
+use crate::entries::entries_at;
+use crate::faults::LineFault;
+use crate::fields::{bits_at, has_size, number_at, text_at};
+use crate::fragment::is_in_fragment;
+use crate::wirings::wiring_in;
+use cam6_machine::{Command, Text};
+use serde_json::{Category, Value};
+use std::alloc::{AllocError, Global};
+
+/// Bytes of a line, without its LF.
+pub const LINE_LIMIT: usize = 16_384;
+
+/// What a line says.
+pub fn read_command(alloc: Global, line: &[u8]) -> Result<Command, LineFault>
+    ensures said { IsSaid result (command line.now) }
+    // No memory is wanted for an empty line, nor for one that is too long.
+    ensures memory { result ≡ Err NoMemory → (0 < length line.now) × (length line.now ≤ max_line) }
+{
+    if line.len() > LINE_LIMIT {
+        return Err(LineFault::TooLong);
+    }
+    let value = match Value::from_slice(alloc, line) {
+        Ok(value) => value,
+        Err(e) => {
+            return match e.classify() {
+                Category::Memory => Err(LineFault::NoMemory),
+                _ => Err(LineFault::NoJson),
+            };
+        }
+    };
+    command_in(alloc, &value)?.ok_or(LineFault::NoCommand)
+}
+
+/// The command that a JSON value shows, for whatever wiring and cycle. A line says those alone that
+/// are accepted so far.
+pub fn command_shown(alloc: Global, value: &Value) -> Result<Option<Command>, AllocError>
+    ensures command { IfOk result (λ command. command ≡ shown_in (view value.now)) }
+    // Memory is wanted for a rule and a cycle alone.
+    ensures memory { takes_text (view value.now) ≡ false → IsOk result }
+{
+    match text_at(value, "do") {
+        Some(word) => by_word(alloc, word, value),
+        None => Ok(None),
+    }
+}
+
+fn command_in(alloc: Global, value: &Value) -> Result<Option<Command>, AllocError>
+    ensures { IfOk result (λ command. command ≡ command_in (view value.now)) }
+{
+    match text_at(value, "do") {
+        Some(word) => Ok(by_word(alloc, word, value)?.filter(is_in_fragment)),
+        None => Ok(None),
+    }
+}
+
+fn by_word(alloc: Global, word: &str, value: &Value) -> Result<Option<Command>, AllocError>
+    ensures command { IfOk result (λ command. command ≡ by_word word.now (view value.now)) }
+    ensures memory { is_of_texts word.now ≡ false → IsOk result }
+{
+    match word {
+        "set" => Ok(set_of(value)),
+        "rule" => rule_of(alloc, value),
+        "cycle" => cycle_of(alloc, value),
+        "run" => Ok(run_of(value)),
+        "plane" => Ok(plane_of(value)),
+        _ => Ok(None),
+    }
+}
+
+#[tactic(auto, unfolding(crate::specs::Commands::set_of))]
+fn set_of(value: &Value) -> Option<Command>
+    ensures { result ≡ set_of (view value.now) }
+{
+    if !has_size(value, 4) {
+        return None;
+    }
+    let plane = number_at(value, "plane")?;
+    let row = number_at(value, "row")?;
+    let bits = bits_at(value, "bits")?;
+    Some(Command::Set { plane, row, bits })
+}
+
+#[tactic(auto, unfolding(crate::specs::Commands::rule_of))]
+fn rule_of(alloc: Global, value: &Value) -> Result<Option<Command>, AllocError>
+    ensures { IfOk result (λ command. command ≡ rule_of (view value.now)) }
+{
+    if !has_size(value, 6) {
+        return Ok(None);
+    }
+    let Some(name) = text_at(value, "name") else {
+        return Ok(None);
+    };
+    let Some(wiring) = wiring_in(value) else {
+        return Ok(None);
+    };
+    let Some(text) = text_at(value, "text") else {
+        return Ok(None);
+    };
+    Ok(Some(Command::Rule {
+        name: Text::new(String::from_str(alloc, name)?),
+        wiring,
+        text: Text::new(String::from_str(alloc, text)?),
+    }))
+}
+
+#[tactic(auto, unfolding(crate::specs::Commands::cycle_of))]
+fn cycle_of(alloc: Global, value: &Value) -> Result<Option<Command>, AllocError>
+    ensures { IfOk result (λ command. command ≡ cycle_of (view value.now)) }
+{
+    if !has_size(value, 2) {
+        return Ok(None);
+    }
+    match entries_at(alloc, value, "entries")? {
+        Some(entries) => Ok(Some(Command::Cycle { entries })),
+        None => Ok(None),
+    }
+}
+
+#[tactic(auto, unfolding(crate::specs::Commands::run_of))]
+fn run_of(value: &Value) -> Option<Command>
+    ensures { result ≡ run_of (view value.now) }
+{
+    if !has_size(value, 2) {
+        return None;
+    }
+    let n = number_at(value, "n")?;
+    Some(Command::Run { n })
+}
+
+#[tactic(auto, unfolding(crate::specs::Commands::plane_of))]
+fn plane_of(value: &Value) -> Option<Command>
+    ensures { result ≡ plane_of (view value.now) }
+{
+    if !has_size(value, 2) {
+        return None;
+    }
+    let plane = number_at(value, "plane")?;
+    Some(Command::Plane { plane })
+}
