@@ -21,7 +21,7 @@ use Rattle.cam6_forth.specs.Faults.{end_of_body_fault, if_fault, else_fault, the
 use Rattle.cam6_forth.specs.Faults.{fault_inside, fault_braced, token_fault, end_fault}
 use Rattle.cam6_forth.specs.Reading.{State, grown, grown_by, outside, naming}
 use Rattle.cam6_forth.specs.Reading.{inside, braces, with_if, with_else, with_then}
-use Rattle.cam6_forth.specs.Reading.{with_end, step_at, finish, some_definition}
+use Rattle.cam6_forth.specs.Reading.{with_definition, step_at, finish, some_definition}
 use Rattle.cam6_forth.proofs.States.{open_flags, state_of}
 use Rattle.cam6_forth.proofs.Runs.{length-all}
 
@@ -72,7 +72,7 @@ naming-fault s kind.Other t = by_other State (is_some (place_of t s.done)) _ not
 naming-fault s k t = refl
 
 end-fault : (open_ifs : List OpenIf) (s : State) →
-    fault_in (with_end (open_flags open_ifs) s) ≡ end_of_body_fault open_ifs
+    fault_in (with_definition (open_flags open_ifs) s) ≡ end_of_body_fault open_ifs
 end-fault [] s = refl
 end-fault (open_if ∷ outer) s = refl
 
@@ -112,7 +112,7 @@ inside-fault : (w : Wiring) (s : State) (last : Opened) (k : Kind) (t : Token) �
     fault_in (inside w s k t) ≡ fault_inside w s.done last s.size k t
 inside-fault w s last kind.Open t e = refl
 inside-fault w s last kind.Semicolon t e =
-    ap (λ flags. fault_in (with_end flags s)) e ∙ end-fault last.open_ifs s
+    ap (λ flags. fault_in (with_definition flags s)) e ∙ end-fault last.open_ifs s
 inside-fault w s last kind.If t e = if-fault last.open_ifs s e
 inside-fault w s last kind.Else t e =
     ap (λ flags. fault_in (with_else flags s)) e ∙ else-fault last.open_ifs s

@@ -16,7 +16,7 @@ use Rattle.cam6_forth.specs.Tree.{Body, End, Part, spell, words_of, size_of, mea
 use Rattle.cam6_forth.specs.Unfinished.{OpenIf, Opened, Unfinished, Whole}
 use Rattle.cam6_forth.specs.Unfinished.{Unnamed, Within, Braced, IsSound}
 use Rattle.cam6_forth.specs.Reading.{State, grown_by, outside, naming}
-use Rattle.cam6_forth.specs.Reading.{inside, braces, with_end, step_at}
+use Rattle.cam6_forth.specs.Reading.{inside, braces, with_definition, step_at}
 use Rattle.cam6_forth.proofs.States.{after_all, after_colon, in_body, open_flags, state_of}
 use Rattle.cam6_forth.proofs.Runs.{ok_state, ok-same, length-all}
 use Rattle.cam6_forth.proofs.Joined.{spell-more, meant-more, definitions-more}
@@ -75,7 +75,7 @@ module _ (w : Wiring) (parts : List Part) where
   -- `;` after a body
   end_grows : (name : Token) (open_ifs : List OpenIf) (said : Body) (t : Token) (s1 : State) →
       IsSound w (Within parts (opened name open_ifs said)) → t ≡ codes ";" →
-      with_end (open_flags open_ifs) (state_of w (Within parts (opened name open_ifs said)))
+      with_definition (open_flags open_ifs) (state_of w (Within parts (opened name open_ifs said)))
       ≡ ok_state s1 →
       Grows w (Within parts (opened name open_ifs said)) t Plain s1
   end_grows name [] said t s1 sound e f =

@@ -6,6 +6,7 @@ use Rattle.std.specs.List.{list_all}
 use Rattle.std.specs.Char.{is_ascii_digit}
 use Rattle.cam6_forth.specs.declared.kinds.Kind.{Kind}
 use Rattle.cam6_forth.specs.declared.kinds.Kind.TheVariants as kind
+use Rattle.cam6_forth.specs.Limits.{max_literal}
 use Rattle.cam6_forth.specs.Tokens.{Token, is_filled}
 use Rattle.cam6_forth.specs.Spellings.{found, stack_word, output_word, neighbour_name}
 
@@ -32,9 +33,9 @@ abbrev pub value_from : ℕ → Token → ℕ
 value_from value [] = value
 value_from value (digit ∷ digits) = value_from (value * 10 + (digit - 48)) digits
 
--- a literal's value, unless it is above 65,535
+-- a literal's value, unless it is above the largest
 unfoldable pub literal : Token → Option ℕ
-literal token = if nat_le (value_from 0 token) 65535 then Some (value_from 0 token) else None
+literal token = if nat_le (value_from 0 token) max_literal then Some (value_from 0 token) else None
 
 -- the tokens that are reserved, digits apart
 abbrev pub reserved_kind : Token → Option Kind

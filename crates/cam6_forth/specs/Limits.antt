@@ -21,6 +21,10 @@ max_size = 4096
 abbrev pub max_open_ifs : ℕ
 max_open_ifs = 16
 
+-- the largest literal
+abbrev pub max_literal : ℕ
+max_literal = 65535
+
 -- in a body, a name that isn't known there, or that the hood and the minor lack
 abbrev pub unknown_word : ℕ
 unknown_word = 20

@@ -94,8 +94,8 @@ abbrev pub defined : State → Defined
 defined state = record { name = state.name; words = state.words; size = state.size }
 
 -- `;`, where no IF is open
-abbrev pub with_end : List Bool → State → Result State ℕ
-with_end [] state =
+abbrev pub with_definition : List Bool → State → Result State ℕ
+with_definition [] state =
     Ok (record state {
       done = state.done ++ defined state ∷ [];
       context = Outside;
@@ -103,11 +103,11 @@ with_end [] state =
       words = [];
       size = 0;
     })
-with_end (has_else ∷ outer) state = Err out_of_place
+with_definition (has_else ∷ outer) state = Err out_of_place
 
 -- in a body
 abbrev pub inside : Wiring → State → Kind → Token → Result State ℕ
-inside wiring state Semicolon token = with_end state.open_ifs state
+inside wiring state Semicolon token = with_definition state.open_ifs state
 inside wiring state Open token = Ok (record state { comment = true })
 inside wiring state If token = with_if state
 inside wiring state Else token = with_else state.open_ifs state

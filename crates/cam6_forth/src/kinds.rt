@@ -2,6 +2,7 @@
 ghost use Rattle.std.specs.Prelude.{◌≡◌, true};
 ghost use Rattle.cam6_forth.specs.Kinds.{mark, kind_of, is_digits, literal, ends_comment};
 
+use crate::limits::MAX_LITERAL;
 use crate::spellings::{neighbour_name, output_word, stack_word};
 use crate::words::{Output, StackWord};
 use cam6_wiring::Name;
@@ -90,7 +91,7 @@ fn is_digits(token: &[u8]) -> bool
     !token.is_empty()
 }
 
-// The value of digits, unless it is above 65,535.
+// The value of digits, unless it is above the largest literal.
 #[tactic(auto, using(crate::proofs::Values::digit_steps), unfolding(crate::specs::Kinds::literal))]
 fn literal(digits: &[u8]) -> Option<u16>
     requires digits { is_digits digits.now ≡ true }
@@ -99,7 +100,7 @@ fn literal(digits: &[u8]) -> Option<u16>
     let mut value: u32 = 0;
     for digit in digits {
         value = value * 10 + (*digit - b'0') as u32;
-        if value > 65_535 {
+        if value > MAX_LITERAL {
             return None;
         }
     }

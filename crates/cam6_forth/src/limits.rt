@@ -11,3 +11,6 @@ pub(crate) const MAX_SIZE: u16 = 4096;
 
 /// IFs of one definition that are open together.
 pub(crate) const MAX_OPEN_IFS: usize = 16;
+
+/// The largest value of a literal.
+pub(crate) const MAX_LITERAL: u32 = 65_535;

@@ -58,7 +58,7 @@ impl Model for Reader {
 impl Reader {
     ghost use Rattle.cam6_forth.specs.SingleWords.{word_of};
     ghost use Rattle.cam6_forth.specs.Reading.{begin, step, grown, outside, naming, with_if};
-    ghost use Rattle.cam6_forth.specs.Reading.{with_else, with_then, with_end, inside, braces};
+    ghost use Rattle.cam6_forth.specs.Reading.{with_else, with_then, with_definition, inside, braces};
     ghost use Rattle.cam6_forth.specs.Reading.{finish, is_in_body, then_so};
     ghost use Rattle.cam6_forth.specs.declared.faults.StepFault.TheVariants.{NoMemory};
     ghost use Rattle.cam6_forth.specs.Outcome.{Steps, Finishes};
@@ -153,7 +153,7 @@ impl Reader {
         ensures { Steps (inside wiring self.old kind token.now) self.new result }
     {
         match kind {
-            Kind::Semicolon => self.with_end(),
+            Kind::Semicolon => self.with_definition(),
             Kind::Open => {
                 self.comment = true;
                 Ok(())
@@ -223,8 +223,8 @@ impl Reader {
         Ok(())
     }
 
-    fn with_end(&mut self) -> Result<(), StepFault>
-        ensures { Steps (with_end self.old.open_ifs self.old) self.new result }
+    fn with_definition(&mut self) -> Result<(), StepFault>
+        ensures { Steps (with_definition self.old.open_ifs self.old) self.new result }
     {
         if self.open_ifs.len() != 0 {
             return Err(StepFault::Token(TokenFault::OutOfPlace));
