@@ -137,7 +137,8 @@ module _ (w : Wiring) (text : List ℕ) where
           inr (number, token_number, read_fault_of number token_number e)
 
   -- what `parse` answers
-  pub accepted_from : (result : Result RuleWords ParseFault) → IsReadAs (read_text w text) w result →
+  pub accepted_from : (result : Result RuleWords ParseFault) →
+      IsReadAs (read_text w text) w result →
       IsAccepted w text result
   accepted_from (Ok rule) e =
       let r = read_rule rule.definitions e.0 in

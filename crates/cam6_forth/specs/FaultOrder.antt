@@ -59,7 +59,8 @@ abbrev pub wants_else : List OpenIf → Bool
 wants_else [] = false
 wants_else (open_if ∷ outer) = not (is_some open_if.first)
 
--- 22, in a body: `:`, `)` or `}`; ELSE or THEN without its IF, or a second ELSE; `;` with an IF open
+-- 22, in a body: `:`, `)` or `}`; ELSE or THEN without its IF, or a second ELSE; `;` where an IF
+-- is open
 abbrev pub is_misplaced : List OpenIf → Kind → Bool
 is_misplaced open_ifs Colon = true
 is_misplaced open_ifs Close = true

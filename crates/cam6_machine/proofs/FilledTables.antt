@@ -50,7 +50,8 @@ one_more n rules cycle past pairs new within right before place entry below foun
         let at_n : slice_get cycle n ≡ Some entry = sym (ap (slice_get cycle) here) ∙ found in (
           new,
           ap (slice_get (slice_set pairs n new)) here ∙ written_here pairs n new within,
-          subst (λ e. ArePair (rules_at rules e) new) (get_or_from_slice_get cycle n entry past at_n) right,
+          subst (λ e. ArePair (rules_at rules e) new)
+              (get_or_from_slice_get cycle n entry past at_n) right,
         )
     at_place (inr earlier) =
         let old = before place entry earlier found in

@@ -17,12 +17,14 @@ use Rattle.cam6_machine.specs.Cycles.{EntryRules, phase_of, entry_rules}
 use Rattle.cam6_machine.specs.Effects.{with_rule}
 use Rattle.cam6_machine.specs.Always.{HaveOwnNames, IsNamed, IsEntry}
 use Rattle.cam6_machine.specs.Refusals.{is_name, is_used, room_refusal, rule_refusal}
-use Rattle.cam6_machine.specs.Places.{place_of, rule_at, name_of, placed, placed_entry, phase_number}
+use Rattle.cam6_machine.specs.Places.{place_of, rule_at, name_of, place_if_named}
+use Rattle.cam6_machine.specs.Places.{placed_entry, phase_number}
 use Rattle.cam6_machine.specs.Places.{named_entry, named_entries, rules_at, IsPlace, ArePlaced}
 use Rattle.cam6_machine.specs.Places.{is_place, uses_place}
 use Rattle.cam6_machine.specs.declared.commands.NamedEntry.{NamedEntry}
 use Rattle.cam6_machine.specs.declared.cycles.Entry.{Entry}
-use Rattle.cam6_machine.specs.declared.faults.Fault.TheVariants.{RuleInUse, TooManyRules, OutOfRange}
+use Rattle.cam6_machine.specs.declared.faults.Fault.TheVariants.{RuleInUse, TooManyRules}
+use Rattle.cam6_machine.specs.declared.faults.Fault.TheVariants.{OutOfRange}
 
 -- names of rules
 abbrev pub names_of : List Rule → List (List ℕ)
@@ -376,7 +378,7 @@ placed_with new rules (entry ∷ cycle) placed = (
 
 -- names that are placed are had back
 half_named : (rules : List Rule) (half : Half) (o : Option (List ℕ)) → IsNamed rules half o →
-    name_of (rule_at rules (placed rules o)) ≡ o
+    name_of (rule_at rules (place_if_named rules o)) ≡ o
 half_named rules half None named = refl
 half_named rules half (Some name) (rule, found, of_half) = name_placed name rules rule found
 
@@ -394,7 +396,7 @@ named_back rules (entry ∷ entries) are =
     let later = named_entries rules (map (placed_entry rules) entries) in
     ap {B = List NamedEntry} (λ a. record {
       a = a;
-      b = name_of (rule_at rules (placed rules entry.b));
+      b = name_of (rule_at rules (place_if_named rules entry.b));
       grid = entry.grid;
       phase = phase_number (phase_of entry.phase);
     } ∷ later) (half_named rules A entry.a are.0.0) ∙
@@ -412,7 +414,7 @@ named_back rules (entry ∷ entries) are =
     } ∷ later) (number_back entry.phase are.0.2) ∙
     ap (λ l. entry ∷ l) (named_back rules entries are.1)
 
-half_within : (rules : List Rule) (o : Option (List ℕ)) → IsPlace rules (placed rules o)
+half_within : (rules : List Rule) (o : Option (List ℕ)) → IsPlace rules (place_if_named rules o)
 half_within rules None = tt
 half_within rules (Some name) = place_within name rules
 

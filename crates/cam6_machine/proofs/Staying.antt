@@ -1,6 +1,7 @@
 -- A machine stays a machine, whatever it is commanded, and its rules run.
 use Rattle.std.proofs.Common.{◌≡◌, ◌≤◌, ◌<◌, ◌+◌, ◌%◌, ℕ, Bool, true, false, ◌&&◌, ◌||◌, List, []}
-use Rattle.std.proofs.Common.{◌∷◌, length, Option, Some, None, cond, refl, sym, ap, ◌∙◌, subst, arith}
+use Rattle.std.proofs.Common.{◌∷◌, length, Option, Some, None, cond, refl, sym, ap, ◌∙◌, subst}
+use Rattle.std.proofs.Common.{arith}
 use Rattle.std.proofs.Common.{nat_lt, nat_le, IsOk, ◌⊎◌, inl, inr, Result, Ok, Err}
 use Rattle.std.specs.List.{AllByRecursion, list_any, list_all}
 use Rattle.std.specs.Str.{bytes_eq}
@@ -40,7 +41,8 @@ use Rattle.cam6_machine.specs.declared.commands.Command.{Command}
 use Rattle.cam6_machine.specs.declared.commands.Command.TheVariants as command
 use Rattle.cam6_machine.specs.declared.commands.NamedEntry.{NamedEntry}
 use Rattle.cam6_machine.specs.declared.faults.Fault.{Fault}
-use Rattle.cam6_machine.specs.declared.faults.Fault.TheVariants.{WrongHalf, OutOfRange, TooManyRules, RuleInUse}
+use Rattle.cam6_machine.specs.declared.faults.Fault.TheVariants.{WrongHalf, OutOfRange}
+use Rattle.cam6_machine.specs.declared.faults.Fault.TheVariants.{TooManyRules, RuleInUse}
 use Rattle.cam6_machine.specs.declared.replies.Reply.{Reply}
 use Rattle.cam6_machine.proofs.Done.{after-refused, after-accepted}
 use Rattle.cam6_machine.proofs.KeptNames.{length_at_most, length_same, all_with}
@@ -128,7 +130,8 @@ named_rule : (rules : List Rule) (h : Half) (name : List ℕ) (o : Option Rule) 
     rule_named name rules ≡ o → refuse.wiring_refusal h (wiring_for o) ≡ None →
     IsNamed rules h (Some name)
 named_rule rules h name None e none = cc none
-named_rule rules h name (Some rule) e none = (rule, e, by_test (is_same_half rule.wiring.half h) refl none)
+named_rule rules h name (Some rule) e none =
+    (rule, e, by_test (is_same_half rule.wiring.half h) refl none)
   where
     by_test : (b : Bool) → is_same_half rule.wiring.half h ≡ b →
         cond b None (Some WrongHalf) ≡ None → rule.wiring.half ≡ h
@@ -404,13 +407,15 @@ rule_among Q name (first ∷ rules) rule all found =
 
 half_runs : (m : Machine) (h : Half) (o : Option (List ℕ)) (name : List ℕ) → IsMachine m →
     IsNamed m.rules h o → o ≡ Some name →
-    (rule : Rule) × (rule_if_named o m.rules ≡ Some rule) × ((sees : Sees) → IsOk (words_mean rule sees))
+    (rule : Rule) × (rule_if_named o m.rules ≡ Some rule) ×
+    ((sees : Sees) → IsOk (words_mean rule sees))
 half_runs m h None name is named e = cc e
 half_runs m h (Some other) name is (rule, found, of_half) e = (
   rule,
   found,
   λ sees. words_run rule sees
-      (rule_among (λ r. refuse.words_refusal r.wiring r.text ≡ None) other m.rules rule is.sound found),
+      (rule_among (λ r. refuse.words_refusal r.wiring r.text ≡ None) other m.rules rule is.sound
+      found),
 )
 
 all_ruled : (m : Machine) (cycle : List NamedEntry) → IsMachine m →

@@ -1,5 +1,5 @@
--- How the code keeps rules and a cycle: rules in a map by name, each with its code, and entries with
--- the places of their rules in place of the names.
+-- How the code keeps rules and a cycle: rules in a map by name, each with its code, and entries
+-- with the places of their rules instead of the names.
 use Rattle.std.specs.Prelude.{ℕ, suc, ◌<◌, Bool, false, ◌||◌, ◌==◌, List, [], ◌∷◌, map, length}
 use Rattle.std.specs.Prelude.{Option, Some, None, ⊤, String, string_bytes, if◌then◌else◌}
 use Rattle.std.specs.List.{slice_get, AllByRecursion}
@@ -49,16 +49,16 @@ name_of None = None
 name_of (Some rule) = Some rule.name
 
 -- the place of a name's rule, if there is a name and such a rule
-abbrev pub placed : List Rule → Option (List ℕ) → Option ℕ
-placed rules None = None
-placed rules (Some name) = place_of name rules
+abbrev pub place_if_named : List Rule → Option (List ℕ) → Option ℕ
+place_if_named rules None = None
+place_if_named rules (Some name) = place_of name rules
 
 -- an entry with the places of the rules that it names
 abbrev pub placed_entry : List Rule → NamedEntry → Entry
 placed_entry rules entry =
     record {
-      a = placed rules entry.a;
-      b = placed rules entry.b;
+      a = place_if_named rules entry.a;
+      b = place_if_named rules entry.b;
       grid = entry.grid;
       phase = phase_of entry.phase;
     }

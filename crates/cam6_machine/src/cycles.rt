@@ -2,7 +2,7 @@
 
 ghost use Rattle.std.specs.Prelude.{◌≡◌, IfOk, map};
 ghost use Rattle.cam6_machine.specs.Cycles.{phase_of};
-ghost use Rattle.cam6_machine.specs.Places.{rules_of, placed, placed_entry};
+ghost use Rattle.cam6_machine.specs.Places.{rules_of, place_if_named, placed_entry};
 
 use crate::commands::NamedEntry;
 use crate::rules::{KeptRule, place_of};
@@ -45,16 +45,16 @@ fn placed_entry(rules: &IndexMap<String, KeptRule>, entry: &NamedEntry) -> Entry
     ensures { result ≡ placed_entry (rules_of rules.now.entries) entry.now }
 {
     Entry {
-        a: placed(rules, &entry.a),
-        b: placed(rules, &entry.b),
+        a: place_if_named(rules, &entry.a),
+        b: place_if_named(rules, &entry.b),
         grid: entry.grid,
         phase: phase_of(entry.phase),
     }
 }
 
 /// The place of the rule with this name, if there is a name and such a rule.
-fn placed(rules: &IndexMap<String, KeptRule>, name: &Option<Text>) -> Option<usize>
-    ensures { result ≡ placed (rules_of rules.now.entries) name.now }
+fn place_if_named(rules: &IndexMap<String, KeptRule>, name: &Option<Text>) -> Option<usize>
+    ensures { result ≡ place_if_named (rules_of rules.now.entries) name.now }
 {
     match name {
         Some(name) => place_of(rules, name),

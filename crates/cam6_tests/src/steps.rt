@@ -1,4 +1,4 @@
-//! The steps that a run leaves to be done, the turns that a rule takes, and the numbers of line faults.
+//! Steps that a run leaves to be done, turns that a rule takes, and the numbers of line faults.
 
 use cam6_forth::parse;
 use cam6_machine::{Command, Machine, NamedEntries, NamedEntry, Now, Reply};

@@ -28,7 +28,8 @@ back k n some h = omega (arith, some, h)
 
 -- a coordinate that lies on this side, in the block of another
 abbrev pub Moved : ℕ → Grid → ℕ → ℕ → ℕ → Type 0
-Moved s grid old new side = (side_in_block grid new ≡ side) × (block_of s grid new ≡ block_of s grid old)
+Moved s grid old new side =
+    (side_in_block grid new ≡ side) × (block_of s grid new ≡ block_of s grid old)
 
 stays : (s : ℕ) (grid : Grid) (x side : ℕ) → side_in_block grid x ≡ side → Moved s grid x x side
 stays s grid x side h = (h, refl)
@@ -99,14 +100,17 @@ module _ (k : ℕ) (f : Cells) (grid : Grid) (p x y : ℕ) (some : 0 < k) where
 
   upper_left : side_in_block grid x ≡ 0 → side_in_block grid y ≡ 0 → (turn : Turn) →
       Turns (corner_at 0 0) turn
-  upper_left h v Clockwise = seen_and refl (both _ _ 1 0 (goes_on k grid x some h) (stays _ grid y 0 v))
-  upper_left h v Opposite = seen_and refl (both _ _ 1 1 (goes_on k grid x some h) (goes_on k grid y some v))
+  upper_left h v Clockwise =
+      seen_and refl (both _ _ 1 0 (goes_on k grid x some h) (stays _ grid y 0 v))
+  upper_left h v Opposite =
+      seen_and refl (both _ _ 1 1 (goes_on k grid x some h) (goes_on k grid y some v))
   upper_left h v CounterClockwise =
       seen_and refl (both _ _ 0 1 (stays _ grid x 0 h) (goes_on k grid y some v))
 
   upper_right : side_in_block grid x ≡ 1 → side_in_block grid y ≡ 0 → (turn : Turn) →
       Turns (corner_at 1 0) turn
-  upper_right h v Clockwise = seen_and refl (both _ _ 1 1 (stays _ grid x 1 h) (goes_on k grid y some v))
+  upper_right h v Clockwise =
+      seen_and refl (both _ _ 1 1 (stays _ grid x 1 h) (goes_on k grid y some v))
   upper_right h v Opposite =
       seen_and refl (both _ _ 0 1 (goes_back k grid x some h) (goes_on k grid y some v))
   upper_right h v CounterClockwise =
@@ -114,7 +118,8 @@ module _ (k : ℕ) (f : Cells) (grid : Grid) (p x y : ℕ) (some : 0 < k) where
 
   lower_right : side_in_block grid x ≡ 1 → side_in_block grid y ≡ 1 → (turn : Turn) →
       Turns (corner_at 1 1) turn
-  lower_right h v Clockwise = seen_and refl (both _ _ 0 1 (goes_back k grid x some h) (stays _ grid y 1 v))
+  lower_right h v Clockwise =
+      seen_and refl (both _ _ 0 1 (goes_back k grid x some h) (stays _ grid y 1 v))
   lower_right h v Opposite =
       seen_and refl (both _ _ 0 0 (goes_back k grid x some h) (goes_back k grid y some v))
   lower_right h v CounterClockwise =
@@ -122,7 +127,8 @@ module _ (k : ℕ) (f : Cells) (grid : Grid) (p x y : ℕ) (some : 0 < k) where
 
   lower_left : side_in_block grid x ≡ 0 → side_in_block grid y ≡ 1 → (turn : Turn) →
       Turns (corner_at 0 1) turn
-  lower_left h v Clockwise = seen_and refl (both _ _ 0 0 (stays _ grid x 0 h) (goes_back k grid y some v))
+  lower_left h v Clockwise =
+      seen_and refl (both _ _ 0 0 (stays _ grid x 0 h) (goes_back k grid y some v))
   lower_left h v Opposite =
       seen_and refl (both _ _ 1 0 (goes_on k grid x some h) (goes_back k grid y some v))
   lower_left h v CounterClockwise =

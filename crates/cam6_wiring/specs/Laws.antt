@@ -39,8 +39,8 @@ IsItselfAlone =
     (is_same_name first second ≡ true → first ≡ second) ×
     (first ≡ second → is_same_name first second ≡ true)
 
--- the cell that a cell sees one, two or three corners further clockwise lies in the same block, one,
--- two or three corners further clockwise; the torus has an even side
+-- the cell that a cell sees one, two or three corners further clockwise lies in the same block, so
+-- many corners further clockwise; the torus has an even side
 abbrev pub TurnsInTheBlock : Type 0
 TurnsInTheBlock =
     (half_side : ℕ) (f : Cells) (grid : Grid) (turn : Turn) (p x y : ℕ) → 0 < half_side →

@@ -21,7 +21,8 @@ returns-in-Some-2 c =
 pub returns-in-None : goal.returns-in-None
 returns-in-None c =
     let rules = rules_of c.args.rules.now.entries in
-    let all : length rules ≡ c.len.result = length-map c.args.rules.now.entries _ ∙ sym c.len.ensures.len in
+    let all : length rules ≡ c.len.result =
+    length-map c.args.rules.now.entries _ ∙ sym c.len.ensures.len in
     refused_new rules (named_entries rules c.args.cycle.now) c.args.name.now true
     c.if-not-is_rule_name.ensures (sym c.place_of.ensures ∙ c.in-None.is)
     (sym (le-leb max_rules (length rules) (omega (arith, all, c.if-len-ge-MAX_RULES.true))))
@@ -29,7 +30,8 @@ returns-in-None c =
 pub returns-in-None-2 : goal.returns-in-None-2
 returns-in-None-2 c =
     let rules = rules_of c.args.rules.now.entries in
-    let all : length rules ≡ c.len.result = length-map c.args.rules.now.entries _ ∙ sym c.len.ensures.len in
+    let all : length rules ≡ c.len.result =
+    length-map c.args.rules.now.entries _ ∙ sym c.len.ensures.len in
     refused_new rules (named_entries rules c.args.cycle.now) c.args.name.now false
     c.if-not-is_rule_name.ensures (sym c.place_of.ensures ∙ c.in-None.is)
     (sym (lt-leb max_rules (length rules) (omega (arith, all, c.if-len-ge-MAX_RULES.false))))

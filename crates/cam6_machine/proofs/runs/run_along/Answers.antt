@@ -20,6 +20,7 @@ loop-step-preserved c =
           c.requires.names now.invariant.position now.invariant.side c.step.ensures.side.1
           c.step.ensures.planes ∙
           ap stepped (now.invariant.steps colours) ∙
-          ap (λ n. steps n (machine_of (stored c.args.planes.now rules cycle c.args.position colours)))
+          ap (λ n. steps n
+          (machine_of (stored c.args.planes.now rules cycle c.args.position colours)))
           one;
     }
