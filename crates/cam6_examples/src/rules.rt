@@ -3,7 +3,7 @@
 use crate::examples::Sent;
 use crate::sessions::{add_line, no_memory};
 use crate::settings::{half_text, hood_text, minor_text};
-use cam6_forth::{Definition, ParseFault, Rule, TextFault, Word, parse};
+use cam6_forth::{Definition, ParseFault, Rule, TextFault, Word, parse_under};
 use cam6_table::{Code, ENTRIES, MAX_TURNS, RuleFault, Table, eval, fill};
 use cam6_wiring::Wiring;
 use std::alloc::Global;
@@ -19,7 +19,7 @@ pub fn read_rule(
     text: &[u8],
 ) -> io::Result<Result<Rule, TextFault>> {
     let text = str::from_utf8(text).map_err(|_| io::Error::from(io::ErrorKind::InvalidData))?;
-    match parse(alloc, text, wiring.half, wiring.hood, wiring.minor) {
+    match parse_under(alloc, text, wiring) {
         Ok(rule) => Ok(Ok(rule)),
         Err(ParseFault::Text(fault)) => Ok(Err(fault)),
         Err(ParseFault::NoMemory) => Err(no_memory()),

@@ -6,7 +6,7 @@ use Rattle.cam6_forth.specs.declared.words.Word.{Word}
 use Rattle.cam6_forth.specs.declared.words.Word.TheVariants as word
 use Rattle.cam6_forth.specs.Tokens.{Token}
 use Rattle.cam6_forth.specs.Defined.{Defined}
-use Rattle.cam6_forth.specs.Comments.{Plain, is_comment, mode_after}
+use Rattle.cam6_forth.specs.Comments as comments
 use Rattle.cam6_forth.specs.Tree.{case_words, case_size, meant}
 use Rattle.cam6_forth.specs.Texts.{Begins}
 use Rattle.cam6_forth.specs.Unfinished.{opened_size, Unfinished, Whole, Unnamed, Within, Braced}
@@ -15,7 +15,7 @@ use Rattle.cam6_forth.proofs.States.{after_all, after_colon, in_body, in_braces}
 use Rattle.cam6_forth.proofs.States.{open_flags, opened_words, state_of}
 use Rattle.cam6_forth.proofs.Runs.{ok_state, run, then_run, append_run, length-all}
 use Rattle.cam6_forth.proofs.Counting.{read-run}
-use Rattle.cam6_forth.proofs.Steps.{step-then, step-close, step-name, step-colon, step-end, some-is}
+use Rattle.cam6_forth.proofs.Steps as steps
 use Rattle.cam6_forth.proofs.Following.{with_comment, plain_state}
 use Rattle.cam6_forth.proofs.Fresh.{fresh_name, fresh-other, fresh-free}
 use Rattle.cam6_forth.proofs.Readings.{run_sound, rule_back}
@@ -45,7 +45,7 @@ module _ (w : Wiring) where
       let one : Defined = record { name = name; words = words; size = size } in
       let new = done ++ one ∷ [] in
       token_completes (in_body done name words size []) (after_all new) (codes ";")
-      (step-end w done name words size)
+      (steps.step-end w done name words size)
       (record {
         later = [];
         done = new;
@@ -60,20 +60,21 @@ module _ (w : Wiring) where
   body_completes (has_else ∷ outer) done name words size =
       token_completes (in_body done name words size (has_else ∷ outer))
       (in_body done name (words ++ word.Then ∷ []) size outer) (codes "THEN")
-      (step-then w done name words size has_else outer)
+      (steps.step-then w done name words size has_else outer)
       (body_completes outer done name (words ++ word.Then ∷ []) size)
 
   -- a definition that has only its `:`
   colon_completes : (done : List Defined) → Completes w (after_colon done)
   colon_completes done =
       token_completes (after_colon done) (in_body done (fresh_name done) [] 0 []) (fresh_name done)
-      (step-name w done (fresh_name done) (fresh-other _) (fresh-free done))
+      (steps.step-name w done (fresh_name done) (fresh-other _) (fresh-free done))
       (end_completes done (fresh_name done) [] 0)
 
   -- what is being written
   unfinished_completes : (u : Unfinished) → Completes w (state_of w u)
   unfinished_completes (Whole []) =
-      token_completes (after_all []) (after_colon []) (codes ":") (step-colon w [] (omega arith))
+      token_completes (after_all []) (after_colon []) (codes ":")
+      (steps.step-colon w [] (omega arith))
       (colon_completes [])
   unfinished_completes (Whole (part ∷ parts)) = record {
     later = [];
@@ -91,7 +92,7 @@ module _ (w : Wiring) where
       let flags = open_flags last.open_ifs in
       token_completes (in_braces done last.name said size flags)
       (in_body done last.name (said ++ word.EndCases ∷ []) size flags) (codes "}")
-      (step-close w done last.name said size flags)
+      (steps.step-close w done last.name said size flags)
       (body_completes flags done last.name (said ++ word.EndCases ∷ []) size)
 
   -- the same in a comment
@@ -107,11 +108,12 @@ module _ (w : Wiring) where
   run_begins before last e =
       let r = run_sound w before last e in
       let c = subst (Completes w) (sym r.state)
-      (comment_completes (is_comment (mode_after Plain before)) r.unfinished) in
+      (comment_completes (comments.is_comment (comments.mode_after comments.Plain before))
+      r.unfinished) in
       let all = before ++ c.later in
       let there = append_run w begin last before c.later (ok_state (after_all c.done)) e c.run in
       let read_all : read w begin 1 all ≡ Ok c.done =
       read-run w all begin (after_all c.done) 1 there
-      ∙ ap (λ r. numbered r (1 + length all)) (some-is c.done c.some) in
+      ∙ ap (λ r. numbered r (1 + length all)) (steps.some-is c.done c.some) in
       let back = rule_back w all c.done read_all in
       (c.later, back.0, back.1)

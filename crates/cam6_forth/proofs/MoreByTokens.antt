@@ -19,11 +19,10 @@ use Rattle.cam6_forth.specs.Reading.{State, grown_by, outside, naming}
 use Rattle.cam6_forth.specs.Reading.{inside, braces, with_definition, step_at}
 use Rattle.cam6_forth.proofs.States.{after_all, after_colon, in_body, open_flags, state_of}
 use Rattle.cam6_forth.proofs.Runs.{ok_state, ok-same, length-all}
-use Rattle.cam6_forth.proofs.Joined.{spell-more, meant-more, definitions-more}
+use Rattle.cam6_forth.proofs.Joined as joined
 use Rattle.cam6_forth.proofs.Marks.{kind_is}
 use Rattle.cam6_forth.proofs.OneMore.{mode_of, Grows, if_ok, opened}
-use Rattle.cam6_forth.proofs.MoreInBodies.{if_grows, else_grows, then_grows, brace_grows}
-use Rattle.cam6_forth.proofs.MoreInBodies.{word_grows, case_grows, cases_grow}
+use Rattle.cam6_forth.proofs.MoreInBodies as more
 
 module _ (w : Wiring) (parts : List Part) where
   abbrev done : List Defined
@@ -86,7 +85,7 @@ module _ (w : Wiring) (parts : List Part) where
       record {
         unfinished = Whole (parts ++ last ∷ []);
         sound = (
-          definitions-more w parts last [] sound.0.each (record {
+          joined.definitions-more w parts last [] sound.0.each (record {
             name = sound.1.name;
             fresh = sound.1.fresh;
             known = sound.1.said.known;
@@ -95,11 +94,11 @@ module _ (w : Wiring) (parts : List Part) where
           }),
           omega (arith, length-append parts (last ∷ [])),
         );
-        spelled = rw (e, spell-more parts last) (simp append_assoc);
+        spelled = rw (e, joined.spell-more parts last) (simp append_assoc);
         state = sym (ok-same _ _ f) ∙ ap after_all
             (ap (λ n. done ++ record { name = name; words = words_of w done said; size = n } ∷ [])
             (zero-add (size_of w done said))
-            ∙ sym (meant-more w parts last []));
+            ∙ sym (joined.meant-more w parts last []));
         mode = refl;
       }
   end_grows name (open_if ∷ outer) said t s1 sound e f =
@@ -131,15 +130,17 @@ module _ (w : Wiring) (parts : List Part) where
   inside_grows last kind.Semicolon t s1 sound e closed f =
       end_grows last.name last.open_ifs last.said t s1 sound (kind_is t kind.Semicolon refl e) f
   inside_grows last kind.If t s1 sound e closed f =
-      if_grows w parts last t s1 sound (kind_is t kind.If refl e) f
+      more.if_grows w parts last t s1 sound (kind_is t kind.If refl e) f
   inside_grows last kind.Else t s1 sound e closed f =
-      else_grows w parts last.name last.open_ifs last.said t s1 sound (kind_is t kind.Else refl e) f
+      more.else_grows w parts last.name last.open_ifs last.said t s1 sound
+      (kind_is t kind.Else refl e) f
   inside_grows last kind.Then t s1 sound e closed f =
-      then_grows w parts last.name last.open_ifs last.said t s1 sound (kind_is t kind.Then refl e) f
+      more.then_grows w parts last.name last.open_ifs last.said t s1 sound
+      (kind_is t kind.Then refl e) f
   inside_grows last kind.OpenBrace t s1 sound e closed f =
-      brace_grows w parts last t s1 sound (kind_is t kind.OpenBrace refl e) f
+      more.brace_grows w parts last t s1 sound (kind_is t kind.OpenBrace refl e) f
   inside_grows last k t s1 sound e closed f =
-      word_grows w parts last t s1 sound
+      more.word_grows w parts last t s1 sound
       (ap (λ j. grown_by 0 (word_of w done j t) (state_of w (Within parts last))) e ∙ f)
 
   -- between braces
@@ -151,9 +152,9 @@ module _ (w : Wiring) (parts : List Part) where
   braces_grow last words kind.Colon t s1 sound e closed f =
       let g : Err out_of_place ≡ ok_state s1 = f in cc g
   braces_grow last words kind.CloseBrace t s1 sound e closed f =
-      cases_grow w parts last words t s1 sound (kind_is t kind.CloseBrace refl e) f
+      more.cases_grow w parts last words t s1 sound (kind_is t kind.CloseBrace refl e) f
   braces_grow last words k t s1 sound e closed f =
-      case_grows w parts last words t s1 sound
+      more.case_grows w parts last words t s1 sound
       (ap (λ j. grown_by 1 (word_of w done j t) (state_of w (Braced parts last words))) e ∙ f)
 
 -- a token that a step reads outside comments, and that opens none

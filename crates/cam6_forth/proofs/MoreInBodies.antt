@@ -1,7 +1,7 @@
 -- What is being written grows by each token that a step reads in a body or between braces.
 use Rattle.std.proofs.Common.{◌≡◌, ◌<◌, ◌+◌, true, false, List, [], ◌∷◌, ◌++◌}
 use Rattle.std.proofs.Common.{length, refl, sym, ◌∙◌, append_assoc, append-nil}
-use Rattle.std.proofs.Common.{arith, Option, Some, None, is_some, Err, nat_lt, codes}
+use Rattle.std.proofs.Common.{arith, MatchOption, Option, Some, None, is_some, Err, nat_lt, codes}
 use Rattle.std.proofs.lemmas.Bool.{ltb-true}
 use Rattle.cam6_wiring.specs.declared.wirings.Wiring.{Wiring}
 use Rattle.cam6_forth.specs.declared.words.Word.TheVariants as word
@@ -11,9 +11,11 @@ use Rattle.cam6_forth.specs.Comments.{Plain}
 use Rattle.cam6_forth.specs.Limits.{max_open_ifs, too_many_ifs, out_of_place}
 use Rattle.cam6_forth.specs.Defined.{Defined}
 use Rattle.cam6_forth.specs.Tree.{Body, End, Says, Choice, Either, Cases, Part, word_at, meant}
+use Rattle.cam6_forth.specs.Tree.{spell_body, words_of, size_of}
 use Rattle.cam6_forth.specs.Unfinished.{OpenIf, Opened, Unfinished, Within, Braced, FitsAt, IsSound}
+use Rattle.cam6_forth.specs.Unfinished.{spell_first, first_size}
 use Rattle.cam6_forth.specs.Reading.{State, grown, grown_by, with_if, with_else, with_then}
-use Rattle.cam6_forth.proofs.States.{open_flags, state_of}
+use Rattle.cam6_forth.proofs.States.{open_flags, first_words, state_of}
 use Rattle.cam6_forth.proofs.Runs.{ok_state, ok-same}
 use Rattle.cam6_forth.specs.Trees.{join}
 use Rattle.cam6_forth.proofs.Joined.{spell_body-join, depth_of-join, words_of-join, size_of-join}
@@ -109,6 +111,38 @@ module _ (w : Wiring) (parts : List Part) where
             mode = refl;
           }
 
+  -- the item that an open IF becomes by its THEN: its tokens, its words, its size, and that it may
+  -- stand where the IF stood
+  abbrev closed : Option Body → Body → Body
+  closed None said = Choice said End
+  closed (Some on) said = Either on said End
+
+  closed-spell : (first : Option Body) (said : Body) → spell_body (closed first said)
+      ≡ codes "IF" ∷ (spell_first first ++ (spell_body said ++ codes "THEN" ∷ []))
+  closed-spell None said = refl
+  closed-spell (Some on) said = simp append_assoc
+
+  closed-words : (first : Option Body) (said : Body) → words_of w done (closed first said)
+      ≡ word.If ∷ (first_words w done first ++ (words_of w done said ++ word.Then ∷ []))
+  closed-words None said = refl
+  closed-words (Some on) said = simp append_assoc
+
+  closed-size : (first : Option Body) (said : Body) → size_of w done (closed first said)
+      ≡ 1 + first_size w done first + size_of w done said
+  closed-size None said = omega arith
+  closed-size (Some on) said = omega arith
+
+  closed-fits : (open_if : OpenIf) (outer : List OpenIf) (first : Option Body) (said : Body) →
+      MatchOption first (Unit {0}) (FitsAt w done (length outer + 1)) →
+      FitsAt w done (length (open_if ∷ outer)) said →
+      FitsAt w done (length outer) (closed first said)
+  closed-fits open_if outer None said _ fits =
+      let depth = fits.depth in record { known = (fits.known, tt); depth = omega arith }
+  closed-fits open_if outer (Some on) said on_fits fits =
+      let depth = fits.depth in
+      let on_depth = on_fits.depth in
+      record { known = (on_fits.known, fits.known, tt); depth = omega arith }
+
   -- THEN in a body
   pub then_grows : (name : Token) (open_ifs : List OpenIf) (said : Body) (t : Token) (s1 : State) →
       IsSound w (Within parts (opened name open_ifs said)) → t ≡ codes "THEN" →
@@ -116,70 +150,35 @@ module _ (w : Wiring) (parts : List Part) where
       ≡ ok_state s1 → Grows w (Within parts (opened name open_ifs said)) t Plain s1
   then_grows name [] said t s1 sound e f = let g : Err out_of_place ≡ ok_state s1 = f in cc g
   then_grows name (open_if ∷ outer) said t s1 sound e f =
-      by_first open_if.before open_if.first sound f
-    where
-      by_first : (before : Body) (first : Option Body) →
-          IsSound w (in_if name before first outer said) →
-          with_then (is_some first ∷ open_flags outer)
-          (state_of w (in_if name before first outer said)) ≡ ok_state s1 →
-          Grows w (in_if name before first outer said) t Plain s1
-      by_first before None all g =
-          let front = all.1.open_ifs.0 in
-          let front_depth = front.depth in
-          let depth = all.1.said.depth in
-          let size = all.1.size in
-          let item = Choice said End in
+      let before = open_if.before in
+      let first = open_if.first in
+      let front = sound.1.open_ifs.0 in
+      let front_depth = front.depth in
+      let size = sound.1.size in
+      let item = closed first said in
+      let fits = closed-fits open_if outer first said sound.1.open_ifs.1 sound.1.said in
+      let fits_depth = fits.depth in
+      record {
+        unfinished = Within parts (opened name outer (join before item));
+        sound = (
+          sound.0,
           record {
-            unfinished = Within parts (opened name outer (join before item));
-            sound = (
-              all.0,
-              record {
-                name = all.1.name;
-                fresh = all.1.fresh;
-                open_ifs = all.1.open_ifs.3;
-                said = record {
-                  known = known-join w done before item front.known (all.1.said.known, tt);
-                  depth = omega (arith, depth_of-join before item);
-                };
-                size = omega (arith, size_of-join w done before item);
-              },
-            );
-            spelled = rw (e, spell_body-join before item) (simp append_assoc);
-            state = sym (ok-same _ _ g) ∙ same_body done name _ _ _ _ (open_flags outer)
-                (rw (words_of-join w done before item) (simp append_assoc))
-                (omega (arith, size_of-join w done before item));
-            mode = refl;
-          }
-      by_first before (Some on) all g =
-          let front = all.1.open_ifs.0 in
-          let front_depth = front.depth in
-          let on_fits : FitsAt w done (length outer + 1) on = all.1.open_ifs.1 in
-          let on_depth = on_fits.depth in
-          let depth = all.1.said.depth in
-          let size = all.1.size in
-          let item = Either on said End in
-          record {
-            unfinished = Within parts (opened name outer (join before item));
-            sound = (
-              all.0,
-              record {
-                name = all.1.name;
-                fresh = all.1.fresh;
-                open_ifs = all.1.open_ifs.3;
-                said = record {
-                  known = known-join w done before item front.known
-                      (on_fits.known, all.1.said.known, tt);
-                  depth = omega (arith, depth_of-join before item);
-                };
-                size = omega (arith, size_of-join w done before item);
-              },
-            );
-            spelled = rw (e, spell_body-join before item) (simp append_assoc);
-            state = sym (ok-same _ _ g) ∙ same_body done name _ _ _ _ (open_flags outer)
-                (rw (words_of-join w done before item) (simp append_assoc))
-                (omega (arith, size_of-join w done before item));
-            mode = refl;
-          }
+            name = sound.1.name;
+            fresh = sound.1.fresh;
+            open_ifs = sound.1.open_ifs.3;
+            said = record {
+              known = known-join w done before item front.known fits.known;
+              depth = omega (arith, depth_of-join before item);
+            };
+            size = omega (arith, size_of-join w done before item, closed-size first said);
+          },
+        );
+        spelled = rw (e, spell_body-join before item, closed-spell first said) (simp append_assoc);
+        state = sym (ok-same _ _ f) ∙ same_body done name _ _ _ _ (open_flags outer)
+            (rw (words_of-join w done before item, closed-words first said) (simp append_assoc))
+            (omega (arith, size_of-join w done before item, closed-size first said));
+        mode = refl;
+      }
 
   -- `{` in a body
   pub brace_grows : (last : Opened) (t : Token) (s1 : State) → IsSound w (Within parts last) →

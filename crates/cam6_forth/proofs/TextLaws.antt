@@ -15,8 +15,7 @@ use Rattle.cam6_forth.specs.Texts.{AreTokensOf, IsTextOf, Begins}
 use Rattle.cam6_forth.specs.Faults.{HasTokenFault, HasFault}
 use Rattle.cam6_forth.specs.Reading.{begin, read, read_text}
 use Rattle.cam6_forth.specs.Outcome.{IsReadAs, IsThisRule, IsThisFault, IsAccepted, IsRefused}
-use Rattle.cam6_forth.specs.Laws.{HasRuleOrFault, HasOneFault, CanBeCompleted}
-use Rattle.cam6_forth.specs.Laws.{FaultStays, FaultIsFirst, EndIsTooEarly}
+use Rattle.cam6_forth.specs.Laws as laws
 use Rattle.cam6_forth.proofs.Readings.{sound_run, token_fault_read, end_fault_read}
 use Rattle.cam6_forth.proofs.Readings.{rule_read, rule_back, fault_back}
 use Rattle.cam6_forth.proofs.Completions.{run_begins}
@@ -172,10 +171,10 @@ module _ (w : Wiring) (text : List ℕ) where
       same_fault found.number found.token number token_number
       (sym e ∙ fault_read number token_number fault)
 
-pub rule_or_fault : HasRuleOrFault
+pub rule_or_fault : laws.HasRuleOrFault
 rule_or_fault w text = has_answer w text
 
-pub one_fault : HasOneFault
+pub one_fault : laws.HasOneFault
 one_fault w text number token_number fault = (others, no_rule)
   where
     others : (other other_token : ℕ) → HasFault w text other other_token →
@@ -209,11 +208,11 @@ front (head ∷ first) (other ∷ before) token later tail within e =
     both : (a b : Token) (xs ys : List Token) → (a ∷ xs) ≡ b ∷ ys → (a ≡ b) × (xs ≡ ys)
     both a b xs ys g = (cc g, cc g)
 
-pub can_be_completed : CanBeCompleted
+pub can_be_completed : laws.CanBeCompleted
 can_be_completed w before unfinished sound =
     run_begins w before _ (sound_run w unfinished before sound)
 
-pub fault_stays : FaultStays
+pub fault_stays : laws.FaultStays
 fault_stays w first later other number token_number within fault =
     let r = front first fault.before fault.token later fault.later
     (omega (arith, fault.counted)) fault.tokens in
@@ -233,7 +232,7 @@ take_front : (before later : List Token) (n : ℕ) → n ≡ length before →
     take n (before ++ later) ≡ before
 take_front before later n e = rw e (take-append_seam before later)
 
-pub fault_is_first : FaultIsFirst
+pub fault_is_first : laws.FaultIsFirst
 fault_is_first w all number token_number fault =
     let counted = fault.counted in
     let before : take (token_number - 1) all ≡ fault.before =
@@ -269,7 +268,7 @@ fault_is_first w all number token_number fault =
         ∙ rule_read w begins.1 list begins.2 in
         cc g
 
-pub end_is_too_early : EndIsTooEarly
+pub end_is_too_early : laws.EndIsTooEarly
 end_is_too_early w all number token_number fault = (
   run_begins w all _ (sound_run w fault.unfinished all fault.sound),
   λ parts it. never parts it,

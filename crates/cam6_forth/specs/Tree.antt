@@ -8,7 +8,7 @@ use Rattle.cam6_forth.specs.declared.words.Word.{Word}
 use Rattle.cam6_forth.specs.declared.words.Word.TheVariants as word
 use Rattle.cam6_forth.specs.Tokens.{Token}
 use Rattle.cam6_forth.specs.Kinds.{kind_of}
-use Rattle.cam6_forth.specs.Limits.{max_definitions, max_size, max_open_ifs}
+use Rattle.cam6_forth.specs.Limits as limits
 use Rattle.cam6_forth.specs.Defined.{Defined, RuleWords}
 use Rattle.cam6_forth.specs.SingleWords.{word_of, place_of}
 
@@ -136,8 +136,8 @@ pub record IsDefinition (wiring : Wiring) (done : List Defined) (part : Part) : 
   pub name : kind_of part.name ≡ kind.Other
   pub fresh : place_of part.name done ≡ None
   pub known : IsKnown wiring done part.body
-  pub size : size_of wiring done part.body ≤ max_size
-  pub depth : depth_of part.body ≤ max_open_ifs
+  pub size : size_of wiring done part.body ≤ limits.max_size
+  pub depth : depth_of part.body ≤ limits.max_open_ifs
 
 -- definitions that may follow others and one another
 abbrev pub AreDefinitions : Wiring → List Defined → List Part → Type 0
@@ -154,7 +154,7 @@ meant wiring done (part ∷ parts) = meant wiring (done ++ defined wiring done p
 -- a tree that is a rule
 pub record IsRule (wiring : Wiring) (parts : List Part) : Type 0 where
   pub some : 0 < length parts
-  pub limit : length parts ≤ max_definitions
+  pub limit : length parts ≤ limits.max_definitions
   pub each : AreDefinitions wiring [] parts
 
 -- the rule of a tree

@@ -14,7 +14,7 @@ use Rattle.cam6_machine.specs.Refusals.{words_refusal, fault_reply, refusal}
 use Rattle.cam6_machine.specs.Effects.{accepted_reply, effect, with_rule}
 use Rattle.cam6_machine.specs.Always.{IsEntry}
 use Rattle.cam6_machine.specs.Alone.{if_refused, reply, after, some_steps, work_of, command_of}
-use Rattle.cam6_machine.specs.Places.{placed_entry, named_entries, ArePlaced, stored}
+use Rattle.cam6_machine.specs.Internal.Places.{placed_entry, named_entries, ArePlaced, stored}
 use Rattle.cam6_machine.specs.declared.commands.Command.{Command}
 use Rattle.cam6_machine.specs.declared.commands.Command.TheVariants.{Set, Rule, Cycle, Run, Plane}
 use Rattle.cam6_machine.specs.declared.replies.Direction.{Direction}

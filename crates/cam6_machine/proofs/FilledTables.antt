@@ -4,8 +4,8 @@ use Rattle.std.proofs.Common.{◌∷◌, length, Some, slice_get, slice_set, get
 use Rattle.std.proofs.Common.{sym, ap, subst, ◌∙◌}
 use Rattle.std.proofs.lemmas.Option.{get_or_from_slice_get, slice_get_within}
 use Rattle.cam6_machine.specs.Rules.{Rule}
-use Rattle.cam6_machine.specs.Places.{rules_at}
-use Rattle.cam6_machine.specs.ByTables.{ArePair, ArePairs}
+use Rattle.cam6_machine.specs.Internal.Places.{rules_at}
+use Rattle.cam6_machine.specs.Internal.ByTables.{ArePair, ArePairs}
 use Rattle.cam6_machine.specs.declared.cycles.Entry.{Entry}
 use Rattle.cam6_machine.specs.declared.tables.TablePair.{TablePair}
 

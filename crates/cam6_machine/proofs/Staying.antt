@@ -29,7 +29,7 @@ use Rattle.cam6_machine.specs.Limits.{max_rules, max_entries, max_colour}
 use Rattle.cam6_machine.specs.Rules.{Rule, rule_named, rule_if_named, wiring_for, is_rule_name}
 use Rattle.cam6_machine.specs.Steps.{words_mean}
 use Rattle.cam6_machine.specs.Machine.{Machine, own_colours, steps, machine_of}
-use Rattle.cam6_machine.specs.Places.{ArePlaced, stored}
+use Rattle.cam6_machine.specs.Internal.Places.{ArePlaced, stored}
 use Rattle.cam6_machine.specs.declared.cycles.Entry.{Entry}
 use Rattle.cam6_planes.specs.Stored.{Stored}
 use Rattle.cam6_machine.specs.Refusals as refuse

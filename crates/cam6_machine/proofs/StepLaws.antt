@@ -14,8 +14,7 @@ use Rattle.cam6_machine.specs.Steps.{new_cell}
 use Rattle.cam6_wiring.specs.Name.{on_plane}
 use Rattle.cam6_machine.specs.Cycles.{rule_for, setting_for}
 use Rattle.cam6_machine.specs.Machine.{Machine, stepped_by, stepped, steps}
-use Rattle.cam6_machine.specs.Laws.{KeepsItsPlanes, StepsAddUp}
-use Rattle.cam6_machine.specs.Laws.{OnlyPlanesAndPosition, PositionGoesRound}
+use Rattle.cam6_machine.specs.Laws as laws
 use Rattle.cam6_machine.specs.declared.commands.NamedEntry.{NamedEntry}
 
 plane_of-lt : (half : Half) (level : Level) → plane_of half level < 4
@@ -31,7 +30,7 @@ on_plane-of A Upper bit = refl
 on_plane-of B Lower bit = refl
 on_plane-of B Upper bit = refl
 
-pub keeps_its_planes : KeepsItsPlanes
+pub keeps_its_planes : laws.KeepsItsPlanes
 keeps_its_planes s entry f half level x y h k none =
     let bit : Half → Level → Bool = λ half level.
     new_cell s f (setting_for half entry) (rule_for half entry) level x y in
@@ -47,7 +46,7 @@ keeps_its_planes s entry f half level x y h k none =
     kept A level = refl
     kept B level = refl
 
-pub steps_add_up : StepsAddUp
+pub steps_add_up : laws.StepsAddUp
 steps_add_up m first zero =
     let none_more : first + 0 ≡ first = omega arith in ap (λ n. steps n m) none_more
 steps_add_up m first (suc later) =
@@ -61,7 +60,7 @@ moved : (o : Option NamedEntry) (m : Machine) →
 moved None m = refl
 moved (Some entry) m = refl
 
-pub only_planes_and_position : OnlyPlanesAndPosition
+pub only_planes_and_position : laws.OnlyPlanesAndPosition
 only_planes_and_position m zero = refl
 only_planes_and_position m (suc n) =
     let before = steps n m in
@@ -85,7 +84,7 @@ one_on m within =
     let (entry, found) = at_place m.cycle m.position within in
     ap (λ o. (stepped_by o m).position) found
 
-pub position_goes_round : PositionGoesRound
+pub position_goes_round : laws.PositionGoesRound
 position_goes_round m zero within =
     let same : m.position + 0 ≡ m.position = omega arith in
     sym (ap (λ p. p % length m.cycle) same ∙ mod-eq_of_lt within)

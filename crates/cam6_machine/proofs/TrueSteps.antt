@@ -17,7 +17,7 @@ use Rattle.cam6_machine.specs.Rules.{Rule, wiring_for}
 use Rattle.cam6_machine.specs.Steps.{new_bit, new_cell, step}
 use Rattle.cam6_wiring.specs.Name.{on_plane}
 use Rattle.cam6_machine.specs.Cycles.{EntryRules, rule_for, setting_for}
-use Rattle.cam6_machine.specs.ByTables.{IsTableFor, ArePair}
+use Rattle.cam6_machine.specs.Internal.ByTables.{IsTableFor, ArePair}
 use Rattle.cam6_table.specs.NewBits.{bit_by_table}
 use Rattle.cam6_machine.specs.declared.tables.TablePair.{TablePair}
 

@@ -1,8 +1,8 @@
 -- In the order of reading: limits, the rules that a machine keeps, entries of a cycle, what a cell
 -- becomes in a step, all that a machine stores and the machine that it is, when a command is
 -- refused, what it does, the machine alone, what is said of a command at once, and what a machine
--- always is. Then how the code keeps rules by places and steps by tables. Last, what follows of
--- steps.
+-- always is. Last, what follows of steps. How the code keeps rules by places and steps by tables
+-- stands apart: no public contract says it.
 pub mod Limits
 pub mod Faults
 pub mod Rules
@@ -15,6 +15,5 @@ pub mod Effects
 pub mod Alone
 pub mod AtOnce
 pub mod Always
-pub mod Places
-pub mod ByTables
 pub mod Laws
+pub mod Internal

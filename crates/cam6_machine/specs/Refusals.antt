@@ -13,7 +13,7 @@ use Rattle.cam6_forth.specs.Trees.{tree_of}
 use Rattle.cam6_table.specs.declared.faults.RuleFault.{RuleFault}
 use Rattle.cam6_table.specs.Meaning.{at_address}
 use Rattle.cam6_table.specs.Tables.{least_stop}
-use Rattle.cam6_machine.specs.Limits.{max_rules, max_entries, max_steps}
+use Rattle.cam6_machine.specs.Limits as limits
 use Rattle.cam6_machine.specs.Rules.{Rule, rule_named, wiring_of, is_rule_name}
 use Rattle.cam6_machine.specs.Machine.{Machine}
 use Rattle.cam6_machine.specs.declared.commands.NamedEntry.{NamedEntry}
@@ -47,7 +47,7 @@ some_cycle (entry ∷ entries) = None
 
 -- at most 65,535 steps, and then a cycle
 abbrev pub run_refusal : List NamedEntry → ℕ → Option Fault
-run_refusal cycle n = or_then (unless (nat_le n max_steps) OutOfRange) (some_cycle cycle)
+run_refusal cycle n = or_then (unless (nat_le n limits.max_steps) OutOfRange) (some_cycle cycle)
 
 -- whether a name that an entry has, if it has one, is this one
 abbrev pub is_name : List ℕ → Option (List ℕ) → Bool
@@ -65,7 +65,7 @@ is_used cycle name = list_any (uses name) cycle
 abbrev pub room_refusal : List Rule → List NamedEntry → List ℕ → Option Rule → Option Fault
 room_refusal rules cycle name (Some rule) = if is_used cycle name then Some RuleInUse else None
 room_refusal rules cycle name None =
-    if nat_le max_rules (length rules) then Some TooManyRules else None
+    if nat_le limits.max_rules (length rules) then Some TooManyRules else None
 
 abbrev pub rule_refusal : List Rule → List NamedEntry → List ℕ → Option Fault
 rule_refusal rules cycle name =
@@ -79,7 +79,7 @@ have_phases entries = list_all (λ entry. nat_lt entry.phase 4) entries
 -- 1 to 16 entries, each with a phase
 abbrev pub is_cycle : List NamedEntry → Bool
 is_cycle entries =
-    nat_le 1 (length entries) && nat_le (length entries) max_entries && have_phases entries
+    nat_le 1 (length entries) && nat_le (length entries) limits.max_entries && have_phases entries
 
 -- a name must be a rule's, and the rule one of this half
 abbrev pub wiring_refusal : Half → Option Wiring → Option Fault

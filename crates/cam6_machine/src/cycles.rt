@@ -2,7 +2,7 @@
 
 ghost use Rattle.std.specs.Prelude.{◌≡◌, IfOk, map};
 ghost use Rattle.cam6_machine.specs.Cycles.{phase_of};
-ghost use Rattle.cam6_machine.specs.Places.{rules_of, place_if_named, placed_entry};
+ghost use Rattle.cam6_machine.specs.Internal.Places.{rules_of, place_if_named, placed_entry};
 
 use crate::commands::NamedEntry;
 use crate::rules::{KeptRule, place_of};

@@ -44,7 +44,7 @@ impl Model for Machine {
     ghost use Rattle.cam6_machine.specs.Stored.{StoredMachine};
     ghost use Rattle.cam6_machine.specs.Machine.{machine_of};
     ghost use Rattle.cam6_machine.specs.Always.{IsMachine};
-    ghost use Rattle.cam6_machine.specs.Places.{rules_of, stored, ArePlaced};
+    ghost use Rattle.cam6_machine.specs.Internal.Places.{rules_of, stored, ArePlaced};
 
     ghost Value = { StoredMachine };
 

@@ -6,7 +6,7 @@ ghost use Rattle.cam6_planes.specs.declared.row.TheConstants.{SIDE};
 ghost use Rattle.cam6_machine.specs.declared.commands.TheConstants.{MAX_STEPS};
 ghost use Rattle.cam6_machine.specs.declared.cycles.TheConstants.{MAX_ENTRIES};
 ghost use Rattle.cam6_machine.specs.Rules.{Rule};
-ghost use Rattle.cam6_machine.specs.Places.{rules_of, named_entries, uses_place};
+ghost use Rattle.cam6_machine.specs.Internal.Places.{rules_of, named_entries, uses_place};
 ghost use Rattle.cam6_machine.specs.Refusals.{set_refusal, plane_refusal, run_refusal};
 ghost use Rattle.cam6_machine.specs.Refusals.{rule_refusal, cycle_refusal, is_cycle, have_phases};
 ghost use Rattle.cam6_machine.specs.Refusals.{first_refusal, entry_refusal, half_refusal};

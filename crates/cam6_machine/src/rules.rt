@@ -6,8 +6,8 @@ ghost use Rattle.cam6_forth.specs.declared.faults.TextFault.{TextFault};
 ghost use Rattle.cam6_machine.specs.Effects.{with_rule};
 ghost use Rattle.cam6_machine.specs.Refusals.{text_refusal};
 ghost use Rattle.cam6_machine.specs.Rules.{wiring_of, is_rule_name, is_name_byte};
-ghost use Rattle.cam6_machine.specs.Places.{rules_of, place_of, wiring_at};
-ghost use Rattle.cam6_machine.specs.ByTables.{IsVerdict};
+ghost use Rattle.cam6_machine.specs.Internal.Places.{rules_of, place_of, wiring_at};
+ghost use Rattle.cam6_machine.specs.Internal.ByTables.{IsVerdict};
 ghost use Rattle.cam6_machine.specs.declared.replies.Reply.{Reply};
 
 use crate::texts::Text;
@@ -36,7 +36,7 @@ pub(crate) struct KeptRule {
 
 impl Model for KeptRule {
     ghost use Rattle.cam6_table.specs.RuleTexts.{IsCodeFor};
-    ghost use Rattle.cam6_machine.specs.Places.{Compiled};
+    ghost use Rattle.cam6_machine.specs.Internal.Places.{Compiled};
 
     ghost Value = { Compiled };
 

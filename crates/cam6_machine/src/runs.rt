@@ -2,8 +2,8 @@
 ghost use Rattle.std.specs.Prelude.{◌≡◌, ◌<◌, ◌≤◌, ℕ, List, length};
 ghost use Rattle.cam6_planes.specs.declared.row.TheConstants.{SIDE};
 ghost use Rattle.cam6_machine.specs.Machine.{steps, machine_of};
-ghost use Rattle.cam6_machine.specs.Places.{rules_of, stored};
-ghost use Rattle.cam6_machine.specs.ByTables.{ArePairs};
+ghost use Rattle.cam6_machine.specs.Internal.Places.{rules_of, stored};
+ghost use Rattle.cam6_machine.specs.Internal.ByTables.{ArePairs};
 ghost use Rattle.cam6_machine.specs.Always.{HaveOwnNames};
 
 use crate::cycles::Entry;

@@ -10,8 +10,8 @@ ghost use Rattle.cam6_wiring.specs.declared.names.Level.TheVariants.{Lower, Uppe
 ghost use Rattle.cam6_table.specs.declared.tables.TheConstants.{ENTRIES};
 ghost use Rattle.cam6_table.specs.NewBits.{bit_by_table};
 ghost use Rattle.cam6_machine.specs.Steps.{step};
-ghost use Rattle.cam6_machine.specs.Places.{rules_of, rules_at, wiring_at};
-ghost use Rattle.cam6_machine.specs.ByTables.{ArePair};
+ghost use Rattle.cam6_machine.specs.Internal.Places.{rules_of, rules_at, wiring_at};
+ghost use Rattle.cam6_machine.specs.Internal.ByTables.{ArePair};
 
 use crate::cycles::Entry;
 use crate::rules::{KeptRule, wiring_at};

@@ -1,7 +1,7 @@
 //! The tables by which a run steps, in room that a machine has from the beginning.
 ghost use Rattle.std.specs.Prelude.{◌≡◌, ◌≤◌, length};
-ghost use Rattle.cam6_machine.specs.Places.{rules_of, rule_at};
-ghost use Rattle.cam6_machine.specs.ByTables.{IsTableFor, ArePairs};
+ghost use Rattle.cam6_machine.specs.Internal.Places.{rules_of, rule_at};
+ghost use Rattle.cam6_machine.specs.Internal.ByTables.{IsTableFor, ArePairs};
 
 use crate::cycles::Entry;
 use crate::rules::KeptRule;

@@ -8,8 +8,7 @@ use Rattle.std.specs.Io.KnownBytes.{Appends, Keeps}
 use Rattle.cam6_session.specs.Lines.{lines, ended_lines, joined}
 use Rattle.cam6_session.specs.Answering.{Answering, answers, after_lines}
 use Rattle.cam6_wire.specs.OneLine.{HasNoLf}
-use Rattle.cam6_session.proofs.Splitting.{lines_joined, ended_lines_joined, joined_more, only_line}
-use Rattle.cam6_session.proofs.Splitting.{first_line, no_ended_line}
+use Rattle.cam6_session.proofs.Splitting as split
 use Rattle.cam6_session.proofs.Answering.{answers_to_more, after_more}
 use Rattle.cam6_session.specs.Held.{Held, Holds}
 use Rattle.cam6_session.specs.Reading.{Reads}
@@ -68,7 +67,7 @@ module _ {S : Type 0} (by : Answering S) where
   module _ (s : S) (all out : List ℕ) (unread after new : Option (List ℕ)) (t : S)
       (held : Held) (run : HasRun s all out unread new t) where
     lines_done : (rest : List ℕ) → lines (joined run.done ++ rest) ≡ run.done ++ lines rest
-    lines_done rest = lines_joined run.done rest run.free
+    lines_done rest = split.lines_joined run.done rest run.free
 
     -- the reader ended, or failed, or the turns ran out
     pub ends_input : Reads read.EndOfInput unread after held
@@ -92,8 +91,8 @@ module _ {S : Type 0} (by : Answering S) where
         → AnswersReader by end.ReadFault (Some all) after (Some out) new s t
     gives_up left part leaves free is =
         let are : run.done ≡ ended_lines (joined run.done ++ part) =
-        sym (append-nil run.done) ∙ ap (λ ls. run.done ++ ls) (sym (no_ended_line part free))
-        ∙ sym (ended_lines_joined run.done part run.free) in (
+        sym (append-nil run.done) ∙ ap (λ ls. run.done ++ ls) (sym (split.no_ended_line part free))
+        ∙ sym (split.ended_lines_joined run.done part run.free) in (
           joined run.done ++ part,
           left,
           answers by s run.done,
@@ -128,7 +127,7 @@ module _ {S : Type 0} (by : Answering S) where
         ap lines (append_assoc (joined run.done) (line ++ 10 ∷ []) rest
         ∙ ap (λ l. joined run.done ++ l) (append_assoc line (10 ∷ []) rest))
         ∙ lines_done (line ++ 10 ∷ rest)
-        ∙ ap (λ ls. run.done ++ ls) (first_line line rest at.2.1)
+        ∙ ap (λ ls. run.done ++ ls) (split.first_line line rest at.2.1)
         ∙ sym (append_assoc run.done (line ∷ []) (lines rest)) in
         let are = ap lines (sym (append-nil taken)) ∙ behind []
         ∙ append-nil (run.done ++ line ∷ []) in
@@ -157,7 +156,8 @@ module _ {S : Type 0} (by : Answering S) where
         let at = subst (λ u. Reads read.Last u after held) run.leaves reads in
         let line = at.2.0 in
         let taken = joined run.done ++ line in
-        let are = lines_done line ∙ ap (λ ls. run.done ++ ls) (only_line line at.2.1 at.2.2) in (
+        let are = lines_done line
+        ∙ ap (λ ls. run.done ++ ls) (split.only_line line at.2.1 at.2.2) in (
           record {
             taken = taken;
             left = [];
@@ -189,7 +189,7 @@ module _ {S : Type 0} (by : Answering S) where
           left = at.0;
           free = All-push HasNoLf run.done line run.free at.2.1;
           taken = run.taken ∙ ap (λ l. joined run.done ++ l) at.2.2
-              ∙ sym (joined_more run.done line at.0);
+              ∙ sym (split.joined_more run.done line at.0);
           leaves = at.1;
           writes = appended new then _ _ run.writes written
               ∙ ap Some (append_assoc out (answers by s run.done) _

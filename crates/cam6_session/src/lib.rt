@@ -34,5 +34,5 @@ pub use alone::serve_alone;
 pub use desks::Ask;
 pub use line_buffer::LineBuf;
 pub use lines::{Line, next_line};
-pub use sessions::{End, serve};
+pub use sessions::{End, Stop, serve};
 pub use writers::{WriteFault, send};

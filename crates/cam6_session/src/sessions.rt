@@ -36,8 +36,8 @@ pub enum End {
 }
 
 /// Why serving stops at a line.
-#[derive(Clone, Copy)]
-pub(crate) enum Stop {
+#[derive(Clone, Copy, Debug, PartialEq, Eq)]
+pub enum Stop {
     /// The writer failed, or took no byte.
     WriteFault,
     /// No memory was found for the line. Nothing is written for it.

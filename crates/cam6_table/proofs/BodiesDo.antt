@@ -23,7 +23,7 @@ use Rattle.cam6_table.specs.Outputs.{written}
 use Rattle.cam6_table.specs.Meaning.{Meaning, then_do, with_stack, with_top}
 use Rattle.cam6_table.specs.Meaning.{word_means, token_means, case_means, means, meanings}
 use Rattle.cam6_table.specs.Codes.{Lines, go, exec}
-use Rattle.cam6_table.specs.Emitting.{Instructions, word_code, line_code}
+use Rattle.cam6_table.specs.Internal.Emitting.{Instructions, word_code, line_code}
 use Rattle.cam6_table.proofs.BodyCodes.{said_code, token_code, case_code, body_code}
 use Rattle.cam6_table.proofs.BodyCodes.{tree_codes, IsCode, AreCodes, Agree}
 use Rattle.cam6_table.proofs.Segments.{then_do-assoc, then_do-same, on_next, leads, runs, below_of}

@@ -15,7 +15,7 @@ use Rattle.cam6_table.specs.declared.codes.Instruction.TheVariants.{Case, CaseWo
 use Rattle.cam6_table.specs.declared.outputs.State.{State}
 use Rattle.cam6_table.specs.Meaning.{Meaning, then_do, meaning_at}
 use Rattle.cam6_table.specs.Codes.{Lines, exec}
-use Rattle.cam6_table.specs.Emitting.{Instructions, word_code, code_at}
+use Rattle.cam6_table.specs.Internal.Emitting.{Instructions, word_code, code_at}
 
 -- the code of the word that a token says, if it says one
 abbrev pub said_code : Wiring → List Instructions → Result (SingleWord × ℕ) ℕ → Instructions

@@ -15,7 +15,7 @@ use Rattle.cam6_table.specs.Outputs.{begin, entry_of, is_odd}
 use Rattle.cam6_table.specs.Meaning.{meaning_at, meanings, last_meaning}
 use Rattle.cam6_table.specs.Meaning.{entry_in, meaning, at_address}
 use Rattle.cam6_table.specs.Codes.{Lines, exec, entry_at, result_at}
-use Rattle.cam6_table.specs.Emitting.{Instructions, code_at}
+use Rattle.cam6_table.specs.Internal.Emitting.{Instructions, code_at}
 use Rattle.cam6_table.proofs.BodyCodes.{tree_codes, Agree}
 use Rattle.cam6_table.proofs.Segments.{then_do-ok}
 use Rattle.cam6_table.proofs.BodiesDo.{codes_do}

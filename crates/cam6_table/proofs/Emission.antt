@@ -14,8 +14,8 @@ use Rattle.cam6_forth.specs.Tree.{word_at, words_in, words_of, case_words, AreWo
 use Rattle.cam6_forth.specs.Tree.{IsKnown, defined, meant, AreDefinitions, IsRule}
 use Rattle.cam6_table.specs.declared.codes.Instruction.TheVariants.{SkipIfZero, Skip}
 use Rattle.cam6_table.specs.declared.codes.Instruction.TheVariants.{Case, CaseWord}
-use Rattle.cam6_table.specs.Emitting.{Instructions, Emitted, emit}
-use Rattle.cam6_table.specs.Emitting.{emit_word, emit_all, words_code, all_codes}
+use Rattle.cam6_table.specs.Internal.Emitting.{Instructions, Emitted, emit}
+use Rattle.cam6_table.specs.Internal.Emitting.{emit_word, emit_all, words_code, all_codes}
 use Rattle.cam6_table.proofs.BodyCodes.{said_code, token_code, case_code, body_code, tree_codes}
 
 -- code with open IFs, outside a case

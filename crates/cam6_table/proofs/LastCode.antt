@@ -6,7 +6,7 @@ use Rattle.cam6_wiring.specs.declared.wirings.Wiring.{Wiring}
 use Rattle.cam6_forth.specs.Defined.{Defined, RuleWords}
 use Rattle.cam6_forth.specs.Tree.{Part, IsRule, IsOfTree, rule_of}
 use Rattle.cam6_table.specs.Codes.{result_at, IsCodeOf}
-use Rattle.cam6_table.specs.Emitting.{Instructions, code_at, all_codes}
+use Rattle.cam6_table.specs.Internal.Emitting.{Instructions, code_at, all_codes}
 use Rattle.cam6_table.proofs.BodyCodes.{tree_codes}
 use Rattle.cam6_table.proofs.Emission.{rule_codes}
 use Rattle.cam6_table.proofs.Lengths.{code_length}

@@ -15,7 +15,7 @@ use Rattle.cam6_forth.specs.Tree.{Body, End, Says, Choice, Either, Cases, Part}
 use Rattle.cam6_forth.specs.Tree.{word_at, size_in, size_of, case_size}
 use Rattle.cam6_forth.specs.Tree.{defined, meant, AreDefinitions, IsRule}
 use Rattle.cam6_table.specs.declared.codes.Instruction.TheVariants.{Skip}
-use Rattle.cam6_table.specs.Emitting.{Instructions, line_code, word_code, code_at}
+use Rattle.cam6_table.specs.Internal.Emitting.{Instructions, line_code, word_code, code_at}
 use Rattle.cam6_table.proofs.BodyCodes.{said_code, token_code, case_code, body_code, tree_codes}
 
 line-length : (line : Option ℕ) → length (line_code line) ≤ 1

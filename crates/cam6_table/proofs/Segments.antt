@@ -8,7 +8,7 @@ use Rattle.cam6_table.specs.declared.faults.RuleFault.{RuleFault}
 use Rattle.cam6_table.specs.declared.outputs.State.{State}
 use Rattle.cam6_table.specs.Meaning.{Meaning, then_do, with_top, at_zero}
 use Rattle.cam6_table.specs.Codes.{Lines, go, goes_on, exec}
-use Rattle.cam6_table.specs.Emitting.{Instructions}
+use Rattle.cam6_table.specs.Internal.Emitting.{Instructions}
 use Rattle.cam6_table.proofs.BodyCodes.{IsCode}
 
 pub then_do-assoc : {A B C : Type 0} (r : Result A RuleFault) (f : A → Result B RuleFault)

@@ -1,7 +1,7 @@
 -- In the order of reading: faults and limits, what words do to a stack, what a rule puts out; what
 -- a rule means, and what a table is to it. Then what flat code does, what code and a table are to
--- a rule's text, and what a cell becomes by a table. Last, how a rule becomes code, and the laws
--- that tie them.
+-- a rule's text, and what a cell becomes by a table. Last, the laws that tie them. How a rule
+-- becomes code stands apart: no public contract says it.
 pub mod Faults
 pub mod Limits
 pub mod Words
@@ -11,5 +11,5 @@ pub mod Tables
 pub mod Codes
 pub mod RuleTexts
 pub mod NewBits
-pub mod Emitting
 pub mod Laws
+pub mod Internal

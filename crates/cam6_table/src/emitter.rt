@@ -2,7 +2,7 @@
 ghost use Rattle.std.specs.Prelude.{◌≡◌, ◌≤◌, [], ◌++◌, length, IfOk, OnOk};
 ghost use Rattle.cam6_table.specs.Limits.{max_turns};
 ghost use Rattle.cam6_table.specs.Codes.{IsCodeOf};
-ghost use Rattle.cam6_table.specs.Emitting.{words_code, all_codes};
+ghost use Rattle.cam6_table.specs.Internal.Emitting.{words_code, all_codes};
 
 use crate::codes::{Code, Instruction, Instructions};
 use cam6_forth::{Definition, Rule, SingleWord, Word};
@@ -87,7 +87,7 @@ struct Emitter {
 
 impl Model for Emitter {
     ghost use Rattle.std.specs.Prelude.{reverse, length, ◌≤◌, IfSome};
-    ghost use Rattle.cam6_table.specs.Emitting.{Emitted};
+    ghost use Rattle.cam6_table.specs.Internal.Emitting.{Emitted};
 
     ghost Value = { Emitted };
 
@@ -99,9 +99,10 @@ impl Model for Emitter {
 }
 
 impl Emitter {
-    ghost use Rattle.cam6_table.specs.Emitting.{emit, emit_then, emit_else, emit_if};
-    ghost use Rattle.cam6_table.specs.Emitting.{emit_end_cases, emit_cases, emit_word, with_head};
-    ghost use Rattle.cam6_table.specs.Emitting.{word_code};
+    ghost use Rattle.cam6_table.specs.Internal.Emitting.{emit, emit_then, emit_else, emit_if};
+    ghost use Rattle.cam6_table.specs.Internal.Emitting.{emit_end_cases, emit_cases, emit_word};
+    ghost use Rattle.cam6_table.specs.Internal.Emitting.{with_head};
+    ghost use Rattle.cam6_table.specs.Internal.Emitting.{word_code};
 
     /// One more word in front.
     fn emit(&mut self, wiring: Wiring, word: Word, codes: &[Instructions]) -> Result<(), NoMemory>

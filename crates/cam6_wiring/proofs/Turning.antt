@@ -6,7 +6,7 @@ use Rattle.cam6_planes.specs.Row.{west_of, east_of}
 use Rattle.cam6_planes.specs.Cells.{Cells}
 use Rattle.cam6_wiring.specs.Block.{side_in_block, origin_of, block_of, corner_at, corner_of}
 use Rattle.cam6_wiring.specs.Block.{in_block, turned}
-use Rattle.cam6_wiring.specs.Seen.{column_beside, row_beside, seen_beside}
+use Rattle.cam6_wiring.specs.Seen as seen
 use Rattle.cam6_wiring.specs.declared.blocks.Grid.{Grid}
 use Rattle.cam6_wiring.specs.declared.blocks.Corner.{Corner}
 use Rattle.cam6_wiring.specs.declared.names.Turn.{Turn}
@@ -80,9 +80,9 @@ module _ (k : ℕ) (f : Cells) (grid : Grid) (p x y : ℕ) (some : 0 < k) where
   abbrev pub Turns : Corner → Turn → Type 0
   Turns corner turn =
       let there = in_block corner turn in
-      let column = column_beside (2 * k) there x in
-      let row = row_beside (2 * k) there y in
-      (seen_beside (2 * k) f there p x y ≡ f p column row) ×
+      let column = seen.column_beside (2 * k) there x in
+      let row = seen.row_beside (2 * k) there y in
+      (seen.seen_beside (2 * k) f there p x y ≡ f p column row) ×
       (corner_of grid column row ≡ turned turn corner) ×
       (block_of (2 * k) grid column ≡ block_of (2 * k) grid x) ×
       (block_of (2 * k) grid row ≡ block_of (2 * k) grid y)

@@ -1,12 +1,12 @@
 use Rattle.std.proofs.Common.{◌≡◌, ◌∙◌, ap, sym, ◌++◌, ◌∷◌, [], List, ℕ, arith}
 use Rattle.cam6_planes.specs.Cells.{cells}
 use Rattle.cam6_machine.specs.Effects.{plane_rows}
-use Rattle.cam6_machine.proofs.PlaneTexts.{plane_rows-zero, plane_rows-suc, plane_rows-ascii}
+use Rattle.cam6_machine.proofs.PlaneTexts as texts
 use Rattle.cam6_machine.proofs.machines.plane_rows.Goals as goal
 
 pub loop-y-init : goal.loop-y-init
 loop-y-init c =
-    c.in_ok-rows.ensures.items ∙ sym (plane_rows-zero 64 (cells c.args.planes.now) c.args.p)
+    c.in_ok-rows.ensures.items ∙ sym (texts.plane_rows-zero 64 (cells c.args.planes.now) c.args.p)
 
 pub loop-y-preserved : goal.loop-y-preserved
 loop-y-preserved c =
@@ -14,7 +14,7 @@ loop-y-preserved c =
     c.in_ok-push.ensures.items ∙
     ap (λ (rows : List (List ℕ)). rows ++ c.row_hex.result ∷ []) c.loop-y.invariant ∙
     ap (λ row. plane_rows c.loop-y.y 64 f c.args.p ++ row ∷ []) c.row_hex.ensures.value ∙
-    sym (plane_rows-suc c.loop-y.y 64 f c.args.p)
+    sym (texts.plane_rows-suc c.loop-y.y 64 f c.args.p)
 
 pub returns-clause-rows : goal.returns-clause-rows
 returns-clause-rows c =
@@ -23,4 +23,4 @@ returns-clause-rows c =
 
 pub returns-clause-ascii : goal.returns-clause-ascii
 returns-clause-ascii c =
-    rw c.loop-y.invariant (plane_rows-ascii c.loop-y.y 64 (cells c.args.planes.now) c.args.p)
+    rw c.loop-y.invariant (texts.plane_rows-ascii c.loop-y.y 64 (cells c.args.planes.now) c.args.p)

@@ -1,5 +1,5 @@
 use Rattle.std.proofs.Common.{◌∙◌, ap}
-use Rattle.cam6_machine.specs.Places.{rules_of, place_of}
+use Rattle.cam6_machine.specs.Internal.Places.{rules_of, place_of}
 use Rattle.cam6_machine.proofs.KeptRules.{place_of-rules_of}
 use Rattle.cam6_machine.proofs.rules.place_of.Goals as goal
 

@@ -1,7 +1,7 @@
 use Rattle.std.proofs.Common.{◌≡◌, ◌∙◌, ◌+◌, ◌<◌, ap, arith, length, suc}
 use Rattle.std.proofs.Math.Nat.{mod-lt}
 use Rattle.cam6_machine.specs.Machine.{steps, stepped, machine_of}
-use Rattle.cam6_machine.specs.Places.{rules_of, stored}
+use Rattle.cam6_machine.specs.Internal.Places.{rules_of, stored}
 use Rattle.cam6_machine.proofs.Along.{one_step}
 use Rattle.cam6_machine.proofs.runs.run_along.Goals as goal
 

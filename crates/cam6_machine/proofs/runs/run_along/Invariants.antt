@@ -1,5 +1,5 @@
 use Rattle.std.proofs.Common.{◌≡◌, ◌<◌, ℕ, List, length}
-use Rattle.cam6_machine.specs.Places.{rules_of, stored}
+use Rattle.cam6_machine.specs.Internal.Places.{rules_of, stored}
 use Rattle.cam6_machine.specs.Machine.{steps, machine_of}
 use Rattle.cam6_machine.proofs.runs.run_along.Given as goal
 

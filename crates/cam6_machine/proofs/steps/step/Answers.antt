@@ -1,7 +1,7 @@
 use Rattle.std.proofs.Common.{ℕ, ◌∙◌, ap, arith}
 use Rattle.cam6_planes.specs.Cells.{cells}
 use Rattle.cam6_wiring.specs.declared.names.Half.TheVariants.{A, B}
-use Rattle.cam6_machine.specs.Places.{rules_of, rules_at}
+use Rattle.cam6_machine.specs.Internal.Places.{rules_of, rules_at}
 use Rattle.cam6_machine.specs.Cycles.{setting_for}
 use Rattle.cam6_table.specs.NewBits.{bit_by_table}
 use Rattle.cam6_machine.proofs.TrueSteps.{IsHalf, stepped_planes}

@@ -1,6 +1,6 @@
 use Rattle.std.proofs.Common.{◌∙◌, sym, ap, subst}
-use Rattle.cam6_machine.specs.Places.{rules_of, rule_at}
-use Rattle.cam6_machine.specs.ByTables.{IsTableFor}
+use Rattle.cam6_machine.specs.Internal.Places.{rules_of, rule_at}
+use Rattle.cam6_machine.specs.Internal.ByTables.{IsTableFor}
 use Rattle.cam6_machine.proofs.KeptRules.{rule_found, no_rule_found}
 use Rattle.cam6_machine.proofs.tables.fill_table.Goals as goal
 

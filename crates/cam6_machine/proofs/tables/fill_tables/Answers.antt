@@ -1,7 +1,7 @@
 use Rattle.std.proofs.Common.{arith, None}
 use Rattle.cam6_wiring.specs.declared.blocks.Grid.TheVariants.{Even}
 use Rattle.cam6_wiring.specs.declared.names.Phase.TheVariants.{P0}
-use Rattle.cam6_machine.specs.Places.{rules_of}
+use Rattle.cam6_machine.specs.Internal.Places.{rules_of}
 use Rattle.cam6_machine.proofs.FilledTables.{one_more, of_all}
 use Rattle.cam6_machine.proofs.tables.fill_tables.Goals as goal
 

@@ -1,4 +1,4 @@
-use Rattle.cam6_machine.specs.Places.{rules_of}
+use Rattle.cam6_machine.specs.Internal.Places.{rules_of}
 use Rattle.cam6_machine.proofs.FilledTables.{ArePairsBelow}
 use Rattle.cam6_machine.proofs.tables.fill_tables.Given as goal
 

@@ -1,22 +1,22 @@
 use Rattle.std.proofs.Common.{arith}
-use Rattle.cam6_session.proofs.Parts.{more_is_read, line_is_ended, input_is_ended, reading_failed}
+use Rattle.cam6_session.proofs.Parts as parts
 use Rattle.cam6_session.proofs.lines.next_line.Goals as goal
 
 pub loop-turns-preserved : goal.loop-turns-preserved
 loop-turns-preserved g c = record {
-  read = more_is_read _ _ _ _ _ c.loop-turns.invariant.read c.in-More.ensures;
+  read = parts.more_is_read _ _ _ _ _ c.loop-turns.invariant.read c.in-More.ensures;
   turns = omega arith;
 }
 
 pub returns-in-Newline-clause-line : goal.returns-in-Newline-clause-line
 returns-in-Newline-clause-line g c =
-    line_is_ended _ _ _ _ _ c.loop-turns.invariant.read c.in-Newline.ensures
+    parts.line_is_ended _ _ _ _ _ c.loop-turns.invariant.read c.in-Newline.ensures
 
 pub returns-in-AtEnd-clause-line : goal.returns-in-AtEnd-clause-line
 returns-in-AtEnd-clause-line g c =
     rw c.last.ensures
-    (input_is_ended _ _ _ _ _ c.loop-turns.invariant.read c.in-AtEnd.ensures)
+    (parts.input_is_ended _ _ _ _ _ c.loop-turns.invariant.read c.in-AtEnd.ensures)
 
 pub returns-in-Fault-clause-line : goal.returns-in-Fault-clause-line
 returns-in-Fault-clause-line g c =
-    reading_failed _ _ _ _ _ c.loop-turns.invariant.read c.in-Fault.ensures
+    parts.reading_failed _ _ _ _ _ c.loop-turns.invariant.read c.in-Fault.ensures

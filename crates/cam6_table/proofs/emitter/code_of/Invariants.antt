@@ -1,6 +1,6 @@
 -- the words from i on are done
 use Rattle.std.proofs.Common.{◌≡◌, drop}
-use Rattle.cam6_table.specs.Emitting.{emit_all, nothing}
+use Rattle.cam6_table.specs.Internal.Emitting.{emit_all, nothing}
 use Rattle.cam6_table.proofs.emitter.code_of.Given as goal
 
 abbrev pub invariant-loop-i : goal.invariant-loop-i

@@ -5,10 +5,10 @@ use Rattle.cam6_machine.specs.Machine.{machine_of}
 use Rattle.cam6_machine.specs.Alone.{after}
 use Rattle.cam6_machine.specs.Always.{IsMachine}
 use Rattle.cam6_machine.specs.Refusals.{rule_refusal}
-use Rattle.cam6_machine.specs.Places.{rules_of, named_entries, stored, ArePlaced}
-use Rattle.cam6_machine.specs.ByTables.{IsVerdict}
+use Rattle.cam6_machine.specs.Internal.Places.{rules_of, named_entries, stored, ArePlaced}
+use Rattle.cam6_machine.specs.Internal.ByTables.{IsVerdict}
 use Rattle.cam6_machine.specs.declared.commands.Command.TheVariants.{Rule}
-use Rattle.cam6_machine.proofs.Done.{put_as, after-rule, stored-rule}
+use Rattle.cam6_machine.proofs.Done as done
 use Rattle.cam6_machine.proofs.Naming.{placed_with}
 use Rattle.cam6_machine.proofs.Staying.{stays_machine}
 use Rattle.cam6_machine.proofs.machines.Machine.define.Goals as goal
@@ -23,7 +23,8 @@ put : (c : goal.In_ok-put-in-Ok) →
     ≡ with_rule (record { name = c.args.name; wiring = c.args.wiring; text = c.args.text })
     (rules_of c.self.inside.rules.entries)
 put c =
-    put_as (rules_of c.self.inside.rules.entries) (rules_of c.put.new.rules.entries) c.args.name
+    done.put_as (rules_of c.self.inside.rules.entries) (rules_of c.put.new.rules.entries)
+    c.args.name
     c.args.text c.in-Ok.rule.text c.args.wiring c.in-Ok.rule.wiring (verdict c).1 (verdict c).2
     c.in_ok-put-in-Ok.ensures.ok
 
@@ -35,7 +36,7 @@ after_put : (c : goal.In_ok-put-in-Ok) →
     (Rule c.args.name c.args.wiring c.args.text)
 after_put c =
     let m = c.self.inside in
-    after-rule m.planes (rules_of m.rules.entries) m.cycle.items m.position m.colours
+    done.after-rule m.planes (rules_of m.rules.entries) m.cycle.items m.position m.colours
     c.args.name c.args.text c.args.wiring (rules_of c.put.new.rules.entries)
     c.self.invariant.1
     (c.in_default.ensures ∙
@@ -64,7 +65,7 @@ returns-in-Ok-clause-machine c =
 pub returns-in-Ok-clause-left : goal.returns-in-Ok-clause-left
 returns-in-Ok-clause-left c =
     let m = c.self.inside in
-    stored-rule m.planes (rules_of m.rules.entries) m.cycle.items m.position m.colours _
+    done.stored-rule m.planes (rules_of m.rules.entries) m.cycle.items m.position m.colours _
     (rules_of c.put.new.rules.entries) c.self.invariant.1 (put c) ∙
     ap {B = StoredMachine} (λ k. record k { rules = rules_of c.put.new.rules.entries })
     c.self.view_is

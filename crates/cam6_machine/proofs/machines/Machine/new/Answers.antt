@@ -1,5 +1,5 @@
 use Rattle.std.proofs.Common.{◌≡◌, [], ap, arith}
-use Rattle.cam6_machine.specs.Places.{rules_of}
+use Rattle.cam6_machine.specs.Internal.Places.{rules_of}
 use Rattle.cam6_machine.proofs.Staying.{blank_stored}
 use Rattle.cam6_machine.proofs.machines.Machine.new.Goals as goal
 

@@ -1,7 +1,7 @@
 use Rattle.std.proofs.Common.{◌∙◌, ap}
 use Rattle.cam6_machine.specs.Machine.{machine_of}
 use Rattle.cam6_machine.specs.Alone.{after}
-use Rattle.cam6_machine.specs.Places.{rules_of}
+use Rattle.cam6_machine.specs.Internal.Places.{rules_of}
 use Rattle.cam6_machine.specs.declared.commands.Command.TheVariants.{Set}
 use Rattle.cam6_machine.proofs.Done.{after-set}
 use Rattle.cam6_machine.proofs.machines.Machine.set.Goals as goal

@@ -2,7 +2,7 @@ use Rattle.std.proofs.Common.{◌≡◌, ◌∙◌, map, ap, sym, subst}
 use Rattle.cam6_machine.specs.Machine.{machine_of}
 use Rattle.cam6_machine.specs.Alone.{after}
 use Rattle.cam6_machine.specs.Always.{IsMachine}
-use Rattle.cam6_machine.specs.Places.{rules_of, placed_entry, stored, ArePlaced}
+use Rattle.cam6_machine.specs.Internal.Places.{rules_of, placed_entry, stored, ArePlaced}
 use Rattle.cam6_machine.specs.declared.commands.Command.TheVariants.{Cycle}
 use Rattle.cam6_machine.proofs.Done.{after-cycle}
 use Rattle.cam6_machine.proofs.Naming.{are_placed}

@@ -5,7 +5,7 @@ use Rattle.cam6_wiring.specs.declared.wirings.Wiring.{Wiring}
 use Rattle.cam6_table.specs.RuleTexts.{IsTableOf}
 use Rattle.cam6_machine.specs.Rules.{Rule}
 use Rattle.cam6_machine.specs.Cycles.{EntryRules}
-use Rattle.cam6_machine.specs.Places.{Compiled, rules_at}
+use Rattle.cam6_machine.specs.Internal.Places.{Compiled, rules_at}
 use Rattle.cam6_machine.specs.Refusals.{words_refusal}
 use Rattle.cam6_machine.specs.declared.cycles.Entry.{Entry}
 use Rattle.cam6_machine.specs.declared.replies.Reply.TheVariants as reply

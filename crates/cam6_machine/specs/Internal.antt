@@ -1,0 +1,3 @@
+-- What no public contract says: how the code keeps rules by places, and steps by tables.
+pub mod Places
+pub mod ByTables
