@@ -21,6 +21,7 @@ mod words;
 #[cfg(test)]
 mod words_tests;
 
+use cam6_planes::Side;
 use cam6_session::serve_alone;
 use modes::{Options, Refused};
 use statuses::{NO_MEMORY, WRITE_FAILED, failure_of, refusal_of, turns};
@@ -82,7 +83,7 @@ fn over_standard_streams<R: Input + Print + Eprint + AllocGlobal>(rt: &R, turns:
         return failed(rt, NO_MEMORY, "cam6: no memory\n");
     };
     let mut writer = io::writer(rt);
-    match failure_of(serve_alone(alloc, &mut reader, &mut writer, turns)) {
+    match failure_of(serve_alone(alloc, Side::S256, &mut reader, &mut writer, turns)) {
         Some((status, text)) => failed(rt, status, text),
         None => ExitCode::SUCCESS,
     }

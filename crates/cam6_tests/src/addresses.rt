@@ -2,7 +2,7 @@
 //! with each minor assignment. They see nothing but columns and rows 254, 255, 0 and 1.
 
 use crate::corners::CELLS;
-use cam6_planes::{NoMemory, Planes};
+use cam6_planes::{NoMemory, Planes, Side};
 use cam6_wiring::{Grid, Half, Hood, Minor, Phase, Setting, address_at};
 use std::alloc::Global;
 use std::process::Abort;
@@ -17,10 +17,11 @@ const PICTURE: [[u64; 4]; 4] = [
 ];
 
 fn picture(alloc: Global) -> Result<Planes, NoMemory> {
-    let mut planes = Planes::blank(alloc)?;
+    let mut planes = Planes::blank(alloc, Side::S256)?;
     for (plane, rows) in PICTURE.into_iter().enumerate() {
         for (row, bits) in [254, 255, 0, 1].into_iter().zip(rows) {
-            planes.set_row_words(plane % 4, row % 256, [bits << 62, 0, 0, bits >> 2]);
+            let row_words = [bits << 62, 0, 0, bits >> 2, 0, 0, 0, 0];
+            planes.set_row_words(plane % 4, row % 256, row_words);
         }
     }
     Ok(planes)

@@ -1,6 +1,6 @@
 //! Corners of blocks, turns in them, and addresses round a lone cell, worked out by hand.
 
-use cam6_planes::{NoMemory, Planes};
+use cam6_planes::{NoMemory, Planes, Side};
 use cam6_wiring::{
     Compass, Corner, Grid, Half, Hood, Level, Minor, Name, Phase, Setting, Turn, address_at,
     corner_of, in_block, seen,
@@ -53,8 +53,8 @@ fn turns_in_a_block(rt: HostRuntime) {
 }
 
 fn one_cell(alloc: std::alloc::Global) -> Result<Planes, NoMemory> {
-    let mut planes = Planes::blank(alloc)?;
-    planes.set_row_words(0, 0, [1 << 63, 0, 0, 0]);
+    let mut planes = Planes::blank(alloc, Side::S256)?;
+    planes.set_row_words(0, 0, [1 << 63, 0, 0, 0, 0, 0, 0, 0]);
     Ok(planes)
 }
 

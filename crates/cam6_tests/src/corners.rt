@@ -2,7 +2,7 @@
 //! grids and in each phase.
 
 use crate::rows::lone;
-use cam6_planes::Planes;
+use cam6_planes::{Planes, Side, WORDS};
 use cam6_wiring::{Compass, Grid, Half, Level, Name, Phase, Setting, Turn, seen};
 use std::process::Abort;
 use std::test::Fail;
@@ -45,7 +45,7 @@ fn check_places(
             seen(planes, setting, name, x, y),
             "{setting:?} {name:?} {x} {y}"
         );
-        planes.set_row_words(plane, row, [0; 4]);
+        planes.set_row_words(plane, row, [0; WORDS]);
         assert!(rt;
             !seen(planes, setting, name, x, y),
             "{setting:?} {name:?} {x} {y}"
@@ -83,7 +83,7 @@ fn check_names(
 // By hand: a row further up is one less, a column further west is one less, round the torus.
 #[test]
 fn places_beside(rt: HostRuntime) -> Result<(), Fail> {
-    let mut planes = Planes::blank(rt.alloc())?;
+    let mut planes = Planes::blank(rt.alloc(), Side::S256)?;
     for (compass, places) in [
         (Compass::Center, [(0, 0), (255, 0), (0, 255), (255, 255)]),
         (Compass::North, [(0, 255), (255, 255), (0, 254), (255, 254)]),
@@ -109,7 +109,7 @@ fn places_beside(rt: HostRuntime) -> Result<(), Fail> {
 // of a block of its own; on the odd grid they are one block, and (255, 255) is its upper left cell.
 #[test]
 fn places_in_blocks(rt: HostRuntime) -> Result<(), Fail> {
-    let mut planes = Planes::blank(rt.alloc())?;
+    let mut planes = Planes::blank(rt.alloc(), Side::S256)?;
     for (turn, even, odd) in [
         (
             Turn::Clockwise,
@@ -136,7 +136,7 @@ fn places_in_blocks(rt: HostRuntime) -> Result<(), Fail> {
 // &CENTER of half A is in plane 2, of half B in plane 0; with a prime, one plane further up.
 #[test]
 fn centres_of_the_other_half(rt: HostRuntime) -> Result<(), Fail> {
-    let mut planes = Planes::blank(rt.alloc())?;
+    let mut planes = Planes::blank(rt.alloc(), Side::S256)?;
     for (half, level, plane) in [
         (Half::A, Level::Lower, 2),
         (Half::A, Level::Upper, 3),
@@ -181,7 +181,7 @@ fn check_blank(
 // By hand: HORZ is 1 in a block's right column, VERT in its lower row; PHASE is the low bit.
 #[test]
 fn names_that_read_no_plane(rt: HostRuntime) -> Result<(), Fail> {
-    let planes = Planes::blank(rt.alloc())?;
+    let planes = Planes::blank(rt.alloc(), Side::S256)?;
     let horz = [Name::Horz, Name::MinorHorz];
     let vert = [Name::Vert, Name::MinorVert];
     for phase in [Phase::P0, Phase::P3] {

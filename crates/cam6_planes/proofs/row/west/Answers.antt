@@ -6,7 +6,7 @@ use Rattle.cam6_planes.proofs.row.west.Goals.{then-i-eq0, else-i-eq0}
 
 pub loop-i-preserved : goal.loop-i-preserved
 loop-i-preserved c =
-    let n : ℕ = 4 in
+    let n : ℕ = c.words-words.result in
     let e : west_of (64 * n) (64 * c.loop-i.i) ≡ 64 * c.if-i-eq0.before + 63 =
     elim c.if-i-eq0.branch [
       | then-i-eq0 w ↦ let z : 64 * c.loop-i.i ≡ 0 = omega arith in
