@@ -10,19 +10,16 @@ use Rattle.cam6_forth.specs.declared.words.SingleWord.TheVariants as single
 use Rattle.cam6_forth.specs.declared.kinds.Kind.{Kind}
 use Rattle.cam6_forth.specs.declared.kinds.Kind.TheVariants as kind
 use Rattle.cam6_forth.specs.Tokens.{Token}
-use Rattle.cam6_forth.specs.Limits.{max_size, max_open_ifs, max_definitions}
-use Rattle.cam6_forth.specs.Limits.{unknown_word, out_of_place, too_large}
-use Rattle.cam6_forth.specs.Limits.{too_many_ifs, other_half, too_long}
+use Rattle.cam6_forth.specs.Limits.{max_size, max_open_ifs, max_definitions, unknown_word}
+use Rattle.cam6_forth.specs.Limits.{out_of_place, too_large, too_many_ifs, other_half, too_long}
 use Rattle.cam6_forth.specs.Defined.{Defined}
 use Rattle.cam6_wiring.specs.Name.{is_same_half}
 use Rattle.cam6_forth.specs.SingleWords.{place_of, defined_word}
 use Rattle.cam6_forth.specs.Tree.{Part, case_size, meant}
-use Rattle.cam6_forth.specs.Unfinished.{OpenIf, Opened, Whole, Unnamed, Within, Braced}
-use Rattle.cam6_forth.specs.Unfinished.{opened_size}
+use Rattle.cam6_forth.specs.Unfinished.{OpenIf, Opened, Whole, Unnamed, Within, Braced, opened_size}
 use Rattle.cam6_forth.specs.Faults.{size_fault, word_fault, token_fault}
 use Rattle.cam6_forth.specs.Faults.{end_of_body_fault, then_fault, else_fault}
-use Rattle.cam6_forth.specs.FaultOrder.{takes_above, defined_size}
-use Rattle.cam6_forth.specs.FaultOrder.{is_open, wants_else, first_fault}
+use Rattle.cam6_forth.specs.FaultOrder.{takes_above, defined_size, is_open, wants_else, first_fault}
 use Rattle.cam6_forth.specs.Laws.{FaultsInOrder, OneBetween}
 
 -- a fault where a test holds

@@ -1,21 +1,25 @@
 -- What is being written grows by each token that a step reads in a body or between braces.
-use Rattle.std.proofs.Common.{◌≡◌, ◌<◌, ◌+◌, true, false, List, [], ◌∷◌, ◌++◌}
+use Rattle.std.proofs.Common.{◌≡◌, ◌≤◌, ◌<◌, ◌+◌, true, false, List, [], ◌∷◌, ◌++◌}
 use Rattle.std.proofs.Common.{length, refl, sym, ◌∙◌, append_assoc, append-nil}
 use Rattle.std.proofs.Common.{arith, MatchOption, Option, Some, None, is_some, Err, nat_lt, codes}
 use Rattle.std.proofs.lemmas.Bool.{ltb-true}
 use Rattle.cam6_wiring.specs.declared.wirings.Wiring.{Wiring}
 use Rattle.cam6_forth.specs.declared.words.Word.TheVariants as word
+use Rattle.cam6_forth.specs.declared.kinds.Kind.TheVariants as kind
 use Rattle.cam6_forth.specs.declared.reader.Context.TheVariants as context
 use Rattle.cam6_forth.specs.Tokens.{Token}
 use Rattle.cam6_forth.specs.Comments.{Plain}
-use Rattle.cam6_forth.specs.Limits.{max_open_ifs, too_many_ifs, out_of_place}
+use Rattle.cam6_forth.specs.Kinds.{kind_of}
+use Rattle.cam6_forth.specs.Limits.{max_size, max_open_ifs, too_many_ifs, out_of_place}
 use Rattle.cam6_forth.specs.Defined.{Defined}
+use Rattle.cam6_forth.specs.SingleWords.{place_of}
 use Rattle.cam6_forth.specs.Tree.{Body, End, Says, Choice, Either, Cases, Part, word_at, meant}
-use Rattle.cam6_forth.specs.Tree.{spell_body, words_of, size_of}
+use Rattle.cam6_forth.specs.Tree.{spell_body, spell, words_of, size_of}
 use Rattle.cam6_forth.specs.Unfinished.{OpenIf, Opened, Unfinished, Within, Braced, FitsAt, IsSound}
-use Rattle.cam6_forth.specs.Unfinished.{spell_first, first_size}
+use Rattle.cam6_forth.specs.Unfinished.{AreBefore, AreOpenIfs, open_size, first_size}
+use Rattle.cam6_forth.specs.Unfinished.{spell_first, spell_open_ifs, spell_unfinished}
 use Rattle.cam6_forth.specs.Reading.{State, grown, grown_by, with_if, with_else, with_then}
-use Rattle.cam6_forth.proofs.States.{open_flags, first_words, state_of}
+use Rattle.cam6_forth.proofs.States.{open_flags, first_words, open_words, in_body, state_of}
 use Rattle.cam6_forth.proofs.Runs.{ok_state, ok-same}
 use Rattle.cam6_forth.specs.Trees.{join}
 use Rattle.cam6_forth.proofs.Joined.{spell_body-join, depth_of-join, words_of-join, size_of-join}
@@ -111,6 +115,47 @@ module _ (w : Wiring) (parts : List Part) where
             mode = refl;
           }
 
+  -- one more item behind those before it, in the innermost body that is open: its tokens follow, it
+  -- may stand there, and the state has its words and its size
+  one_item : (u : Unfinished) (name : Token) (open_ifs : List OpenIf) (before item : Body)
+      (t : Token) (s1 : State) → AreBefore w parts → kind_of name ≡ kind.Other →
+      place_of name done ≡ None → AreOpenIfs w done open_ifs →
+      FitsAt w done (length open_ifs) before → FitsAt w done (length open_ifs) item →
+      open_size w done open_ifs + (size_of w done before + size_of w done item) ≤ max_size →
+      spell parts
+      ++ (codes ":" ∷ (name ∷ (spell_open_ifs open_ifs ++ (spell_body before ++ spell_body item))))
+      ≡ spell_unfinished u ++ t ∷ [] →
+      s1 ≡ in_body done name
+      (open_words w done open_ifs ++ (words_of w done before ++ words_of w done item))
+      (open_size w done open_ifs + (size_of w done before + size_of w done item))
+      (open_flags open_ifs) →
+      Grows w u t Plain s1
+  one_item u name open_ifs before item t s1 parts_are other fresh are front fits small spelled is =
+      let front_depth = front.depth in
+      let depth = fits.depth in
+      record {
+        unfinished = Within parts (opened name open_ifs (join before item));
+        sound = (
+          parts_are,
+          record {
+            name = other;
+            fresh = fresh;
+            open_ifs = are;
+            said = record {
+              known = known-join w done before item front.known fits.known;
+              depth = omega (arith, depth_of-join before item);
+            };
+            size = omega (arith, size_of-join w done before item);
+          },
+        );
+        spelled = rw (spell_body-join before item) spelled;
+        state = is
+            ∙ same_body done name _ _ _ _ (open_flags open_ifs)
+            (rw (words_of-join w done before item) refl)
+            (omega (arith, size_of-join w done before item));
+        mode = refl;
+      }
+
   -- the item that an open IF becomes by its THEN: its tokens, its words, its size, and that it may
   -- stand where the IF stood
   abbrev closed : Option Body → Body → Body
@@ -152,33 +197,17 @@ module _ (w : Wiring) (parts : List Part) where
   then_grows name (open_if ∷ outer) said t s1 sound e f =
       let before = open_if.before in
       let first = open_if.first in
-      let front = sound.1.open_ifs.0 in
-      let front_depth = front.depth in
       let size = sound.1.size in
       let item = closed first said in
-      let fits = closed-fits open_if outer first said sound.1.open_ifs.1 sound.1.said in
-      let fits_depth = fits.depth in
-      record {
-        unfinished = Within parts (opened name outer (join before item));
-        sound = (
-          sound.0,
-          record {
-            name = sound.1.name;
-            fresh = sound.1.fresh;
-            open_ifs = sound.1.open_ifs.3;
-            said = record {
-              known = known-join w done before item front.known fits.known;
-              depth = omega (arith, depth_of-join before item);
-            };
-            size = omega (arith, size_of-join w done before item, closed-size first said);
-          },
-        );
-        spelled = rw (e, spell_body-join before item, closed-spell first said) (simp append_assoc);
-        state = sym (ok-same _ _ f) ∙ same_body done name _ _ _ _ (open_flags outer)
-            (rw (words_of-join w done before item, closed-words first said) (simp append_assoc))
-            (omega (arith, size_of-join w done before item, closed-size first said));
-        mode = refl;
-      }
+      let ifs = sound.1.open_ifs in
+      one_item (Within parts (opened name (open_if ∷ outer) said)) name outer before item t s1
+      sound.0 sound.1.name sound.1.fresh ifs.3 ifs.0
+      (closed-fits open_if outer first said ifs.1 sound.1.said)
+      (omega (arith, closed-size first said))
+      (rw (e, closed-spell first said) (simp append_assoc))
+      (sym (ok-same _ _ f) ∙ same_body done name _ _ _ _ (open_flags outer)
+      (rw (closed-words first said) (simp append_assoc))
+      (omega (arith, closed-size first said)))
 
   -- `{` in a body
   pub brace_grows : (last : Opened) (t : Token) (s1 : State) → IsSound w (Within parts last) →
@@ -216,28 +245,11 @@ module _ (w : Wiring) (parts : List Part) where
       let g = grown_by_ok 0 (word_at w done t) (state_of w (Within parts last)) s1 f in
       let fits = g.1 in
       let depth = sound.1.said.depth in
-      let item = Says t End in
-      record {
-        unfinished = Within parts (opened last.name last.open_ifs (join last.said item));
-        sound = (
-          sound.0,
-          record {
-            name = sound.1.name;
-            fresh = sound.1.fresh;
-            open_ifs = sound.1.open_ifs;
-            said = record {
-              known = known-join w done last.said item sound.1.said.known (g.0, tt);
-              depth = omega (arith, depth_of-join last.said item);
-            };
-            size = omega (arith, size_of-join w done last.said item);
-          },
-        );
-        spelled = rw (spell_body-join last.said item) (simp append_assoc);
-        state = sym g.2 ∙ same_body done last.name _ _ _ _ (open_flags last.open_ifs)
-            (rw (words_of-join w done last.said item) (simp (append_assoc, append-nil)))
-            (omega (arith, size_of-join w done last.said item));
-        mode = refl;
-      }
+      one_item (Within parts last) last.name last.open_ifs last.said (Says t End) t s1
+      sound.0 sound.1.name sound.1.fresh sound.1.open_ifs sound.1.said
+      (record { known = (g.0, tt); depth = omega arith }) (omega arith) (simp append_assoc)
+      (sym g.2 ∙ same_body done last.name _ _ _ _ (open_flags last.open_ifs)
+      (simp (append_assoc, append-nil)) (omega arith))
 
   -- a word between braces
   pub case_grows : (last : Opened) (words : List Token) (t : Token) (s1 : State) →
@@ -278,25 +290,9 @@ module _ (w : Wiring) (parts : List Part) where
   cases_grow last words t s1 sound e f =
       let size = sound.1.size in
       let depth = sound.1.said.depth in
-      let item = Cases words End in
-      record {
-        unfinished = Within parts (opened last.name last.open_ifs (join last.said item));
-        sound = (
-          sound.0,
-          record {
-            name = sound.1.name;
-            fresh = sound.1.fresh;
-            open_ifs = sound.1.open_ifs;
-            said = record {
-              known = known-join w done last.said item sound.1.said.known (sound.2, tt);
-              depth = omega (arith, depth_of-join last.said item);
-            };
-            size = omega (arith, size_of-join w done last.said item);
-          },
-        );
-        spelled = rw (e, spell_body-join last.said item) (simp append_assoc);
-        state = sym (ok-same _ _ f) ∙ same_body done last.name _ _ _ _ (open_flags last.open_ifs)
-            (rw (words_of-join w done last.said item) (simp append_assoc))
-            (omega (arith, size_of-join w done last.said item));
-        mode = refl;
-      }
+      one_item (Braced parts last words) last.name last.open_ifs last.said (Cases words End) t s1
+      sound.0 sound.1.name sound.1.fresh sound.1.open_ifs sound.1.said
+      (record { known = (sound.2, tt); depth = omega arith }) (omega arith)
+      (rw e (simp append_assoc))
+      (sym (ok-same _ _ f) ∙ same_body done last.name _ _ _ _ (open_flags last.open_ifs)
+      (simp append_assoc) (omega arith))

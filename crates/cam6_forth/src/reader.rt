@@ -59,8 +59,7 @@ impl Reader {
     ghost use Rattle.cam6_forth.specs.SingleWords.{word_of};
     ghost use Rattle.cam6_forth.specs.Reading.{begin, step, grown, outside, naming, with_if};
     ghost use Rattle.cam6_forth.specs.Reading.{with_else, with_then, with_definition, inside};
-    ghost use Rattle.cam6_forth.specs.Reading.{braces};
-    ghost use Rattle.cam6_forth.specs.Reading.{finish, is_in_body, then_so};
+    ghost use Rattle.cam6_forth.specs.Reading.{braces, finish, is_in_body, then_so};
     ghost use Rattle.cam6_forth.specs.declared.faults.StepFault.TheVariants.{NoMemory};
     ghost use Rattle.cam6_forth.specs.Outcome.{Steps, Finishes};
 

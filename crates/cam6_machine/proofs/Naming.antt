@@ -18,9 +18,8 @@ use Rattle.cam6_machine.specs.Effects.{with_rule}
 use Rattle.cam6_machine.specs.Always.{HaveOwnNames, IsNamed, IsEntry}
 use Rattle.cam6_machine.specs.Refusals.{is_name, is_used, room_refusal, rule_refusal}
 use Rattle.cam6_machine.specs.Internal.Places.{place_of, rule_at, name_of, place_if_named}
-use Rattle.cam6_machine.specs.Internal.Places.{placed_entry, phase_number}
-use Rattle.cam6_machine.specs.Internal.Places.{named_entry, named_entries, rules_at, IsPlace}
-use Rattle.cam6_machine.specs.Internal.Places.{ArePlaced}
+use Rattle.cam6_machine.specs.Internal.Places.{placed_entry, phase_number, named_entry}
+use Rattle.cam6_machine.specs.Internal.Places.{named_entries, rules_at, IsPlace, ArePlaced}
 use Rattle.cam6_machine.specs.Internal.Places.{is_place, uses_place}
 use Rattle.cam6_machine.specs.declared.commands.NamedEntry.{NamedEntry}
 use Rattle.cam6_machine.specs.declared.cycles.Entry.{Entry}

@@ -58,8 +58,7 @@ impl Model for Machine {
 }
 
 impl Machine {
-    ghost use Rattle.std.specs.Prelude.{◌≡◌, ℕ, false, List, Some, None, IsOk, IfOk};
-    ghost use Rattle.std.specs.Prelude.{OnErr};
+    ghost use Rattle.std.specs.Prelude.{ℕ, false, List, Some, None, IsOk, OnErr};
     ghost use Rattle.cam6_machine.specs.Machine.{blank, machine_of};
     ghost use Rattle.cam6_machine.specs.Refusals.{refusal};
     ghost use Rattle.cam6_machine.specs.declared.faults.Fault.{Fault};

@@ -8,8 +8,7 @@ use Rattle.std.specs.Io.KnownBytes.{Consumes}
 use Rattle.cam6_session.specs.Held.{Held, Holds, is_empty}
 use Rattle.cam6_wire.specs.OneLine.{HasNoLf}
 use Rattle.cam6_session.specs.Reading.{Reads, ReadsLine, TakesPart}
-use Rattle.cam6_session.specs.declared.lines.Line.TheVariants.{Ended, Last, EndOfInput}
-use Rattle.cam6_session.specs.declared.lines.Line.TheVariants.{ReadFault}
+use Rattle.cam6_session.specs.declared.lines.Line.TheVariants.{Ended, Last, EndOfInput, ReadFault}
 use Rattle.cam6_session.specs.declared.lines.Part.TheVariants.{More, Newline, AtEnd, Fault}
 
 -- a part of a line has been read, and what is kept stands for it

@@ -1,7 +1,6 @@
 -- A session so far: the lines that it took, each answered, and how it goes on or ends from there.
-use Rattle.std.proofs.Common.{◌≡◌, ℕ, List, [], ◌∷◌, ◌++◌, Option, None, Some, refl, sym, ap}
-use Rattle.std.proofs.Common.{◌∙◌, subst, inr, append-nil, append_assoc, true, false}
-use Rattle.std.proofs.Common.{Result, Ok, Err}
+use Rattle.std.proofs.Common.{◌≡◌, ℕ, List, [], ◌∷◌, ◌++◌, Option, None, Some, refl, sym, ap, ◌∙◌}
+use Rattle.std.proofs.Common.{subst, inr, append-nil, append_assoc, true, false, Result, Ok, Err}
 use Rattle.std.proofs.lemmas.List.Elements.{All-push}
 use Rattle.std.specs.Prelude.{All}
 use Rattle.std.specs.Io.KnownBytes.{Appends, Keeps}

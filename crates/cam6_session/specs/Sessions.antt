@@ -1,7 +1,6 @@
 -- How serving ends: which lines were taken, what was written, and at which t what is asked stands
 -- then; it stood at s.
-use Rattle.std.specs.Prelude.{◌≡◌, ℕ, List, [], ◌∷◌, ◌++◌, Option, Some, IfSome, ◌⊎◌}
-use Rattle.std.specs.Prelude.{true, false}
+use Rattle.std.specs.Prelude.{◌≡◌, ℕ, List, [], ◌∷◌, ◌++◌, Option, Some, IfSome, ◌⊎◌, true, false}
 use Rattle.cam6_session.specs.Lines.{lines, ended_lines}
 use Rattle.cam6_session.specs.Answering.{Answering, answers, after_lines}
 use Rattle.cam6_session.specs.Responding.{TakesMemory}

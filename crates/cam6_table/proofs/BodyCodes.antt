@@ -1,6 +1,5 @@
 -- The code of a tree, body by body, and what it is for code to do what is meant.
-use Rattle.std.proofs.Common.{◌≡◌, ℕ, ◌+◌, List, [], ◌∷◌, ◌++◌, length, Some, None}
-use Rattle.std.proofs.Common.{Result, Ok, Err}
+use Rattle.std.proofs.Common.{◌≡◌, ℕ, ◌+◌, List, [], ◌∷◌, ◌++◌, length, Some, None, Result, Ok, Err}
 use Rattle.cam6_wiring.specs.Seen.{Sees}
 use Rattle.cam6_wiring.specs.Wiring.{line_of}
 use Rattle.cam6_wiring.specs.declared.wirings.Wiring.{Wiring}
@@ -8,8 +7,7 @@ use Rattle.cam6_wiring.specs.declared.names.Name.{Name}
 use Rattle.cam6_forth.specs.declared.words.SingleWord.{SingleWord}
 use Rattle.cam6_forth.specs.Tokens.{Token}
 use Rattle.cam6_forth.specs.Defined.{Defined}
-use Rattle.cam6_forth.specs.Tree.{Body, End, Says, Choice, Either, Cases}
-use Rattle.cam6_forth.specs.Tree.{Part, word_at, defined}
+use Rattle.cam6_forth.specs.Tree.{Body, End, Says, Choice, Either, Cases, Part, word_at, defined}
 use Rattle.cam6_table.specs.declared.codes.Instruction.TheVariants.{SkipIfZero, Skip}
 use Rattle.cam6_table.specs.declared.codes.Instruction.TheVariants.{Case, CaseWord}
 use Rattle.cam6_table.specs.declared.outputs.State.{State}

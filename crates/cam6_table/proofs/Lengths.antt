@@ -1,6 +1,5 @@
 -- Code is no longer than its size allows.
-use Rattle.std.proofs.Common.{◌≡◌, ℕ, zero, suc, ◌≤◌}
-use Rattle.std.proofs.Common.{List, [], ◌∷◌, ◌++◌, length, refl, sym, subst}
+use Rattle.std.proofs.Common.{◌≡◌, ℕ, zero, suc, ◌≤◌, List, [], ◌∷◌, ◌++◌, length, refl, sym, subst}
 use Rattle.std.proofs.Common.{length-append, arith, Option, Some, None, Result, Ok, Err}
 use Rattle.cam6_wiring.specs.declared.wirings.Wiring.{Wiring}
 use Rattle.cam6_wiring.specs.Wiring.{line_of}
@@ -11,9 +10,8 @@ use Rattle.cam6_forth.specs.Limits.{max_size}
 use Rattle.cam6_forth.specs.Defined.{Defined}
 use Rattle.cam6_forth.specs.SingleWords.{IsSingle}
 use Rattle.cam6_forth.proofs.Singles.{known_is_single}
-use Rattle.cam6_forth.specs.Tree.{Body, End, Says, Choice, Either, Cases, Part}
-use Rattle.cam6_forth.specs.Tree.{word_at, size_in, size_of, case_size}
-use Rattle.cam6_forth.specs.Tree.{defined, meant, AreDefinitions, IsRule}
+use Rattle.cam6_forth.specs.Tree.{Body, End, Says, Choice, Either, Cases, Part, word_at, size_in}
+use Rattle.cam6_forth.specs.Tree.{size_of, case_size, defined, meant, AreDefinitions, IsRule}
 use Rattle.cam6_table.specs.declared.codes.Instruction.TheVariants.{Skip}
 use Rattle.cam6_table.specs.Internal.Emitting.{Instructions, line_code, word_code, code_at}
 use Rattle.cam6_table.proofs.BodyCodes.{said_code, token_code, case_code, body_code, tree_codes}

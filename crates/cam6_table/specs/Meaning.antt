@@ -9,8 +9,7 @@ use Rattle.cam6_wiring.specs.declared.names.Compass.TheVariants.{Center}
 use Rattle.cam6_wiring.specs.declared.names.Level.TheVariants.{Lower, Upper}
 use Rattle.cam6_forth.specs.Tokens.{Token}
 use Rattle.cam6_forth.specs.Defined.{Defined}
-use Rattle.cam6_forth.specs.Tree.{Body, End, Says, Choice, Either, Cases}
-use Rattle.cam6_forth.specs.Tree.{Part, word_at, defined}
+use Rattle.cam6_forth.specs.Tree.{Body, End, Says, Choice, Either, Cases, Part, word_at, defined}
 use Rattle.cam6_forth.specs.declared.words.SingleWord.{SingleWord}
 use Rattle.cam6_forth.specs.declared.words.SingleWord.TheVariants as single
 use Rattle.cam6_table.specs.declared.faults.RuleFault.{RuleFault}

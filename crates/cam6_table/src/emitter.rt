@@ -101,8 +101,7 @@ impl Model for Emitter {
 impl Emitter {
     ghost use Rattle.cam6_table.specs.Internal.Emitting.{emit, emit_then, emit_else, emit_if};
     ghost use Rattle.cam6_table.specs.Internal.Emitting.{emit_end_cases, emit_cases, emit_word};
-    ghost use Rattle.cam6_table.specs.Internal.Emitting.{with_head};
-    ghost use Rattle.cam6_table.specs.Internal.Emitting.{word_code};
+    ghost use Rattle.cam6_table.specs.Internal.Emitting.{with_head, word_code};
 
     /// One more word in front.
     fn emit(&mut self, wiring: Wiring, word: Word, codes: &[Instructions]) -> Result<(), NoMemory>

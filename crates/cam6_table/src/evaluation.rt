@@ -5,8 +5,7 @@ ghost use Rattle.cam6_wiring.specs.Seen.{shown};
 ghost use Rattle.cam6_table.specs.declared.evaluation.TheConstants.{MAX_TURNS};
 ghost use Rattle.cam6_table.specs.Words.{IsOutcome};
 ghost use Rattle.cam6_table.specs.Limits.{max_turns};
-ghost use Rattle.cam6_table.specs.Codes.{act, exec, turns_of, result_at, turns_at, at_head};
-ghost use Rattle.cam6_table.specs.Codes.{Acts};
+ghost use Rattle.cam6_table.specs.Codes.{act, exec, turns_of, result_at, turns_at, at_head, Acts};
 
 use crate::codes::{Code, Instruction, Instructions};
 use crate::faults::RuleFault;

@@ -1,7 +1,6 @@
 -- A line whose value shows a command says it.
-use Rattle.std.proofs.Common.{◌≡◌, ℕ, List, [], ◌∷◌, true, codes}
-use Rattle.std.proofs.Common.{Option, Some, Ok, ok_or, option_and_then, option_map}
-use Rattle.std.proofs.Common.{refl, ap, ◌∙◌}
+use Rattle.std.proofs.Common.{◌≡◌, ℕ, List, [], ◌∷◌, true, codes, Option, Some, Ok, ok_or}
+use Rattle.std.proofs.Common.{option_and_then, option_map, refl, ap, ◌∙◌}
 use Rattle.std.specs.Bool.{then_some}
 use Rattle.std.specs.Result.{result_ok}
 use Rattle.hex.specs.Hex.{decode_sized}

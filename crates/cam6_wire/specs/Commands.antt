@@ -1,7 +1,6 @@
 -- What a line says: the JSON value that it is, and the command that the value is.
-use Rattle.std.specs.Prelude.{◌≡◌, ℕ, List, length, codes, nat_lt, Bool, false, ◌||◌}
-use Rattle.std.specs.Prelude.{if◌then◌else◌, Option, Some, None}
-use Rattle.std.specs.Prelude.{option_map, ok_or, Result, Ok, Err, ⊤}
+use Rattle.std.specs.Prelude.{◌≡◌, ℕ, List, length, codes, nat_lt, Bool, false, ◌||◌, if◌then◌else◌}
+use Rattle.std.specs.Prelude.{Option, Some, None, option_map, ok_or, Result, Ok, Err, ⊤}
 use Rattle.std.specs.Bool.{then_some}
 use Rattle.std.specs.Option.{option_map_or}
 use Rattle.std.specs.Str.{bytes_eq, is_utf8}

@@ -1,7 +1,6 @@
 -- Each name stands on one line, so its line and the lines' names say the same.
 use Rattle.std.proofs.Common.{◌≡◌, ℕ, zero, suc, ◌+◌, Bool, true, false, not, ◌&&◌, ◌||◌, List, []}
-use Rattle.std.proofs.Common.{◌∷◌}
-use Rattle.std.proofs.Common.{map, get_or, Option, Some, None, cond, refl, sym, ◌∙◌, ap, arith}
+use Rattle.std.proofs.Common.{◌∷◌, map, get_or, Option, Some, None, cond, refl, sym, ◌∙◌, ap, arith}
 use Rattle.std.specs.List.{position_from, list_any}
 use Rattle.cam6_wiring.specs.Laws.{LinesAreNamed, IsItselfAlone}
 use Rattle.cam6_wiring.specs.Name.{is_same_level, is_same_turn, is_same_compass, is_same_name}

@@ -1,6 +1,5 @@
 use Rattle.std.proofs.Common.{◌≡◌, map, take}
-use Rattle.cam6_machine.specs.Internal.Places.{rules_of}
-use Rattle.cam6_machine.specs.Internal.Places.{placed_entry}
+use Rattle.cam6_machine.specs.Internal.Places.{rules_of, placed_entry}
 use Rattle.cam6_machine.proofs.cycles.placed_entries.Given as goal
 
 abbrev pub invariant-loop-entry : goal.invariant-loop-entry
