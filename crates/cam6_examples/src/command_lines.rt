@@ -36,6 +36,7 @@ fn value_of(alloc: Global, command: &Command) -> Result<Value, AllocError> {
         }
         Command::Run { n } => json!(in alloc; {"do": "run", "n": *n}),
         Command::Plane { plane } => json!(in alloc; {"do": "plane", "plane": *plane}),
+        Command::Side { side } => json!(in alloc; {"do": "side", "side": *side}),
     }
 }
 

@@ -10,6 +10,7 @@
 //! >> TEXT                 sent without an LF
 //! > rows PLANE            sends a `set` of each row that follows, and wants each to be done
 //! < plane                 the reply to `plane`, all zeros but for the rows that follow
+//! side NUMBER             rows are of this side from here on; of 256, where nothing is said
 //! = ROW DIGITS            a row; `*` is for the zeros left out; `even` and `odd` are all such rows
 //! @ COLUMN ROW            where a picture begins, whose rows follow
 //! | ..#..                 a row of the picture
@@ -17,8 +18,9 @@
 
 use crate::faults::Unplayable;
 use crate::repeats::{Named, write_out, written_out};
-use crate::rows::{Rows, SIDE};
+use crate::rows::Rows;
 use crate::ways::Way;
+use cam6_planes::Side;
 use std::alloc::Global;
 
 /// A line that is sent, or a text without an LF at its end.
@@ -61,6 +63,8 @@ struct Reading {
     parts: Vec<Part>,
     part: Part,
     named: Vec<Named>,
+    /// The side of rows.
+    side: Side,
     pending: Pending,
 }
 
@@ -68,8 +72,9 @@ struct Reading {
 pub fn read_example(alloc: Global, text: &str) -> Result<Vec<Part>, (usize, Unplayable)> {
     let mut reading = Reading {
         parts: Vec::new(alloc),
-        part: Part::new(alloc, Way::Session),
+        part: Part::new(alloc, Way::Session(Side::S256)),
         named: Vec::new(alloc),
+        side: Side::S256,
         pending: Pending::Nothing,
     };
     let mut lines: usize = 0;
@@ -78,7 +83,7 @@ pub fn read_example(alloc: Global, text: &str) -> Result<Vec<Part>, (usize, Unpl
         reading.read_line(alloc, line).map_err(|e| (lines, e))?;
     }
     reading
-        .begin_part(alloc, Way::Session)
+        .begin_part(alloc, Way::Session(Side::S256))
         .map_err(|e| (lines, e))?;
     Ok(reading.parts)
 }
@@ -96,6 +101,7 @@ impl Reading {
             "" | "#" => Ok(()),
             "as" => self.begin_part(alloc, Way::read(alloc, rest)?),
             "let" => self.name(alloc, rest),
+            "side" => self.set_side(rest),
             ">" => self.send(alloc, rest),
             ">>" => self.send_text(alloc, rest, false),
             "<" => self.want(alloc, rest),
@@ -109,6 +115,12 @@ impl Reading {
         Ok(self.parts.push(part)?)
     }
 
+    fn set_side(&mut self, number: &str) -> Result<(), Unplayable> {
+        let number = number.parse().map_err(|_| Unplayable::Unread)?;
+        self.side = Side::of(number).ok_or(Unplayable::Unread)?;
+        Ok(())
+    }
+
     fn name(&mut self, alloc: Global, rest: &str) -> Result<(), Unplayable> {
         let (name, text) = rest.split_once(' ').ok_or(Unplayable::Unread)?;
         let bytes = written_out(alloc, text, self.named.as_slice())?;
@@ -119,7 +131,7 @@ impl Reading {
     fn send(&mut self, alloc: Global, rest: &str) -> Result<(), Unplayable> {
         if let Some(plane) = rest.strip_prefix("rows ") {
             let plane = String::from_str(alloc, plane)?;
-            self.pending = Pending::Set(Rows::blank(alloc)?, plane);
+            self.pending = Pending::Set(Rows::blank(alloc, self.side)?, plane);
             return Ok(());
         }
         match rest.rsplit_once(" => ") {
@@ -138,7 +150,7 @@ impl Reading {
 
     fn want(&mut self, alloc: Global, text: &str) -> Result<(), Unplayable> {
         if text == "plane" {
-            self.pending = Pending::Wanted(Rows::blank(alloc)?);
+            self.pending = Pending::Wanted(Rows::blank(alloc, self.side)?);
             return Ok(());
         }
         write_out(&mut self.part.wanted, text, self.named.as_slice())?;
@@ -158,7 +170,7 @@ impl Reading {
             Pending::Nothing => Ok(()),
             Pending::Wanted(rows) => Ok(rows.write_plane(&mut self.part.wanted)?),
             Pending::Set(rows, plane) => {
-                for y in 0..SIDE {
+                for y in 0..rows.len() {
                     let Some(digits) = rows.named(y) else {
                         continue;
                     };

@@ -78,8 +78,8 @@ fn show<R: Print + AllocGlobal>(rt: &R, name: &str, parts: &[Part]) -> io::Resul
 fn played(alloc: Global, part: &Part) -> io::Result<Vec<Vec<u8>>> {
     let sent = part.sent.as_slice();
     let first = match &part.way {
-        Way::Session => sessions::served(alloc, sent)?,
-        Way::Commands => sessions::answered_as_commands(alloc, sent)?,
+        Way::Session(limit) => sessions::served(alloc, *limit, sent)?,
+        Way::Commands(limit) => sessions::answered_as_commands(alloc, *limit, sent)?,
         Way::Readings => sessions::read(alloc, sent)?,
         Way::Shown => sessions::read_shown(alloc, sent)?,
         Way::Texts(wiring) => rules::faults_of_texts(alloc, *wiring, sent)?,
@@ -92,9 +92,9 @@ fn played(alloc: Global, part: &Part) -> io::Result<Vec<Vec<u8>>> {
     };
     let mut all = Vec::new(alloc);
     all.push(first)?;
-    if let Way::Session = part.way {
-        all.push(sessions::served_byte_by_byte(alloc, sent)?)?;
-        all.push(sessions::answered_one_by_one(alloc, sent)?)?;
+    if let Way::Session(limit) = part.way {
+        all.push(sessions::served_byte_by_byte(alloc, limit, sent)?)?;
+        all.push(sessions::answered_one_by_one(alloc, limit, sent)?)?;
     }
     Ok(all)
 }

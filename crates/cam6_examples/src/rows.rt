@@ -1,16 +1,17 @@
 //! Rows of a plane in an example: as digits, or as a picture of a few cells.
 
+use cam6_planes::Side;
 use std::alloc::{AllocError, Global};
 
-/// Rows of a plane, and its columns.
-pub const SIDE: usize = 256;
-
-/// Hexadecimal digits of a row.
-const DIGITS: usize = 64;
+/// Hexadecimal digits of a row of the largest side.
+const DIGITS: usize = 128;
 
 /// The rows of a plane, all zeros but for those that an example names.
 #[derive(Drop)]
 pub struct Rows {
+    /// Rows of the plane, and its columns.
+    side: usize,
+    /// Of each the first are the row's, one for every four columns.
     digits: Vec<[u8; DIGITS]>,
     is_named: Vec<bool>,
     /// Where the next row of a picture begins.
@@ -18,10 +19,12 @@ pub struct Rows {
 }
 
 impl Rows {
-    pub fn blank(alloc: Global) -> Result<Rows, AllocError> {
+    pub fn blank(alloc: Global, side: Side) -> Result<Rows, AllocError> {
+        let side = side.number();
         Ok(Rows {
-            digits: vec![in alloc; [b'0'; DIGITS]; SIDE]?,
-            is_named: vec![in alloc; false; SIDE]?,
+            side,
+            digits: vec![in alloc; [b'0'; DIGITS]; side]?,
+            is_named: vec![in alloc; false; side]?,
             corner: (0, 0),
         })
     }
@@ -39,7 +42,7 @@ impl Rows {
     /// rows. None where it is no such text.
     fn put_digits(&mut self, text: &str) -> Option<()> {
         let (row, digits) = text.split_once(' ')?;
-        let digits = all_digits(digits)?;
+        let digits = all_digits(digits, self.side / 4)?;
         match row {
             "even" => self.put_half(0, digits),
             "odd" => self.put_half(1, digits),
@@ -59,10 +62,10 @@ impl Rows {
     /// past the last column at column 0, and the row below the last one is row 0.
     fn put_cells(&mut self, cells: &str) -> Option<()> {
         let (column, row) = self.corner;
-        let y = row % SIDE;
+        let y = row.checked_rem(self.side)?;
         let digits = self.digits.get_mut(y)?;
         for (i, cell) in cells.bytes().enumerate() {
-            let x = column.wrapping_add(i) % SIDE;
+            let x = column.wrapping_add(i).checked_rem(self.side)?;
             match cell {
                 b'#' => set_cell(digits, x),
                 b'.' => {}
@@ -79,19 +82,24 @@ impl Rows {
         text.extend_from_slice(b"{\"ok\":\"plane\",\"rows\":[")?;
         for (y, digits) in self.digits.iter().enumerate() {
             text.extend_from_slice(if y == 0 { b"\"".as_slice() } else { b",\"" })?;
-            text.extend_from_slice(digits)?;
+            text.extend_from_slice(digits.get(..self.side / 4).unwrap_or(digits))?;
             text.push(b'"')?;
         }
         text.extend_from_slice(b"]}\n")
     }
 
     /// A row's digits, where the example names the row.
-    pub fn named(&self, y: usize) -> Option<&[u8; DIGITS]> {
+    pub fn named(&self, y: usize) -> Option<&[u8]> {
         if *self.is_named.get(y)? {
-            self.digits.get(y)
+            self.digits.get(y)?.get(..self.side / 4)
         } else {
             None
         }
+    }
+
+    /// How many rows there are.
+    pub fn len(&self) -> usize {
+        self.digits.len()
     }
 
     fn put(&mut self, y: usize, digits: [u8; DIGITS]) -> Option<()> {
@@ -101,24 +109,25 @@ impl Rows {
     }
 
     fn put_half(&mut self, first: usize, digits: [u8; DIGITS]) {
-        for y in (first..SIDE).step_by(2) {
+        for y in (first..self.side).step_by(2) {
             let _ = self.put(y, digits);
         }
     }
 }
 
-/// A row's digits, with zeros for its `*`. None where there are too many, or too few without `*`.
-fn all_digits(text: &str) -> Option<[u8; DIGITS]> {
+/// A row's digits, so many, with zeros for its `*`. None where there are too many, or too few
+/// without `*`.
+fn all_digits(text: &str, count: usize) -> Option<[u8; DIGITS]> {
     let mut digits = [b'0'; DIGITS];
     let (first, last) = text.split_once('*').unwrap_or((text, ""));
     let given = first.len().saturating_add(last.len());
-    if given > DIGITS || given < DIGITS && !text.contains('*') {
+    if given > count || given < count && !text.contains('*') {
         return None;
     }
     for (digit, byte) in digits.iter_mut().zip(first.bytes()) {
         *digit = byte;
     }
-    let zeros = DIGITS.saturating_sub(last.len());
+    let zeros = count.saturating_sub(last.len());
     for (digit, byte) in digits.iter_mut().skip(zeros).zip(last.bytes()) {
         *digit = byte;
     }

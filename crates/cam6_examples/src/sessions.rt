@@ -3,6 +3,7 @@
 use crate::command_lines::line_of;
 use crate::examples::Sent;
 use cam6_machine::{Command, Machine};
+use cam6_planes::Side;
 use cam6_session::{End, serve_alone};
 use cam6_wire::{LineFault, command_shown, fault_text, read_command, reply_text};
 use serde_json::Value;
@@ -47,23 +48,24 @@ impl BufRead for ByteByByte<'_> {
     }
 }
 
-/// What a session over a blank machine answers, and how it ends if not with its input.
-pub fn served(alloc: Global, sent: &[Sent]) -> io::Result<Vec<u8>> {
+/// What a session over a blank machine of this limit answers, and how it ends if not with its
+/// input.
+pub fn served(alloc: Global, limit: Side, sent: &[Sent]) -> io::Result<Vec<u8>> {
     let bytes = bytes_of(alloc, sent)?;
     let mut reader = bytes.as_slice();
     let mut answers = Vec::new(alloc);
-    let end = serve_alone(alloc, &mut reader, &mut answers, TURNS);
+    let end = serve_alone(alloc, limit, &mut reader, &mut answers, TURNS);
     add_end(answers, end)
 }
 
 /// The same, where its lines are read a byte at a time.
-pub fn served_byte_by_byte(alloc: Global, sent: &[Sent]) -> io::Result<Vec<u8>> {
+pub fn served_byte_by_byte(alloc: Global, limit: Side, sent: &[Sent]) -> io::Result<Vec<u8>> {
     let bytes = bytes_of(alloc, sent)?;
     let mut reader = ByteByByte {
         bytes: bytes.as_slice(),
     };
     let mut answers = Vec::new(alloc);
-    let end = serve_alone(alloc, &mut reader, &mut answers, TURNS);
+    let end = serve_alone(alloc, limit, &mut reader, &mut answers, TURNS);
     add_end(answers, end)
 }
 
@@ -76,10 +78,10 @@ fn add_end(mut answers: Vec<u8>, end: End) -> io::Result<Vec<u8>> {
 }
 
 /// The replies of a blank machine to the commands among the lines, and the faults of the others.
-pub fn answered_one_by_one(alloc: Global, sent: &[Sent]) -> io::Result<Vec<u8>> {
+pub fn answered_one_by_one(alloc: Global, limit: Side, sent: &[Sent]) -> io::Result<Vec<u8>> {
     let bytes = bytes_of(alloc, sent)?;
     let lines = bytes.strip_suffix(b"\n").unwrap_or(bytes.as_slice());
-    let mut machine = Machine::new(alloc).map_err(|_| no_memory())?;
+    let mut machine = Machine::new(alloc, limit).map_err(|_| no_memory())?;
     let mut answers = Vec::new(alloc);
     if !bytes.is_empty() {
         for line in lines.split(|byte| *byte == b'\n') {
@@ -90,8 +92,8 @@ pub fn answered_one_by_one(alloc: Global, sent: &[Sent]) -> io::Result<Vec<u8>> 
 }
 
 /// The replies of a blank machine to the commands that the lines show.
-pub fn answered_as_commands(alloc: Global, sent: &[Sent]) -> io::Result<Vec<u8>> {
-    let mut machine = Machine::new(alloc).map_err(|_| no_memory())?;
+pub fn answered_as_commands(alloc: Global, limit: Side, sent: &[Sent]) -> io::Result<Vec<u8>> {
+    let mut machine = Machine::new(alloc, limit).map_err(|_| no_memory())?;
     let mut answers = Vec::new(alloc);
     for line in sent {
         let command = shown(alloc, line.bytes.as_slice());

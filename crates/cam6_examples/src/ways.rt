@@ -2,18 +2,19 @@
 
 use crate::faults::Unplayable;
 use crate::settings::wiring_named;
+use cam6_planes::Side;
 use cam6_wiring::Wiring;
 use std::alloc::Global;
 
 /// What is made of the lines that a part of an example sends.
 #[derive(Drop)]
 pub enum Way {
-    /// A session over a blank machine: its answers, whether its lines are read whole or a byte at a
-    /// time, which are those of the machine to one command after another.
-    Session,
-    /// Commands to a blank machine, for whatever wirings and cycles, those that no line may ask for
-    /// yet among them: its replies.
-    Commands,
+    /// A session over a blank machine of this limit: its answers, whether its lines are read whole
+    /// or a byte at a time, which are those of the machine to one command after another.
+    Session(Side),
+    /// Commands to a blank machine of this limit, for whatever wirings and cycles, those that no
+    /// line may ask for yet among them: its replies.
+    Commands(Side),
     /// What each line says, or its fault.
     Readings,
     /// What each line's JSON value shows, whether a line may say it yet or not.
@@ -35,8 +36,8 @@ impl Way {
     pub fn read(alloc: Global, text: &str) -> Result<Way, Unplayable> {
         let (first, rest) = text.split_once(' ').unwrap_or((text, ""));
         match (first, rest) {
-            ("session", "") => Ok(Way::Session),
-            ("commands", "") => Ok(Way::Commands),
+            ("session", limit) => Ok(Way::Session(limit_of(limit)?)),
+            ("commands", limit) => Ok(Way::Commands(limit_of(limit)?)),
             ("readings", "") => Ok(Way::Readings),
             ("shown", "") => Ok(Way::Shown),
             ("stacks", "") => Ok(Way::Stacks),
@@ -51,6 +52,16 @@ impl Way {
             _ => Err(Unplayable::Unread),
         }
     }
+}
+
+/// The limit that `within NUMBER` says; 256, where nothing is said.
+fn limit_of(text: &str) -> Result<Side, Unplayable> {
+    if text.is_empty() {
+        return Ok(Side::S256);
+    }
+    let number = text.strip_prefix("within ").ok_or(Unplayable::Unread)?;
+    let number = number.parse().map_err(|_| Unplayable::Unread)?;
+    Side::of(number).ok_or(Unplayable::Unread)
 }
 
 fn wiring_of(text: &str) -> Result<Wiring, Unplayable> {

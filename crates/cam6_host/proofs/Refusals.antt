@@ -1,16 +1,36 @@
 -- What clap's error for the program's command line says of the refusal.
-use Rattle.std.proofs.Common.{◌≡◌, true, List, refl, ap, subst, ◌∙◌, inl, inr}
+use Rattle.std.proofs.Common.{◌≡◌, true, List, [], ◌∷◌, inl, inr, refl, ap, subst, ◌∙◌}
+use Rattle.std.specs.Borrow.{Bor}
 use Rattle.clap.proofs.OnLiterals.{clap_on_literals}
+use Rattle.clap.specs.Simple.{is_simple}
 use Rattle.clap.specs.Words.{App, HasKind, IsAmong, Kinds, Text, fault_of, is_simple_and_free}
 use Rattle.clap.specs.Words.{kind_of}
 use Rattle.clap.specs.declared.error.Error.{Error}
-use Rattle.cam6_host.specs.CommandLine.{program, IsOfKind, Refuses}
+use Rattle.cam6_planes.specs.declared.sides.Side.TheVariants.{S128, S256, S512}
+use Rattle.cam6_host.specs.CommandLine.{IsOfKind, IsProgram, Refuses, TextsAt, program, side_text}
 use Rattle.cam6_host.specs.declared.modes.Refused.{Refused}
 use Rattle.cam6_host.specs.declared.modes.Refused.TheVariants.{Help, Words, NoMemory}
 
-pub program_is_simple : is_simple_and_free program ≡ true
+pub program_is_simple : (sides : TextsAt) → is_simple_and_free (program sides) ≡ true
 unfolding clap_on_literals
-program_is_simple = refl
+program_is_simple sides = refl
+
+abbrev at_first : {X : Type 0} → X → Bor X
+at_first x = record { ref_ptr = (0, 0); now = x }
+
+-- there is one
+pub some_program : (app : App) × IsProgram app
+some_program =
+    let sides : TextsAt = at_first (at_first (side_text S128) ∷ at_first (side_text S256)
+    ∷ at_first (side_text S512) ∷ []) in
+    (program sides, (sides, refl, refl))
+
+pub matches_program : (sides : TextsAt) → is_simple (program sides) ≡ true
+unfolding clap_on_literals
+matches_program sides = refl
+
+pub is_simple_program : (app : App) → IsProgram app → is_simple_and_free app ≡ true
+is_simple_program app is = ap is_simple_and_free is.2 ∙ program_is_simple is.0
 
 refused_as_kind : (kinds : Kinds) (refused : Refused) (e : Error) → HasKind kinds e
     → IsOfKind refused (kind_of e) → Refuses kinds refused
@@ -21,9 +41,7 @@ refused_as_kind kinds (Words text) e (inr among) is = (kind_of e, among, is.0, i
 refused_as_kind kinds NoMemory e has is = tt
 
 pub refused_as_clap_does : (app : App) (words : List Text) (refused : Refused) (e : Error)
-    → app ≡ program → (is_simple_and_free app ≡ true → HasKind (fault_of app words) e)
-    → IsOfKind refused (kind_of e) → Refuses (fault_of program words) refused
+    → IsProgram app → (is_simple_and_free app ≡ true → HasKind (fault_of app words) e)
+    → IsOfKind refused (kind_of e) → Refuses (fault_of app words) refused
 refused_as_clap_does app words refused e is has of_kind =
-    let simple = ap is_simple_and_free is ∙ program_is_simple in
-    let kinds = subst (λ a. HasKind (fault_of a words) e) is (has simple) in
-    refused_as_kind (fault_of program words) refused e kinds of_kind
+    refused_as_kind (fault_of app words) refused e (has (is_simple_program app is)) of_kind

@@ -1,34 +1,76 @@
 -- The words that the program takes, and what they ask for.
-use Rattle.std.specs.Prelude.{◌≡◌, ◌≢◌, List, codes, Option, Some, None, ⊤, if◌then◌else◌}
+use Rattle.std.specs.Prelude.{◌≡◌, ◌≢◌, List, [], ◌∷◌, codes, Option, Some, None, ⊤}
+use Rattle.std.specs.Prelude.{if◌then◌else◌, option_and_then, option_map}
+use Rattle.std.specs.Borrow.{Bor}
 use Rattle.std.specs.Str.{bytes_eq}
-use Rattle.clap.specs.Words.{App, IsAmong, Kinds, Row, Text, new_app, with_subcommand}
+use Rattle.clap.specs.Walk.{texts}
+use Rattle.clap.specs.Words.{App, IsAmong, Kinds, Row, Rule, Text, first_of, new_app, new_rule}
+use Rattle.clap.specs.Words.{with_rule, with_subcommand}
+use Rattle.clap.specs.declared.builder.value_parser.ValueParser.TheVariants.{Names}
 use Rattle.clap.specs.declared.error.kind.ErrorKind.{ErrorKind}
 use Rattle.clap.specs.declared.error.kind.ErrorKind.TheVariants.{OutOfMemory, DisplayHelp}
+use Rattle.cam6_planes.specs.declared.sides.Side.{Side}
+use Rattle.cam6_planes.specs.declared.sides.Side.TheVariants.{S128, S256, S512}
 use Rattle.cam6_host.specs.declared.modes.Options.{Options}
 use Rattle.cam6_host.specs.declared.modes.Options.TheVariants.{Alone}
 use Rattle.cam6_host.specs.declared.modes.Refused.{Refused}
 use Rattle.cam6_host.specs.declared.modes.Refused.TheVariants.{Help, Words, NoMemory}
 
--- `alone`, without options
-abbrev pub alone : App
-alone = new_app (codes "alone")
+-- a side as a word
+abbrev pub side_text : Side → Text
+side_text S128 = codes "128"
+side_text S256 = codes "256"
+side_text S512 = codes "512"
+
+-- the side that a word is, if it is one
+abbrev pub side_said : Text → Option Side
+side_said word = if bytes_eq word (side_text S128) then Some S128
+    else (if bytes_eq word (side_text S256) then Some S256
+    else (if bytes_eq word (side_text S512) then Some S512 else None))
+
+-- a reference to texts
+abbrev pub TextsAt : Type 0
+TextsAt = Bor (List (Bor Text))
+
+-- it is to the three sides as words
+abbrev pub AreSides : TextsAt → Type 0
+AreSides sides = texts sides.now ≡ side_text S128 ∷ side_text S256 ∷ side_text S512 ∷ []
+
+-- `--side`, one of the words that are referred to, or else 256
+abbrev pub side_option : TextsAt → Rule
+side_option sides = record (new_rule (codes "side")) {
+  long = Some (codes "side");
+  parser = Some (Names sides);
+  defaults = side_text S256 ∷ [];
+}
+
+-- `alone`, with its option
+abbrev pub alone : TextsAt → App
+alone sides = with_rule (new_app (codes "alone")) (side_option sides)
 
 -- `cam6`, with the subcommand `alone`
-abbrev pub program : App
-program = with_subcommand (new_app (codes "cam6")) alone.top
+abbrev pub program : TextsAt → App
+program sides = with_subcommand (new_app (codes "cam6")) (alone sides).top
+
+-- the program, wherever the three words are kept
+abbrev pub IsProgram : App → Type 0
+IsProgram app = (sides : TextsAt) × AreSides sides × (app ≡ program sides)
 
 -- what the program is to do
 pub data Mode : Type 0 where
-  single : Mode
+  -- serve one machine, whose side is at most this
+  single : Side → Mode
 
--- the mode that a subcommand names, or none; any other name is no mode's
+-- the mode that a subcommand names with its options, or none; any other name is no mode's. Without
+-- a subcommand it is `alone`, without options
 abbrev pub mode_of : Option (Text × List Row) → Option Mode
-mode_of None = Some single
-mode_of (Some found) = if bytes_eq found.0 (codes "alone") then Some single else None
+mode_of None = Some (single S256)
+mode_of (Some found) = if bytes_eq found.0 (codes "alone")
+    then option_map single (option_and_then side_said (first_of (codes "side") found.1)) else None
 
 -- the words ask for this
 abbrev pub HasMode : Options → Option Mode → Type 0
-HasMode Alone said = said ≡ Some single
+HasMode (Alone limit) said = said ≡ Some (single limit)
 
 -- an error of clap's of this kind is refused so
 abbrev pub IsOfKind : Refused → ErrorKind → Type 0

@@ -4,7 +4,7 @@
 //! `failure_of` is each end's exit status (`specs/Statuses.antt`). What is written for what is read
 //! is the contract of `serve_alone` in `cam6_session`.
 //!
-//! Stands on: `cam6_session`, `clap`, `thiserror`.
+//! Stands on: `cam6_planes`, for the sides; `cam6_session`, `clap`, `thiserror`.
 //!
 //! Read next: `modes` and `words`, the command line; then `statuses`.
 #![tactic(auto)]
@@ -21,6 +21,7 @@ mod words;
 #[cfg(test)]
 mod words_tests;
 
+use cam6_planes::Side;
 use cam6_session::serve_alone;
 use modes::{Options, Refused};
 use statuses::{NO_MEMORY, WRITE_FAILED, failure_of, refusal_of, turns};
@@ -37,7 +38,7 @@ fn main(rt: HostRuntime) -> ExitCode {
 /// Reads the words, and does what they ask for, with so many looks at standard input.
 fn run<R: Env + Input + Print + Eprint + AllocGlobal>(rt: &R, turns: u64) -> ExitCode {
     let refused = match options_given(rt) {
-        Ok(Options::Alone) => return over_standard_streams(rt, turns),
+        Ok(Options::Alone { limit }) => return over_standard_streams(rt, limit, turns),
         Err(refused) => refused,
     };
     let (status, text) = refusal_of(&refused);
@@ -76,13 +77,17 @@ fn unreadable(alloc: Global, kind: ErrorKind) -> Refused
 }
 
 /// Serves one machine over standard input and output.
-fn over_standard_streams<R: Input + Print + Eprint + AllocGlobal>(rt: &R, turns: u64) -> ExitCode {
+fn over_standard_streams<R: Input + Print + Eprint + AllocGlobal>(
+    rt: &R,
+    limit: Side,
+    turns: u64,
+) -> ExitCode {
     let alloc = rt.alloc();
     let Ok(mut reader) = BufReader::new(alloc, rt.reader()) else {
         return failed(rt, NO_MEMORY, "cam6: no memory\n");
     };
     let mut writer = io::writer(rt);
-    match failure_of(serve_alone(alloc, &mut reader, &mut writer, turns)) {
+    match failure_of(serve_alone(alloc, limit, &mut reader, &mut writer, turns)) {
         Some((status, text)) => failed(rt, status, text),
         None => ExitCode::SUCCESS,
     }

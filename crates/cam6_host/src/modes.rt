@@ -1,12 +1,16 @@
 //! What the words of the command line ask for.
 
+use cam6_planes::Side;
 use thiserror::Error;
 
 /// What the program is to do.
 #[derive(Clone, Copy, Debug, PartialEq, Eq)]
 pub enum Options {
     /// Serve one machine's lines on standard input.
-    Alone,
+    Alone {
+        /// The largest side that the machine may have.
+        limit: Side,
+    },
 }
 
 /// Why the words ask for nothing.

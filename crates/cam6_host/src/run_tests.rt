@@ -133,9 +133,12 @@ impl Eprint for Streams<'_> {
     }
 }
 
-const LINES: &[u8] = b"nope\n{\"do\":\"run\",\"n\":1}";
+const LINES: &[u8] = b"nope\n{\"do\":\"run\",\"n\":1}\n{\"do\":\"side\",\"side\":512}";
 
-const ANSWERS: &[u8] = b"{\"fault\":2}\n{\"fault\":63}\n";
+const ANSWERS: &[u8] = b"{\"fault\":2}\n{\"fault\":63}\n{\"fault\":67}\n";
+
+/// Those of a machine whose limit is 512.
+const ANSWERS_OF_512: &[u8] = b"{\"fault\":2}\n{\"fault\":63}\n{\"ok\":\"side\"}\n";
 
 const TURNS_ARE_UP: &[u8] = b"cam6: turn bound reached\n";
 
@@ -177,12 +180,12 @@ fn run_with(alloc: Global, words: &[&'static [u8]], fault: Fault) -> (ExitCode, 
 #[test]
 fn ends_have_their_status(rt: HostRuntime) {
     let cam6 = b"cam6".as_slice();
-    let (alone, part) = ([cam6, b"alone"], &ANSWERS[..12]);
+    let (alone, part) = ([cam6, b"alone"], &ANSWERS[..25]);
     for (words, fault, status, output, errors) in [
         (alone, Fault::None, 0, ANSWERS, b"".as_slice()),
         (alone, Fault::Read, 3, part, b"cam6: read failed\n"),
         (alone, Fault::Write, 4, b"", b"cam6: write failed\n"),
-        (alone, Fault::Turns, 6, part, TURNS_ARE_UP),
+        (alone, Fault::Turns, 6, &ANSWERS[..12], TURNS_ARE_UP),
         (
             [cam6, b"--help"],
             Fault::Write,
@@ -200,6 +203,9 @@ fn ends_have_their_status(rt: HostRuntime) {
     let got = run_with(rt.alloc(), &[cam6], Fault::None);
     assert_eq!(rt; got.0, ExitCode::SUCCESS);
     assert_eq!(rt; got.1.as_slice(), ANSWERS);
+    let got = run_with(rt.alloc(), &[cam6, b"alone", b"--side=512"], Fault::None);
+    assert_eq!(rt; got.0, ExitCode::SUCCESS);
+    assert_eq!(rt; got.1.as_slice(), ANSWERS_OF_512);
 }
 
 // Help goes to standard output with status 0, and refused words to standard error with 2. Their
@@ -211,7 +217,7 @@ fn words_have_their_status(rt: HostRuntime) {
         (b"help", 0),
         (b"fly", 2),
         (b"replay", 2),
-        (b"serve", 2),
+        (b"--side", 2),
     ] {
         let got = run_with(rt.alloc(), &[b"cam6", word], Fault::None);
         assert_eq!(rt; got.0, ExitCode::from(status), "{word:?}");

@@ -1,7 +1,9 @@
 //! The words of the command line, and the status of each end.
 
+use crate::modes::Options;
 use crate::statuses::{failure_of, refusal_of};
 use crate::words::{options, program};
+use cam6_planes::Side;
 use cam6_session::End;
 use std::alloc::Global;
 use std::test::Fail;
@@ -14,35 +16,65 @@ fn text_of_clap(alloc: Global, words: &[String]) -> Result<String, Fail> {
     }
 }
 
+/// The words of a line.
+fn words_of(alloc: Global, line: &str) -> Result<Vec<String>, Fail> {
+    let mut words = Vec::new(alloc);
+    for word in line.split(' ') {
+        words.push(String::from_str(alloc, word)?)?;
+    }
+    Ok(words)
+}
+
+#[test]
+fn words_have_a_limit(rt: HostRuntime) -> Result<(), Fail> {
+    let alloc = rt.alloc();
+    for (line, limit) in [
+        ("cam6", Side::S256),
+        ("cam6 alone", Side::S256),
+        ("cam6 alone --side 128", Side::S128),
+        ("cam6 alone --side=256", Side::S256),
+        ("cam6 alone --side 512", Side::S512),
+    ] {
+        let read = options(alloc, words_of(alloc, line)?.as_slice());
+        assert!(rt;
+            matches!(read, Ok(Options::Alone { limit: got }) if got == limit),
+            "{line}"
+        );
+    }
+    Ok(())
+}
+
 // The status of words that are refused: 0 for help, which is no refusal, and 2 for all others.
 #[test]
-fn words_are_read(rt: HostRuntime) -> Result<(), Fail> {
+fn words_are_refused(rt: HostRuntime) -> Result<(), Fail> {
     let alloc = rt.alloc();
     for (line, want) in [
-        ("cam6", None),
-        ("cam6 alone", None),
-        ("cam6 --help", Some(0)),
-        ("cam6 -h", Some(0)),
-        ("cam6 alone --help", Some(0)),
-        ("cam6 help", Some(0)),
-        ("cam6 --version", Some(2)),
-        ("cam6 replay", Some(2)),
-        ("cam6 serve", Some(2)),
-        ("cam6 alone --users 2", Some(2)),
-        ("cam6 alone alone", Some(2)),
-        ("cam6 Alone", Some(2)),
-        ("cam6 fly", Some(2)),
+        ("cam6 --help", 0),
+        ("cam6 -h", 0),
+        ("cam6 alone --help", 0),
+        ("cam6 help", 0),
+        ("cam6 --version", 2),
+        ("cam6 replay", 2),
+        ("cam6 serve", 2),
+        ("cam6 --side 256", 2),
+        ("cam6 alone --side 200", 2),
+        ("cam6 alone --side 1024", 2),
+        ("cam6 alone --side 0256", 2),
+        ("cam6 alone --side", 2),
+        ("cam6 alone --side 128 --side 128", 2),
+        ("cam6 alone 256", 2),
+        ("cam6 alone --users 2", 2),
+        ("cam6 alone alone", 2),
+        ("cam6 Alone", 2),
+        ("cam6 fly", 2),
     ] {
-        let mut words = Vec::new(alloc);
-        for word in line.split(' ') {
-            words.push(String::from_str(alloc, word)?)?;
-        }
+        let words = words_of(alloc, line)?;
         let read = options(alloc, words.as_slice());
         let (status, text) = match &read {
             Ok(_) => (None, ""),
             Err(refused) => (Some(refusal_of(refused).0), refusal_of(refused).1),
         };
-        assert_eq!(rt; status, want, "{line}");
+        assert_eq!(rt; status, Some(want), "{line}");
         let clap = text_of_clap(alloc, words.as_slice())?;
         assert_eq!(rt; text, clap.as_str(), "{line}");
     }

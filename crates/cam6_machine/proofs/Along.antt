@@ -3,7 +3,8 @@ use Rattle.std.proofs.Common.{◌≡◌, ◌<◌, ◌+◌, ◌%◌, ℕ, List, l
 use Rattle.std.proofs.Common.{◌∙◌, option_map, slice_get, get_or}
 use Rattle.std.proofs.lemmas.List.{length-map}
 use Rattle.std.proofs.lemmas.Option.{slice_get-map, slice_get-get_or}
-use Rattle.cam6_planes.specs.Stored.{Stored}
+use Rattle.cam6_planes.specs.Side.{side_number}
+use Rattle.cam6_planes.specs.Stored.{Stored, AreAlike}
 use Rattle.cam6_planes.specs.Cells.{Cells, cells}
 use Rattle.cam6_machine.specs.Rules.{Rule}
 use Rattle.cam6_machine.specs.Cycles.{entry_rules}
@@ -15,13 +16,15 @@ use Rattle.cam6_machine.specs.declared.cycles.Entry.{Entry}
 use Rattle.cam6_machine.proofs.Naming.{same_rules}
 
 -- the planes after a step by the entry at the position, which moves on
-pub one_step : (s : ℕ) (old new : Stored) (rules : List Rule) (cycle : List Entry) (position : ℕ)
+pub one_step : (old new : Stored) (rules : List Rule) (cycle : List Entry) (position : ℕ)
     (colours : List ℕ) (past : Entry) → HaveOwnNames rules → position < length cycle →
-    old.side ≡ s → new.side ≡ s →
-    cells new ≡ step s (rules_at rules (get_or cycle position past)) (cells old) →
+    AreAlike old new →
+    cells new
+    ≡ step (side_number old.side) (rules_at rules (get_or cycle position past)) (cells old) →
     machine_of (stored new rules cycle ((position + 1) % length cycle) colours)
     ≡ stepped (machine_of (stored old rules cycle position colours))
-one_step s old new rules cycle position colours past own within before after made =
+one_step old new rules cycle position colours past own within alike made =
+    let s = side_number old.side in
     let m = machine_of (stored old rules cycle position colours) in
     let entry = get_or cycle position past in
     let named = named_entries rules cycle in
@@ -32,15 +35,17 @@ one_step s old new rules cycle position colours past own within before after mad
     let all : length named ≡ length cycle = length-map cycle (named_entry rules) in
     let by_names : cells new ≡ step s (entry_rules rules (named_entry rules entry)) (cells old) =
     made ∙ ap (λ e. step s e (cells old)) (sym (same_rules rules entry own)) in
-    ap {B = Machine} (λ n. record m { side = n; planes = cells new; position = next })
-    (after ∙ sym before) ∙
-    ap {B = Machine} (λ (f : Cells). record m { planes = f; position = next }) by_names ∙
     ap {B = Machine} (λ n. record m {
-      planes = step n (entry_rules rules (named_entry rules entry)) (cells old);
+      side = n;
+      limit = new.limit;
+      planes = cells new;
       position = next;
-    }) (sym before) ∙
+    }) alike.side ∙
+    ap {B = Machine} (λ l. record m { limit = l; planes = cells new; position = next })
+    alike.limit ∙
+    ap {B = Machine} (λ (f : Cells). record m { planes = f; position = next }) by_names ∙
     ap {B = Machine} (λ l. record m {
-      planes = step old.side (entry_rules rules (named_entry rules entry)) (cells old);
+      planes = step s (entry_rules rules (named_entry rules entry)) (cells old);
       position = (position + 1) % l;
     }) (sym all) ∙
     ap (λ e. stepped_by e m) (sym at)

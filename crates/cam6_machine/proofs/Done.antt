@@ -3,7 +3,8 @@ use Rattle.std.proofs.Common.{◌≡◌, ◌∙◌, ℕ, zero, suc, List, map, O
 use Rattle.std.specs.List.{AllByRecursion}
 use Rattle.std.proofs.lemmas.Option.{same_Some}
 use Rattle.cam6_planes.specs.Row.{byte_column}
-use Rattle.cam6_planes.specs.Stored.{Stored}
+use Rattle.cam6_planes.specs.Side.{side_number}
+use Rattle.cam6_planes.specs.Stored.{Stored, AreAlike}
 use Rattle.cam6_planes.specs.Cells.{Cells, cells, with_row}
 use Rattle.cam6_wiring.specs.declared.wirings.Wiring.{Wiring}
 use Rattle.cam6_machine.specs.Rules as rule
@@ -17,6 +18,7 @@ use Rattle.cam6_machine.specs.Alone.{if_refused, reply, after, some_steps, work_
 use Rattle.cam6_machine.specs.Internal.Places.{placed_entry, named_entries, ArePlaced, stored}
 use Rattle.cam6_machine.specs.declared.commands.Command.{Command}
 use Rattle.cam6_machine.specs.declared.commands.Command.TheVariants.{Set, Rule, Cycle, Run, Plane}
+use Rattle.cam6_machine.specs.declared.commands.Command.TheVariants.{Side}
 use Rattle.cam6_machine.specs.declared.replies.Direction.{Direction}
 use Rattle.cam6_machine.specs.declared.replies.Direction.TheVariants.{Forward}
 use Rattle.cam6_machine.specs.declared.commands.NamedEntry.{NamedEntry}
@@ -47,6 +49,7 @@ command_is m (Set plane row bits) n direction e = cc e
 command_is m (Rule name wiring text) n direction e = cc e
 command_is m (Cycle entries) n direction e = cc e
 command_is m (Plane plane) n direction e = cc e
+command_is m (Side side) n direction e = cc e
 command_is m (Run steps) n direction e = by_refusal (refusal m (Run steps)) e
   where
     by_steps : (k : ℕ) → some_steps k ≡ Some (n, direction) → command_of n direction ≡ Run k
@@ -77,19 +80,17 @@ module _ (planes : Stored) (rules : List rule.Rule) (cycle : List Entry) (positi
   before = machine_of (stored planes rules cycle position colours)
 
   -- a machine after a row was set
-  pub after-set : (new : Stored) (plane row : ℕ) (bits : List ℕ) → planes.side ≡ 256 →
-      new.side ≡ 256 → None ≡ set_refusal 256 plane row →
-      cells new ≡ with_row 256 (cells planes) plane row (byte_column bits) →
+  pub after-set : (new : Stored) (plane row : ℕ) (bits : List ℕ) → AreAlike planes new →
+      None ≡ set_refusal planes.side plane row bits →
+      cells new ≡ with_row (side_number planes.side) (cells planes) plane row (byte_column bits) →
       machine_of (stored new rules cycle position colours) ≡ after before (Set plane row bits)
-  after-set new plane row bits old_side new_side within set =
+  after-set new plane row bits alike within set =
       let m = machine_of (stored planes rules cycle position colours) in
-      let accepted : refusal m (Set plane row bits) ≡ None =
-      ap (λ s. fault_reply (set_refusal s plane row)) old_side ∙ ap fault_reply (sym within) in
-      ap {B = Machine} (λ s. record m { side = s; planes = cells new })
-      (new_side ∙ sym old_side) ∙
-      ap {B = Machine} (λ (f : Cells). record m { planes = f })
-      (set ∙ ap (λ s. with_row s (cells planes) plane row (byte_column bits)) (sym old_side)) ∙
-      sym (after-accepted m (Set plane row bits) accepted)
+      ap {B = Machine} (λ s. record m { side = s; limit = new.limit; planes = cells new })
+      alike.side ∙
+      ap {B = Machine} (λ l. record m { limit = l; planes = cells new }) alike.limit ∙
+      ap {B = Machine} (λ (f : Cells). record m { planes = f }) set ∙
+      sym (after-accepted m (Set plane row bits) (ap fault_reply (sym within)))
 
   -- after a rule was put
   pub after-rule : (name text : List ℕ) (wiring : Wiring) (new : List rule.Rule) →

@@ -1,13 +1,16 @@
 -- A machine stays a machine, whatever it is commanded, and its rules run.
 use Rattle.std.proofs.Common.{◌≡◌, ◌≤◌, ◌<◌, ◌+◌, ◌%◌, ℕ, Bool, true, false, ◌&&◌, ◌||◌, List, []}
 use Rattle.std.proofs.Common.{◌∷◌, length, Option, Some, None, cond, refl, sym, ap, ◌∙◌, subst}
-use Rattle.std.proofs.Common.{arith, nat_lt, nat_le, IsOk, ◌⊎◌, inl, inr, Result, Ok, Err}
+use Rattle.std.proofs.Common.{arith, lit≤, nat_lt, nat_le, IsOk, ◌⊎◌, inl, inr, Result, Ok, Err}
 use Rattle.std.specs.List.{AllByRecursion, list_any, list_all}
 use Rattle.std.specs.Str.{bytes_eq}
 use Rattle.std.proofs.lemmas.Bool.{leb-true, leb-false, ltb-true}
 use Rattle.std.proofs.lemmas.Map.Made.{IsDistinct-from_AllPairs}
 use Rattle.std.proofs.lemmas.Slice.Eq.{bytes_eq-Decides}
 use Rattle.std.proofs.Math.Nat.{mod-lt}
+use Rattle.cam6_planes.specs.Side.{side_number, side_of}
+use Rattle.cam6_planes.specs.declared.sides.Side.{Side}
+use Rattle.cam6_planes.specs.declared.sides.Side.TheVariants.{S128, S256, S512}
 use Rattle.cam6_planes.specs.Cells.{Cells}
 use Rattle.cam6_wiring.specs.Name.{is_same_half}
 use Rattle.cam6_wiring.specs.Seen.{Sees}
@@ -27,21 +30,22 @@ use Rattle.cam6_table.proofs.TrueTables.{runs_everywhere}
 use Rattle.cam6_machine.specs.Limits.{max_rules, max_entries, max_colour}
 use Rattle.cam6_machine.specs.Rules.{Rule, rule_named, rule_if_named, wiring_for, is_rule_name}
 use Rattle.cam6_machine.specs.Steps.{words_mean}
-use Rattle.cam6_machine.specs.Machine.{Machine, own_colours, steps, machine_of}
+use Rattle.cam6_machine.specs.Machine.{Machine, own_colours, first_side, steps, machine_of}
 use Rattle.cam6_machine.specs.Internal.Places.{ArePlaced, stored}
 use Rattle.cam6_machine.specs.declared.cycles.Entry.{Entry}
 use Rattle.cam6_planes.specs.Stored.{Stored}
 use Rattle.cam6_machine.specs.Refusals as refuse
-use Rattle.cam6_machine.specs.Effects.{effect, with_rule}
-use Rattle.cam6_machine.specs.Alone.{after}
+use Rattle.cam6_machine.specs.Effects.{effect, with_rule, with_side}
+use Rattle.cam6_machine.specs.Alone.{if_refused, after}
 use Rattle.cam6_machine.specs.Always.{HaveOwnNames, IsNamed, IsEntry, IsPosition, IsMachine}
-use Rattle.cam6_machine.specs.Laws.{BlankIsMachine, StaysMachine, IsRuled, RulesRun}
+use Rattle.cam6_machine.specs.Laws.{BlankIsMachine, StaysMachine, LimitStays, IsRuled, RulesRun}
 use Rattle.cam6_machine.specs.declared.commands.Command.{Command}
 use Rattle.cam6_machine.specs.declared.commands.Command.TheVariants as command
 use Rattle.cam6_machine.specs.declared.commands.NamedEntry.{NamedEntry}
 use Rattle.cam6_machine.specs.declared.faults.Fault.{Fault}
 use Rattle.cam6_machine.specs.declared.faults.Fault.TheVariants.{WrongHalf, OutOfRange}
 use Rattle.cam6_machine.specs.declared.faults.Fault.TheVariants.{TooManyRules, RuleInUse}
+use Rattle.cam6_machine.specs.declared.faults.Fault.TheVariants.{AboveLimit}
 use Rattle.cam6_machine.specs.declared.replies.Reply.{Reply}
 use Rattle.cam6_machine.proofs.Done.{after-refused, after-accepted}
 use Rattle.cam6_machine.proofs.KeptNames.{length_at_most, length_same, all_with}
@@ -80,7 +84,7 @@ pub moved_is : (m : Machine) (planes : Cells) (position : ℕ) → IsMachine m �
     IsPosition m.cycle position →
     IsMachine (record m { planes = planes; position = position })
 moved_is m planes position is at = record {
-  torus = is.torus;
+  within = is.within;
   few = is.few;
   names = is.names;
   own = is.own;
@@ -276,7 +280,7 @@ rule_is m new is none words = by_name (is_rule_name new.name) refl none
         let (apart, few) =
         has_room m.rules m.cycle new (rule_named new.name m.rules) refl none is.few in
         record {
-          torus = is.torus;
+          within = is.within;
           few = few;
           names = all_with (λ rule. is_rule_name rule.name ≡ true) new m.rules named
               (λ old same holds. holds) is.names;
@@ -302,7 +306,7 @@ effect_is m (command.Rule name wiring text) is none =
 effect_is m (command.Cycle entries) is none =
     let (short, are) = accepted_cycle m.rules entries (no_fault _ none) in
     record {
-      torus = is.torus;
+      within = is.within;
       few = is.few;
       names = is.names;
       own = is.own;
@@ -315,6 +319,23 @@ effect_is m (command.Cycle entries) is none =
     }
 effect_is m (command.Run n) is none = steps_is m n is (some_cycle m.cycle n none)
 effect_is m (command.Plane plane) is none = is
+effect_is m (command.Side n) is none = by_side (side_of n) (no_fault _ none)
+  where
+    by_side : (asked : Option Side) → refuse.within_refusal m.limit asked ≡ None →
+        IsMachine (with_side asked m)
+    by_side None none = cc none
+    by_side (Some side) none = record {
+      within = leb-true _ _ (allowed _ AboveLimit none);
+      few = is.few;
+      names = is.names;
+      own = is.own;
+      sound = is.sound;
+      short = is.short;
+      entries = is.entries;
+      position = from_0 m.cycle;
+      coloured = is.coloured;
+      colours = is.colours;
+    }
 
 pub stays_machine : StaysMachine
 stays_machine m c is = by_refusal (refuse.refusal m c) refl
@@ -322,6 +343,26 @@ stays_machine m c is = by_refusal (refuse.refusal m c) refl
     by_refusal : (o : Option Reply) → refuse.refusal m c ≡ o → IsMachine (after m c)
     by_refusal None none = subst IsMachine (sym (after-accepted m c none)) (effect_is m c is none)
     by_refusal (Some r) refused = subst IsMachine (sym (after-refused m c r refused)) is
+
+-- what a command that isn't refused leaves of the limit
+effect_limit : (m : Machine) (c : Command) → (effect m c).limit ≡ m.limit
+effect_limit m (command.Set plane row bits) = refl
+effect_limit m (command.Rule name wiring text) = refl
+effect_limit m (command.Cycle entries) = refl
+effect_limit m (command.Run n) = ap (λ (k : Machine). k.limit) (only_planes_and_position m n)
+effect_limit m (command.Plane plane) = refl
+effect_limit m (command.Side n) = by_side (side_of n)
+  where
+    by_side : (asked : Option Side) → (with_side asked m).limit ≡ m.limit
+    by_side None = refl
+    by_side (Some side) = refl
+
+pub limit_stays : LimitStays
+limit_stays m c = by_refusal (refuse.refusal m c)
+  where
+    by_refusal : (o : Option Reply) → (if_refused o (λ r. m) (effect m c)).limit ≡ m.limit
+    by_refusal None = effect_limit m c
+    by_refusal (Some r) = refl
 
 small : (colours : List ℕ) → list_all (λ colour. nat_le colour max_colour) colours ≡ true →
     AllByRecursion (λ colour. colour ≤ max_colour) colours
@@ -331,9 +372,14 @@ small (colour ∷ colours) are =
     both (nat_le colour max_colour) (list_all (λ colour. nat_le colour max_colour) colours) are in
     (leb-true colour max_colour here, small colours later)
 
+first_within : (limit : Side) → side_number (first_side limit) ≤ side_number limit
+first_within S128 = lit≤ tt
+first_within S256 = lit≤ tt
+first_within S512 = lit≤ tt
+
 pub blank_is_machine : BlankIsMachine
-blank_is_machine = record {
-  torus = refl;
+blank_is_machine limit = record {
+  within = first_within limit;
   few = omega arith;
   names = tt;
   own = none_own;
@@ -346,13 +392,14 @@ blank_is_machine = record {
 }
 
 -- a machine that stores nothing yet
-pub blank_stored : (planes : Stored) (rules : List Rule) (entries : List Entry) →
-    planes.side ≡ 256 → rules ≡ [] → entries ≡ [] →
+pub blank_stored : (planes : Stored) (rules : List Rule) (entries : List Entry) (limit : Side) →
+    planes.side ≡ first_side limit → planes.limit ≡ limit → rules ≡ [] → entries ≡ [] →
     IsMachine (machine_of (stored planes rules entries 0 own_colours)) × ArePlaced rules entries
-blank_stored planes rules entries side no_rules no_entries =
-    let is = blank_is_machine in
+blank_stored planes rules entries limit side whole no_rules no_entries =
+    let is = blank_is_machine limit in
+    let first = first_within limit in
     let blank : IsMachine (machine_of (stored planes [] [] 0 own_colours)) = record {
-      torus = side;
+      within = omega (arith, first, ap side_number side, ap side_number whole);
       few = is.few;
       names = is.names;
       own = is.own;

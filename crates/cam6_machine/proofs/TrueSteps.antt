@@ -1,7 +1,7 @@
 -- A step by true tables is the step by the rules' words.
 use Rattle.std.proofs.Common.{◌≡◌, ℕ, zero, suc, ◌<◌, Bool, List}
 use Rattle.std.proofs.Common.{Option, Some, None, refl, sym, ◌∙◌, ap, arith}
-use Rattle.cam6_planes.specs.Stored.{Stored}
+use Rattle.cam6_planes.specs.Stored.{Stored, width}
 use Rattle.cam6_planes.specs.Cells.{Cells, cells, torus, stored_bit}
 use Rattle.cam6_planes.proofs.CellsAt.{torus_at, torus_same}
 use Rattle.cam6_wiring.specs.Name.{plane_of}
@@ -70,7 +70,7 @@ module _ (s : ℕ) (entry : EntryRules) (old : Cells) where
   plane_at pair new tables a b (suc (suc (suc (suc p)))) x y h k l = absurd (omega (arith, h))
 
   -- planes whose two halves are written by true tables are those after the step
-  pub stepped_planes : (pair : TablePair) (new : Stored) → 0 < s → new.side ≡ s →
+  pub stepped_planes : (pair : TablePair) (new : Stored) → 0 < s → width new ≡ s →
       ArePair entry pair → IsHalf s entry A pair.a old (cells new) →
       IsHalf s entry B pair.b old (cells new) → cells new ≡ step s entry old
   stepped_planes pair new some side tables a b =

@@ -3,7 +3,7 @@ use Rattle.std.proofs.Common.{◌≡◌, ℕ, ◌+◌, ◌*◌, ◌<◌, Bool, L
 use Rattle.std.proofs.Common.{if◌then◌else◌, ◌==◌, ◌&&◌}
 use Rattle.std.proofs.lemmas.Grind.{common_steps}
 use native.Mathlib.Decide.{dec_lt}
-use Rattle.cam6_planes.specs.Stored.{Stored}
+use Rattle.cam6_planes.specs.Stored.{Stored, width}
 use Rattle.cam6_planes.specs.Cells.{Cells, cells, with_row}
 use Rattle.cam6_planes.proofs.CellsAt.{torus_at}
 use Rattle.cam6_wiring.specs.Name.{plane_of, other_half}
@@ -18,7 +18,7 @@ use Rattle.cam6_table.specs.NewBits.{bit_by_table}
 -- the new bits by a table in the columns of word i of row y
 abbrev pub word_by_table : Stored → Setting → Wiring → List ℕ → Level → ℕ → ℕ → ℕ → Bool
 word_by_table old setting wiring entries level i y c =
-    bit_by_table 256 (cells old) setting (Some wiring) entries level (64 * i + c) y
+    bit_by_table (width old) (cells old) setting (Some wiring) entries level (64 * i + c) y
 
 -- the row that is written
 row_written : (s : ℕ) (f : Cells) (p y : ℕ) (row : ℕ → Bool) (x : ℕ) → p < 4 → x < s → y < s →

@@ -26,12 +26,13 @@ abbrev pub machine_after : Now → Machine → Command → Machine
 machine_after (now.Reply r) m c = after m c
 machine_after (now.Work n direction) m c = m
 
--- what a reply leaves, of all that is stored: everything but planes, rules, or the cycle with the
--- position; a refusal leaves everything
+-- what a reply leaves, of all that is stored: everything but planes, rules, or the cycle or the
+-- planes with the position; a refusal leaves everything
 abbrev pub IsLeftBy : Reply → StoredMachine → StoredMachine → Type 0
 IsLeftBy reply.Set old new = new ≡ record old { planes = new.planes }
 IsLeftBy reply.Rule old new = new ≡ record old { rules = new.rules }
 IsLeftBy reply.Cycle old new = new ≡ record old { cycle = new.cycle; position = 0 }
+IsLeftBy reply.Side old new = new ≡ record old { planes = new.planes; position = 0 }
 IsLeftBy (reply.Run position) old new = new ≡ old
 IsLeftBy (reply.Plane rows) old new = new ≡ old
 IsLeftBy (reply.Fault fault) old new = new ≡ old

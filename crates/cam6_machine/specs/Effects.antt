@@ -1,14 +1,17 @@
 -- What a command that is not refused is answered, and what it does to the machine.
-use Rattle.std.specs.Prelude.{ℕ, ◌/◌, List, [], ◌∷◌, map, if◌then◌else◌}
+use Rattle.std.specs.Prelude.{ℕ, ◌/◌, List, [], ◌∷◌, map, if◌then◌else◌, Option, Some, None}
 use Rattle.std.specs.List.{range_with_len}
 use Rattle.std.specs.Str.{bytes_eq}
 use Rattle.cam6_planes.specs.Row.{byte_column, row_text}
-use Rattle.cam6_planes.specs.Cells.{Cells, with_row}
+use Rattle.cam6_planes.specs.Side.{side_number, side_of}
+use Rattle.cam6_planes.specs.declared.sides.Side.{Side}
+use Rattle.cam6_planes.specs.Cells.{Cells, no_cells, with_row}
 use Rattle.cam6_machine.specs.Rules.{Rule}
 use Rattle.cam6_machine.specs.Machine.{Machine, steps}
 use Rattle.cam6_machine.specs.declared.commands.Command.{Command}
 use Rattle.cam6_machine.specs.declared.commands.Command.TheVariants.{Set, Rule as SetRule}
 use Rattle.cam6_machine.specs.declared.commands.Command.TheVariants.{Cycle, Run, Plane}
+use Rattle.cam6_machine.specs.declared.commands.Command.TheVariants.{Side as SetSide}
 use Rattle.cam6_machine.specs.declared.replies.Reply.{Reply}
 use Rattle.cam6_machine.specs.declared.replies.Reply.TheVariants as reply
 
@@ -24,20 +27,28 @@ with_rule new (rule ∷ rules) =
     then record rule { wiring = new.wiring; text = new.text } ∷ rules
     else rule ∷ with_rule new rules
 
+-- a side is taken on with no cell set and with position 0, also where it is the side already
+abbrev pub with_side : Option Side → Machine → Machine
+with_side None m = m
+with_side (Some side) m = record m { side = side; planes = no_cells; position = 0 }
+
 -- the reply to a command that is not refused
 abbrev pub accepted_reply : Machine → Command → Reply
 accepted_reply m (Set plane row bits) = reply.Set
 accepted_reply m (SetRule name wiring text) = reply.Rule
 accepted_reply m (Cycle entries) = reply.Cycle
 accepted_reply m (Run n) = reply.Run (steps n m).position
-accepted_reply m (Plane plane) = reply.Plane (plane_rows m.side (m.side / 4) m.planes plane)
+accepted_reply m (Plane plane) =
+    let s = side_number m.side in reply.Plane (plane_rows s (s / 4) m.planes plane)
+accepted_reply m (SetSide n) = reply.Side
 
 -- the machine after it
 abbrev pub effect : Machine → Command → Machine
 effect m (Set plane row bits) =
-    record m { planes = with_row m.side m.planes plane row (byte_column bits) }
+    record m { planes = with_row (side_number m.side) m.planes plane row (byte_column bits) }
 effect m (SetRule name wiring text) =
     record m { rules = with_rule (record { name = name; wiring = wiring; text = text }) m.rules }
 effect m (Cycle entries) = record m { cycle = entries; position = 0 }
 effect m (Run n) = steps n m
 effect m (Plane plane) = m
+effect m (SetSide n) = with_side (side_of n) m

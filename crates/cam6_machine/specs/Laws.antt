@@ -1,6 +1,7 @@
 -- What follows of steps, and what a machine always is.
 use Rattle.std.specs.Prelude.{◌≡◌, ℕ, ◌+◌, ◌<◌, ◌%◌, List, length, Some, None, IsOk}
 use Rattle.std.specs.List.{AllByRecursion}
+use Rattle.cam6_planes.specs.declared.sides.Side.{Side}
 use Rattle.cam6_planes.specs.Cells.{Cells}
 use Rattle.cam6_wiring.specs.Name.{plane_of}
 use Rattle.cam6_wiring.specs.Seen.{Sees}
@@ -40,9 +41,13 @@ PositionGoesRound =
     (m : Machine) (n : ℕ) → m.position < length m.cycle →
     (steps n m).position ≡ (m.position + n) % length m.cycle
 
--- the blank machine is a machine
+-- a blank machine is a machine, of whatever limit
 abbrev pub BlankIsMachine : Type 0
-BlankIsMachine = IsMachine blank
+BlankIsMachine = (limit : Side) → IsMachine (blank limit)
+
+-- no command changes the limit
+abbrev pub LimitStays : Type 0
+LimitStays = (m : Machine) (c : Command) → (after m c).limit ≡ m.limit
 
 -- and so is a machine after any command
 abbrev pub StaysMachine : Type 0

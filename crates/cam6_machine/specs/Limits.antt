@@ -1,10 +1,6 @@
 -- The limits of a machine.
 use Rattle.std.specs.Prelude.{ℕ}
 
--- rows and columns of the torus
-abbrev pub side : ℕ
-side = 256
-
 -- the most rules, and the most bytes of a rule's name
 abbrev pub max_rules : ℕ
 max_rules = 16

@@ -1,19 +1,22 @@
 -- The machine that a user has, and steps along its cycle.
 use Rattle.std.specs.Prelude.{ℕ, zero, suc, ◌+◌, ◌%◌, List, [], ◌∷◌, length, Option, Some, None}
 use Rattle.std.specs.List.{slice_get}
+use Rattle.cam6_planes.specs.Side.{side_number}
+use Rattle.cam6_planes.specs.declared.sides.Side.{Side}
+use Rattle.cam6_planes.specs.declared.sides.Side.TheVariants.{S128, S256, S512}
 use Rattle.cam6_planes.specs.Cells.{Cells, cells, no_cells}
-use Rattle.cam6_machine.specs.Limits as limit
 use Rattle.cam6_machine.specs.Rules.{Rule}
 use Rattle.cam6_machine.specs.Cycles.{entry_rules}
 use Rattle.cam6_machine.specs.Steps.{step}
 use Rattle.cam6_machine.specs.Stored.{StoredMachine}
 use Rattle.cam6_machine.specs.declared.commands.NamedEntry.{NamedEntry}
 
--- four planes on a torus of so many rows and columns, rules in their order, the cycle's entries
--- with a position among them, and a colour for each of the sixteen states of a cell; no entries: no
--- cycle is set
+-- four planes on a torus of this side, the largest side that it may take on, rules in their order,
+-- the cycle's entries with a position among them, and a colour for each of the sixteen states of a
+-- cell; no entries: no cycle is set
 pub record Machine : Type 0 where
-  pub side : ℕ
+  pub side : Side
+  pub limit : Side
   pub planes : Cells
   pub rules : List Rule
   pub cycle : List NamedEntry
@@ -25,10 +28,17 @@ abbrev pub own_colours : List ℕ
 own_colours =
     0 ∷ 1 ∷ 2 ∷ 3 ∷ 4 ∷ 5 ∷ 6 ∷ 7 ∷ 8 ∷ 9 ∷ 10 ∷ 11 ∷ 12 ∷ 13 ∷ 14 ∷ 15 ∷ []
 
--- a machine to begin with: no cell is set, and there are no rules and no cycle
-abbrev pub blank : Machine
-blank = record {
-  side = limit.side;
+-- the lesser of 256 and the limit
+abbrev pub first_side : Side → Side
+first_side S128 = S128
+first_side S256 = S256
+first_side S512 = S256
+
+-- a machine of this limit to begin with: no cell is set, and there are no rules and no cycle
+abbrev pub blank : Side → Machine
+blank limit = record {
+  side = first_side limit;
+  limit = limit;
   planes = no_cells;
   rules = [];
   cycle = [];
@@ -41,7 +51,7 @@ abbrev pub stepped_by : Option NamedEntry → Machine → Machine
 stepped_by None m = m
 stepped_by (Some entry) m =
     record m {
-      planes = step m.side (entry_rules m.rules entry) m.planes;
+      planes = step (side_number m.side) (entry_rules m.rules entry) m.planes;
       position = (m.position + 1) % length m.cycle;
     }
 
@@ -58,6 +68,7 @@ steps (suc n) m = stepped (steps n m)
 abbrev pub machine_of : StoredMachine → Machine
 machine_of stored = record {
   side = stored.planes.side;
+  limit = stored.planes.limit;
   planes = cells stored.planes;
   rules = stored.rules;
   cycle = stored.cycle;

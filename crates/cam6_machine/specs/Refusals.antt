@@ -1,5 +1,5 @@
 -- When a command is refused, and with which reply.
-use Rattle.std.specs.Prelude.{ℕ, Bool, true, false, ◌&&◌, ◌||◌, List, [], ◌∷◌, length}
+use Rattle.std.specs.Prelude.{ℕ, ◌*◌, Bool, false, ◌&&◌, ◌||◌, ◌==◌, List, [], ◌∷◌, length}
 use Rattle.std.specs.Prelude.{nat_le, nat_lt, Option, Some, None, Result, Ok, Err, if◌then◌else◌}
 use Rattle.std.specs.List.{list_all, list_any}
 use Rattle.std.specs.Str.{bytes_eq}
@@ -13,6 +13,8 @@ use Rattle.cam6_forth.specs.Trees.{tree_of}
 use Rattle.cam6_table.specs.declared.faults.RuleFault.{RuleFault}
 use Rattle.cam6_table.specs.Meaning.{at_address}
 use Rattle.cam6_table.specs.Tables.{least_stop}
+use Rattle.cam6_planes.specs.Side.{side_number, side_of}
+use Rattle.cam6_planes.specs.declared.sides.Side.{Side}
 use Rattle.cam6_machine.specs.Limits as limits
 use Rattle.cam6_machine.specs.Rules.{Rule, rule_named, wiring_of, is_rule_name}
 use Rattle.cam6_machine.specs.Machine.{Machine}
@@ -20,9 +22,11 @@ use Rattle.cam6_machine.specs.declared.commands.NamedEntry.{NamedEntry}
 use Rattle.cam6_machine.specs.declared.commands.Command.{Command}
 use Rattle.cam6_machine.specs.declared.commands.Command.TheVariants.{Set, Rule as SetRule}
 use Rattle.cam6_machine.specs.declared.commands.Command.TheVariants.{Cycle, Run, Plane}
+use Rattle.cam6_machine.specs.declared.commands.Command.TheVariants.{Side as SetSide}
 use Rattle.cam6_machine.specs.declared.faults.Fault.{Fault}
 use Rattle.cam6_machine.specs.declared.faults.Fault.TheVariants.{NoRule, RuleInUse, TooManyRules}
 use Rattle.cam6_machine.specs.declared.faults.Fault.TheVariants.{NoCycle, OutOfRange, WrongHalf}
+use Rattle.cam6_machine.specs.declared.faults.Fault.TheVariants.{AboveLimit}
 use Rattle.cam6_machine.specs.declared.replies.Reply.{Reply}
 use Rattle.cam6_machine.specs.declared.replies.Reply.TheVariants as reply
 
@@ -34,12 +38,23 @@ abbrev pub or_then : {A : Type 0} → Option A → Option A → Option A
 or_then None next = next
 or_then (Some first) next = Some first
 
--- planes are 0 to 3, rows 0 to 255 on a torus of side 256
-abbrev pub set_refusal : ℕ → ℕ → ℕ → Option Fault
-set_refusal s plane row = unless (nat_lt plane 4 && nat_lt row s) OutOfRange
+-- planes are 0 to 3, rows 0 to below the side, and a row has a bit for each column
+abbrev pub set_refusal : Side → ℕ → ℕ → List ℕ → Option Fault
+set_refusal side plane row bits =
+    let s = side_number side in
+    unless (nat_lt plane 4 && nat_lt row s && (8 * length bits == s)) OutOfRange
 
 abbrev pub plane_refusal : ℕ → Option Fault
 plane_refusal plane = unless (nat_lt plane 4) OutOfRange
+
+-- a side is one of the three, and then not above the limit
+abbrev pub within_refusal : Side → Option Side → Option Fault
+within_refusal limit None = Some OutOfRange
+within_refusal limit (Some side) =
+    unless (nat_le (side_number side) (side_number limit)) AboveLimit
+
+abbrev pub side_refusal : Side → ℕ → Option Fault
+side_refusal limit n = within_refusal limit (side_of n)
 
 abbrev pub some_cycle : List NamedEntry → Option Fault
 some_cycle [] = Some NoCycle
@@ -126,9 +141,10 @@ fault_reply (Some fault) = Some (reply.Fault fault)
 
 -- the reply with which a machine refuses a command, if it does
 abbrev pub refusal : Machine → Command → Option Reply
-refusal m (Set plane row bits) = fault_reply (set_refusal m.side plane row)
+refusal m (Set plane row bits) = fault_reply (set_refusal m.side plane row bits)
 refusal m (SetRule name wiring text) =
     or_then (fault_reply (rule_refusal m.rules m.cycle name)) (words_refusal wiring text)
 refusal m (Cycle entries) = fault_reply (cycle_refusal m.rules entries)
 refusal m (Run n) = fault_reply (run_refusal m.cycle n)
 refusal m (Plane plane) = fault_reply (plane_refusal plane)
+refusal m (SetSide n) = fault_reply (side_refusal m.limit n)

@@ -6,18 +6,20 @@ ghost use Rattle.cam6_machine.specs.Alone.{replies, after_all};
 use crate::commands::Command;
 use crate::machines::Machine;
 use crate::replies::Reply;
-use cam6_planes::NoMemory;
+use cam6_planes::{NoMemory, Side};
 use std::alloc::Global;
 
-/// The replies of a blank machine to commands, in order, and the machine after them.
+/// The replies of a blank machine of this limit to commands, in order, and the machine after them.
 pub fn replies_alone(
     alloc: Global,
+    limit: Side,
     commands: Vec<Command>,
 ) -> Result<(Vec<Reply>, Machine), NoMemory>
-    ensures replies { IfOk result (λ done. done.0.items ≡ replies blank commands.items) }
-    ensures machine { IfOk result (λ done. machine_of done.1 ≡ after_all blank commands.items) }
+    ensures replies { IfOk result (λ done. done.0.items ≡ replies (blank limit) commands.items) }
+    ensures machine { IfOk result (λ done.
+        machine_of done.1 ≡ after_all (blank limit) commands.items) }
 {
-    let mut machine = Machine::new(alloc)?;
+    let mut machine = Machine::new(alloc, limit)?;
     let mut replies = Vec::with_capacity(alloc, commands.len())?;
     for command in commands {
         replies.push(machine.reply_to(command)?)?;

@@ -1,5 +1,6 @@
 //! What a user asks of his machine.
 
+use crate::rows::Bits;
 use crate::texts::Text;
 use cam6_wiring::{Grid, Wiring};
 use std::marker::Model;
@@ -14,7 +15,7 @@ pub enum Command {
     Set {
         plane: u64,
         row: u64,
-        bits: [u8; 32],
+        bits: Bits,
     },
     /// Keeps a rule under a name, in place of the one that has the name already.
     Rule {
@@ -33,6 +34,10 @@ pub enum Command {
     /// Asks for all rows of a plane.
     Plane {
         plane: u64,
+    },
+    /// Takes on a side, with blank planes and the position 0.
+    Side {
+        side: u64,
     },
 }
 

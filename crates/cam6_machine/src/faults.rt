@@ -17,6 +17,8 @@ pub enum Fault {
     OutOfRange,
     /// A rule of half B stands for half A, or the other way round.
     WrongHalf,
+    /// The side is above the machine's limit.
+    AboveLimit,
 }
 
 impl Fault {
@@ -31,6 +33,7 @@ impl Fault {
             Fault::NoCycle => 63,
             Fault::OutOfRange => 65,
             Fault::WrongHalf => 66,
+            Fault::AboveLimit => 67,
         }
     }
 }

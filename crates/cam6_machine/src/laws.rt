@@ -2,7 +2,7 @@
 //! of a function that does nothing.
 ghost use Rattle.cam6_machine.specs.Laws.{KeepsItsPlanes, StepsAddUp};
 ghost use Rattle.cam6_machine.specs.Laws.{OnlyPlanesAndPosition, PositionGoesRound};
-ghost use Rattle.cam6_machine.specs.Laws.{BlankIsMachine, StaysMachine, RulesRun};
+ghost use Rattle.cam6_machine.specs.Laws.{BlankIsMachine, StaysMachine, RulesRun, LimitStays};
 
 /// A half without a rule keeps its planes.
 pub fn a_half_without_a_rule_keeps_its_planes()
@@ -24,7 +24,7 @@ pub fn the_position_goes_round()
     ensures law { PositionGoesRound }
 {}
 
-/// The blank machine is a machine: it is what a machine always is.
+/// A blank machine is a machine, of whatever limit: it is what a machine always is.
 pub fn the_blank_machine_is_one()
     ensures law { BlankIsMachine }
 {}
@@ -37,4 +37,9 @@ pub fn a_machine_stays_one()
 /// The rules that a machine's cycle names are there, and stop nowhere, whatever is seen.
 pub fn the_rules_of_a_cycle_run()
     ensures law { RulesRun }
+{}
+
+/// No command changes a machine's limit.
+pub fn the_limit_stays()
+    ensures law { LimitStays }
 {}

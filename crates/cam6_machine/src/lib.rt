@@ -13,18 +13,19 @@
 //! }`, and the cell stands at row 6: each cell took what its northern neighbour was.
 //!
 //! `Machine::now` leaves steps to do exactly for a run that is accepted and has at least one;
-//! memory is wanted neither for a row or a run, nor where a number, a name or a cycle is refused,
-//! nor for a text of which nothing is kept. `Machine::work` takes none; its tables are proved to be
-//! the rules' words. The laws: what a machine always is (`specs/Always.antt`) the blank one is, and
-//! stays whatever it is commanded; the rules that its cycle names run, whatever is seen; a half
-//! without a rule keeps its planes; some steps and then more are all of them together; steps change
-//! planes and position alone; the position goes round the cycle.
+//! memory is wanted neither for a row, a run or a side, nor where a number, a name or a cycle is
+//! refused, nor for a text of which nothing is kept. `Machine::work` takes none; its tables are
+//! proved to be the rules' words. The laws: what a machine always is (`specs/Always.antt`) the
+//! blank one is, and stays whatever it is commanded; no command changes its limit; the rules that
+//! its cycle names run, whatever is seen; a half without a rule keeps its planes; some steps and
+//! then more are all of them together; steps change planes and position alone; the position goes
+//! round the cycle.
 //!
 //! Stands on: `cam6_planes`, `cam6_wiring`, `cam6_forth`, `cam6_table`, and on `indexmap`.
 //!
-//! Read next: `commands`, `replies` and `faults`; `rules` and `cycles`, what a machine keeps;
-//! `steps`, one step of all cells, with the `tables` that it reads, and `runs`, steps along a
-//! cycle; `refusals`, when a command is refused; then `machines` and `alone`; and `laws`.
+//! Read next: `commands`, `rows`, `replies` and `faults`; `rules` and `cycles`, what a machine
+//! keeps; `steps`, one step of all cells, with the `tables` that it reads, and `runs`, steps along
+//! a cycle; `refusals`, when a command is refused; then `machines` and `alone`; and `laws`.
 #![tactic(auto)]
 
 mod alone;
@@ -35,6 +36,7 @@ pub mod laws;
 mod machines;
 mod refusals;
 mod replies;
+mod rows;
 mod rules;
 mod runs;
 mod steps;
@@ -46,6 +48,7 @@ pub use commands::{Command, MAX_STEPS, NamedEntries, NamedEntry};
 pub use cycles::{Entry, MAX_ENTRIES};
 pub use faults::Fault;
 pub use machines::Machine;
-pub use replies::{Direction, Now, PlaneRows, Reply};
+pub use replies::{Direction, Now, Reply};
+pub use rows::{Bits, PlaneRows, RowText};
 pub use rules::MAX_RULES;
 pub use texts::Text;

@@ -1,19 +1,23 @@
 //! A user's machine, and what each command does to it.
-ghost use Rattle.std.specs.Prelude.{◌≡◌, ◌<◌, All, IfOk};
-ghost use Rattle.std.specs.Str.{IsAscii};
-ghost use Rattle.cam6_planes.specs.Cells.{cells};
-ghost use Rattle.cam6_planes.specs.declared.row.TheConstants.{SIDE};
+ghost use Rattle.std.specs.Prelude.{◌≡◌, ◌<◌, ◌≤◌, ◌/◌, IfOk};
+ghost use Rattle.cam6_planes.specs.Cells.{cells, no_cells};
+ghost use Rattle.cam6_planes.specs.Side.{side_number};
+ghost use Rattle.cam6_planes.specs.Stored.{width};
+ghost use Rattle.cam6_machine.specs.Machine.{first_side};
 ghost use Rattle.cam6_machine.specs.Effects.{plane_rows};
 
 use crate::commands::{Command, NamedEntries};
 use crate::cycles::{Entry, MAX_ENTRIES, placed_entries};
-use crate::refusals::{cycle_refusal, plane_refusal, rule_refusal, run_refusal, set_refusal};
-use crate::replies::{Direction, Now, PlaneRows, Reply};
+use crate::refusals::{
+    cycle_refusal, plane_refusal, rule_refusal, run_refusal, set_refusal, side_within,
+};
+use crate::replies::{Direction, Now, Reply};
+use crate::rows::{Bits, PlaneRows, RowText};
 use crate::rules::{KeptRule, RuleRefusal, put, tried_rule};
 use crate::runs::run_along;
 use crate::tables::{TablePair, fill_tables};
 use crate::texts::Text;
-use cam6_planes::{NoMemory, Planes, SIDE};
+use cam6_planes::{NoMemory, Planes, Side};
 use cam6_table::Table;
 use cam6_wiring::Wiring;
 use indexmap::IndexMap;
@@ -44,6 +48,7 @@ impl Model for Machine {
     ghost use Rattle.cam6_machine.specs.Stored.{StoredMachine};
     ghost use Rattle.cam6_machine.specs.Machine.{machine_of};
     ghost use Rattle.cam6_machine.specs.Always.{IsMachine};
+    ghost use Rattle.cam6_planes.specs.Stored.{AreAlike};
     ghost use Rattle.cam6_machine.specs.Internal.Places.{rules_of, stored, ArePlaced};
 
     ghost Value = { StoredMachine };
@@ -54,7 +59,8 @@ impl Model for Machine {
     ghost invariant = { λ m.
         IsMachine (machine_of
         (stored m.planes (rules_of m.rules.entries) m.cycle.items m.position m.colours))
-        × ArePlaced (rules_of m.rules.entries) m.cycle.items × (vec_len m.tables ≡ max_entries) };
+        × ArePlaced (rules_of m.rules.entries) m.cycle.items × (vec_len m.tables ≡ max_entries)
+        × AreAlike m.planes m.next };
 }
 
 impl Machine {
@@ -68,9 +74,10 @@ impl Machine {
     ghost use Rattle.cam6_machine.specs.AtOnce.{work_left, IsReplyTo, machine_after};
     ghost use Rattle.cam6_machine.specs.AtOnce.{IsLeftBy, Leaves, CanWork};
 
-    /// A machine with blank planes, no rules and no cycle.
-    pub fn new(alloc: Global) -> Result<Machine, NoMemory>
-        ensures machine { IfOk result (λ m. machine_of m ≡ blank) }
+    /// A machine with blank planes, no rules and no cycle, whose side is the lesser of 256 and the
+    /// limit.
+    pub fn new(alloc: Global, limit: Side) -> Result<Machine, NoMemory>
+        ensures machine { IfOk result (λ m. machine_of m ≡ blank limit) }
     {
         let mut tables = Vec::with_capacity(alloc, MAX_ENTRIES)?;
         for _pair in 0..MAX_ENTRIES {
@@ -78,8 +85,8 @@ impl Machine {
         }
         Ok(Machine {
             alloc,
-            planes: Planes::blank(alloc)?,
-            next: Planes::blank(alloc)?,
+            planes: first_planes(alloc, limit)?,
+            next: first_planes(alloc, limit)?,
             rules: IndexMap::new(alloc),
             cycle: Vec::new(alloc),
             position: 0,
@@ -100,11 +107,12 @@ impl Machine {
         ensures left { IfOk result (λ now. Leaves now self.old self.new) }
         ensures ready { IfOk result (λ now. CanWork now (machine_of self.new)) }
         ensures err { OnErr result (self.new ≡ self.old) }
-        // Memory is wanted neither for a row or a run, nor where a number, a name or a cycle is
-        // refused, nor for a text of which nothing is kept.
+        // Memory is wanted neither for a row, a run or a side, nor where a number, a name or a
+        // cycle is refused, nor for a text of which nothing is kept.
         ensures row { (plane row : ℕ) (bits : List ℕ) →
             command ≡ Command.Set plane row bits → IsOk result }
         ensures run { (n : ℕ) → command ≡ Command.Run n → IsOk result }
+        ensures side { (n : ℕ) → command ≡ Command.Side n → IsOk result }
         ensures refused { (fault : Fault) →
             refusal (machine_of self.old) command ≡ Some (Reply.Fault fault) → IsOk result }
         ensures unkept { (name text : List ℕ) (wiring : Wiring) (fault : TextFault) →
@@ -120,21 +128,40 @@ impl Machine {
             Command::Cycle { entries } => Ok(Now::Reply(self.set_cycle(&entries)?)),
             Command::Run { n } => Ok(self.work_of_run(n)),
             Command::Plane { plane } => Ok(Now::Reply(self.show(plane)?)),
+            Command::Side { side } => Ok(Now::Reply(self.set_side(side))),
         }
     }
 
-    fn set(&mut self, plane: u64, row: u64, bits: &[u8; 32]) -> Reply
+    fn set(&mut self, plane: u64, row: u64, bits: &Bits) -> Reply
         ensures reply { result ≡ reply (machine_of self.old) (Command.Set plane row bits.now) }
         ensures machine { machine_of self.new
             ≡ after (machine_of self.old) (Command.Set plane row bits.now) }
         ensures left { IsLeftBy result self.old self.new }
     {
         let planes = &mut self.planes;
-        if let Some(fault) = set_refusal(plane, row) {
+        let bits = bits.as_slice();
+        if let Some(fault) = set_refusal(planes.side(), plane, row, bits) {
             return Reply::Fault(fault);
         }
         planes.put_row(plane as usize, row as usize, bits);
         Reply::Set
+    }
+
+    fn set_side(&mut self, number: u64) -> Reply
+        ensures reply { result ≡ reply (machine_of self.old) (Command.Side number) }
+        ensures machine { machine_of self.new
+            ≡ after (machine_of self.old) (Command.Side number) }
+        ensures left { IsLeftBy result self.old self.new }
+    {
+        match side_within(self.planes.limit(), number) {
+            Ok(side) => {
+                self.planes.set_side(side);
+                self.next.set_side(side);
+                self.position = 0;
+                Reply::Side
+            }
+            Err(fault) => Reply::Fault(fault),
+        }
     }
 
     fn define(&mut self, name: Text, wiring: Wiring, text: Text) -> Result<Reply, NoMemory>
@@ -256,6 +283,7 @@ impl Machine {
         ensures row { (plane row : ℕ) (bits : List ℕ) →
             command ≡ Command.Set plane row bits → IsOk result }
         ensures run { (n : ℕ) → command ≡ Command.Run n → IsOk result }
+        ensures side { (n : ℕ) → command ≡ Command.Side n → IsOk result }
         ensures refused { (fault : Fault) →
             refusal (machine_of self.old) command ≡ Some (Reply.Fault fault) → IsOk result }
         ensures unkept { (name text : List ℕ) (wiring : Wiring) (fault : TextFault) →
@@ -270,15 +298,38 @@ impl Machine {
     }
 }
 
-/// The text of each row of plane `p`.
-fn plane_rows(alloc: Global, planes: &Planes, p: usize) -> Result<Vec<[u8; 64]>, NoMemory>
-    requires { p < 4 }
-    ensures rows { IfOk result (λ rows. rows.items ≡ plane_rows SIDE 64 (cells planes.now) p) }
-    ensures ascii { IfOk result (λ rows. All IsAscii rows.items) }
+/// Planes of this limit with every bit 0, at the side with which a machine begins.
+fn first_planes(alloc: Global, limit: Side) -> Result<Planes, NoMemory>
+    ensures cells { IfOk result (λ planes. cells planes ≡ no_cells) }
+    ensures side { IfOk result (λ planes. planes.side ≡ first_side limit) }
+    ensures limit { IfOk result (λ planes. planes.limit ≡ limit) }
 {
-    let mut rows = Vec::with_capacity(alloc, SIDE)?;
-    for y in 0..SIDE {
-        rows.push(planes.row_hex(p, y))?;
+    let mut planes = Planes::blank(alloc, limit)?;
+    planes.set_side(first_side(limit));
+    Ok(planes)
+}
+
+/// The lesser of 256 and the limit.
+fn first_side(limit: Side) -> Side
+    ensures side { result ≡ first_side limit }
+    ensures within { side_number result ≤ side_number limit }
+{
+    match limit {
+        Side::S128 => Side::S128,
+        Side::S256 | Side::S512 => Side::S256,
+    }
+}
+
+/// The text of each row of plane `p`.
+fn plane_rows(alloc: Global, planes: &Planes, p: usize) -> Result<Vec<RowText>, NoMemory>
+    requires { p < 4 }
+    ensures { let s = width planes.now in
+        IfOk result (λ rows. rows.items ≡ plane_rows s (s / 4) (cells planes.now) p) }
+{
+    let side = planes.side().number();
+    let mut rows = Vec::with_capacity(alloc, side)?;
+    for y in 0..side {
+        rows.push(RowText::of(planes, p, y))?;
     }
     Ok(rows)
 }

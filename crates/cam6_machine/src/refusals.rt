@@ -1,13 +1,15 @@
 //! Which fault a command is refused for, before anything is done.
-ghost use Rattle.std.specs.Prelude.{◌≡◌, ◌<◌, ◌≤◌, List, length, IfNone};
+ghost use Rattle.std.specs.Prelude.{◌≡◌, ◌<◌, ◌≤◌, ◌*◌, List, length, IfNone, Some, None, IfOk};
+ghost use Rattle.std.specs.Prelude.{IfErr};
 ghost use Rattle.std.specs.List.{list_any};
 ghost use Rattle.std.specs.Bool.{OnTrue};
-ghost use Rattle.cam6_planes.specs.declared.row.TheConstants.{SIDE};
+ghost use Rattle.cam6_planes.specs.Side.{side_number, side_of};
 ghost use Rattle.cam6_machine.specs.declared.commands.TheConstants.{MAX_STEPS};
 ghost use Rattle.cam6_machine.specs.declared.cycles.TheConstants.{MAX_ENTRIES};
 ghost use Rattle.cam6_machine.specs.Rules.{Rule};
 ghost use Rattle.cam6_machine.specs.Internal.Places.{rules_of, named_entries, uses_place};
 ghost use Rattle.cam6_machine.specs.Refusals.{set_refusal, plane_refusal, run_refusal};
+ghost use Rattle.cam6_machine.specs.Refusals.{side_refusal};
 ghost use Rattle.cam6_machine.specs.Refusals.{rule_refusal, cycle_refusal, is_cycle, have_phases};
 ghost use Rattle.cam6_machine.specs.Refusals.{first_refusal, entry_refusal, half_refusal};
 ghost use Rattle.cam6_machine.specs.Always.{HaveOwnNames};
@@ -17,19 +19,37 @@ use crate::cycles::{Entry, MAX_ENTRIES};
 use crate::faults::Fault;
 use crate::rules::{KeptRule, MAX_RULES, is_rule_name, place_of, wiring_of};
 use crate::texts::Text;
-use cam6_planes::SIDE;
+use cam6_planes::Side;
 use cam6_wiring::Half;
 use indexmap::IndexMap;
 
-/// Planes are 0 to 3, rows 0 to 255.
-pub(crate) fn set_refusal(plane: u64, row: u64) -> Option<Fault>
-    ensures refusal { result ≡ set_refusal SIDE plane row }
-    ensures within { IfNone result ((plane < 4) × (row < SIDE)) }
+/// Planes are 0 to 3, rows 0 to below the side, and a row has a bit for each column.
+pub(crate) fn set_refusal(side: Side, plane: u64, row: u64, bits: &[u8]) -> Option<Fault>
+    ensures refusal { result ≡ set_refusal side plane row bits.now }
+    ensures within { IfNone result ((plane < 4) × (row < side_number side)
+        × (8 * length bits.now ≡ side_number side)) }
 {
-    if plane >= 4 || row >= SIDE as u64 {
+    let side = side.number();
+    if plane >= 4 || row >= side as u64 || bits.len() != side / 8 {
         return Some(Fault::OutOfRange);
     }
     None
+}
+
+/// The side of a number: one of the three, and then not above the limit.
+pub(crate) fn side_within(limit: Side, number: u64) -> Result<Side, Fault>
+    ensures ok { IfOk result (λ side. side_refusal limit number ≡ None) }
+    ensures side { IfOk result (λ side. side_of number ≡ Some side) }
+    ensures within { IfOk result (λ side. side_number side ≤ side_number limit) }
+    ensures err { IfErr result (λ fault. side_refusal limit number ≡ Some fault) }
+{
+    let Some(side) = Side::of(number) else {
+        return Err(Fault::OutOfRange);
+    };
+    if side.number() > limit.number() {
+        return Err(Fault::AboveLimit);
+    }
+    Ok(side)
 }
 
 pub(crate) fn plane_refusal(plane: u64) -> Option<Fault>

@@ -1,9 +1,9 @@
 //! What a machine says of a command: a reply, or at once that there are steps to do.
 
 use crate::faults::Fault;
+use crate::rows::PlaneRows;
 use cam6_forth::TextFault;
 use cam6_table::RuleFault;
-use std::marker::Model;
 
 /// A reply. Each command has a form of its own, and each refusal has one.
 #[derive(Debug, Drop)]
@@ -11,6 +11,7 @@ pub enum Reply {
     Set,
     Rule,
     Cycle,
+    Side,
     /// The position after the run.
     Run { position: usize },
     Plane { rows: PlaneRows },
@@ -32,48 +33,4 @@ pub enum Now {
 #[derive(Clone, Copy, Debug, PartialEq, Eq)]
 pub enum Direction {
     Forward,
-}
-
-/// The rows of a plane, each as 64 hexadecimal digits. Contracts see them as a list.
-#[derive(Debug, Drop)]
-pub struct PlaneRows {
-    rows: Vec<[u8; 64]>,
-}
-
-impl Model for PlaneRows {
-    ghost use Rattle.std.specs.Prelude.{List, ℕ, All};
-    ghost use Rattle.std.specs.Str.{IsAscii};
-
-    ghost Value = { List (List ℕ) };
-
-    ghost view = { λ r. r.rows.items };
-
-    ghost invariant = { λ r. All IsAscii r.rows.items };
-}
-
-impl PlaneRows {
-    ghost use Rattle.std.specs.Prelude.{◌≡◌, All};
-    ghost use Rattle.std.specs.Str.{IsAscii};
-
-    pub fn new(rows: Vec<[u8; 64]>) -> PlaneRows
-        requires rows { All IsAscii rows.items }
-        ensures { result ≡ rows.items }
-    {
-        PlaneRows { rows }
-    }
-
-    pub fn as_slice(&self) -> &[[u8; 64]]
-        ensures rows { result.now ≡ self.now }
-        ensures ascii { All IsAscii result.now }
-    {
-        self.rows.as_slice()
-    }
-
-    pub fn into_vec(self) -> Vec<[u8; 64]>
-        ensures rows { result.items ≡ self }
-        ensures ascii { All IsAscii result.items }
-    {
-        let PlaneRows { rows } = self;
-        rows
-    }
 }

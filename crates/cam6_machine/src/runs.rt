@@ -1,6 +1,6 @@
 //! Steps along a cycle.
 ghost use Rattle.std.specs.Prelude.{◌≡◌, ◌<◌, ◌≤◌, ℕ, List, length};
-ghost use Rattle.cam6_planes.specs.declared.row.TheConstants.{SIDE};
+ghost use Rattle.cam6_planes.specs.Stored.{AreAlike};
 ghost use Rattle.cam6_machine.specs.Machine.{steps, machine_of};
 ghost use Rattle.cam6_machine.specs.Internal.Places.{rules_of, stored};
 ghost use Rattle.cam6_machine.specs.Internal.ByTables.{ArePairs};
@@ -24,11 +24,11 @@ pub(crate) fn run_along(
     n: u16,
 ) -> usize
     requires position { position < length cycle.now }
-    requires side { planes.old.side ≡ SIDE }
+    requires alike { AreAlike planes.old next.old }
     requires room { length cycle.now ≤ length tables.now }
     requires names { HaveOwnNames (rules_of rules.now.entries) }
     requires tables { ArePairs (rules_of rules.now.entries) cycle.now tables.now }
-    ensures side { planes.new.side ≡ SIDE }
+    ensures alike { AreAlike planes.new next.new }
     ensures position { result < length cycle.now }
     ensures steps { (colours : List ℕ) →
         machine_of (stored planes.new (rules_of rules.now.entries) cycle.now result colours)

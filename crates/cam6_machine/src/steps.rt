@@ -1,8 +1,9 @@
 //! One step of all cells of both halves, by their rules' tables.
-ghost use Rattle.std.specs.Prelude.{◌≡◌, ◌<◌, ◌+◌, ◌*◌, ℕ, Some};
+ghost use Rattle.std.specs.Prelude.{◌≡◌, ◌<◌, ◌≤◌, ◌+◌, ◌*◌, ℕ, Some};
 ghost use Rattle.cam6_planes.specs.Cells.{cells};
 ghost use Rattle.cam6_planes.specs.Row.{word_column, column_bit};
-ghost use Rattle.cam6_planes.specs.declared.row.TheConstants.{SIDE};
+ghost use Rattle.cam6_planes.specs.declared.row.TheConstants.{WORDS};
+ghost use Rattle.cam6_planes.specs.Stored.{width, AreAlike};
 ghost use Rattle.cam6_wiring.specs.Name.{plane_of, other_half};
 ghost use Rattle.cam6_wiring.specs.Seen.{address};
 ghost use Rattle.cam6_wiring.specs.declared.names.Level.{Level};
@@ -16,7 +17,7 @@ ghost use Rattle.cam6_machine.specs.Internal.ByTables.{ArePair};
 use crate::cycles::Entry;
 use crate::rules::{KeptRule, wiring_at};
 use crate::tables::TablePair;
-use cam6_planes::{Planes, Row, SIDE, WORDS};
+use cam6_planes::{Planes, Row, WORDS};
 use cam6_table::Table;
 use cam6_wiring::{Half, Level, Setting, Wiring, address_at};
 use indexmap::IndexMap;
@@ -31,10 +32,11 @@ pub(crate) fn step(
     entry: Entry,
     tables: &TablePair,
 )
+    requires alike { AreAlike planes.old next.old }
     requires tables { ArePair (rules_at (rules_of rules.now.entries) entry) tables.now }
-    ensures planes { cells planes.new
-        ≡ step SIDE (rules_at (rules_of rules.now.entries) entry) (cells planes.old) }
-    ensures side { (planes.old.side ≡ SIDE) × (planes.new.side ≡ SIDE) }
+    ensures planes { cells planes.new ≡ step (width planes.old)
+        (rules_at (rules_of rules.now.entries) entry) (cells planes.old) }
+    ensures alike { AreAlike planes.old planes.new × AreAlike planes.old next.new }
 {
     let Entry { a, b, grid, phase } = entry;
     let half = Half::A;
@@ -55,17 +57,18 @@ fn step_half(
     wiring: Option<Wiring>,
     table: &Table,
 )
-    ensures half { (level : Level) (x y : ℕ) → x < SIDE → y < SIDE →
+    requires { new.old.side ≡ old.now.side }
+    ensures half { (level : Level) (x y : ℕ) → x < width old.now → y < width old.now →
         cells new.new (plane_of setting.half level) x y
-        ≡ bit_by_table SIDE (cells old.now) setting wiring table.now level x y }
-    ensures other { (level : Level) (x y : ℕ) → x < SIDE → y < SIDE →
+        ≡ bit_by_table (width old.now) (cells old.now) setting wiring table.now level x y }
+    ensures other { (level : Level) (x y : ℕ) → x < width old.now → y < width old.now →
         cells new.new (plane_of (other_half setting.half) level) x y
         ≡ cells new.old (plane_of (other_half setting.half) level) x y }
-    ensures side { (old.now.side ≡ SIDE) × (new.old.side ≡ SIDE) × (new.new.side ≡ SIDE) }
+    ensures alike { AreAlike new.old new.new }
 {
     let lower = setting.half.plane(Level::Lower);
     let upper = setting.half.plane(Level::Upper);
-    for y in 0..SIDE {
+    for y in 0..old.side().number() {
         let (lower_row, upper_row) = new_rows(old, setting, wiring, table, y);
         new.set_row_words(lower, y, lower_row);
         new.set_row_words(upper, y, upper_row);
@@ -80,12 +83,11 @@ fn new_rows(
     table: &Table,
     y: usize,
 ) -> (Row, Row)
-    requires row { y < SIDE }
-    ensures lower { (x : ℕ) → x < SIDE → column_bit result.0 x
-        ≡ bit_by_table SIDE (cells old.now) setting wiring table.now Lower x y }
-    ensures upper { (x : ℕ) → x < SIDE → column_bit result.1 x
-        ≡ bit_by_table SIDE (cells old.now) setting wiring table.now Upper x y }
-    ensures side { old.now.side ≡ SIDE }
+    requires row { y < width old.now }
+    ensures lower { (x : ℕ) → x < width old.now → column_bit result.0 x
+        ≡ bit_by_table (width old.now) (cells old.now) setting wiring table.now Lower x y }
+    ensures upper { (x : ℕ) → x < width old.now → column_bit result.1 x
+        ≡ bit_by_table (width old.now) (cells old.now) setting wiring table.now Upper x y }
 {
     let lower_before = old.row_words(setting.half.plane(Level::Lower), y);
     let upper_before = old.row_words(setting.half.plane(Level::Upper), y);
@@ -103,15 +105,15 @@ fn rows_by_table(
     table: &Table,
     y: usize,
 ) -> (Row, Row)
-    requires row { y < SIDE }
-    ensures lower { (x : ℕ) → x < SIDE → column_bit result.0 x
-        ≡ bit_by_table SIDE (cells old.now) setting (Some wiring) table.now Lower x y }
-    ensures upper { (x : ℕ) → x < SIDE → column_bit result.1 x
-        ≡ bit_by_table SIDE (cells old.now) setting (Some wiring) table.now Upper x y }
+    requires row { y < width old.now }
+    ensures lower { (x : ℕ) → x < width old.now → column_bit result.0 x
+        ≡ bit_by_table (width old.now) (cells old.now) setting (Some wiring) table.now Lower x y }
+    ensures upper { (x : ℕ) → x < width old.now → column_bit result.1 x
+        ≡ bit_by_table (width old.now) (cells old.now) setting (Some wiring) table.now Upper x y }
 {
     let mut lower = [0; WORDS];
     let mut upper = [0; WORDS];
-    for i in 0..WORDS {
+    for i in 0..old.side().words() {
         let (lower_word, upper_word) = words_by_table(old, setting, wiring, table, i, y);
         lower[i] = lower_word;
         upper[i] = upper_word;
@@ -131,11 +133,14 @@ fn words_by_table(
     y: usize,
 ) -> (u64, u64)
     requires word { i < WORDS }
-    requires row { y < SIDE }
+    requires columns { 64 * (i + 1) ≤ width old.now }
+    requires row { y < width old.now }
     ensures lower { (c : ℕ) → c < 64 → word_column result.0 c
-        ≡ bit_by_table SIDE (cells old.now) setting (Some wiring) table.now Lower (64 * i + c) y }
+        ≡ bit_by_table (width old.now) (cells old.now) setting (Some wiring) table.now Lower
+        (64 * i + c) y }
     ensures upper { (c : ℕ) → c < 64 → word_column result.1 c
-        ≡ bit_by_table SIDE (cells old.now) setting (Some wiring) table.now Upper (64 * i + c) y }
+        ≡ bit_by_table (width old.now) (cells old.now) setting (Some wiring) table.now Upper
+        (64 * i + c) y }
 {
     let mut lower = 0;
     let mut upper = 0;
@@ -150,9 +155,10 @@ fn words_by_table(
 
 /// The address that the cell at column `x` of row `y` shows to the wiring.
 fn shown_address(old: &Planes, setting: Setting, wiring: Wiring, x: usize, y: usize) -> u16
-    requires column { x < SIDE }
-    requires row { y < SIDE }
-    ensures address { result ≡ address SIDE (cells old.now) setting wiring.hood wiring.minor x y }
+    requires column { x < width old.now }
+    requires row { y < width old.now }
+    ensures address { result
+        ≡ address (width old.now) (cells old.now) setting wiring.hood wiring.minor x y }
     ensures within { result < ENTRIES }
 {
     let Setting { half, grid, phase } = setting;

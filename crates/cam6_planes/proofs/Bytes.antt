@@ -1,8 +1,10 @@
 -- The bytes of a word, of which the first is the highest.
 use Rattle.std.proofs.Common.{◌≡◌, ◌≢◌, ℕ, zero, suc, ◌+◌, ◌-◌, ◌*◌, ◌/◌, ◌%◌, ◌^◌}
-use Rattle.std.proofs.Common.{◌<◌, Bool, List, length, get_or, set, refl, sym, ◌∙◌, ap}
+use Rattle.std.proofs.Common.{◌<◌, Bool, List, [], ◌∷◌, take, length, get_or, set, refl, sym, ◌∙◌}
+use Rattle.std.proofs.Common.{ap}
 use Rattle.std.proofs.Common.{arith, bit_or, nat_eq, get_or-set_other, get_or-set_same}
 use Rattle.std.specs.Int.{bit_at, byte_at, bytes_high_first, w64, to_be_bytes}
+use Rattle.std.proofs.lemmas.List.{get_or-take}
 use Rattle.std.proofs.lemmas.Nat.Bits.{bit_at_or, bit_at-zero, bit_at_above}
 use Rattle.std.proofs.lemmas.Nat.Bits.{bit_at_cat_low, bit_at_cat_high}
 use Rattle.std.proofs.lemmas.Nat.{div-add-mod', pow-add, pow_pos}
@@ -67,6 +69,20 @@ word_more bytes i k w h small below c l =
           sym (byte_column-at bytes (8 * i + k) (c - 8 * k) (omega arith)) ∙
           ap (byte_column bytes) here
     ]
+
+-- the bytes in front show the columns that they have
+pub byte_column-take : (n : ℕ) (bytes : List ℕ) (x : ℕ) → x < 8 * n →
+    byte_column (take n bytes) x ≡ byte_column bytes x
+unfolding byte_column
+byte_column-take n bytes x h =
+    ap (λ b. nat_eq (bit_at b (7 - x % 8)) 1) (get_or-take n bytes (x / 8) 0 (omega arith))
+
+pub small-take : (n : ℕ) (bytes : List ℕ) → ((i : ℕ) → get_or bytes i 0 < 256) → (i : ℕ) →
+    get_or (take n bytes) i 0 < 256
+small-take zero bytes h i = omega arith
+small-take (suc n) [] h i = omega arith
+small-take (suc n) (b ∷ rest) h zero = h zero
+small-take (suc n) (b ∷ rest) h (suc i) = small-take n rest (λ j. h (suc j)) i
 
 byte_column-set_other : (bytes : List ℕ) (i b x : ℕ) → x < 8 * i →
     byte_column (set bytes i b) x ≡ byte_column bytes x

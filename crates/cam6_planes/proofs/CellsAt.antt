@@ -6,6 +6,8 @@ use Rattle.std.proofs.lemmas.Grind.{common_steps}
 use Rattle.std.proofs.Math.Path.{fun_ext}
 use Rattle.std.proofs.Math.Nat.{mod-eq_of_lt, mod-lt}
 use Rattle.cam6_planes.specs.Row.{column_bit}
+use Rattle.cam6_planes.specs.Side.{side_number}
+use Rattle.cam6_planes.proofs.SideNumbers.{side_least}
 use Rattle.cam6_planes.specs.Stored.{Stored}
 use Rattle.cam6_planes.specs.Cells.{Cells, torus, cells, stored_bit, with_row}
 
@@ -29,17 +31,18 @@ torus_same s f g some h =
     (λ e. h p (x % s) (y % s) (ltb-true p 4 e) (mod-lt x some) (mod-lt y some)))))
 
 -- within the side, planes show the bit that their words hold
-pub cells_at : (v : Stored) (p x y : ℕ) → p < 4 → x < v.side → y < v.side →
-    cells v p x y ≡ column_bit (get_or (get_or v.rows y []) p []) x
-cells_at v = torus_at v.side (stored_bit v.rows)
+pub cells_at : (v : Stored) (p x y : ℕ) → p < 4 → x < side_number v.side →
+    y < side_number v.side → cells v p x y ≡ column_bit (get_or (get_or v.rows y []) p []) x
+cells_at v = torus_at (side_number v.side) (stored_bit v.rows)
 
 -- coordinates may be reduced first
-pub cells_wrapped : (v : Stored) (p x y : ℕ) → 0 < v.side →
-    cells v p (x % v.side) (y % v.side) ≡ cells v p x y
-cells_wrapped v p x y h =
-    ap (λ u. nat_lt p 4 && stored_bit v.rows p u (y % v.side % v.side))
-    (mod-eq_of_lt (mod-lt x h)) ∙
-    ap (λ u. nat_lt p 4 && stored_bit v.rows p (x % v.side) u) (mod-eq_of_lt (mod-lt y h))
+pub cells_wrapped : (v : Stored) (p x y : ℕ) →
+    cells v p (x % side_number v.side) (y % side_number v.side) ≡ cells v p x y
+cells_wrapped v p x y =
+    let s = side_number v.side in
+    let h : 0 < s = omega (arith, side_least v.side) in
+    ap (λ u. nat_lt p 4 && stored_bit v.rows p u (y % s % s)) (mod-eq_of_lt (mod-lt x h)) ∙
+    ap (λ u. nat_lt p 4 && stored_bit v.rows p (x % s) u) (mod-eq_of_lt (mod-lt y h))
 
 -- the bits that are kept once row y of plane p is written
 stored_bit-set : (s : ℕ) (rows : List (List (List ℕ))) (p y : ℕ) (w : List ℕ) (q u v : ℕ) →

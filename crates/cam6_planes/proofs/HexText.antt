@@ -1,10 +1,12 @@
 -- A row of bytes in hexadecimal digits.
 use Rattle.std.proofs.Common.{◌≡◌, ℕ, zero, suc, ◌+◌, ◌-◌, ◌*◌, ◌/◌, ◌%◌, ◌<◌, Bool, List}
-use Rattle.std.proofs.Common.{[], ◌∷◌, length, get_or, refl, sym, ◌∙◌, ap, arith, nat_eq}
+use Rattle.std.proofs.Common.{[], ◌∷◌, ◌++◌, take, length, get_or, refl, sym, ◌∙◌, ap, arith}
+use Rattle.std.proofs.Common.{nat_eq}
 use Rattle.std.specs.Int.{bit_at}
 use Rattle.std.proofs.lemmas.Nat.Bits.{bit_at-lt}
 use Rattle.std.proofs.lemmas.List.FromFn.{fill_by_all, get_or-map-range_with_len}
 use Rattle.std.proofs.lemmas.List.FromFn.{length-map-range_with_len}
+use Rattle.std.proofs.Math.Seq.{take-append_seam}
 use native.Mathlib.Decide.{dec_lt}
 use Rattle.hex.specs.Hex.{encode_with, encode_lower, lower_digits}
 use Rattle.hex.proofs.HexLemmas.{length-encode_with}
@@ -134,3 +136,7 @@ row_text-same n row other h =
     get_or-map-range_with_len (digit_at row) 0 n k k 0 l (omega arith) ∙
     digit_at-same row other k (h (4 * k) (omega arith)) (h (4 * k + 1) (omega arith))
     (h (4 * k + 2) (omega arith)) (h (4 * k + 3) (omega arith)))
+
+-- a text at the front of room for more
+pub take_front : (n : ℕ) (text rest : List ℕ) → length text ≡ n → take n (text ++ rest) ≡ text
+take_front n text rest h = ap (λ k. take k (text ++ rest)) (sym h) ∙ take-append_seam text rest

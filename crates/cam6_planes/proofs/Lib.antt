@@ -14,3 +14,5 @@ pub mod AsciiTexts
 pub mod CellsAt
 -- Words that are 0 show no cell.
 pub mod Blank
+-- What every side has.
+pub mod SideNumbers

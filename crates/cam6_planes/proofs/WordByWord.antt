@@ -1,6 +1,6 @@
 -- A row of words, filled word by word.
 use Rattle.std.proofs.Common.{◌≡◌, ◌≢◌, ℕ, zero, suc, ◌+◌, ◌-◌, ◌*◌, ◌/◌, ◌%◌}
-use Rattle.std.proofs.Common.{◌<◌, Bool, List, length, get_or, set, refl, sym}
+use Rattle.std.proofs.Common.{◌<◌, ◌≤◌, Bool, List, length, get_or, set, refl, sym}
 use Rattle.std.proofs.Common.{◌∙◌, ap, arith, get_or-set_other, get_or-set_same}
 use Rattle.std.proofs.Math.Nat.{mod-eq_of_lt, add-mod_right, mod_self}
 use native.Mathlib.Decide.{dec_lt}
@@ -19,6 +19,13 @@ pub column_bit-set_other : (row : List ℕ) (i r x : ℕ) → x < 64 * i →
     column_bit (set row i r) x ≡ column_bit row x
 unfolding column_bit
 column_bit-set_other row i r x h =
+    let ne : x / 64 ≢ i = omega arith in
+    ap (λ w. word_column w (x % 64)) (get_or-set_other row i (x / 64) r 0 ne)
+
+pub column_bit-set_past : (row : List ℕ) (i r x : ℕ) → 64 * (i + 1) ≤ x →
+    column_bit (set row i r) x ≡ column_bit row x
+unfolding column_bit
+column_bit-set_past row i r x h =
     let ne : x / 64 ≢ i = omega arith in
     ap (λ w. word_column w (x % 64)) (get_or-set_other row i (x / 64) r 0 ne)
 

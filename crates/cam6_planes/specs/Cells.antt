@@ -2,6 +2,7 @@
 use Rattle.std.specs.Prelude.{ℕ, ◌%◌, Bool, false, List, [], slice_index_or}
 use Rattle.std.specs.Prelude.{nat_lt, ◌==◌, ◌&&◌, if◌then◌else◌}
 use Rattle.cam6_planes.specs.Row.{column_bit}
+use Rattle.cam6_planes.specs.Side.{side_number}
 use Rattle.cam6_planes.specs.Stored.{Stored}
 
 -- the bit of a plane at a column of a row, in this order
@@ -26,4 +27,4 @@ stored_bit rows p x y = column_bit (slice_index_or (slice_index_or rows y []) p 
 
 -- the cells that stored planes show
 abbrev pub cells : Stored → Cells
-cells v = torus v.side (stored_bit v.rows)
+cells v = torus (side_number v.side) (stored_bit v.rows)

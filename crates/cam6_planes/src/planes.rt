@@ -1,107 +1,184 @@
 //! The four planes of a machine.
-ghost use Rattle.std.specs.Prelude.{◌≡◌, ◌<◌, ◌≤◌, ℕ, slice_index_or, slice_set, [], IfOk, length};
+ghost use Rattle.std.specs.Prelude.{◌≡◌, ◌<◌, ◌≤◌, ◌*◌, ◌/◌, ℕ, slice_index_or, slice_set, []};
+ghost use Rattle.std.specs.Prelude.{IfOk, length, take, drop, false, replicate};
 ghost use Rattle.std.specs.Str.{IsAscii};
 ghost use Rattle.cam6_planes.specs.Row.{column_bit, byte_column, row_text};
+ghost use Rattle.cam6_planes.specs.Side.{side_number};
+ghost use Rattle.cam6_planes.specs.Stored.{width};
+ghost use Rattle.cam6_planes.specs.declared.row.TheConstants.{WORDS};
 ghost use Rattle.cam6_planes.specs.Cells.{cells, no_cells, with_row};
-ghost use Rattle.cam6_planes.specs.declared.row.TheConstants.{SIDE, DIGITS};
 
 use crate::memory::NoMemory;
-use crate::row::{BYTES, DIGITS, Row, SIDE, WORDS, hex_of, is_set, row_of_bytes};
+use crate::row::{DIGITS, Row, WORDS, is_set, row_of_bytes, write_hex};
+use crate::sides::Side;
 use std::alloc::Global;
 use std::marker::Model;
 
-/// Four bit planes of 256 by 256 cells. A row of the storage holds that row of all four.
+/// Four bit planes, with room for those of the limit. A row of the storage holds that row of all
+/// four.
 #[derive(Drop)]
 pub struct Planes {
+    side: Side,
+    limit: Side,
     rows: Vec<[Row; 4]>,
 }
 
 impl Model for Planes {
     ghost use Rattle.std.specs.Prelude.{◌≤◌, vec_len};
     ghost use Rattle.cam6_planes.specs.Stored.{Stored};
+    ghost use Rattle.cam6_planes.specs.Side.{side_number};
 
     ghost Value = { Stored };
 
-    ghost view = { λ a. record { side = 256; rows = a.rows.items } };
+    ghost view = { λ a. record {
+      side = a.side;
+      limit = a.limit;
+      rows = a.rows.items;
+    } };
 
-    ghost invariant = { λ a. 256 ≤ vec_len a.rows };
+    ghost invariant = { λ a.
+        (side_number a.side ≤ side_number a.limit) × (side_number a.limit ≤ vec_len a.rows) };
 }
 
 impl Planes {
-    /// Planes with every bit 0.
-    pub fn blank(alloc: Global) -> Result<Planes, NoMemory>
+    /// Planes of the limit's side, with every bit 0. No other call takes memory.
+    pub fn blank(alloc: Global, limit: Side) -> Result<Planes, NoMemory>
         ensures cells { IfOk result (λ planes. cells planes ≡ no_cells) }
-        ensures side { IfOk result (λ planes. planes.side ≡ SIDE) }
+        ensures side { IfOk result (λ planes. planes.side ≡ limit) }
+        ensures limit { IfOk result (λ planes. planes.limit ≡ limit) }
     {
-        let mut rows = Vec::with_capacity(alloc, SIDE)?;
-        for _y in 0..SIDE {
+        let side = limit.number();
+        let mut rows = Vec::with_capacity(alloc, side)?;
+        for _y in 0..side {
             rows.push([[0; WORDS]; 4])?;
         }
-        Ok(Planes { rows })
+        Ok(Planes {
+            side: limit,
+            limit,
+            rows,
+        })
+    }
+
+    pub fn side(&self) -> Side
+        ensures side { result ≡ self.now.side }
+        ensures within { width self.now ≤ side_number self.now.limit }
+    {
+        self.side
+    }
+
+    pub fn limit(&self) -> Side
+        ensures { result ≡ self.now.limit }
+    {
+        self.limit
+    }
+
+    /// Takes on a side, with every bit 0.
+    pub fn set_side(&mut self, side: Side)
+        requires { side_number side ≤ side_number self.old.limit }
+        ensures cells { cells self.new ≡ no_cells }
+        ensures side { self.new.side ≡ side }
+        ensures limit { self.new.limit ≡ self.old.limit }
+    {
+        clear(&mut self.rows);
+        self.side = side;
     }
 
     /// The bit of plane `p` at column `x` of row `y`.
-    #[tactic(auto, using(crate::proofs::CellsAt::cells_at))]
+    #[tactic(auto, using(crate::proofs::CellsAt::cells_at, crate::proofs::SideNumbers::side_most))]
     pub fn bit(&self, p: usize, x: usize, y: usize) -> bool
         requires plane { p < 4 }
-        requires column { x < SIDE }
-        requires row { y < SIDE }
-        ensures value { result ≡ cells self.now p x y }
-        ensures side { self.now.side ≡ SIDE }
+        requires column { x < width self.now }
+        requires row { y < width self.now }
+        ensures { result ≡ cells self.now p x y }
     {
         is_set(&plane_row(&self.rows[y], p), x)
     }
 
-    /// Row `y` of plane `p`, in words.
-    #[tactic(auto, using(crate::proofs::CellsAt::cells_at))]
+    /// Row `y` of plane `p`, in words; those past the side are 0.
     pub fn row_words(&self, p: usize, y: usize) -> Row
         requires plane { p < 4 }
-        requires row { y < SIDE }
-        ensures value { (x : ℕ) → x < SIDE → column_bit result x ≡ cells self.now p x y }
-        ensures side { self.now.side ≡ SIDE }
+        requires row { y < width self.now }
+        ensures value { (x : ℕ) → x < width self.now → column_bit result x ≡ cells self.now p x y }
+        ensures past { (x : ℕ) → width self.now ≤ x → column_bit result x ≡ false }
     {
-        plane_row(&self.rows[y], p)
+        let kept = plane_row(&self.rows[y], p);
+        let mut row = [0; WORDS];
+        for i in 0..self.side.words() {
+            row[i] = kept[i];
+        }
+        row
     }
 
-    /// Row `y` of plane `p`, as 64 lower case hexadecimal digits.
-    pub fn row_hex(&self, p: usize, y: usize) -> [u8; DIGITS]
+    /// Writes row `y` of plane `p` as lower case hexadecimal digits, and answers how many.
+    pub fn row_hex(&self, p: usize, y: usize, text: &mut [u8; DIGITS]) -> usize
         requires plane { p < 4 }
-        requires row { y < SIDE }
-        ensures value { result ≡ row_text DIGITS (λ x. cells self.now p x y) }
-        ensures ascii { IsAscii result }
-        ensures side { self.now.side ≡ SIDE }
+        requires row { y < width self.now }
+        ensures digits { result ≡ width self.now / 4 }
+        ensures value { take result text.new ≡ row_text result (λ x. cells self.now p x y) }
+        ensures past { drop result text.new ≡ drop result text.old }
+        ensures ascii { IsAscii (take result text.new) }
     {
-        hex_of(&self.row_words(p, y))
+        let digits = self.side.number() / 4;
+        let row = self.row_words(p, y);
+        write_hex(&row, &mut text[..digits]);
+        digits
     }
 
-    /// Writes row `y` of plane `p` from words.
+    /// Writes row `y` of plane `p` from words; those past the side don't count.
     pub fn set_row_words(&mut self, p: usize, y: usize, words: Row)
         requires plane { p < 4 }
-        requires row { y < SIDE }
-        ensures cells { cells self.new ≡ with_row SIDE (cells self.old) p y (column_bit words) }
-        ensures side { (self.old.side ≡ SIDE) × (self.new.side ≡ SIDE) }
+        requires row { y < width self.old }
+        ensures cells { cells self.new
+            ≡ with_row (width self.old) (cells self.old) p y (column_bit words) }
+        ensures side { self.new.side ≡ self.old.side }
+        ensures limit { self.new.limit ≡ self.old.limit }
     {
         set_plane_row(&mut self.rows[y], p, words);
     }
 
     /// Writes row `y` of plane `p` from bytes, of which the first has columns 0 to 7.
-    pub fn put_row(&mut self, p: usize, y: usize, bits: &[u8; BYTES])
+    pub fn put_row(&mut self, p: usize, y: usize, bits: &[u8])
         requires plane { p < 4 }
-        requires row { y < SIDE }
-        ensures cells { cells self.new ≡ with_row SIDE (cells self.old) p y (byte_column bits.now) }
-        ensures side { (self.old.side ≡ SIDE) × (self.new.side ≡ SIDE) }
+        requires row { y < width self.old }
+        requires bits { 8 * length bits.now ≡ width self.old }
+        ensures cells { cells self.new
+            ≡ with_row (width self.old) (cells self.old) p y (byte_column bits.now) }
+        ensures side { self.new.side ≡ self.old.side }
+        ensures limit { self.new.limit ≡ self.old.limit }
     {
-        self.set_row_words(p, y, row_of_bytes(bits));
+        let words = self.side.words();
+        self.set_row_words(p, y, row_of_bytes(bits, words));
     }
 
-    /// Makes these planes show what the others show.
+    /// Makes these planes show what the others show, at the others' side.
     pub fn copy_from(&mut self, other: &Planes)
+        requires { width other.now ≤ side_number self.old.limit }
         ensures cells { cells self.new ≡ cells other.now }
-        ensures side { (self.old.side ≡ SIDE) × (self.new.side ≡ SIDE) × (other.now.side ≡ SIDE) }
+        ensures side { self.new.side ≡ other.now.side }
+        ensures limit { self.new.limit ≡ self.old.limit }
     {
-        for y in 0..SIDE {
-            self.rows[y] = other.rows[y];
-        }
+        copy_rows(&mut self.rows, &other.rows, other.side.number());
+        self.side = other.side;
+    }
+}
+
+/// Copies the first rows, so many.
+fn copy_rows(to: &mut [[Row; 4]], from: &[[Row; 4]], count: usize)
+    requires to { count ≤ length to.old }
+    requires from { count ≤ length from.now }
+    ensures { (y : ℕ) → y < count → slice_index_or to.new y [] ≡ slice_index_or from.now y [] }
+{
+    for y in 0..count {
+        to[y] = from[y];
+    }
+}
+
+fn clear(rows: &mut [[Row; 4]])
+    ensures { (y : ℕ) → y < length rows.old →
+        slice_index_or rows.new y [] ≡ replicate 4 (replicate WORDS 0) }
+{
+    for row in rows {
+        *row = [[0; WORDS]; 4];
     }
 }
 

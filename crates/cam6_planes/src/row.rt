@@ -1,46 +1,53 @@
 //! One packed row, its text and bytes, and its shifts by one column round the torus.
-ghost use Rattle.std.specs.Prelude.{◌≡◌, ◌<◌, ◌+◌, ◌-◌, ◌*◌, ◌==◌, ℕ};
+ghost use Rattle.std.specs.Prelude.{◌≡◌, ◌<◌, ◌≤◌, ◌+◌, ◌-◌, ◌*◌, ◌%◌, ◌==◌, ℕ, false, length};
 ghost use Rattle.std.specs.Int.{bit_at};
 ghost use Rattle.cam6_planes.specs.Row.{word_column, column_bit, byte_column, row_text, west_of};
 ghost use Rattle.cam6_planes.specs.Row.{east_of};
-ghost use Rattle.cam6_planes.specs.declared.row.TheConstants.{SIDE, DIGITS};
+ghost use Rattle.cam6_planes.specs.Side.{side_number};
+ghost use Rattle.cam6_planes.specs.declared.row.TheConstants.{WORDS, BYTES, DIGITS};
 
-/// Columns of a row, and rows of a plane.
-pub const SIDE: usize = 256;
+use crate::sides::Side;
 
-/// Words of a row.
-pub const WORDS: usize = 4;
+/// Words of a row of the largest side.
+pub const WORDS: usize = 8;
 
-/// Bytes of a row.
-pub const BYTES: usize = 32;
+/// Bytes of such a row.
+pub const BYTES: usize = 64;
 
-/// Hexadecimal digits of a row.
-pub const DIGITS: usize = 64;
+/// Hexadecimal digits of such a row.
+pub const DIGITS: usize = 128;
 
-/// The bits of one row of one plane. Column 0 is the highest bit of the first word.
+/// The bits of one row of one plane. Column 0 is the highest bit of the first word; the words past
+/// the side are 0.
 pub type Row = [u64; WORDS];
 
 /// At each column of the answer, the bit that the row has to the west of it; west of column 0 is
-/// the last column.
-pub fn west(row: &Row) -> Row
-    ensures { (x : ℕ) → x < SIDE → column_bit result x ≡ column_bit row.now (west_of SIDE x) }
+/// the last column. Words past the side are 0.
+pub fn west(row: &Row, side: Side) -> Row
+    ensures value { let s = side_number side in
+        (x : ℕ) → x < s → column_bit result x ≡ column_bit row.now (west_of s x) }
+    ensures past { (x : ℕ) → side_number side ≤ x → column_bit result x ≡ false }
 {
+    let words = side.words();
     let mut shifted = [0; WORDS];
-    for i in 0..WORDS {
-        let before = if i == 0 { WORDS - 1 } else { i - 1 };
+    for i in 0..words {
+        let before = if i == 0 { words - 1 } else { i - 1 };
         shifted[i] = moved_east(row[i], row[before]);
     }
     shifted
 }
 
 /// At each column of the answer, the bit that the row has to the east of it; east of the last
-/// column is column 0.
-pub fn east(row: &Row) -> Row
-    ensures { (x : ℕ) → x < SIDE → column_bit result x ≡ column_bit row.now (east_of SIDE x) }
+/// column is column 0. Words past the side are 0.
+pub fn east(row: &Row, side: Side) -> Row
+    ensures value { let s = side_number side in
+        (x : ℕ) → x < s → column_bit result x ≡ column_bit row.now (east_of s x) }
+    ensures past { (x : ℕ) → side_number side ≤ x → column_bit result x ≡ false }
 {
+    let words = side.words();
     let mut shifted = [0; WORDS];
-    for i in 0..WORDS {
-        let after = if i + 1 == WORDS { 0 } else { i + 1 };
+    for i in 0..words {
+        let after = if i + 1 == words { 0 } else { i + 1 };
         shifted[i] = moved_west(row[i], row[after]);
     }
     shifted
@@ -64,26 +71,28 @@ fn moved_west(word: u64, after: u64) -> u64
 
 /// The bit at column `x`.
 pub(crate) fn is_set(row: &Row, x: usize) -> bool
-    requires { x < SIDE }
+    requires { x < 64 * WORDS }
     ensures { result ≡ column_bit row.now x }
 {
     row[x / 64] >> (63 - x % 64) & 1 == 1
 }
 
-/// The row of these bytes, of which the first has columns 0 to 7.
-pub(crate) fn row_of_bytes(bytes: &[u8; BYTES]) -> Row
-    ensures { (x : ℕ) → x < SIDE → column_bit result x ≡ byte_column bytes.now x }
+/// The row of the bytes of so many words, of which the first has columns 0 to 7.
+pub(crate) fn row_of_bytes(bytes: &[u8], words: usize) -> Row
+    requires bytes { length bytes.now ≡ 8 * words }
+    requires room { words ≤ WORDS }
+    ensures { (x : ℕ) → x < 64 * words → column_bit result x ≡ byte_column bytes.now x }
 {
     let mut row = [0; WORDS];
-    for i in 0..WORDS {
+    for i in 0..words {
         row[i] = word_of_bytes(bytes, i);
     }
     row
 }
 
 /// The word of eight of the bytes.
-fn word_of_bytes(bytes: &[u8; BYTES], i: usize) -> u64
-    requires { i < WORDS }
+fn word_of_bytes(bytes: &[u8], i: usize) -> u64
+    requires { 8 * i + 8 ≤ length bytes.now }
     ensures { (c : ℕ) → c < 64 → word_column result c ≡ byte_column bytes.now (64 * i + c) }
 {
     let mut word = 0;
@@ -95,7 +104,7 @@ fn word_of_bytes(bytes: &[u8; BYTES], i: usize) -> u64
 
 /// The bytes of the row, of which the first has columns 0 to 7.
 fn bytes_of_row(row: &Row) -> [u8; BYTES]
-    ensures { (x : ℕ) → x < SIDE → byte_column result x ≡ column_bit row.now x }
+    ensures { (x : ℕ) → x < 8 * BYTES → byte_column result x ≡ column_bit row.now x }
 {
     let mut bytes = [0; BYTES];
     for i in 0..BYTES {
@@ -112,11 +121,13 @@ fn byte_of_word(word: u64, k: usize) -> u8
     word.to_be_bytes()[k]
 }
 
-/// The row's lower case hexadecimal digits, four columns to a digit.
-pub(crate) fn hex_of(row: &Row) -> [u8; DIGITS]
-    ensures { result ≡ row_text DIGITS (column_bit row.now) }
+/// Writes the row's lower case hexadecimal digits, four columns to a digit, as many as there is
+/// room for.
+pub(crate) fn write_hex(row: &Row, text: &mut [u8])
+    requires bytes { length text.old % 2 ≡ 0 }
+    requires row { length text.old ≤ DIGITS }
+    ensures { text.new ≡ row_text (length text.old) (column_bit row.now) }
 {
-    let mut digits = [0; DIGITS];
-    hex::encode_to_slice(bytes_of_row(row), &mut digits).unwrap();
-    digits
+    let bytes = bytes_of_row(row);
+    hex::encode_to_slice(&bytes[..text.len() / 2], text).unwrap();
 }

@@ -1,6 +1,7 @@
 -- Whatever ends a session, what it wrote is a front of the answers to all lines.
 use Rattle.std.proofs.Common.{◌≡◌, ℕ, List, [], ◌∷◌, ◌++◌, Option, None, Some, refl, sym, ap, ◌∙◌}
 use Rattle.std.proofs.Common.{subst, inl, inr, append-nil, append_assoc, true, false}
+use Rattle.cam6_planes.specs.declared.sides.Side.{Side}
 use Rattle.cam6_machine.specs.Machine.{Machine, blank}
 use Rattle.cam6_session.specs.Lines.{lines}
 use Rattle.cam6_session.specs.Answering.{Answering, answers, after_lines}
@@ -92,19 +93,21 @@ module _ {S : Type 0} (by : Answering S) where
   is_front (end.NoMemory false) s t taken left written (inr stopped) =
       front_before s taken left written stopped.0 (end.NoMemory false) (λ same. cc) stopped.1.0
 
-writes_from_blank : (e : End) (read unread old new : Option (List ℕ)) (n : Machine)
-    → AnswersReader by_machine e read unread old new blank n → WritesRepliesAlone e read old new
-writes_from_blank e None unread old new n served = tt
-writes_from_blank e (Some all) unread None new n served = tt
-writes_from_blank e (Some all) unread (Some out) new n served =
+writes_from_blank : (limit : Side) (e : End) (read unread old new : Option (List ℕ)) (n : Machine) →
+    AnswersReader by_machine e read unread old new (blank limit) n →
+    WritesRepliesAlone limit e read old new
+writes_from_blank limit e None unread old new n served = tt
+writes_from_blank limit e (Some all) unread None new n served = tt
+writes_from_blank limit e (Some all) unread (Some out) new n served =
     let written = served.2 in
-    let front = is_front by_machine e blank n served.0 served.1 written served.6 in
-    let are = sym (answers_are_replies blank (lines all)).0
-    ∙ ap (λ l. answers by_machine blank (lines l)) served.3 ∙ front.is in
+    let front = is_front by_machine e (blank limit) n served.0 served.1 written served.6 in
+    let are = sym (answers_are_replies (blank limit) (lines all)).0
+    ∙ ap (λ l. answers by_machine (blank limit) (lines l)) served.3 ∙ front.is in
     (written, front.missing, are, served.5, front.whole)
 
-pub writes_alone : (e : End) (read unread old new : Option (List ℕ)) (m n : Machine) → m ≡ blank
-    → AnswersReader by_machine e read unread old new m n → WritesRepliesAlone e read old new
-writes_alone e read unread old new m n is served =
-    writes_from_blank e read unread old new n
+pub writes_alone : (limit : Side) (e : End) (read unread old new : Option (List ℕ))
+    (m n : Machine) → m ≡ blank limit → AnswersReader by_machine e read unread old new m n →
+    WritesRepliesAlone limit e read old new
+writes_alone limit e read unread old new m n is served =
+    writes_from_blank limit e read unread old new n
     (subst (λ x. AnswersReader by_machine e read unread old new x n) is served)

@@ -1,5 +1,6 @@
 -- The main theorem: what a session with a machine that nobody shares writes for what it reads.
 use Rattle.std.specs.Prelude.{◌≡◌, ℕ, List, [], ◌++◌, Option, Some, IfSome, Result, map}
+use Rattle.cam6_planes.specs.declared.sides.Side.{Side}
 use Rattle.cam6_machine.specs.Machine.{blank}
 use Rattle.cam6_machine.specs.Alone.{replies}
 use Rattle.cam6_machine.specs.declared.commands.Command.{Command}
@@ -14,15 +15,17 @@ use Rattle.cam6_session.specs.declared.sessions.End.TheVariants.{EndOfInput}
 abbrev pub said_in : List ℕ → List (Result Command LineFault)
 said_in all = map command (lines all)
 
--- the texts of a blank machine's replies to all commands among a text's lines, and of the faults of
--- the other lines, in the order of the lines
-abbrev pub answers_alone : List ℕ → List ℕ
-answers_alone all = texts_of (said_in all) (replies blank (commands (said_in all)))
+-- the texts of the replies of a blank machine of this limit to all commands among a text's lines,
+-- and of the faults of the other lines, in the order of the lines
+abbrev pub answers_alone : Side → List ℕ → List ℕ
+answers_alone limit all =
+    texts_of (said_in all) (replies (blank limit) (commands (said_in all)))
 
 -- those for the input's lines were written, or a front of them; all of them where the input's end
 -- was met
-abbrev pub WritesRepliesAlone : End → Option (List ℕ) → Option (List ℕ) → Option (List ℕ) → Type 0
-WritesRepliesAlone end read old new =
+abbrev pub WritesRepliesAlone :
+    Side → End → Option (List ℕ) → Option (List ℕ) → Option (List ℕ) → Type 0
+WritesRepliesAlone limit end read old new =
     IfSome read (λ all. IfSome old (λ out.
-    (written missing : List ℕ) × (answers_alone all ≡ written ++ missing) ×
+    (written missing : List ℕ) × (answers_alone limit all ≡ written ++ missing) ×
     (new ≡ Some (out ++ written)) × (end ≡ EndOfInput → missing ≡ [])))

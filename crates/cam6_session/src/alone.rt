@@ -4,26 +4,28 @@ ghost use Rattle.cam6_session.specs.Headline.{WritesRepliesAlone};
 
 use crate::sessions::{End, serve};
 use cam6_machine::Machine;
+use cam6_planes::Side;
 use std::alloc::Global;
 use std::io::{BufRead, Write};
 
-/// Answers each line of the reader by one line, as a blank machine does that gets all commands
-/// among them. Each look at the reader takes a turn.
+/// Answers each line of the reader by one line, as a blank machine of this limit does that gets all
+/// commands among them. Each look at the reader takes a turn.
 pub fn serve_alone<R: BufRead, W: Write>(
     alloc: Global,
+    limit: Side,
     reader: &mut R,
     writer: &mut W,
     turns: u64,
 ) -> End
-    ensures served { AnswersReaderAlone result (R.remaining reader.old) (R.remaining reader.new)
-        (W.contents writer.old) (W.contents writer.new) }
+    ensures served { AnswersReaderAlone limit result (R.remaining reader.old)
+        (R.remaining reader.new) (W.contents writer.old) (W.contents writer.new) }
     // The texts of the machine's replies to all commands among the input's lines, and of the faults
     // of the other lines, in the order of the lines, were written, or a front of them; all of them
     // where the input's end was met.
-    ensures headline { WritesRepliesAlone result (R.remaining reader.old)
+    ensures headline { WritesRepliesAlone limit result (R.remaining reader.old)
         (W.contents writer.old) (W.contents writer.new) }
 {
-    let Ok(mut machine) = Machine::new(alloc) else {
+    let Ok(mut machine) = Machine::new(alloc, limit) else {
         return End::NoMemory { done: false };
     };
     serve(alloc, reader, writer, &mut machine, turns)

@@ -1,14 +1,17 @@
-//! The addresses that the four cells round the corner of the torus show, for each neighbourhood
-//! with each minor assignment. They see nothing but columns and rows 254, 255, 0 and 1.
+//! The addresses that the four cells round the corner of a torus of each side show, for each
+//! neighbourhood with each minor assignment. They see nothing but the last two columns and rows and
+//! the first two.
 
-use crate::corners::CELLS;
-use cam6_planes::{NoMemory, Planes};
-use cam6_wiring::{Grid, Half, Hood, Minor, Phase, Setting, address_at};
+use crate::corners::{CELLS, SIDES, on_side};
+use crate::within::{address_of, set_row};
+use cam6_planes::{NoMemory, Planes, Side, WORDS};
+use cam6_wiring::{Grid, Half, Hood, Minor, Phase, Setting};
 use std::alloc::Global;
 use std::process::Abort;
 use std::test::Fail;
 
-/// Of each plane rows 254, 255, 0 and 1, and of each row columns 254, 255, 0 and 1.
+/// Of each plane the last two rows and the first two, and of each row the last two columns and the
+/// first two.
 const PICTURE: [[u64; 4]; 4] = [
     [0b1011, 0b0101, 0b1100, 0b0011],
     [0b0110, 0b1100, 0b0011, 0b1001],
@@ -16,14 +19,28 @@ const PICTURE: [[u64; 4]; 4] = [
     [0b0011, 0b1001, 0b0100, 0b1110],
 ];
 
-fn picture(alloc: Global) -> Result<Planes, NoMemory> {
-    let mut planes = Planes::blank(alloc)?;
+fn picture(rt: &impl Abort, alloc: Global, side: Side) -> Result<Planes, NoMemory> {
+    let mut planes = Planes::blank(alloc, side)?;
+    let last = side.words() - 1;
     for (plane, rows) in PICTURE.into_iter().enumerate() {
         for (row, bits) in [254, 255, 0, 1].into_iter().zip(rows) {
-            planes.set_row_words(plane % 4, row % 256, [bits << 62, 0, 0, bits >> 2]);
+            let mut row_words = [0; WORDS];
+            row_words[0] = bits << 62;
+            row_words[last] = bits >> 2;
+            set_row(rt, &mut planes, plane, on_side(side, (0, row)).1, row_words);
         }
     }
     Ok(planes)
+}
+
+/// The picture on a torus of each side.
+fn pictures(rt: &impl Abort, alloc: Global) -> Result<[Planes; 3], NoMemory> {
+    let [small, middle, large] = SIDES;
+    Ok([
+        picture(rt, alloc, small)?,
+        picture(rt, alloc, middle)?,
+        picture(rt, alloc, large)?,
+    ])
 }
 
 /// The address with these bits on lines 0 to 11.
@@ -37,21 +54,22 @@ fn address_with(lines: &str) -> u16 {
 
 fn check_addresses(
     rt: &impl Abort,
-    planes: &Planes,
+    planes: &[Planes; 3],
     hood: Hood,
     minor: Minor,
     setting: Setting,
     lines: &str,
 ) {
-    let Setting { half, grid, phase } = setting;
-    for ((x, y), lines) in CELLS.into_iter().zip(lines.split(' ')) {
-        let (x, y) = (usize::from(x), usize::from(y));
-        let address = address_at(planes, half, hood, minor, grid, phase, x, y);
-        assert_eq!(rt;
-            address,
-            address_with(lines),
-            "{hood:?} {minor:?} {setting:?} {x} {y}"
-        );
+    for planes in planes {
+        for (cell, lines) in CELLS.into_iter().zip(lines.split(' ')) {
+            let looking = on_side(planes.side(), cell);
+            let address = address_of(rt, planes, hood, minor, setting, looking);
+            assert_eq!(rt;
+                address,
+                address_with(lines),
+                "{hood:?} {minor:?} {setting:?} {looking:?}"
+            );
+        }
     }
 }
 
@@ -62,7 +80,7 @@ fn setting(half: Half, grid: Grid, phase: Phase) -> Setting {
 // By hand from the picture, name by name in the order of the profile's tables of address bits.
 #[test]
 fn addresses_beside(rt: HostRuntime) -> Result<(), Fail> {
-    let planes = picture(rt.alloc())?;
+    let planes = pictures(&rt, rt.alloc())?;
     let (even, odd) = (Grid::Even, Grid::Odd);
     for (hood, minor, setting, lines) in [
         (
@@ -110,7 +128,7 @@ fn addresses_beside(rt: HostRuntime) -> Result<(), Fail> {
 // By hand in the same way, each name by the cell's place in its block.
 #[test]
 fn addresses_in_blocks(rt: HostRuntime) -> Result<(), Fail> {
-    let planes = picture(rt.alloc())?;
+    let planes = pictures(&rt, rt.alloc())?;
     let (even, odd) = (Grid::Even, Grid::Odd);
     for (hood, minor, setting, lines) in [
         (

@@ -3,7 +3,7 @@
 
 use cam6_forth::{ParseFault, Rule, parse};
 use cam6_machine::{Command, Machine, Now, Reply, replies_alone};
-use cam6_planes::Planes;
+use cam6_planes::{Planes, Side};
 use cam6_session::{Ask, End, Line, LineBuf, next_line, serve, serve_alone};
 use cam6_table::{Code, Table};
 use cam6_wire::{command_shown, read_command, reply_text};
@@ -14,7 +14,7 @@ use std::test::Fail;
 
 #[test]
 fn planes_are_blank(rt: HostRuntime) -> Result<(), Fail> {
-    let planes = Planes::blank(rt.alloc())?;
+    let planes = Planes::blank(rt.alloc(), Side::S256)?;
     assert!(rt; !planes.bit(0, 0, 0));
     Ok(())
 }
@@ -43,7 +43,7 @@ fn tables_are_blank(rt: HostRuntime) -> Result<(), Fail> {
 // No cycle is set.
 #[test]
 fn machines_answer_now(rt: HostRuntime) -> Result<(), Fail> {
-    let mut machine = Machine::new(rt.alloc())?;
+    let mut machine = Machine::new(rt.alloc(), Side::S256)?;
     let now = machine.now(Command::Run { n: 0 })?;
     assert!(rt; matches!(&now, Now::Reply(Reply::Fault(_))));
     Ok(())
@@ -51,7 +51,7 @@ fn machines_answer_now(rt: HostRuntime) -> Result<(), Fail> {
 
 #[test]
 fn machines_answer(rt: HostRuntime) -> Result<(), Fail> {
-    let mut machine = Machine::new(rt.alloc())?;
+    let mut machine = Machine::new(rt.alloc(), Side::S256)?;
     let reply = machine.reply_to(Command::Run { n: 0 })?;
     assert!(rt; matches!(&reply, Reply::Fault(_)));
     let reply = machine.ask(Command::Run { n: 0 })?;
@@ -63,7 +63,7 @@ fn machines_answer(rt: HostRuntime) -> Result<(), Fail> {
 fn lists_are_answered(rt: HostRuntime) -> Result<(), Fail> {
     let mut commands = Vec::new(rt.alloc());
     commands.push(Command::Run { n: 0 })?;
-    let (replies, _machine) = replies_alone(rt.alloc(), commands)?;
+    let (replies, _machine) = replies_alone(rt.alloc(), Side::S256, commands)?;
     assert!(rt; matches!(replies.as_slice(), [Reply::Fault(_)]));
     Ok(())
 }
@@ -106,7 +106,7 @@ const REFUSED: &[u8] = b"{\"fault\":63}\n";
 #[test]
 fn machines_are_served(rt: HostRuntime) -> Result<(), Fail> {
     let alloc = rt.alloc();
-    let mut machine = Machine::new(alloc)?;
+    let mut machine = Machine::new(alloc, Side::S256)?;
     let mut writer = Vec::new(alloc);
     let mut reader = NO_STEPS.as_bytes();
     let end = serve(alloc, &mut reader, &mut writer, &mut machine, 9);
@@ -119,7 +119,7 @@ fn machines_are_served(rt: HostRuntime) -> Result<(), Fail> {
 fn sessions_are_served(rt: HostRuntime) {
     let mut writer = Vec::new(rt.alloc());
     let mut reader = NO_STEPS.as_bytes();
-    let end = serve_alone(rt.alloc(), &mut reader, &mut writer, 9);
+    let end = serve_alone(rt.alloc(), Side::S256, &mut reader, &mut writer, 9);
     assert_eq!(rt; end, End::EndOfInput);
     assert_eq!(rt; writer.as_slice(), REFUSED);
 }

@@ -1,6 +1,7 @@
 //! Corners of blocks, turns in them, and addresses round a lone cell, worked out by hand.
 
-use cam6_planes::{NoMemory, Planes};
+use crate::within::address_of;
+use cam6_planes::{NoMemory, Planes, Side};
 use cam6_wiring::{
     Compass, Corner, Grid, Half, Hood, Level, Minor, Name, Phase, Setting, Turn, address_at,
     corner_of, in_block, seen,
@@ -53,8 +54,8 @@ fn turns_in_a_block(rt: HostRuntime) {
 }
 
 fn one_cell(alloc: std::alloc::Global) -> Result<Planes, NoMemory> {
-    let mut planes = Planes::blank(alloc)?;
-    planes.set_row_words(0, 0, [1 << 63, 0, 0, 0]);
+    let mut planes = Planes::blank(alloc, Side::S256)?;
+    planes.set_row_words(0, 0, [1 << 63, 0, 0, 0, 0, 0, 0, 0]);
     Ok(planes)
 }
 
@@ -64,7 +65,7 @@ fn addresses_round_a_cell(rt: HostRuntime) -> Result<(), Fail> {
     let planes = one_cell(rt.alloc())?;
     let (moore, block) = (Hood::Moore, Hood::Margolus);
     for (half, hood, grid, x, y, want) in [
-        (Half::A, moore, Grid::Even, 0u8, 0u8, 1),
+        (Half::A, moore, Grid::Even, 0, 0, 1),
         (Half::A, moore, Grid::Even, 0, 1, 4),
         (Half::A, moore, Grid::Even, 0, 255, 8),
         (Half::A, moore, Grid::Even, 1, 0, 16),
@@ -76,8 +77,9 @@ fn addresses_round_a_cell(rt: HostRuntime) -> Result<(), Fail> {
         (Half::A, block, Grid::Odd, 255, 255, 16),
         (Half::A, block, Grid::Odd, 255, 0, 8),
     ] {
-        let (x, y) = (usize::from(x), usize::from(y));
-        let address = address_at(&planes, half, hood, Minor::Centers, grid, Phase::P0, x, y);
+        let phase = Phase::P0;
+        let setting = Setting { half, grid, phase };
+        let address = address_of(&rt, &planes, hood, Minor::Centers, setting, (x, y));
         assert_eq!(rt; address, want, "{half:?} {hood:?} {grid:?} {x} {y}");
     }
     let setting = Setting {

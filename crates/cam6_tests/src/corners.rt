@@ -1,17 +1,41 @@
-//! What the four cells round the corner of the torus see under each name, in both halves, on both
-//! grids and in each phase.
+//! What the four cells round the corner of a torus of each side see under each name, in both
+//! halves, on both grids and in each phase.
 
 use crate::rows::lone;
-use cam6_planes::Planes;
-use cam6_wiring::{Compass, Grid, Half, Level, Name, Phase, Setting, Turn, seen};
+use crate::within::{seen_at, set_row};
+use cam6_planes::{NoMemory, Planes, Side, WORDS};
+use cam6_wiring::{Compass, Grid, Half, Level, Name, Phase, Setting, Turn};
+use std::alloc::Global;
 use std::process::Abort;
 use std::test::Fail;
 
-/// A cell's column and row.
+/// A cell's column and row, where 255 is the last and 254 the last but one.
 pub(crate) type Place = (u8, u8);
+
+pub(crate) const SIDES: [Side; 3] = [Side::S128, Side::S256, Side::S512];
 
 /// The cells that look, in the order of each table here.
 pub(crate) const CELLS: [Place; 4] = [(0, 0), (255, 0), (0, 255), (255, 255)];
+
+/// The cell's column and row on a torus of this side.
+pub(crate) fn on_side(side: Side, place: Place) -> (usize, usize) {
+    let at = |coordinate: u8| match coordinate {
+        254 => side.number() - 2,
+        255 => side.number() - 1,
+        _ => usize::from(coordinate % 2),
+    };
+    (at(place.0), at(place.1))
+}
+
+/// Blank planes of each side.
+fn blank_planes(alloc: Global) -> Result<[Planes; 3], NoMemory> {
+    let [small, middle, large] = SIDES;
+    Ok([
+        Planes::blank(alloc, small)?,
+        Planes::blank(alloc, middle)?,
+        Planes::blank(alloc, large)?,
+    ])
+}
 
 fn beside(compass: Compass) -> [Name; 2] {
     [
@@ -38,25 +62,22 @@ fn check_places(
     places: [Place; 4],
 ) {
     let plane = usize::from(plane % 4);
-    for ((x, y), (column, row)) in CELLS.into_iter().zip(places) {
-        let (x, y, row) = (usize::from(x), usize::from(y), usize::from(row));
-        planes.set_row_words(plane, row, lone(column));
-        assert!(rt;
-            seen(planes, setting, name, x, y),
-            "{setting:?} {name:?} {x} {y}"
-        );
-        planes.set_row_words(plane, row, [0; 4]);
-        assert!(rt;
-            !seen(planes, setting, name, x, y),
-            "{setting:?} {name:?} {x} {y}"
-        );
+    for (cell, place) in CELLS.into_iter().zip(places) {
+        let looking = on_side(planes.side(), cell);
+        let (column, row) = on_side(planes.side(), place);
+        set_row(rt, planes, plane, row, lone(column));
+        let got = seen_at(rt, planes, setting, name, looking);
+        assert!(rt; got, "{setting:?} {name:?} {looking:?}");
+        set_row(rt, planes, plane, row, [0; WORDS]);
+        let got = seen_at(rt, planes, setting, name, looking);
+        assert!(rt; !got, "{setting:?} {name:?} {looking:?}");
     }
 }
 
 /// Unprimed names read planes 0 and 2, primed ones planes 1 and 3.
 fn check_names(
     rt: &impl Abort,
-    planes: &mut Planes,
+    planes: &mut [Planes; 3],
     grid: Grid,
     names: [Name; 2],
     places: [Place; 4],
@@ -69,21 +90,17 @@ fn check_names(
         (Half::B, primed, 3),
     ] {
         let phase = Phase::P0;
-        check_places(
-            rt,
-            planes,
-            Setting { half, grid, phase },
-            name,
-            plane,
-            places,
-        );
+        let setting = Setting { half, grid, phase };
+        for planes in planes.iter_mut() {
+            check_places(rt, planes, setting, name, plane, places);
+        }
     }
 }
 
 // By hand: a row further up is one less, a column further west is one less, round the torus.
 #[test]
 fn places_beside(rt: HostRuntime) -> Result<(), Fail> {
-    let mut planes = Planes::blank(rt.alloc())?;
+    let mut planes = blank_planes(rt.alloc())?;
     for (compass, places) in [
         (Compass::Center, [(0, 0), (255, 0), (0, 255), (255, 255)]),
         (Compass::North, [(0, 255), (255, 255), (0, 254), (255, 254)]),
@@ -109,7 +126,7 @@ fn places_beside(rt: HostRuntime) -> Result<(), Fail> {
 // of a block of its own; on the odd grid they are one block, and (255, 255) is its upper left cell.
 #[test]
 fn places_in_blocks(rt: HostRuntime) -> Result<(), Fail> {
-    let mut planes = Planes::blank(rt.alloc())?;
+    let mut planes = blank_planes(rt.alloc())?;
     for (turn, even, odd) in [
         (
             Turn::Clockwise,
@@ -136,7 +153,7 @@ fn places_in_blocks(rt: HostRuntime) -> Result<(), Fail> {
 // &CENTER of half A is in plane 2, of half B in plane 0; with a prime, one plane further up.
 #[test]
 fn centres_of_the_other_half(rt: HostRuntime) -> Result<(), Fail> {
-    let mut planes = Planes::blank(rt.alloc())?;
+    let mut planes = blank_planes(rt.alloc())?;
     for (half, level, plane) in [
         (Half::A, Level::Lower, 2),
         (Half::A, Level::Upper, 3),
@@ -145,14 +162,10 @@ fn centres_of_the_other_half(rt: HostRuntime) -> Result<(), Fail> {
     ] {
         let (grid, phase) = (Grid::Odd, Phase::P3);
         let setting = Setting { half, grid, phase };
-        check_places(
-            &rt,
-            &mut planes,
-            setting,
-            Name::MinorCenter(level),
-            plane,
-            CELLS,
-        );
+        for planes in planes.iter_mut() {
+            let name = Name::MinorCenter(level);
+            check_places(&rt, planes, setting, name, plane, CELLS);
+        }
     }
     Ok(())
 }
@@ -160,7 +173,7 @@ fn centres_of_the_other_half(rt: HostRuntime) -> Result<(), Fail> {
 /// The bits that the cells see of blank planes, in either half.
 fn check_blank(
     rt: &impl Abort,
-    planes: &Planes,
+    planes: &[Planes; 3],
     grid: Grid,
     phase: Phase,
     names: [Name; 2],
@@ -169,10 +182,12 @@ fn check_blank(
     for half in [Half::A, Half::B] {
         let setting = Setting { half, grid, phase };
         for name in names {
-            for ((x, y), bit) in CELLS.into_iter().zip(bits) {
-                let (x, y) = (usize::from(x), usize::from(y));
-                let got = u8::from(seen(planes, setting, name, x, y));
-                assert_eq!(rt; got, bit, "{setting:?} {name:?} {x} {y}");
+            for planes in planes {
+                for (cell, bit) in CELLS.into_iter().zip(bits) {
+                    let looking = on_side(planes.side(), cell);
+                    let got = u8::from(seen_at(rt, planes, setting, name, looking));
+                    assert_eq!(rt; got, bit, "{setting:?} {name:?} {looking:?}");
+                }
             }
         }
     }
@@ -181,7 +196,7 @@ fn check_blank(
 // By hand: HORZ is 1 in a block's right column, VERT in its lower row; PHASE is the low bit.
 #[test]
 fn names_that_read_no_plane(rt: HostRuntime) -> Result<(), Fail> {
-    let planes = Planes::blank(rt.alloc())?;
+    let planes = blank_planes(rt.alloc())?;
     let horz = [Name::Horz, Name::MinorHorz];
     let vert = [Name::Vert, Name::MinorVert];
     for phase in [Phase::P0, Phase::P3] {

@@ -2,7 +2,7 @@
 //! no memory at one of its calls.
 
 use cam6_machine::{Command, Machine, Reply};
-use cam6_planes::NoMemory;
+use cam6_planes::{NoMemory, Side};
 use cam6_session::{Ask, End, serve};
 use std::alloc::Global;
 use std::io;
@@ -17,7 +17,7 @@ pub(crate) struct Desk {
 
 impl Desk {
     pub(crate) fn new(alloc: Global, answers: usize) -> Result<Desk, NoMemory> {
-        let machine = Machine::new(alloc)?;
+        let machine = Machine::new(alloc, Side::S256)?;
         Ok(Desk { machine, answers })
     }
 }

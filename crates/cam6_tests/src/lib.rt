@@ -29,3 +29,5 @@ mod rows;
 mod sessions;
 #[cfg(test)]
 mod steps;
+#[cfg(test)]
+mod within;

@@ -1,13 +1,23 @@
 //! Rows of planes: one is written, and all others stay.
 
-use cam6_planes::{Planes, Row, SIDE, WORDS};
+use crate::within::{row_of, set_row};
+use cam6_planes::{DIGITS, Planes, Row, Side, WORDS};
 use std::test::Fail;
 
 // Columns 0, 131, 132 and 255: the bytes 80, 18 and 01 at 0, 16 and 31.
-const ROW: Row = [0x8000_0000_0000_0000, 0, 0x1800_0000_0000_0000, 1];
+const ROW: Row = [
+    0x8000_0000_0000_0000,
+    0,
+    0x1800_0000_0000_0000,
+    1,
+    0,
+    0,
+    0,
+    0,
+];
 
 // By hand, four columns to a digit from column 0 on.
-const TEXT: [u8; 64] = *b"8000000000000000000000000000000018000000000000000000000000000001";
+const TEXT: &[u8] = b"8000000000000000000000000000000018000000000000000000000000000001";
 
 #[test]
 fn writes_one_row(rt: HostRuntime) -> Result<(), Fail> {
@@ -15,15 +25,18 @@ fn writes_one_row(rt: HostRuntime) -> Result<(), Fail> {
     bits[0] = 0x80;
     bits[16] = 0x18;
     bits[31] = 0x01;
-    let mut planes = Planes::blank(rt.alloc())?;
+    let mut planes = Planes::blank(rt.alloc(), Side::S256)?;
     planes.put_row(2, 10, &bits);
-    for x in 0..SIDE {
+    for x in 0..256 {
         let want = x == 0 || x == 131 || x == 132 || x == 255;
         assert_eq!(rt; planes.bit(2, x, 10), want, "column {x}");
     }
-    assert_eq!(rt; planes.row_hex(2, 10), TEXT);
+    let mut text = [b'-'; DIGITS];
+    assert_eq!(rt; planes.row_hex(2, 10, &mut text), 64);
+    assert_eq!(rt; &text[..64], TEXT);
+    assert_eq!(rt; &text[64..], [b'-'; 64].as_slice());
     for plane in 0..4 {
-        for row in 0..SIDE {
+        for row in 0..256 {
             let want = if plane == 2 && row == 10 {
                 ROW
             } else {
@@ -42,30 +55,31 @@ fn writes_one_row(rt: HostRuntime) -> Result<(), Fail> {
 // The rows beside it, and the same row of other planes, stay.
 #[test]
 fn a_row_takes_the_place_of_one(rt: HostRuntime) -> Result<(), Fail> {
-    let mut planes = Planes::blank(rt.alloc())?;
+    let mut planes = Planes::blank(rt.alloc(), Side::S256)?;
     for (plane, row) in [(1, 255), (2, 0), (2, 254), (2, 255), (3, 255)] {
-        planes.set_row_words(plane, row, ROW);
+        set_row(&rt, &mut planes, plane, row, ROW);
     }
-    planes.set_row_words(2, 255, [0, 7, 0, 0]);
+    set_row(&rt, &mut planes, 2, 255, [0, 7, 0, 0, 0, 0, 0, 0]);
     for (plane, row, want) in [
         (0, 255, [0; WORDS]),
         (1, 255, ROW),
         (2, 0, ROW),
         (2, 254, ROW),
-        (2, 255, [0, 7, 0, 0]),
+        (2, 255, [0, 7, 0, 0, 0, 0, 0, 0]),
         (3, 255, ROW),
     ] {
-        assert_eq!(rt; planes.row_words(plane, row), want, "row {row} of {plane}");
+        let got = row_of(&rt, &planes, plane, row);
+        assert_eq!(rt; got, want, "row {row} of {plane}");
     }
     Ok(())
 }
 
 #[test]
 fn copies(rt: HostRuntime) -> Result<(), Fail> {
-    let mut planes = Planes::blank(rt.alloc())?;
+    let mut planes = Planes::blank(rt.alloc(), Side::S256)?;
     planes.set_row_words(0, 0, ROW);
     planes.set_row_words(3, 255, ROW);
-    let mut copy = Planes::blank(rt.alloc())?;
+    let mut copy = Planes::blank(rt.alloc(), Side::S256)?;
     copy.set_row_words(1, 7, ROW);
     copy.copy_from(&planes);
     planes.set_row_words(0, 0, [0; WORDS]);
@@ -73,5 +87,23 @@ fn copies(rt: HostRuntime) -> Result<(), Fail> {
     assert_eq!(rt; copy.row_words(3, 255), ROW);
     assert_eq!(rt; copy.row_words(1, 7), [0; WORDS]);
     assert_eq!(rt; planes.row_words(0, 0), [0; WORDS]);
+    Ok(())
+}
+
+// At a side of 128 a row has two words, and what is written past them isn't there.
+#[test]
+fn sides_change(rt: HostRuntime) -> Result<(), Fail> {
+    let mut planes = Planes::blank(rt.alloc(), Side::S512)?;
+    planes.set_row_words(0, 511, [1; WORDS]);
+    assert_eq!(rt; planes.row_words(0, 511), [1; WORDS]);
+    planes.set_side(Side::S128);
+    assert_eq!(rt; planes.row_words(0, 127), [0; WORDS]);
+    planes.set_row_words(0, 127, [1; WORDS]);
+    let want = [1, 1, 0, 0, 0, 0, 0, 0];
+    assert_eq!(rt; planes.row_words(0, 127), want);
+    let mut copy = Planes::blank(rt.alloc(), Side::S256)?;
+    copy.copy_from(&planes);
+    assert!(rt; copy.side() == Side::S128 && copy.limit() == Side::S256);
+    assert_eq!(rt; copy.row_words(0, 127), want);
     Ok(())
 }

@@ -1,10 +1,11 @@
 //! One row of a plane: its columns moved round the torus, and as bytes, words, digits and columns.
 
-use cam6_planes::{Planes, Row, SIDE, WORDS, east, west};
+use cam6_planes::{DIGITS, Planes, Row, Side, WORDS, east, west};
 use std::test::Fail;
 
-pub(crate) fn lone(column: u8) -> Row {
-    let column = usize::from(column);
+/// A row of which one column is set.
+pub(crate) fn lone(column: usize) -> Row {
+    let column = column % 512;
     let mut row = [0; WORDS];
     row[column / 64] = 1 << (63 - column % 64);
     row
@@ -13,22 +14,28 @@ pub(crate) fn lone(column: u8) -> Row {
 // A lone column, with the columns to its east and to its west on the ring, by hand.
 #[test]
 fn lone_columns_move(rt: HostRuntime) {
-    for (column, its_east, its_west) in [
-        (0u8, 1, 255),
-        (1, 2, 0),
-        (63, 64, 62),
-        (64, 65, 63),
-        (100, 101, 99),
-        (127, 128, 126),
-        (128, 129, 127),
-        (191, 192, 190),
-        (192, 193, 191),
-        (254, 255, 253),
-        (255, 0, 254),
+    for (side, column, its_east, its_west) in [
+        (Side::S128, 0usize, 1, 127),
+        (Side::S128, 63, 64, 62),
+        (Side::S128, 64, 65, 63),
+        (Side::S128, 127, 0, 126),
+        (Side::S256, 0, 1, 255),
+        (Side::S256, 1, 2, 0),
+        (Side::S256, 100, 101, 99),
+        (Side::S256, 127, 128, 126),
+        (Side::S256, 128, 129, 127),
+        (Side::S256, 191, 192, 190),
+        (Side::S256, 192, 193, 191),
+        (Side::S256, 254, 255, 253),
+        (Side::S256, 255, 0, 254),
+        (Side::S512, 0, 1, 511),
+        (Side::S512, 255, 256, 254),
+        (Side::S512, 256, 257, 255),
+        (Side::S512, 511, 0, 510),
     ] {
         let row = lone(column);
-        assert_eq!(rt; west(&row), lone(its_east), "column {column}");
-        assert_eq!(rt; east(&row), lone(its_west), "column {column}");
+        assert_eq!(rt; west(&row, side), lone(its_east), "column {column}");
+        assert_eq!(rt; east(&row, side), lone(its_west), "column {column}");
     }
 }
 
@@ -38,9 +45,13 @@ const ROW: Row = [
     0xFEDC_BA98_7654_3210,
     0,
     0x8000_0000_0000_0001,
+    0,
+    0,
+    0,
+    0,
 ];
 
-const TEXT: [u8; 64] = *b"0123456789abcdeffedcba987654321000000000000000008000000000000001";
+const TEXT: &[u8] = b"0123456789abcdeffedcba987654321000000000000000008000000000000001";
 
 const FIRST_BYTES: [u8; 16] = [
     0x01, 0x23, 0x45, 0x67, 0x89, 0xAB, 0xCD, 0xEF, 0xFE, 0xDC, 0xBA, 0x98, 0x76, 0x54, 0x32, 0x10,
@@ -55,19 +66,23 @@ fn digits_bytes_and_words(rt: HostRuntime) -> Result<(), Fail> {
     }
     bytes[24] = 0x80;
     bytes[31] = 0x01;
-    let mut planes = Planes::blank(rt.alloc())?;
+    let mut planes = Planes::blank(rt.alloc(), Side::S256)?;
     planes.put_row(0, 0, &bytes);
     assert_eq!(rt; planes.row_words(0, 0), ROW);
-    assert_eq!(rt; planes.row_hex(0, 0), TEXT);
+    let mut text = [0; DIGITS];
+    assert_eq!(rt; planes.row_hex(0, 0, &mut text), 64);
+    assert_eq!(rt; &text[..64], TEXT);
     planes.set_row_words(3, 255, ROW);
-    assert_eq!(rt; planes.row_hex(3, 255), TEXT);
+    let mut text = [0; DIGITS];
+    assert_eq!(rt; planes.row_hex(3, 255, &mut text), 64);
+    assert_eq!(rt; &text[..64], TEXT);
     Ok(())
 }
 
 // By hand: the digits 0, 1, 2 and 3 are columns 0 to 15, f and e columns 64 to 71.
 #[test]
 fn columns_of_digits(rt: HostRuntime) -> Result<(), Fail> {
-    let mut planes = Planes::blank(rt.alloc())?;
+    let mut planes = Planes::blank(rt.alloc(), Side::S256)?;
     planes.set_row_words(1, 7, ROW);
     for (first, columns) in [
         (0u8, b"0000000100100011".as_slice()),
@@ -76,7 +91,7 @@ fn columns_of_digits(rt: HostRuntime) -> Result<(), Fail> {
         (248, b"00000001"),
     ] {
         for (place, digit) in columns.iter().enumerate() {
-            let column = (usize::from(first) + place % 16) % SIDE;
+            let column = (usize::from(first) + place % 16) % 256;
             assert_eq!(rt; planes.bit(1, column, 7), *digit == b'1', "column {column}");
         }
     }

@@ -2,7 +2,7 @@
 
 use cam6_forth::parse;
 use cam6_machine::{Command, Machine, NamedEntries, NamedEntry, Now, Reply};
-use cam6_planes::NoMemory;
+use cam6_planes::{NoMemory, Side};
 use cam6_table::{Code, MAX_TURNS, eval};
 use cam6_wire::LineFault;
 use cam6_wiring::{Grid, Half, Hood, Minor};
@@ -31,7 +31,7 @@ fn left(machine: &mut Machine, command: Command) -> Result<Option<u16>, NoMemory
 
 /// A machine with that cycle, if a blank one sets it at once.
 fn with_cycle(alloc: Global) -> Result<Option<Machine>, NoMemory> {
-    let mut machine = Machine::new(alloc)?;
+    let mut machine = Machine::new(alloc, Side::S256)?;
     let is_answered = left(&mut machine, cycle(alloc)?)?.is_none();
     Ok(if is_answered { Some(machine) } else { None })
 }
@@ -64,7 +64,7 @@ fn steps_are_left(rt: HostRuntime) -> Result<(), Fail> {
 // Without a cycle a run is refused, and a plane is shown at once.
 #[test]
 fn no_steps_are_left(rt: HostRuntime) -> Result<(), Fail> {
-    let mut machine = Machine::new(rt.alloc())?;
+    let mut machine = Machine::new(rt.alloc(), Side::S256)?;
     assert_eq!(rt; left(&mut machine, Command::Run { n: 1 }), Ok(None));
     assert_eq!(rt; left(&mut machine, Command::Plane { plane: 4 }), Ok(None));
     Ok(())

@@ -3,7 +3,8 @@ use Rattle.std.proofs.Common.{◌≡◌, ◌≤◌, ℕ, List, [], ◌∷◌, re
 use Rattle.serde_json.specs.Data.{depth, items_depth}
 use Rattle.serde_json.specs.Read.{max_depth}
 use Rattle.cam6_machine.specs.declared.replies.Reply.{Reply}
-use Rattle.cam6_machine.specs.declared.replies.Reply.TheVariants.{Set, Rule, Cycle, Run, Plane}
+use Rattle.cam6_machine.specs.declared.replies.Reply.TheVariants.{Set, Rule, Cycle, Side, Run}
+use Rattle.cam6_machine.specs.declared.replies.Reply.TheVariants.{Plane}
 use Rattle.cam6_machine.specs.declared.replies.Reply.TheVariants.{Fault, RuleText, RuleStops}
 use Rattle.cam6_wire.specs.Replies.{texts, reply_data}
 
@@ -15,6 +16,7 @@ pub flat_reply : (reply : Reply) → depth (reply_data reply) ≤ max_depth
 flat_reply Set = omega arith
 flat_reply Rule = omega arith
 flat_reply Cycle = omega arith
+flat_reply Side = omega arith
 flat_reply (Run position) = omega arith
 flat_reply (Plane rows) = omega (arith, flat_texts rows)
 flat_reply (Fault fault) = omega arith

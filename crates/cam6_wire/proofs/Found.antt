@@ -1,11 +1,14 @@
 -- What stands at a key, where something is read there.
-use Rattle.std.proofs.Common.{◌≡◌, ℕ, List, cond, ◌==◌, Option, Some, None, IfSome}
+use Rattle.std.proofs.Common.{◌≡◌, ℕ, ◌*◌, ◌/◌, length, List, cond, ◌==◌, Option, Some, None}
+use Rattle.std.proofs.Common.{IfSome}
 use Rattle.std.proofs.Common.{option_and_then, Result, Ok, Err, bytes_eq, refl, ap, ◌∙◌}
 use Rattle.std.specs.Result.{result_ok}
 use Rattle.std.proofs.lemmas.Option.{IfSome_then}
 use Rattle.std.proofs.lemmas.Bool.Decides.{Decides-eqb}
 use Rattle.std.proofs.lemmas.Slice.Eq.{bytes_eq-Decides}
 use Rattle.hex.specs.Hex.{decode_sized}
+use Rattle.cam6_planes.specs.Side.{side_number, side_of}
+use Rattle.cam6_planes.specs.declared.sides.Side.{Side}
 use Rattle.hex.specs.declared.error.FromHexError.{FromHexError}
 use Rattle.serde_json.specs.Data.{Data, null, boolean, number, string, array, object}
 use Rattle.serde_json.specs.Data.{unsigned, negative, float, Members}
@@ -15,7 +18,7 @@ use Rattle.cam6_wiring.specs.declared.wirings.Hood.TheVariants.{Moore, VonNeuman
 use Rattle.cam6_wiring.specs.declared.wirings.Hood.TheVariants.{MargolusPhase, MargolusHorzVert}
 use Rattle.cam6_wiring.specs.declared.wirings.Minor.TheVariants.{Centers, Phases, HorzVert}
 use Rattle.cam6_wiring.specs.declared.blocks.Grid.TheVariants.{Even, Odd}
-use Rattle.cam6_wire.specs.Fields.{count, has_size, number_at, text_at, bits_at, ◌>>=◌}
+use Rattle.cam6_wire.specs.Fields.{count, has_size, number_at, text_at, bits_of, bits_at, ◌>>=◌}
 use Rattle.cam6_wire.specs.Replies.{natural}
 use Rattle.cam6_wire.specs.Wirings.{half_text, hood_text, minor_text, grid_text}
 use Rattle.cam6_wire.specs.Wirings.{half_named, hood_named, minor_named, grid_named}
@@ -55,20 +58,29 @@ text_found key d = at_key string as_str text_in (get key d)
 
 abbrev pub AreDigits : List ℕ → Data → List ℕ → Type 0
 AreDigits key d bits =
-    (digits : List ℕ) × (decode_sized digits 32 ≡ Ok bits) × (get key d ≡ Some (string digits))
+    (side : Side) × (digits : List ℕ) × (decode_sized digits (side_number side / 8) ≡ Ok bits) ×
+    (get key d ≡ Some (string digits))
 
-bits_in : (key digits : List ℕ) (d : Data) (r : Result (List ℕ) FromHexError) →
-    decode_sized digits 32 ≡ r → get key d ≡ Some (string digits) →
-    IfSome (result_ok r) (AreDigits key d)
-bits_in key digits d (Ok bits) is found = (digits, is, found)
-bits_in key digits d (Err fault) is found = tt
+bits_in : (key digits : List ℕ) (d : Data) → get key d ≡ Some (string digits) →
+    IfSome (bits_of digits) (AreDigits key d)
+bits_in key digits d found = by_side (side_of (4 * length digits))
+  where
+    by_result : (side : Side) (r : Result (List ℕ) FromHexError) →
+        decode_sized digits (side_number side / 8) ≡ r →
+        IfSome (result_ok r) (AreDigits key d)
+    by_result side (Ok bits) is = (side, digits, is, found)
+    by_result side (Err fault) is = tt
+
+    by_side : (o : Option Side) →
+        IfSome (o >>= λ side. result_ok (decode_sized digits (side_number side / 8)))
+        (AreDigits key d)
+    by_side None = tt
+    by_side (Some side) = by_result side (decode_sized digits (side_number side / 8)) refl
 
 pub bits_found : (key : List ℕ) (d : Data) → IfSome (bits_at key d) (AreDigits key d)
 bits_found key d =
     of_step (λ text. get key d ≡ Some (string text)) (AreDigits key d)
-    (λ text. result_ok (decode_sized text 32))
-    (λ text found. bits_in key text d (decode_sized text 32) refl found)
-    (text_at key d) (text_found key d)
+    bits_of (λ text found. bits_in key text d found) (text_at key d) (text_found key d)
 
 -- a text that is one of a list of names
 one_of : {A : Type 0} (shown : A → List ℕ) (text : List ℕ) (a : A) (later : Option A) →

@@ -12,6 +12,7 @@ use Rattle.cam6_wiring.specs.Wiring.{wired}
 use Rattle.cam6_wiring.specs.declared.wirings.Wiring.{Wiring}
 use Rattle.cam6_machine.specs.declared.commands.Command.{Command}
 use Rattle.cam6_machine.specs.declared.commands.Command.TheVariants.{Set, Rule, Cycle, Run, Plane}
+use Rattle.cam6_machine.specs.declared.commands.Command.TheVariants.{Side as SetSide}
 use Rattle.cam6_wire.specs.declared.faults.LineFault.{LineFault}
 use Rattle.cam6_wire.specs.declared.faults.LineFault.TheVariants.{NoCommand, TooLong}
 use Rattle.cam6_wire.specs.Fields.{count, number_at, text_at, bits_at, ◌>>=◌}
@@ -22,7 +23,8 @@ use Rattle.cam6_wire.specs.Entries.{entries_at}
 use Rattle.cam6_wire.specs.Fragment.{is_in_fragment}
 use Rattle.cam6_wire.specs.Limits.{max_line}
 use Rattle.cam6_wire.specs.Commands.{set_fields, set_of, rule_fields, rule_of, cycle_of, run_of}
-use Rattle.cam6_wire.specs.Commands.{plane_of, by_word, command_in, from_value, value_of, command}
+use Rattle.cam6_wire.specs.Commands.{plane_of, side_of, by_word, command_in, from_value, value_of}
+use Rattle.cam6_wire.specs.Commands.{command}
 use Rattle.cam6_wire.specs.Shown.{Shows}
 use Rattle.cam6_wire.specs.Laws.{SaidIsShown}
 use Rattle.cam6_wire.proofs.Steps.{of_map, of_step, of_value, of_test, of_three}
@@ -46,13 +48,14 @@ set_held held same given =
     (λ plane row bits at_plane at_row at_bits. (
       at_bits.0,
       at_bits.1,
+      at_bits.2,
       these
-          (member (codes "bits") (string at_bits.0)
+          (member (codes "bits") (string at_bits.1)
           (member (codes "do") (string (codes "set"))
           (member (codes "plane") (natural plane) (member (codes "row") (natural row) no_members))))
           held
           ((refl, (refl, (refl, tt))), ((refl, (refl, tt)), ((refl, tt), (tt, tt))))
-          same given.0 (at_bits.2, (given.1, (at_plane, (at_row, tt)))),
+          same given.0 (at_bits.3, (given.1, (at_plane, (at_row, tt)))),
     ))
     (number_at (codes "plane") (object held)) (number_at (codes "row") (object held))
     (bits_at (codes "bits") (object held))
@@ -95,6 +98,23 @@ unfolding plane_of
 plane_shown d given =
     of_object 2 (λ x. option_map Plane (number_at (codes "plane") x)) (HasWord (codes "plane"))
     Shows plane_held d given
+
+side_held : (held : Members) → count held ≡ 2 → HasWord (codes "side") (object held) →
+    IfSome (option_map SetSide (number_at (codes "side") (object held))) (Shows (object held))
+side_held held same given =
+    of_map (λ n. get (codes "side") (object held) ≡ Some (natural n)) (Shows (object held)) SetSide
+    (λ n at_side.
+    these
+    (member (codes "do") (string (codes "side"))
+    (member (codes "side") (natural n) no_members))
+    held ((refl, tt), (tt, tt)) same given.0 (given.1, (at_side, tt)))
+    (number_at (codes "side") (object held)) (number_found (codes "side") (object held))
+
+side_shown : (d : Data) → HasWord (codes "side") d → IfSome (side_of d) (Shows d)
+unfolding side_of
+side_shown d given =
+    of_object 2 (λ x. option_map SetSide (number_at (codes "side") x)) (HasWord (codes "side"))
+    Shows side_held d given
 
 -- the wiring of a rule
 abbrev HasWiring : Data → Wiring → Type 0
@@ -181,7 +201,8 @@ word_shown word d ordered at =
     (of_word word (codes "rule") d (rule_of d) _ ordered at (rule_shown d)
     (of_word word (codes "cycle") d (cycle_of d) _ ordered at (cycle_shown d)
     (of_word word (codes "run") d (run_of d) _ ordered at (run_shown d)
-    (of_word word (codes "plane") d (plane_of d) _ ordered at (plane_shown d) tt))))
+    (of_word word (codes "plane") d (plane_of d) _ ordered at (plane_shown d)
+    (of_word word (codes "side") d (side_of d) _ ordered at (side_shown d) tt)))))
 
 -- a command that is accepted so far
 abbrev IsAccepted : Data → Command → Type 0

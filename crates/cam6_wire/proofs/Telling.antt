@@ -1,8 +1,12 @@
 -- A line whose value shows a command says it.
-use Rattle.std.proofs.Common.{◌≡◌, ℕ, List, [], ◌∷◌, true, codes, Option, Some, Ok, ok_or}
-use Rattle.std.proofs.Common.{option_and_then, option_map, refl, ap, ◌∙◌}
+use Rattle.std.proofs.Common.{◌≡◌, ℕ, ◌*◌, ◌/◌, List, [], ◌∷◌, length, true, codes, arith}
+use Rattle.std.proofs.Common.{Option, Some, Ok, ok_or, option_and_then, option_map, refl, ap, ◌∙◌}
 use Rattle.std.specs.Bool.{then_some}
 use Rattle.std.specs.Result.{result_ok}
+use Rattle.cam6_planes.specs.Side.{side_number}
+use Rattle.cam6_planes.specs.Side as number
+use Rattle.cam6_planes.specs.declared.sides.Side.{Side}
+use Rattle.cam6_planes.specs.declared.sides.Side.TheVariants.{S128, S256, S512}
 use Rattle.hex.specs.Hex.{decode_sized}
 use Rattle.serde_json.specs.Data.{Data, string, array, object}
 use Rattle.serde_json.specs.Data.{Items, no_items, item, no_members, member}
@@ -19,15 +23,16 @@ use Rattle.cam6_wiring.specs.declared.blocks.Grid.{Grid}
 use Rattle.cam6_wiring.specs.declared.blocks.Grid.TheVariants.{Even, Odd}
 use Rattle.cam6_machine.specs.declared.commands.Command.{Command}
 use Rattle.cam6_machine.specs.declared.commands.Command.TheVariants.{Set, Rule, Cycle, Run, Plane}
+use Rattle.cam6_machine.specs.declared.commands.Command.TheVariants.{Side as SetSide}
 use Rattle.cam6_machine.specs.declared.commands.NamedEntry.{NamedEntry}
 use Rattle.cam6_wire.specs.declared.faults.LineFault.TheVariants.{NoCommand}
-use Rattle.cam6_wire.specs.Fields.{text_at, ◌>>=◌}
+use Rattle.cam6_wire.specs.Fields.{bits_of, text_at, ◌>>=◌}
 use Rattle.cam6_wire.specs.Replies.{natural}
 use Rattle.cam6_wire.specs.Wirings.{half_text, hood_text, minor_text, grid_text}
 use Rattle.cam6_wire.specs.Wirings.{half_named, hood_named, minor_named, grid_named, wiring_in}
 use Rattle.cam6_wire.specs.Entries.{rule_named, entry_of, entries_of}
 use Rattle.cam6_wire.specs.Fragment.{is_in_fragment}
-use Rattle.cam6_wire.specs.Commands.{set_of, rule_of, cycle_of, run_of, plane_of}
+use Rattle.cam6_wire.specs.Commands.{set_of, rule_of, cycle_of, run_of, plane_of, side_of}
 use Rattle.cam6_wire.specs.Commands.{by_word, command_in, from_value}
 use Rattle.cam6_wire.specs.Shown.{ShowsEntries, Shows}
 use Rattle.cam6_wire.specs.Laws.{ShownIsSaid}
@@ -62,7 +67,28 @@ three_steps x y z make a b c is_a is_b is_c =
     ap (λ y. y >>= λ b. z >>= λ c. Some (make a b c)) is_b ∙
     ap (λ z. z >>= λ c. Some (make a b c)) is_c
 
-set_said : (plane row : ℕ) (bits digits : List ℕ) → decode_sized digits 32 ≡ Ok bits →
+-- digits of a row of a side are as many as that side's rows have
+row_digits : (side : Side) (digits bits : List ℕ) →
+    decode_sized digits (side_number side / 8) ≡ Ok bits → 4 * length digits ≡ side_number side
+row_digits S128 digits bits is = grind (arith, is)
+row_digits S256 digits bits is = grind (arith, is)
+row_digits S512 digits bits is = grind (arith, is)
+
+number_side : (side : Side) → number.side_of (side_number side) ≡ Some side
+number_side S128 = refl
+number_side S256 = refl
+number_side S512 = refl
+
+bits_said : (side : Side) (digits bits : List ℕ) →
+    decode_sized digits (side_number side / 8) ≡ Ok bits → bits_of digits ≡ Some bits
+bits_said side digits bits is =
+    ap (λ n. number.side_of n >>= λ s. result_ok (decode_sized digits (side_number s / 8)))
+    (row_digits side digits bits is) ∙
+    ap (λ o. o >>= λ s. result_ok (decode_sized digits (side_number s / 8))) (number_side side) ∙
+    ap result_ok is
+
+set_said : (plane row : ℕ) (side : Side) (bits digits : List ℕ) →
+    decode_sized digits (side_number side / 8) ≡ Ok bits →
     set_of
     (object
     (member (codes "bits") (string digits)
@@ -70,8 +96,8 @@ set_said : (plane row : ℕ) (bits digits : List ℕ) → decode_sized digits 32
     (member (codes "plane") (natural plane) (member (codes "row") (natural row) no_members)))))
     ≡ Some (Set plane row bits)
 unfolding set_of
-set_said plane row bits digits is =
-    ap (λ r. option_and_then (λ bits. Some (Set plane row bits)) (result_ok r)) is
+set_said plane row side bits digits is =
+    ap (option_and_then (λ bits. Some (Set plane row bits))) (bits_said side digits bits is)
 
 wiring_said : (wiring : Wiring) (name text : List ℕ) →
     wiring_in
@@ -162,6 +188,15 @@ plane_said : (n : ℕ) →
 unfolding plane_of
 plane_said n = refl
 
+side_said : (n : ℕ) →
+    side_of
+    (object
+    (member (codes "do") (string (codes "side"))
+    (member (codes "side") (natural n) no_members)))
+    ≡ Some (SetSide n)
+unfolding side_of
+side_said n = refl
+
 -- an accepted command is what a value says by its word
 by_its_word : (d : Data) (word : List ℕ) (c : Command) → text_at (codes "do") d ≡ Some word →
     by_word word d ≡ Some c → is_in_fragment c ≡ true → command_in d ≡ Some c
@@ -176,9 +211,9 @@ of_same d e c same is = ap command_in same ∙ is
 shown_in : (d : Data) (c : Command) → Shows d c → is_in_fragment c ≡ true →
     command_in d ≡ Some c
 shown_in d (Set plane row bits) shows accepted =
-    of_same d _ (Set plane row bits) shows.2
+    of_same d _ (Set plane row bits) shows.3
     (by_its_word _ (codes "set") (Set plane row bits) refl
-    (set_said plane row bits shows.0 shows.1) accepted)
+    (set_said plane row shows.0 bits shows.1 shows.2) accepted)
 shown_in d (Rule name wiring text) shows accepted =
     of_same d _ (Rule name wiring text) shows
     (by_its_word _ (codes "rule") (Rule name wiring text) refl
@@ -192,6 +227,9 @@ shown_in d (Run n) shows accepted =
 shown_in d (Plane n) shows accepted =
     of_same d _ (Plane n) shows
     (by_its_word _ (codes "plane") (Plane n) refl (plane_said n) accepted)
+shown_in d (SetSide n) shows accepted =
+    of_same d _ (SetSide n) shows
+    (by_its_word _ (codes "side") (SetSide n) refl (side_said n) accepted)
 
 pub shown_is_said : ShownIsSaid
 shown_is_said line d c short is shows accepted =

@@ -8,6 +8,7 @@ use Rattle.serde_json.specs.Data.{Data}
 use Rattle.serde_json.specs.Read.{read}
 use Rattle.cam6_machine.specs.declared.commands.Command.{Command}
 use Rattle.cam6_machine.specs.declared.commands.Command.TheVariants.{Set, Rule, Cycle, Run, Plane}
+use Rattle.cam6_machine.specs.declared.commands.Command.TheVariants.{Side as SetSide}
 use Rattle.cam6_wire.specs.declared.faults.LineFault.{LineFault}
 use Rattle.cam6_wire.specs.declared.faults.LineFault.TheVariants.{NoMemory, TooLong}
 use Rattle.cam6_wire.specs.declared.faults.LineFault.TheVariants.{NoJson, NoCommand}
@@ -25,7 +26,7 @@ set_fields d = do
   bits ← bits_at (codes "bits") d
   Some (Set plane row bits)
 
--- {"do":"set","plane":p,"row":y,"bits":"64 digits"}
+-- {"do":"set","plane":p,"row":y,"bits":"32, 64 or 128 digits"}
 unfoldable pub set_of : Data → Option Command
 set_of d = if has_size 4 d then set_fields d else None
 
@@ -53,6 +54,10 @@ run_of d = if has_size 2 d then option_map Run (number_at (codes "n") d) else No
 unfoldable pub plane_of : Data → Option Command
 plane_of d = if has_size 2 d then option_map Plane (number_at (codes "plane") d) else None
 
+-- {"do":"side","side":n}
+unfoldable pub side_of : Data → Option Command
+side_of d = if has_size 2 d then option_map SetSide (number_at (codes "side") d) else None
+
 -- by the word at the key do
 abbrev pub by_word : List ℕ → Data → Option Command
 by_word word d =
@@ -61,6 +66,7 @@ by_word word d =
     else if bytes_eq word (codes "cycle") then cycle_of d
     else if bytes_eq word (codes "run") then run_of d
     else if bytes_eq word (codes "plane") then plane_of d
+    else if bytes_eq word (codes "side") then side_of d
     else None
 
 -- the command that a JSON value shows, whether it is accepted so far or not

@@ -1,8 +1,10 @@
 -- What stands at a key of a JSON object.
-use Rattle.std.specs.Prelude.{ℕ, ◌+◌, List, Bool, false, ◌==◌, Option, option_and_then}
+use Rattle.std.specs.Prelude.{ℕ, ◌+◌, ◌*◌, ◌/◌, List, length, Bool, false, ◌==◌, Option}
+use Rattle.std.specs.Prelude.{option_and_then}
 use Rattle.std.specs.Option.{option_map_or}
 use Rattle.std.specs.Result.{result_ok}
 use Rattle.hex.specs.Hex.{decode_sized}
+use Rattle.cam6_planes.specs.Side.{side_number, side_of}
 use Rattle.serde_json.specs.Data.{Data, Members, no_members, member}
 use Rattle.serde_json.specs.Find.{get, as_number, as_u64, as_str, as_object}
 
@@ -31,6 +33,12 @@ number_at key d = do
 abbrev pub text_at : List ℕ → Data → Option (List ℕ)
 text_at key d = option_and_then as_str (get key d)
 
--- the 32 bytes of the 64 hexadecimal digits, of either case, at a key
+-- the bytes of hexadecimal digits, of either case, as many as a row of one of the sides has
+abbrev pub bits_of : List ℕ → Option (List ℕ)
+bits_of digits = do
+  side ← side_of (4 * length digits)
+  result_ok (decode_sized digits (side_number side / 8))
+
+-- the bytes of a row's digits at a key
 abbrev pub bits_at : List ℕ → Data → Option (List ℕ)
-bits_at key d = option_and_then (λ text. result_ok (decode_sized text 32)) (text_at key d)
+bits_at key d = option_and_then bits_of (text_at key d)

@@ -10,6 +10,7 @@ use Rattle.cam6_wiring.specs.declared.blocks.Grid.{Grid}
 use Rattle.cam6_wiring.specs.declared.blocks.Grid.TheVariants.{Even}
 use Rattle.cam6_machine.specs.declared.commands.Command.{Command}
 use Rattle.cam6_machine.specs.declared.commands.Command.TheVariants.{Set, Rule, Cycle, Run, Plane}
+use Rattle.cam6_machine.specs.declared.commands.Command.TheVariants.{Side as SetSide}
 
 -- half A under N/VONN with &/CENTERS
 abbrev is_accepted_wiring : Half → Hood → Minor → Bool
@@ -30,3 +31,4 @@ is_in_fragment (Cycle (entry ∷ [])) = is_accepted_entry entry.b entry.grid ent
 is_in_fragment (Cycle entries) = false
 is_in_fragment (Run n) = true
 is_in_fragment (Plane plane) = true
+is_in_fragment (SetSide n) = true

@@ -7,7 +7,8 @@ use Rattle.serde_json.specs.Written.{compact_text}
 use Rattle.cam6_table.specs.Faults as rule
 use Rattle.cam6_machine.specs.Faults as machine
 use Rattle.cam6_machine.specs.declared.replies.Reply.{Reply}
-use Rattle.cam6_machine.specs.declared.replies.Reply.TheVariants.{Set, Rule, Cycle, Run, Plane}
+use Rattle.cam6_machine.specs.declared.replies.Reply.TheVariants.{Set, Rule, Cycle, Side, Run}
+use Rattle.cam6_machine.specs.declared.replies.Reply.TheVariants.{Plane}
 use Rattle.cam6_machine.specs.declared.replies.Reply.TheVariants.{Fault, RuleText, RuleStops}
 use Rattle.cam6_wire.specs.declared.faults.LineFault.{LineFault}
 use Rattle.cam6_wire.specs.Faults.{fault_number}
@@ -33,6 +34,7 @@ abbrev pub reply_data : Reply → Data
 reply_data Set = done (codes "set") no_members
 reply_data Rule = done (codes "rule") no_members
 reply_data Cycle = done (codes "cycle") no_members
+reply_data Side = done (codes "side") no_members
 reply_data (Run position) =
     done (codes "run") (member (codes "position") (natural position) no_members)
 reply_data (Plane rows) =

@@ -1,10 +1,13 @@
 -- The JSON value of each command, its keys in byte order.
-use Rattle.std.specs.Prelude.{◌≡◌, ℕ, List, [], ◌∷◌, codes, Ok, ⊤}
+use Rattle.std.specs.Prelude.{◌≡◌, ℕ, ◌/◌, List, [], ◌∷◌, codes, Ok, ⊤}
 use Rattle.hex.specs.Hex.{decode_sized}
 use Rattle.serde_json.specs.Data.{Data, string, array, object}
+use Rattle.cam6_planes.specs.Side.{side_number}
+use Rattle.cam6_planes.specs.declared.sides.Side.{Side}
 use Rattle.serde_json.specs.Data.{Items, no_items, item, no_members, member}
 use Rattle.cam6_machine.specs.declared.commands.Command.{Command}
 use Rattle.cam6_machine.specs.declared.commands.Command.TheVariants.{Set, Rule, Cycle, Run, Plane}
+use Rattle.cam6_machine.specs.declared.commands.Command.TheVariants.{Side as SetSide}
 use Rattle.cam6_machine.specs.declared.commands.NamedEntry.{NamedEntry}
 use Rattle.cam6_wire.specs.Replies.{natural}
 use Rattle.cam6_wire.specs.Wirings.{half_text, hood_text, minor_text, grid_text}
@@ -31,9 +34,10 @@ ShowsEntries (item d ds) [] = ⊥
 
 -- the value shows the command
 abbrev pub Shows : Data → Command → Type 0
--- {"bits":"64 digits","do":"set","plane":p,"row":y}, the digits of either case
+-- {"bits":"32, 64 or 128 digits","do":"set","plane":p,"row":y}: the digits of a row of one of the
+-- sides, of either case
 Shows d (Set plane row bits) =
-    (digits : List ℕ) × (decode_sized digits 32 ≡ Ok bits) ×
+    (side : Side) × (digits : List ℕ) × (decode_sized digits (side_number side / 8) ≡ Ok bits) ×
     (d
     ≡ object
     (member (codes "bits") (string digits)
@@ -73,4 +77,11 @@ Shows d (Plane plane) =
     ≡ object
     (member (codes "do") (string (codes "plane"))
     (member (codes "plane") (natural plane)
+    no_members))
+-- {"do":"side","side":n}
+Shows d (SetSide n) =
+    d
+    ≡ object
+    (member (codes "do") (string (codes "side"))
+    (member (codes "side") (natural n)
     no_members))

@@ -2,7 +2,8 @@
 ghost use Rattle.std.specs.Prelude.{◌≡◌, ◌<◌, ◌≤◌, length, Err, IfOk, IsOk, false};
 ghost use Rattle.cam6_wire.specs.declared.faults.LineFault.TheVariants.{NoMemory};
 ghost use Rattle.serde_json.specs.View.{view};
-ghost use Rattle.cam6_wire.specs.Commands.{set_of, rule_of, cycle_of, run_of, plane_of, by_word};
+ghost use Rattle.cam6_wire.specs.Commands.{set_of, rule_of, cycle_of, run_of, plane_of, side_of};
+ghost use Rattle.cam6_wire.specs.Commands.{by_word};
 ghost use Rattle.cam6_wire.specs.Commands.{shown_in, command_in, command, IsSaid};
 ghost use Rattle.cam6_wire.specs.Commands.{is_of_texts, takes_text};
 ghost use Rattle.cam6_wire.specs.Limits.{max_line};
@@ -72,6 +73,7 @@ fn by_word(alloc: Global, word: &str, value: &Value) -> Result<Option<Command>, 
         "cycle" => cycle_of(alloc, value),
         "run" => Ok(run_of(value)),
         "plane" => Ok(plane_of(value)),
+        "side" => Ok(side_of(value)),
         _ => Ok(None),
     }
 }
@@ -145,4 +147,15 @@ fn plane_of(value: &Value) -> Option<Command>
     }
     let plane = number_at(value, "plane")?;
     Some(Command::Plane { plane })
+}
+
+#[tactic(auto, unfolding(crate::specs::Commands::side_of))]
+fn side_of(value: &Value) -> Option<Command>
+    ensures { result ≡ side_of (view value.now) }
+{
+    if !has_size(value, 2) {
+        return None;
+    }
+    let side = number_at(value, "side")?;
+    Some(Command::Side { side })
 }

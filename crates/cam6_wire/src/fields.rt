@@ -1,8 +1,11 @@
 //! What stands at a key of a JSON object.
-ghost use Rattle.std.specs.Prelude.{◌≡◌, option_map};
+ghost use Rattle.std.specs.Prelude.{◌≡◌, ◌*◌, option_map};
 ghost use Rattle.serde_json.specs.View.{view};
-ghost use Rattle.cam6_wire.specs.Fields.{has_size, number_at, text_at, bits_at};
+ghost use Rattle.cam6_wire.specs.Fields.{has_size, number_at, text_at, bits_of, bits_at};
+ghost use Rattle.cam6_planes.specs.Side.{side_of};
 
+use cam6_machine::Bits;
+use cam6_planes::{BYTES, Side};
 use serde_json::Value;
 
 /// Whether a value is an object of so many members.
@@ -27,12 +30,30 @@ pub(crate) fn text_at<'a>(value: &'a Value, key: &str) -> Option<&'a str>
     value.get(key).and_then(Value::as_str)
 }
 
-/// A plane's row, written as 64 digits of either case.
-pub(crate) fn bits_at(value: &Value, key: &str) -> Option<[u8; 32]>
+/// A plane's row, written as 32, 64 or 128 digits of either case.
+pub(crate) fn bits_at(value: &Value, key: &str) -> Option<Bits>
     ensures { result ≡ bits_at key.now (view value.now) }
 {
-    let text = text_at(value, key)?;
-    let mut bits = [0; 32];
-    hex::decode_to_slice(text, &mut bits).ok()?;
-    Some(bits)
+    bits_of(text_at(value, key)?)
+}
+
+fn bits_of(digits: &str) -> Option<Bits>
+    ensures { result ≡ bits_of digits.now }
+{
+    let side = side_of_digits(digits.len())?;
+    let mut bytes = [0; BYTES];
+    hex::decode_to_slice(digits, &mut bytes[..side.number() / 8]).ok()?;
+    Some(Bits::new(side, bytes))
+}
+
+/// The side whose rows have so many digits.
+fn side_of_digits(count: usize) -> Option<Side>
+    ensures { result ≡ side_of (4 * count) }
+{
+    match count {
+        32 => Some(Side::S128),
+        64 => Some(Side::S256),
+        128 => Some(Side::S512),
+        _ => None,
+    }
 }

@@ -40,6 +40,7 @@ fn reply_value(alloc: Global, reply: &Reply) -> Result<Value, AllocError>
         Reply::Set => json!(in alloc; {"ok": "set"}),
         Reply::Rule => json!(in alloc; {"ok": "rule"}),
         Reply::Cycle => json!(in alloc; {"ok": "cycle"}),
+        Reply::Side => json!(in alloc; {"ok": "side"}),
         Reply::Run { position } => json!(in alloc; {"ok": "run", "position": *position}),
         Reply::Plane { rows } => {
             let rows = rows_value(alloc, rows)?;
@@ -58,12 +59,12 @@ fn rows_value(alloc: Global, rows: &PlaneRows) -> Result<Value, AllocError>
 {
     let mut values = Vec::new(alloc);
     for row in rows.as_slice() {
-        values.push(Value::try_from_str(alloc, digits(row))?)?;
+        values.push(Value::try_from_str(alloc, digits(row.as_slice()))?)?;
     }
     Ok(Value::Array(values))
 }
 
-fn digits(row: &[u8; 64]) -> &str
+fn digits(row: &[u8]) -> &str
     requires row { IsAscii row.now }
     ensures { result.now ≡ row.now }
 {

@@ -2,7 +2,8 @@
 ghost use Rattle.std.specs.Prelude.{◌≡◌, ◌<◌, ◌^◌};
 ghost use Rattle.cam6_planes.specs.Cells.{cells};
 ghost use Rattle.cam6_planes.specs.Row.{bit_number, west_of, east_of};
-ghost use Rattle.cam6_planes.specs.declared.row.TheConstants.{SIDE};
+ghost use Rattle.cam6_planes.specs.Side.{side_number};
+ghost use Rattle.cam6_planes.specs.Stored.{width};
 ghost use Rattle.cam6_wiring.specs.declared.wirings.TheConstants.{LINES};
 ghost use Rattle.cam6_wiring.specs.Seen.{seen, seen_beside, seen_in_block, line_shows, address};
 ghost use Rattle.cam6_wiring.specs.Seen.{column_beside, row_beside};
@@ -10,7 +11,7 @@ ghost use Rattle.cam6_wiring.specs.Seen.{column_beside, row_beside};
 use crate::blocks::{Grid, corner_of, in_block, side_in_block};
 use crate::names::{Compass, Half, Name, Phase, Turn};
 use crate::wirings::{Hood, LINES, Minor, names_of};
-use cam6_planes::{Planes, SIDE};
+use cam6_planes::{Planes, Side};
 
 /// What is the same for every cell of a half during one step.
 #[derive(Clone, Copy, Debug, PartialEq, Eq)]
@@ -32,9 +33,9 @@ pub fn address_at(
     x: usize,
     y: usize,
 ) -> u16
-    requires column { x < SIDE }
-    requires row { y < SIDE }
-    ensures address { result ≡ address SIDE (cells planes.now)
+    requires column { x < width planes.now }
+    requires row { y < width planes.now }
+    ensures address { result ≡ address (width planes.now) (cells planes.now)
         (record { half = half; grid = grid; phase = phase }) hood minor x y }
     ensures within { result < 2 ^ LINES }
 {
@@ -49,10 +50,10 @@ pub fn address_at(
 }
 
 fn line_bit(planes: &Planes, setting: Setting, line: Option<Name>, x: usize, y: usize) -> u16
-    requires column { x < SIDE }
-    requires row { y < SIDE }
+    requires column { x < width planes.now }
+    requires row { y < width planes.now }
     ensures bit { result ≡ bit_number
-        (line_shows (λ name. seen SIDE (cells planes.now) setting name x y) line) }
+        (line_shows (λ name. seen (width planes.now) (cells planes.now) setting name x y) line) }
     ensures within { result < 2 }
 {
     match line {
@@ -63,9 +64,9 @@ fn line_bit(planes: &Planes, setting: Setting, line: Option<Name>, x: usize, y: 
 
 /// The bit that a name means to the cell at column `x` of row `y`.
 pub fn seen(planes: &Planes, setting: Setting, name: Name, x: usize, y: usize) -> bool
-    requires column { x < SIDE }
-    requires row { y < SIDE }
-    ensures { result ≡ seen SIDE (cells planes.now) setting name x y }
+    requires column { x < width planes.now }
+    requires row { y < width planes.now }
+    ensures { result ≡ seen (width planes.now) (cells planes.now) setting name x y }
 {
     let Setting { half, grid, phase } = setting;
     match name {
@@ -83,63 +84,69 @@ pub fn seen(planes: &Planes, setting: Setting, name: Name, x: usize, y: usize) -
 /// The bit of plane `p` that the cell sees beside it.
 fn seen_beside(planes: &Planes, compass: Compass, p: usize, x: usize, y: usize) -> bool
     requires plane { p < 4 }
-    requires column { x < SIDE }
-    requires row { y < SIDE }
-    ensures { result ≡ seen_beside SIDE (cells planes.now) compass p x y }
+    requires column { x < width planes.now }
+    requires row { y < width planes.now }
+    ensures { result ≡ seen_beside (width planes.now) (cells planes.now) compass p x y }
 {
-    planes.bit(p, column_beside(compass, x), row_beside(compass, y))
+    let side = planes.side();
+    planes.bit(
+        p,
+        column_beside(side, compass, x),
+        row_beside(side, compass, y),
+    )
 }
 
 /// The column of the cell that lies there, seen from column `x`.
-fn column_beside(compass: Compass, x: usize) -> usize
-    requires { x < SIDE }
-    ensures column { result ≡ column_beside SIDE compass x }
-    ensures within { result < SIDE }
+fn column_beside(side: Side, compass: Compass, x: usize) -> usize
+    requires { x < side_number side }
+    ensures column { result ≡ column_beside (side_number side) compass x }
+    ensures within { result < side_number side }
 {
     match compass {
         Compass::Center | Compass::North | Compass::South => x,
-        Compass::West | Compass::NorthWest | Compass::SouthWest => west_of(x),
-        Compass::East | Compass::NorthEast | Compass::SouthEast => east_of(x),
+        Compass::West | Compass::NorthWest | Compass::SouthWest => west_of(side, x),
+        Compass::East | Compass::NorthEast | Compass::SouthEast => east_of(side, x),
     }
 }
 
 /// Its row. North of a row is what west of a column is, and south what east is.
-fn row_beside(compass: Compass, y: usize) -> usize
-    requires { y < SIDE }
-    ensures row { result ≡ row_beside SIDE compass y }
-    ensures within { result < SIDE }
+fn row_beside(side: Side, compass: Compass, y: usize) -> usize
+    requires { y < side_number side }
+    ensures row { result ≡ row_beside (side_number side) compass y }
+    ensures within { result < side_number side }
 {
     match compass {
         Compass::Center | Compass::West | Compass::East => y,
-        Compass::North | Compass::NorthWest | Compass::NorthEast => west_of(y),
-        Compass::South | Compass::SouthWest | Compass::SouthEast => east_of(y),
+        Compass::North | Compass::NorthWest | Compass::NorthEast => west_of(side, y),
+        Compass::South | Compass::SouthWest | Compass::SouthEast => east_of(side, y),
     }
 }
 
 /// The column to the west of `x`, round the torus.
-fn west_of(x: usize) -> usize
-    requires { x < SIDE }
-    ensures column { result ≡ west_of SIDE x }
-    ensures within { result < SIDE }
+fn west_of(side: Side, x: usize) -> usize
+    requires { x < side_number side }
+    ensures column { result ≡ west_of (side_number side) x }
+    ensures within { result < side_number side }
 {
-    (x + (SIDE - 1)) % SIDE
+    let columns = side.number();
+    (x + (columns - 1)) % columns
 }
 
 /// The column to the east of `x`, round the torus.
-fn east_of(x: usize) -> usize
-    requires { x < SIDE }
-    ensures column { result ≡ east_of SIDE x }
-    ensures within { result < SIDE }
+fn east_of(side: Side, x: usize) -> usize
+    requires { x < side_number side }
+    ensures column { result ≡ east_of (side_number side) x }
+    ensures within { result < side_number side }
 {
-    (x + 1) % SIDE
+    (x + 1) % side.number()
 }
 
 /// The bit of plane `p` that the cell sees in its block.
 fn seen_in_block(planes: &Planes, grid: Grid, turn: Turn, p: usize, x: usize, y: usize) -> bool
     requires plane { p < 4 }
-    requires column { x < SIDE }
-    requires row { y < SIDE }
-    ensures { result ≡ seen_in_block SIDE (cells planes.now) grid turn p x y }
+    requires column { x < width planes.now }
+    requires row { y < width planes.now }
+    ensures { result ≡ seen_in_block (width planes.now) (cells planes.now) grid turn p x y }
 {
     let compass = in_block(corner_of(grid, x, y), turn);
     seen_beside(planes, compass, p, x, y)

@@ -1,17 +1,38 @@
-use Rattle.std.proofs.Common.{sym, arith}
-use Rattle.cam6_host.proofs.Refusals.{refused_as_clap_does}
-use Rattle.cam6_host.proofs.Subcommands.{named_alone_by_clap}
+use Rattle.std.proofs.Common.{◌∙◌, sym}
+use Rattle.clap.specs.Words.{app_of}
+use Rattle.cam6_host.proofs.Refusals.{is_simple_program, refused_as_clap_does, some_program}
+use Rattle.cam6_host.proofs.ModesGiven.{mode_of_matches}
 use Rattle.cam6_host.proofs.words.options.Goals as goal
 
-pub unreachable-requires : goal.unreachable-requires
-unreachable-requires c =
-    let is =
-    named_alone_by_clap _ _ c.in-Ok-try_get_matches_from.matches c.in-Some.field-0.now
+pub returns-in_default-clause-refused : goal.returns-in_default-clause-refused
+returns-in_default-clause-refused c = (some_program.0, some_program.1, tt)
+
+pub limit_given-requires : goal.limit_given-requires
+limit_given-requires c =
+    (mode_of_matches (app_of c.in-Ok.command) _ c.in-Ok-try_get_matches_from.matches c.in-Ok.ensures
+    c.in-Ok-try_get_matches_from.ensures.matches c.in-Ok-try_get_matches_from.ensures.kinds).0
+
+pub returns-in-Ok-try_get_matches_from-clause-mode :
+    goal.returns-in-Ok-try_get_matches_from-clause-mode
+returns-in-Ok-try_get_matches_from-clause-mode c =
+    let mode = mode_of_matches (app_of c.in-Ok.command) _ c.in-Ok-try_get_matches_from.matches
     c.in-Ok.ensures c.in-Ok-try_get_matches_from.ensures.matches
-    c.in-Ok-try_get_matches_from.ensures.kinds (sym c.in-Some.ensures) in
-    grind arith
+    c.in-Ok-try_get_matches_from.ensures.kinds in
+    (app_of c.in-Ok.command, c.in-Ok.ensures, sym mode.1 ∙ c.limit_given.ensures)
+
+pub returns-in-Ok-try_get_matches_from-clause-refused :
+    goal.returns-in-Ok-try_get_matches_from-clause-refused
+returns-in-Ok-try_get_matches_from-clause-refused c = (
+  app_of c.in-Ok.command,
+  c.in-Ok.ensures,
+  c.in-Ok-try_get_matches_from.ensures.kinds
+      (is_simple_program (app_of c.in-Ok.command) c.in-Ok.ensures),
+)
 
 pub returns-in-Err-clause-refused : goal.returns-in-Err-clause-refused
-returns-in-Err-clause-refused c =
-    refused_as_clap_does _ _ c.refusal.result c.in-Err.error c.in-Ok.ensures c.in-Err.ensures.kinds
-    c.refusal.ensures
+returns-in-Err-clause-refused c = (
+  app_of c.in-Ok.command,
+  c.in-Ok.ensures,
+  refused_as_clap_does (app_of c.in-Ok.command) _ c.refusal.result c.in-Err.error
+      c.in-Ok.ensures c.in-Err.ensures.kinds c.refusal.ensures,
+)

@@ -6,8 +6,8 @@ use Rattle.cam6_machine.proofs.alone.replies_alone.Given as goal
 
 abbrev pub invariant-loop-command : goal.invariant-loop-command
 invariant-loop-command l = record {
-  replies : replies blank l.fn.commands.items
+  replies : replies (blank l.fn.limit) l.fn.commands.items
       ≡ l.replies.items ++ replies (machine_of l.machine) (into_iter_items l.command-iterator);
-  machine : after_all blank l.fn.commands.items
+  machine : after_all (blank l.fn.limit) l.fn.commands.items
       ≡ after_all (machine_of l.machine) (into_iter_items l.command-iterator);
 }

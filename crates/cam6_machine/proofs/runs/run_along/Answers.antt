@@ -1,4 +1,4 @@
-use Rattle.std.proofs.Common.{◌≡◌, ◌∙◌, ◌+◌, ◌<◌, ap, arith, length, suc}
+use Rattle.std.proofs.Common.{◌≡◌, ◌∙◌, ◌+◌, ◌<◌, ap, sym, arith, length, suc}
 use Rattle.std.proofs.Math.Nat.{mod-lt}
 use Rattle.cam6_machine.specs.Machine.{steps, stepped, machine_of}
 use Rattle.cam6_machine.specs.Internal.Places.{rules_of, stored}
@@ -13,11 +13,14 @@ loop-step-preserved c =
     let some : 0 < length cycle = omega (arith, c.requires.position) in
     let one : suc now._step ≡ now._step + 1 = omega arith in
     record {
-      side = c.step.ensures.side.1;
+      alike = record {
+        side = c.step.ensures.alike.1.side ∙ sym c.step.ensures.alike.0.side;
+        limit = c.step.ensures.alike.1.limit ∙ sym c.step.ensures.alike.0.limit;
+      };
       position = mod-lt (now.position + 1) some;
       steps = λ colours.
-          one_step 256 now.planes c.step.new.planes rules cycle now.position colours _
-          c.requires.names now.invariant.position now.invariant.side c.step.ensures.side.1
+          one_step now.planes c.step.new.planes rules cycle now.position colours _
+          c.requires.names now.invariant.position c.step.ensures.alike.0
           c.step.ensures.planes ∙
           ap stepped (now.invariant.steps colours) ∙
           ap (λ n. steps n

@@ -1,4 +1,5 @@
 use Rattle.std.proofs.Common.{ℕ, ◌∙◌, Some, arith, length-set}
+use Rattle.cam6_planes.specs.Stored.{width}
 use Rattle.cam6_planes.specs.Cells.{cells}
 use Rattle.cam6_planes.proofs.WordByWord.{row_more}
 use Rattle.cam6_wiring.specs.declared.names.Level.{Level}
@@ -12,7 +13,8 @@ loop-i-preserved c =
     let now = c.loop-i in
     let words = c.words_by_table-lower_word in
     let new = λ (level : Level) (x : ℕ).
-    bit_by_table 256 (cells a.old.now) a.setting (Some a.wiring) a.table.now level x a.y in
+    bit_by_table (width a.old.now) (cells a.old.now) a.setting (Some a.wiring) a.table.now level
+    x a.y in
     record {
       lower_words = length-set _ _ _ ∙ now.invariant.lower_words;
       upper_words = length-set _ _ _ ∙ now.invariant.upper_words;

@@ -3,5 +3,5 @@ use Rattle.cam6_planes.specs.Row.{column_bit, byte_column}
 use Rattle.cam6_planes.proofs.row.bytes_of_row.Given as goal
 
 abbrev pub invariant-loop-i : goal.invariant-loop-i
-invariant-loop-i l = (length l.bytes ≡ 32) ×
+invariant-loop-i l = (length l.bytes ≡ 64) ×
     ((x : ℕ) → x < 8 * l.i → byte_column l.bytes x ≡ column_bit l.row x)

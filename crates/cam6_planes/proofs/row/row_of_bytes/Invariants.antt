@@ -3,5 +3,5 @@ use Rattle.cam6_planes.specs.Row.{column_bit, byte_column}
 use Rattle.cam6_planes.proofs.row.row_of_bytes.Given as goal
 
 abbrev pub invariant-loop-i : goal.invariant-loop-i
-invariant-loop-i l = (length l.row ≡ 4) ×
+invariant-loop-i l = (length l.row ≡ 8) ×
     ((x : ℕ) → x < 64 * l.i → column_bit l.row x ≡ byte_column l.bytes x)

@@ -1,6 +1,8 @@
 use Rattle.std.proofs.Common.{◌≡◌, ◌-◌, ◌+◌, ◌*◌, ◌∙◌, ℕ, Bool, List, Option, ap, length, drop}
 use Rattle.std.proofs.Common.{map, arith, refl}
-use Rattle.cam6_planes.specs.Cells.{Cells, cells}
+use Rattle.cam6_planes.specs.Side.{side_number}
+use Rattle.cam6_planes.specs.Stored.{Stored}
+use Rattle.cam6_planes.specs.Cells.{cells}
 use Rattle.cam6_wiring.specs.Seen.{seen, line_shows, address_of, number_of}
 use Rattle.cam6_wiring.specs.Wiring.{names_of}
 use Rattle.cam6_wiring.specs.declared.blocks.Grid.{Grid}
@@ -13,9 +15,11 @@ use Rattle.cam6_wiring.proofs.Numbers.{number_of-one_lower, number_of-lines, len
 use Rattle.cam6_wiring.proofs.neighbours.address_at.Goals as goal
 
 -- what a line shows to the cell
-abbrev shows : Cells → Half → Grid → Phase → ℕ → ℕ → Option Name → Bool
-shows f half grid phase x y =
-    line_shows (λ name. seen 256 f (record { half = half; grid = grid; phase = phase }) name x y)
+abbrev shows : Stored → Half → Grid → Phase → ℕ → ℕ → Option Name → Bool
+shows v half grid phase x y =
+    line_shows (λ name.
+    seen (side_number v.side) (cells v) (record { half = half; grid = grid; phase = phase })
+    name x y)
 
 twelve : (hood : Hood) (minor : Minor) (names : List (Option Name)) →
     names ≡ names_of hood minor → length names ≡ 12
@@ -27,7 +31,7 @@ overflow_mul-address c =
     let names = c.names_of-names.result in
     omega (
       arith,
-      number_of-lines (shows (cells a.planes.now) a.half a.grid a.phase a.x a.y) names
+      number_of-lines (shows a.planes.now a.half a.grid a.phase a.x a.y) names
           (12 - c.loop-line.line) (twelve a.hood a.minor names c.names_of-names.ensures),
       c.loop-line.invariant,
     )
@@ -38,7 +42,7 @@ overflow_add-address c =
     let names = c.names_of-names.result in
     omega (
       arith,
-      number_of-lines (shows (cells a.planes.now) a.half a.grid a.phase a.x a.y) names
+      number_of-lines (shows a.planes.now a.half a.grid a.phase a.x a.y) names
           (12 - c.loop-line.line) (twelve a.hood a.minor names c.names_of-names.ensures),
       c.loop-line.invariant,
       c.line_bit-bit.ensures.within,
@@ -49,7 +53,7 @@ loop-line-preserved c =
     let a = c.args in
     let names = c.names_of-names.result in
     ap (λ b. 2 * c.loop-line.address + b) c.line_bit-bit.ensures.bit ∙
-    number_of-one_lower (shows (cells a.planes.now) a.half a.grid a.phase a.x a.y) names
+    number_of-one_lower (shows a.planes.now a.half a.grid a.phase a.x a.y) names
     c.loop-line.line 12 c.loop-line.address _ _
     (twelve a.hood a.minor names c.names_of-names.ensures) (omega arith) c.loop-line.invariant refl
 
@@ -57,7 +61,7 @@ pub returns-clause-address : goal.returns-clause-address
 unfolding address_of
 returns-clause-address c =
     let a = c.args in
-    let shown = shows (cells a.planes.now) a.half a.grid a.phase a.x a.y in
+    let shown = shows a.planes.now a.half a.grid a.phase a.x a.y in
     let last : 12 - c.loop-line.line ≡ 0 = omega arith in
     c.loop-line.invariant ∙
     ap (λ k. number_of (map shown (drop k c.names_of-names.result))) last ∙
@@ -69,7 +73,7 @@ returns-clause-within c =
     let names = c.names_of-names.result in
     omega (
       arith,
-      number_of-lines (shows (cells a.planes.now) a.half a.grid a.phase a.x a.y) names
+      number_of-lines (shows a.planes.now a.half a.grid a.phase a.x a.y) names
           (12 - c.loop-line.line) (twelve a.hood a.minor names c.names_of-names.ensures),
       c.loop-line.invariant,
     )

@@ -55,6 +55,7 @@ invariant_of-self-in-Ok c = (
       (placed_with _ (rules_of c.self.inside.rules.entries) c.self.inside.cycle.items
       c.self.invariant.1),
   c.self.invariant.2,
+  c.self.invariant.3,
 )
 
 pub returns-in-Ok-clause-machine : goal.returns-in-Ok-clause-machine

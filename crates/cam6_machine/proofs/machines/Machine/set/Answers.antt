@@ -1,7 +1,8 @@
 use Rattle.std.proofs.Common.{◌∙◌, ap}
 use Rattle.cam6_machine.specs.Machine.{machine_of}
+use Rattle.cam6_machine.specs.Refusals.{set_refusal}
 use Rattle.cam6_machine.specs.Alone.{after}
-use Rattle.cam6_machine.specs.Internal.Places.{rules_of}
+use Rattle.cam6_machine.specs.Internal.Places.{rules_of, stored}
 use Rattle.cam6_machine.specs.declared.commands.Command.TheVariants.{Set}
 use Rattle.cam6_machine.proofs.Done.{after-set}
 use Rattle.cam6_machine.proofs.machines.Machine.set.Goals as goal
@@ -12,9 +13,15 @@ invariant_of-self c = c.self.invariant
 pub returns-clause-machine : goal.returns-clause-machine
 returns-clause-machine c =
     let m = c.self.inside in
-    let args = c.args in
+    let plane = c.args.plane in
+    let row = c.args.row in
+    let bits = c.as_slice-bits.result.now in
+    let old = stored m.planes (rules_of m.rules.entries) m.cycle.items m.position m.colours in
     after-set m.planes (rules_of m.rules.entries) m.cycle.items m.position m.colours
-    c.put_row.new.self args.plane args.row args.bits.now
-    c.self.invariant.0.torus c.put_row.ensures.side.1 c.in_default.ensures.refusal
+    c.put_row.new.self plane row bits
+    (record { side = c.put_row.ensures.side; limit = c.put_row.ensures.limit })
+    (c.in_default.ensures.refusal ∙
+    ap (λ s. set_refusal s plane row bits) c.side.ensures.side)
     c.put_row.ensures.cells ∙
-    ap (λ k. after (machine_of k) (Set args.plane args.row args.bits.now)) c.self.view_is
+    ap (λ b. after (machine_of old) (Set plane row b)) c.as_slice-bits.ensures ∙
+    ap (λ k. after (machine_of k) (Set plane row c.args.bits.now)) c.self.view_is

@@ -41,6 +41,7 @@ invariant_of-self c =
           (Cycle c.args.entries.now) c.self.invariant.0),
       subst (ArePlaced rules) (sym (entries_placed c)) (are_placed rules c.args.entries.now),
       c.self.invariant.2,
+      c.self.invariant.3,
     )
 
 pub returns-clause-machine : goal.returns-clause-machine

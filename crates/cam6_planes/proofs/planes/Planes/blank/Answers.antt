@@ -1,11 +1,11 @@
-use Rattle.std.proofs.Common.{◌≡◌, ◌∙◌, ap, arith, replicate}
-use Rattle.cam6_planes.specs.Cells.{torus, stored_bit}
+use Rattle.std.proofs.Common.{◌∙◌, ap, arith, get_or, [], replicate}
+use Rattle.std.proofs.lemmas.List.{get_or-replicate}
+use Rattle.cam6_planes.specs.Side.{side_number}
 use Rattle.cam6_planes.proofs.Blank.{stored_bit-zeros}
 use Rattle.cam6_planes.proofs.planes.Planes.blank.Goals as goal
 
 pub returns-clause-cells : goal.returns-clause-cells
 returns-clause-cells c =
-    let all : c.loop-y._y ≡ 256 = omega arith in
-    ap (λ rows. torus 256 (stored_bit rows)) (c.loop-y.invariant ∙
-    ap (λ k. replicate k (replicate 4 (replicate 4 0))) all) ∙
-    stored_bit-zeros 256 4 (omega arith)
+    stored_bit-zeros (side_number c.args.limit) 8 c.loop-y.rows.items (omega arith)
+    (λ y h. ap (λ rows. get_or rows y []) c.loop-y.invariant ∙
+    get_or-replicate c.loop-y._y y (replicate 4 (replicate 8 0)) [] (omega arith))

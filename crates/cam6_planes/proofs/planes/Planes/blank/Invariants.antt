@@ -2,4 +2,4 @@ use Rattle.std.proofs.Common.{◌≡◌, replicate}
 use Rattle.cam6_planes.proofs.planes.Planes.blank.Given as goal
 
 abbrev pub invariant-loop-y : goal.invariant-loop-y
-invariant-loop-y l = l.rows.items ≡ replicate l._y (replicate 4 (replicate 4 0))
+invariant-loop-y l = l.rows.items ≡ replicate l._y (replicate 4 (replicate 8 0))

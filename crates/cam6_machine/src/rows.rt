@@ -1,0 +1,117 @@
+//! Rows as commands and replies have them.
+ghost use Rattle.std.specs.Prelude.{◌≡◌, ◌<◌, ◌/◌, take};
+ghost use Rattle.std.specs.Str.{IsAscii};
+ghost use Rattle.cam6_planes.specs.Side.{side_number};
+ghost use Rattle.cam6_planes.specs.Stored.{width};
+ghost use Rattle.cam6_planes.specs.Cells.{cells};
+ghost use Rattle.cam6_planes.specs.Row.{row_text};
+
+use cam6_planes::{BYTES, DIGITS, Planes, Side};
+use std::marker::Model;
+
+/// The bits of a row of one of the three sides. Contracts see them as bytes, of which the first has
+/// columns 0 to 7.
+#[derive(Debug, Drop)]
+pub struct Bits {
+    side: Side,
+    bytes: [u8; BYTES],
+}
+
+impl Model for Bits {
+    ghost use Rattle.std.specs.Prelude.{List, ℕ, ◌/◌, take};
+    ghost use Rattle.cam6_planes.specs.Side.{side_number};
+
+    ghost Value = { List ℕ };
+
+    ghost view = { λ b. take (side_number b.side / 8) b.bytes };
+}
+
+impl Bits {
+    /// The first of these bytes, as many as a row of this side has.
+    pub fn new(side: Side, bytes: [u8; BYTES]) -> Bits
+        ensures { result ≡ take (side_number side / 8) bytes }
+    {
+        Bits { side, bytes }
+    }
+
+    pub fn as_slice(&self) -> &[u8]
+        ensures { result.now ≡ self.now }
+    {
+        &self.bytes[..self.side.number() / 8]
+    }
+}
+
+/// The text of a row: a lower case hexadecimal digit for every four columns. Contracts see it as
+/// its bytes.
+#[derive(Debug, Drop)]
+pub struct RowText {
+    digits: usize,
+    text: [u8; DIGITS],
+}
+
+impl Model for RowText {
+    ghost use Rattle.std.specs.Prelude.{List, ℕ, ◌≤◌, take};
+    ghost use Rattle.std.specs.Str.{IsAscii};
+    ghost use Rattle.cam6_planes.specs.declared.row.TheConstants.{DIGITS};
+
+    ghost Value = { List ℕ };
+
+    ghost view = { λ t. take t.digits t.text };
+
+    ghost invariant = { λ t. (t.digits ≤ DIGITS) × IsAscii (take t.digits t.text) };
+}
+
+impl RowText {
+    /// The text of row `y` of plane `p`.
+    pub fn of(planes: &Planes, p: usize, y: usize) -> RowText
+        requires plane { p < 4 }
+        requires row { y < width planes.now }
+        ensures { result ≡ row_text (width planes.now / 4) (λ x. cells planes.now p x y) }
+    {
+        let mut text = [0; DIGITS];
+        let digits = planes.row_hex(p, y, &mut text);
+        RowText { digits, text }
+    }
+
+    pub fn as_slice(&self) -> &[u8]
+        ensures digits { result.now ≡ self.now }
+        ensures ascii { IsAscii result.now }
+    {
+        &self.text[..self.digits]
+    }
+}
+
+/// The texts of a plane's rows, in order. Contracts see them as a list.
+#[derive(Debug, Drop)]
+pub struct PlaneRows {
+    rows: Vec<RowText>,
+}
+
+impl Model for PlaneRows {
+    ghost use Rattle.std.specs.Prelude.{List, ℕ};
+
+    ghost Value = { List (List ℕ) };
+
+    ghost view = { λ r. r.rows.items };
+}
+
+impl PlaneRows {
+    pub fn new(rows: Vec<RowText>) -> PlaneRows
+        ensures { result ≡ rows.items }
+    {
+        PlaneRows { rows }
+    }
+
+    pub fn as_slice(&self) -> &[RowText]
+        ensures { result.now ≡ self.now }
+    {
+        self.rows.as_slice()
+    }
+
+    pub fn into_vec(self) -> Vec<RowText>
+        ensures { result.items ≡ self }
+    {
+        let PlaneRows { rows } = self;
+        rows
+    }
+}

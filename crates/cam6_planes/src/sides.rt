@@ -1,0 +1,63 @@
+//! The three sides that a torus may have.
+ghost use Rattle.std.specs.Prelude.{◌≡◌, ◌*◌, ◌%◌, ◌≤◌, IfSome, min};
+ghost use Rattle.cam6_planes.specs.Side.{side_number, side_of};
+ghost use Rattle.cam6_planes.specs.declared.row.TheConstants.{WORDS};
+
+use crate::row::WORDS;
+
+/// How many columns and rows a torus has.
+#[derive(Clone, Copy, Debug, PartialEq, Eq)]
+pub enum Side {
+    S128,
+    S256,
+    S512,
+}
+
+impl Side {
+    /// How many columns and rows.
+    pub fn number(self) -> usize
+        ensures value { result ≡ side_number self }
+        ensures whole_words { result % 128 ≡ 0 }
+        ensures least { 128 ≤ result }
+        ensures most { result ≤ 512 }
+    {
+        match self {
+            Side::S128 => 128,
+            Side::S256 => 256,
+            Side::S512 => 512,
+        }
+    }
+
+    /// The side of so many columns and rows.
+    pub fn of(number: u64) -> Option<Side>
+        ensures side { result ≡ side_of number }
+        ensures number { IfSome result (λ side. side_number side ≡ number) }
+    {
+        match number {
+            128 => Some(Side::S128),
+            256 => Some(Side::S256),
+            512 => Some(Side::S512),
+            _ => None,
+        }
+    }
+
+    /// The smaller of two.
+    pub fn lesser(self, other: Side) -> Side
+        ensures { side_number result ≡ min (side_number self) (side_number other) }
+    {
+        if self.number() <= other.number() {
+            self
+        } else {
+            other
+        }
+    }
+
+    /// Words of a row.
+    pub fn words(self) -> usize
+        ensures value { 64 * result ≡ side_number self }
+        ensures some { 2 ≤ result }
+        ensures most { result ≤ WORDS }
+    {
+        self.number() / 64
+    }
+}

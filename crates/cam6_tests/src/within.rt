@@ -1,0 +1,43 @@
+//! Calls on planes that first try what the calls ask for: that the row, or the cell, is there.
+
+use cam6_planes::{Planes, Row};
+use cam6_wiring::{Hood, Minor, Name, Setting, address_at, seen};
+use std::process::Abort;
+
+pub(crate) fn set_row(rt: &impl Abort, planes: &mut Planes, plane: usize, row: usize, words: Row) {
+    assert!(rt; plane < 4 && row < planes.side().number());
+    planes.set_row_words(plane, row, words);
+}
+
+pub(crate) fn row_of(rt: &impl Abort, planes: &Planes, plane: usize, row: usize) -> Row {
+    assert!(rt; plane < 4 && row < planes.side().number());
+    planes.row_words(plane, row)
+}
+
+/// What the cell at this column and row sees.
+pub(crate) fn seen_at(
+    rt: &impl Abort,
+    planes: &Planes,
+    setting: Setting,
+    name: Name,
+    (x, y): (usize, usize),
+) -> bool {
+    let side = planes.side().number();
+    assert!(rt; x < side && y < side);
+    seen(planes, setting, name, x, y)
+}
+
+/// The address that the cell at this column and row shows.
+pub(crate) fn address_of(
+    rt: &impl Abort,
+    planes: &Planes,
+    hood: Hood,
+    minor: Minor,
+    setting: Setting,
+    (x, y): (usize, usize),
+) -> u16 {
+    let side = planes.side().number();
+    assert!(rt; x < side && y < side);
+    let Setting { half, grid, phase } = setting;
+    address_at(planes, half, hood, minor, grid, phase, x, y)
+}
