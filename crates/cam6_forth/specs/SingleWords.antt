@@ -1,5 +1,5 @@
 -- What a token says by itself in a body: a word, and by how much it makes the definition grow.
-use Rattle.std.specs.Prelude.{◌≡◌, ℕ, ◌+◌, ◌++◌, length, Bool, true, false, List, [], ◌∷◌, max}
+use Rattle.std.specs.Prelude.{◌≡◌, ℕ, ◌+◌, ◌++◌, length, true, List, [], ◌∷◌, max}
 use Rattle.std.specs.Prelude.{Option, Some, None, is_some, Result, Ok, Err, if◌then◌else◌}
 use Rattle.std.specs.Str.{bytes_eq}
 use Rattle.cam6_wiring.specs.declared.wirings.Wiring.{Wiring}

@@ -1,65 +1,150 @@
--- Tables that are filled entry by entry.
-use Rattle.std.proofs.Common.{◌≡◌, ℕ, zero, suc, ◌+◌, ◌<◌, ◌≤◌, ◌⊎◌, inl, inr, List, []}
-use Rattle.std.proofs.Common.{◌∷◌, length, Some, slice_get, slice_set, get_or, arith, refl}
-use Rattle.std.proofs.Common.{sym, ap, subst, ◌∙◌}
-use Rattle.std.proofs.lemmas.Option.{get_or_from_slice_get, slice_get_within}
+-- Tables that are filled use by use.
+use Rattle.std.proofs.Common.{◌≡◌, ℕ, zero, suc, ◌+◌, ◌*◌, ◌<◌, ◌≤◌, List, [], ◌∷◌, ◌++◌, length}
+use Rattle.std.proofs.Common.{Option, Some, None, slice_get, get_or, take, drop, arith, refl, sym}
+use Rattle.std.proofs.Common.{ap, ◌∙◌, subst, set}
+use Rattle.std.proofs.lemmas.List.{append_assoc, append-nil, length-append, get_or_append_left}
+use Rattle.std.proofs.Math.Seq.{get_or-append_seam}
+use Rattle.std.proofs.lemmas.Option.{slice_get-get_or}
+use native.Mathlib.Decide.{dec_lt}
 use Rattle.cam6_machine.specs.Rules.{Rule}
-use Rattle.cam6_machine.specs.Internal.Places.{rules_at}
-use Rattle.cam6_machine.specs.Internal.ByTables.{ArePair, ArePairs}
+use Rattle.cam6_machine.specs.Internal.Places.{rule_at}
+use Rattle.cam6_machine.specs.Internal.ByTables.{IsTableFor, AreTables, place_used, uses}
 use Rattle.cam6_machine.specs.declared.cycles.Entry.{Entry}
-use Rattle.cam6_machine.specs.declared.tables.TablePair.{TablePair}
 
--- the pairs of the first entries, so many
-abbrev pub ArePairsBelow : ℕ → List Rule → List Entry → List TablePair → Type 0
-ArePairsBelow n rules cycle pairs =
-    (place : ℕ) (entry : Entry) → place < n → slice_get cycle place ≡ Some entry →
-    (pair : TablePair) × (slice_get pairs place ≡ Some pair) × ArePair (rules_at rules entry) pair
+-- the uses of one more entry
+pub uses_more : (k : ℕ) (entries : List Entry) (past : Entry) → k < length entries →
+    let entry = get_or entries k past in
+    (uses (take k entries) ++ place_used entry.a) ++ place_used entry.b
+    ≡ uses (take (k + 1) entries)
+uses_more k [] past h = absurd (omega (arith, h))
+uses_more zero (entry ∷ entries) past h =
+    sym (append-nil (place_used entry.a ++ place_used entry.b))
+uses_more (suc k) (entry ∷ entries) past h =
+    let first = place_used entry.a ++ place_used entry.b in
+    let before = uses (take k entries) in
+    let next = get_or entries k past in
+    let long : suc k + 1 ≡ suc (k + 1) = omega arith in
+    ap (λ l. l ++ place_used next.b) (append_assoc first before (place_used next.a)) ∙
+    append_assoc first (before ++ place_used next.a) (place_used next.b) ∙
+    ap (λ l. first ++ l) (uses_more k entries past (omega (arith, h))) ∙
+    ap (λ n. uses (take n (entry ∷ entries))) (sym long)
 
--- what was written at a place stands there
-written_here : {X : Type 0} (xs : List X) (n : ℕ) (x : X) → n < length xs →
-    slice_get (slice_set xs n x) n ≡ Some x
-written_here [] n x within = let never : ⊥ = omega (arith, within) in absurd never
-written_here (first ∷ rest) zero x within = refl
-written_here (first ∷ rest) (suc n) x within = written_here rest n x (omega (arith, within))
+-- an entry uses at most two rules
+pub used-length : (place : Option ℕ) → length (place_used place) ≤ 1
+used-length None = omega arith
+used-length (Some place) = omega arith
 
--- and what stands before it is as it was
-as_before : {X : Type 0} (xs : List X) (n place : ℕ) (x : X) → place < n →
-    slice_get (slice_set xs n x) place ≡ slice_get xs place
-as_before [] n place x below = refl
-as_before (first ∷ rest) zero place x below =
-    let never : ⊥ = omega (arith, below) in absurd never
-as_before (first ∷ rest) (suc n) zero x below = refl
-as_before (first ∷ rest) (suc n) (suc place) x below =
-    as_before rest n place x (omega (arith, below))
+pub uses-length : (entries : List Entry) → length (uses entries) ≤ 2 * length entries
+uses-length [] = omega arith
+uses-length (entry ∷ entries) =
+    let first = place_used entry.a ++ place_used entry.b in
+    omega (
+      arith,
+      length-append first (uses entries),
+      length-append (place_used entry.a) (place_used entry.b),
+      used-length entry.a,
+      used-length entry.b,
+      uses-length entries,
+    )
 
-last_or_before : (n place : ℕ) → place < n + 1 → (place ≡ n) ⊎ (place < n)
-last_or_before n place below = grind (arith, below)
+-- an item of the first items is one of all
+pub within_first : {X : Type 0} (n : ℕ) (xs : List X) (i : ℕ) (x : X) →
+    slice_get (take n xs) i ≡ Some x → (i < n) × (slice_get xs i ≡ Some x)
+within_first zero xs i x found = cc found
+within_first (suc n) [] i x found = cc found
+within_first (suc n) (y ∷ ys) zero x found = (omega arith, found)
+within_first (suc n) (y ∷ ys) (suc i) x found =
+    let later = within_first n ys i x found in (omega (arith, later.0), later.1)
 
--- one more entry's pair is written at its place, whatever entry stands for those past the end
-pub one_more : (n : ℕ) (rules : List Rule) (cycle : List Entry) (past : Entry)
-    (pairs : List TablePair) (new : TablePair) → n < length pairs →
-    ArePair (rules_at rules (get_or cycle n past)) new → ArePairsBelow n rules cycle pairs →
-    ArePairsBelow (n + 1) rules cycle (slice_set pairs n new)
-one_more n rules cycle past pairs new within right before place entry below found =
-    at_place (last_or_before n place below)
-  where
-    at_place : (place ≡ n) ⊎ (place < n) →
-        (pair : TablePair) × (slice_get (slice_set pairs n new) place ≡ Some pair)
-        × ArePair (rules_at rules entry) pair
-    at_place (inl here) =
-        let at_n : slice_get cycle n ≡ Some entry = sym (ap (slice_get cycle) here) ∙ found in (
-          new,
-          ap (slice_get (slice_set pairs n new)) here ∙ written_here pairs n new within,
-          subst (λ e. ArePair (rules_at rules e) new)
-              (get_or_from_slice_get cycle n entry past at_n) right,
-        )
-    at_place (inr earlier) =
-        let old = before place entry earlier found in
-        (old.0, as_before pairs n place new earlier ∙ old.1, old.2)
+-- one more use has its rule's table, where the tables before it stay
+pub one_more : (n : ℕ) (rules : List Rule) (used : List ℕ) (before rest : List (List ℕ))
+    (new : List ℕ) → length before ≡ n → 0 < length rest →
+    AreTables n rules used (before ++ rest) →
+    ((place : ℕ) → slice_get used n ≡ Some place → IsTableFor (rule_at rules (Some place)) new) →
+    AreTables (n + 1) rules used (before ++ set rest 0 new)
+one_more n rules used before [] new long some are here index place h found =
+    absurd (omega (arith, some))
+one_more n rules used before (old ∷ rest) new long some are here index place h found =
+    elim (dec_lt index n) [
+      | Prim.yes lt ↦
+          let kept : get_or (before ++ (new ∷ rest)) index []
+          ≡ get_or (before ++ (old ∷ rest)) index [] =
+          get_or_append_left before (new ∷ rest) [] index (omega (arith, lt, long)) ∙
+          sym (get_or_append_left before (old ∷ rest) [] index (omega (arith, lt, long))) in
+          subst (IsTableFor (rule_at rules (Some place))) (sym kept) (are index place lt found)
+      | Prim.no ge ↦
+          let last : index ≡ n = omega (arith, ge, h) in
+          let end : index ≡ length before = omega (arith, last, long) in
+          let there : get_or (before ++ (new ∷ rest)) index [] ≡ new =
+          ap (λ i. get_or (before ++ (new ∷ rest)) i []) end ∙
+          get_or-append_seam before new rest [] in
+          subst (IsTableFor (rule_at rules (Some place))) (sym there)
+          (here place (ap (slice_get used) (sym last) ∙ found))
+    ]
 
--- pairs of the first entries are pairs of all
-pub of_all : (n : ℕ) (rules : List Rule) (cycle : List Entry) (pairs : List TablePair) →
-    length cycle ≤ n → ArePairsBelow n rules cycle pairs → ArePairs rules cycle pairs
-of_all n rules cycle pairs all below place entry found =
-    let within : place < length cycle = slice_get_within cycle place entry found in
-    below place entry (omega (arith, all, within)) found
+-- no use has its table at first
+pub none_yet : (rules : List Rule) (used : List ℕ) (tables : List (List ℕ)) →
+    AreTables 0 rules used tables
+none_yet rules used tables index place h = absurd (omega (arith, h))
+
+-- fewer uses have theirs too
+pub fewer : (n m : ℕ) (rules : List Rule) (used : List ℕ) (tables : List (List ℕ)) → m ≤ n →
+    AreTables n rules used tables → AreTables m rules used tables
+fewer n m rules used tables le are index place h = are index place (omega (arith, le, h))
+
+-- the table of a use that stands behind others
+at_use : (rules : List Rule) (tables : List (List ℕ)) (place : Option ℕ)
+    (before after all : List ℕ) → all ≡ before ++ (place_used place ++ after) →
+    AreTables (length all) rules all tables →
+    IsTableFor (rule_at rules place) (get_or tables (length before) [])
+at_use rules tables None before after all split are = tt
+at_use rules tables (Some place) before after all split are =
+    let within : length before < length all =
+    omega (arith, ap length split, length-append before (place ∷ after)) in
+    let there : get_or all (length before) 0 ≡ place =
+    ap (λ l. get_or l (length before) 0) split ∙ get_or-append_seam before place after 0 in
+    are (length before) place within (slice_get-get_or all (length before) 0 within ∙ ap Some there)
+
+-- the uses of a cycle before an entry, of the entry, and after it
+split_at : (k : ℕ) (cycle : List Entry) (past : Entry) → k < length cycle →
+    let entry = get_or cycle k past in
+    uses cycle
+    ≡ uses (take k cycle) ++ (place_used entry.a ++ place_used entry.b ++ uses (drop (k + 1) cycle))
+split_at k [] past h = absurd (omega (arith, h))
+split_at zero (entry ∷ cycle) past h = refl
+split_at (suc k) (entry ∷ cycle) past h =
+    let first = place_used entry.a ++ place_used entry.b in
+    let next = get_or cycle k past in
+    let long : suc (k + 1) ≡ suc k + 1 = omega arith in
+    ap (λ l. first ++ l) (split_at k cycle past (omega (arith, h))) ∙
+    sym (append_assoc first (uses (take k cycle))
+    (place_used next.a ++ place_used next.b ++ uses (drop (k + 1) cycle))) ∙
+    ap (λ n. first ++ uses (take k cycle)
+    ++ (place_used next.a ++ place_used next.b ++ uses (drop n (entry ∷ cycle)))) long
+
+module _ (rules : List Rule) (tables : List (List ℕ)) (k : ℕ) (cycle : List Entry) (past : Entry)
+    (within : k < length cycle)
+    (are : AreTables (length (uses cycle)) rules (uses cycle) tables) where
+  -- half A's table, and half B's, of the entry at a position
+  pub first_table :
+      IsTableFor (rule_at rules (get_or cycle k past).a)
+      (get_or tables (length (uses (take k cycle))) [])
+  first_table =
+      let entry = get_or cycle k past in
+      let before = uses (take k cycle) in
+      let after = uses (drop (k + 1) cycle) in
+      at_use rules tables entry.a before (place_used entry.b ++ after) (uses cycle)
+      (split_at k cycle past within ∙
+      ap (λ l. before ++ l) (append_assoc (place_used entry.a) (place_used entry.b) after)) are
+
+  pub second_table :
+      IsTableFor (rule_at rules (get_or cycle k past).b)
+      (get_or tables (length (uses (take k cycle) ++ place_used (get_or cycle k past).a)) [])
+  second_table =
+      let entry = get_or cycle k past in
+      let before = uses (take k cycle) in
+      let after = uses (drop (k + 1) cycle) in
+      at_use rules tables entry.b (before ++ place_used entry.a) after (uses cycle)
+      (split_at k cycle past within ∙
+      ap (λ l. before ++ l) (append_assoc (place_used entry.a) (place_used entry.b) after) ∙
+      sym (append_assoc before (place_used entry.a) (place_used entry.b ++ after))) are

@@ -6,7 +6,7 @@ pub mod Naming
 pub mod Along
 -- Rules after one was put under its name: what held of them holds.
 pub mod KeptNames
--- Tables that are filled entry by entry.
+-- Tables that are filled use by use.
 pub mod FilledTables
 -- The rules of a map, looked up by name.
 pub mod KeptRules
@@ -16,10 +16,8 @@ pub mod PlaneTexts
 pub mod Verdicts
 -- The reply to a command and the machine after it, where it is refused and where it is not.
 pub mod Done
--- A word that is made column by column, from column 0, its highest bit, on.
-pub mod MadeWords
--- New rows, word by word, and planes in which the rows of a half are written.
-pub mod WrittenRows
+-- A row of all planes, half by half, and planes that are written row by row.
+pub mod NewRows
 -- A step by true tables is the step by the rules' words.
 pub mod TrueSteps
 -- What follows of steps.

@@ -27,7 +27,7 @@ use Rattle.cam6_table.specs.declared.faults.RuleFault.{RuleFault}
 use Rattle.cam6_table.specs.Meaning.{at_address}
 use Rattle.cam6_table.specs.Tables.{least_stop}
 use Rattle.cam6_table.proofs.TrueTables.{runs_everywhere}
-use Rattle.cam6_machine.specs.Limits.{max_rules, max_entries, max_colour}
+use Rattle.cam6_machine.specs.Limits.{max_rules, max_entries, max_colour, max_steps}
 use Rattle.cam6_machine.specs.Rules.{Rule, rule_named, rule_if_named, wiring_for, is_rule_name}
 use Rattle.cam6_machine.specs.Steps.{words_mean}
 use Rattle.cam6_machine.specs.Machine.{Machine, own_colours, first_side, steps, machine_of}
@@ -36,7 +36,7 @@ use Rattle.cam6_machine.specs.declared.cycles.Entry.{Entry}
 use Rattle.cam6_planes.specs.Stored.{Stored}
 use Rattle.cam6_machine.specs.Refusals as refuse
 use Rattle.cam6_machine.specs.Effects.{effect, with_rule, with_side}
-use Rattle.cam6_machine.specs.Alone.{if_refused, after}
+use Rattle.cam6_machine.specs.Alone.{if_refused, after, command_of}
 use Rattle.cam6_machine.specs.Always.{HaveOwnNames, IsNamed, IsEntry, IsPosition, IsMachine}
 use Rattle.cam6_machine.specs.Laws.{BlankIsMachine, StaysMachine, LimitStays, IsRuled, RulesRun}
 use Rattle.cam6_machine.specs.declared.commands.Command.{Command}
@@ -45,7 +45,9 @@ use Rattle.cam6_machine.specs.declared.commands.NamedEntry.{NamedEntry}
 use Rattle.cam6_machine.specs.declared.faults.Fault.{Fault}
 use Rattle.cam6_machine.specs.declared.faults.Fault.TheVariants.{WrongHalf, OutOfRange}
 use Rattle.cam6_machine.specs.declared.faults.Fault.TheVariants.{TooManyRules, RuleInUse}
-use Rattle.cam6_machine.specs.declared.faults.Fault.TheVariants.{AboveLimit}
+use Rattle.cam6_machine.specs.declared.faults.Fault.TheVariants.{AboveLimit, NoCycle}
+use Rattle.cam6_machine.specs.declared.replies.Direction.{Direction}
+use Rattle.cam6_machine.specs.declared.replies.Direction.TheVariants.{Forward}
 use Rattle.cam6_machine.specs.declared.replies.Reply.{Reply}
 use Rattle.cam6_machine.proofs.Done.{after-refused, after-accepted}
 use Rattle.cam6_machine.proofs.KeptNames.{length_at_most, length_same, all_with}
@@ -107,6 +109,20 @@ position_below : (cycle : List NamedEntry) (position : ℕ) → IsPosition cycle
     0 < length cycle → position < length cycle
 position_below [] position is some = absurd (omega (arith, some))
 position_below (entry ∷ cycle) position is some = is
+
+no_cycle_refused : (b : Bool) →
+    refuse.fault_reply (refuse.or_then (refuse.unless b OutOfRange) (Some NoCycle)) ≡ None → ⊥
+no_cycle_refused true e = cc e
+no_cycle_refused false e = cc e
+
+-- a run that is accepted has an entry to begin with
+pub run_begins : (cycle : List NamedEntry) (position n : ℕ) → IsPosition cycle position →
+    refuse.fault_reply (refuse.run_refusal cycle n) ≡ None → position < length cycle
+run_begins [] position n is accepted = absurd (no_cycle_refused (nat_le n max_steps) accepted)
+run_begins (entry ∷ cycle) position n is accepted = is
+
+pub work_is_run : (n : ℕ) (direction : Direction) → command_of n direction ≡ command.Run n
+work_is_run n Forward = refl
 
 below_is : (cycle : List NamedEntry) (position : ℕ) → position < length cycle →
     IsPosition cycle position

@@ -21,14 +21,17 @@
 //! then more are all of them together; steps change planes and position alone; the position goes
 //! round the cycle.
 //!
-//! Stands on: `cam6_planes`, `cam6_wiring`, `cam6_forth`, `cam6_table`, and on `indexmap`.
+//! Stands on: `cam6_planes`, `cam6_wiring`, `cam6_forth`, `cam6_table`, and on `arrayvec` and
+//! `indexmap`.
 //!
 //! Read next: `commands`, `rows`, `replies` and `faults`; `rules` and `cycles`, what a machine
-//! keeps; `steps`, one step of all cells, with the `tables` that it reads, and `runs`, steps along
-//! a cycle; `refusals`, when a command is refused; then `machines` and `alone`; and `laws`.
+//! keeps; `by_tables`, a row of cells after a step, `steps`, one step of all, `tables`, what it
+//! reads, and `runs`, steps along a cycle; `refusals`, when a command is refused; then `machines`
+//! and `alone`; and `laws`.
 #![tactic(auto)]
 
 mod alone;
+mod by_tables;
 mod commands;
 mod cycles;
 mod faults;

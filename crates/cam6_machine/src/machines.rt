@@ -7,7 +7,7 @@ ghost use Rattle.cam6_machine.specs.Machine.{first_side};
 ghost use Rattle.cam6_machine.specs.Effects.{plane_rows};
 
 use crate::commands::{Command, NamedEntries};
-use crate::cycles::{Entry, MAX_ENTRIES, placed_entries};
+use crate::cycles::{Entry, placed_entries};
 use crate::refusals::{
     cycle_refusal, plane_refusal, rule_refusal, run_refusal, set_refusal, side_within,
 };
@@ -15,7 +15,7 @@ use crate::replies::{Direction, Now, Reply};
 use crate::rows::{Bits, PlaneRows, RowText};
 use crate::rules::{KeptRule, RuleRefusal, put, tried_rule};
 use crate::runs::run_along;
-use crate::tables::{TablePair, fill_tables};
+use crate::tables::{MAX_USES, fill_tables};
 use crate::texts::Text;
 use cam6_planes::{NoMemory, Planes, Side};
 use cam6_table::Table;
@@ -36,14 +36,14 @@ pub struct Machine {
     cycle: Vec<Entry>,
     position: usize,
     colours: [u8; 16],
-    /// Room for the tables of each entry of a cycle, filled when a run begins.
-    tables: Vec<TablePair>,
+    /// Room for the table of each use of a rule in a cycle, filled when a run begins.
+    tables: Vec<Table>,
     /// Where a new rule is tried at every address.
     trial: Table,
 }
 
 impl Model for Machine {
-    ghost use Rattle.std.specs.Prelude.{◌≡◌, vec_len};
+    ghost use Rattle.std.specs.Prelude.{◌≡◌, ◌*◌, vec_len};
     ghost use Rattle.cam6_machine.specs.Limits.{max_entries};
     ghost use Rattle.cam6_machine.specs.Stored.{StoredMachine};
     ghost use Rattle.cam6_machine.specs.Machine.{machine_of};
@@ -59,7 +59,7 @@ impl Model for Machine {
     ghost invariant = { λ m.
         IsMachine (machine_of
         (stored m.planes (rules_of m.rules.entries) m.cycle.items m.position m.colours))
-        × ArePlaced (rules_of m.rules.entries) m.cycle.items × (vec_len m.tables ≡ max_entries)
+        × ArePlaced (rules_of m.rules.entries) m.cycle.items × (vec_len m.tables ≡ 2 * max_entries)
         × AreAlike m.planes m.next };
 }
 
@@ -79,9 +79,9 @@ impl Machine {
     pub fn new(alloc: Global, limit: Side) -> Result<Machine, NoMemory>
         ensures machine { IfOk result (λ m. machine_of m ≡ blank limit) }
     {
-        let mut tables = Vec::with_capacity(alloc, MAX_ENTRIES)?;
-        for _pair in 0..MAX_ENTRIES {
-            tables.push(TablePair::blank(alloc)?)?;
+        let mut tables = Vec::with_capacity(alloc, MAX_USES)?;
+        for _use in 0..MAX_USES {
+            tables.push(Table::blank(alloc)?)?;
         }
         Ok(Machine {
             alloc,

@@ -1,6 +1,7 @@
 -- Within the side, coordinates stand for themselves.
-use Rattle.std.proofs.Common.{◌≡◌, ℕ, ◌<◌, ◌%◌, ◌∙◌, [], List, Bool, true, false, ◌&&◌, nat_lt}
-use Rattle.std.proofs.Common.{get_or, set, length, ap, refl, arith, if◌then◌else◌, ◌==◌}
+use Rattle.std.proofs.Common.{◌≡◌, ◌≢◌, ℕ, ◌<◌, ◌%◌, ◌∙◌, sym, [], List, Bool, true, false, ◌&&◌}
+use Rattle.std.proofs.Common.{nat_lt, get_or, set, length, get_or-set_other, get_or-set_same, ap}
+use Rattle.std.proofs.Common.{refl, arith, if◌then◌else◌, ◌==◌}
 use Rattle.std.proofs.lemmas.Bool.{ltb-true, lt-ltb}
 use Rattle.std.proofs.lemmas.Grind.{common_steps}
 use Rattle.std.proofs.Math.Path.{fun_ext}
@@ -9,7 +10,7 @@ use Rattle.cam6_planes.specs.Row.{column_bit}
 use Rattle.cam6_planes.specs.Side.{side_number}
 use Rattle.cam6_planes.proofs.SideNumbers.{side_least}
 use Rattle.cam6_planes.specs.Stored.{Stored}
-use Rattle.cam6_planes.specs.Cells.{Cells, torus, cells, stored_bit, with_row}
+use Rattle.cam6_planes.specs.Cells.{Cells, torus, cells, stored_bit, with_row, IsRow}
 
 -- within the side, a torus has what its function says
 pub torus_at : (s : ℕ) (f : Cells) (p x y : ℕ) → p < 4 → x < s → y < s → torus s f p x y ≡ f p x y
@@ -72,3 +73,29 @@ with_row-same s f p y row other some h =
     torus_same s (λ q u v. if (q == p) && (v == y) then row u else f q u v)
     (λ q u v. if (q == p) && (v == y) then other u else f q u v) some
     (λ q u v l m n. ap (λ b. if (q == p) && (v == y) then b else f q u v) (h u m))
+
+-- a stored row shows what the planes show there
+pub row_of_stored : (v : Stored) (y : ℕ) → y < side_number v.side →
+    IsRow (side_number v.side) (cells v) y (get_or v.rows y [])
+row_of_stored v y h p x k l = sym (cells_at v p x y k l h)
+
+-- once row y of all planes is written, they show it
+pub row_written : (s : ℕ) (rows : List (List (List ℕ))) (y : ℕ) (row : List (List ℕ)) → y < s →
+    y < length rows → IsRow s (torus s (stored_bit (set rows y row))) y row
+row_written s rows y row h k p x l m =
+    sym (torus_at s (stored_bit (set rows y row)) p x y l m h ∙
+    ap (λ r. column_bit (get_or r p []) x) (get_or-set_same rows y row [] k))
+
+-- and the other rows as before
+pub rows_kept : (s : ℕ) (rows : List (List (List ℕ))) (y : ℕ) (row : List (List ℕ)) (p x v : ℕ) →
+    p < 4 → x < s → v < s → v ≢ y →
+    torus s (stored_bit (set rows y row)) p x v ≡ torus s (stored_bit rows) p x v
+rows_kept s rows y row p x v h k l other =
+    torus_at s (stored_bit (set rows y row)) p x v h k l ∙
+    ap (λ r. column_bit (get_or r p []) x) (get_or-set_other rows y v row [] other) ∙
+    sym (torus_at s (stored_bit rows) p x v h k l)
+
+-- a torus that is wrapped once more stays the same
+pub torus_again : (s : ℕ) (f : Cells) → 0 < s → torus s (torus s f) ≡ torus s f
+torus_again s f some =
+    torus_same s (torus s f) f some (λ p x y h k l. torus_at s f p x y h k l)

@@ -16,3 +16,5 @@ pub mod CellsAt
 pub mod Blank
 -- What every side has.
 pub mod SideNumbers
+-- A test of each number below a bound, which the check computes.
+pub mod AllBelow

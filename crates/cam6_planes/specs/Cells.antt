@@ -1,5 +1,5 @@
 -- Planes as a set of cells: a truth value at each plane, column and row, wrapped round both ways.
-use Rattle.std.specs.Prelude.{ℕ, ◌%◌, Bool, false, List, [], slice_index_or}
+use Rattle.std.specs.Prelude.{ℕ, ◌%◌, ◌<◌, ◌≡◌, Bool, false, List, [], slice_index_or}
 use Rattle.std.specs.Prelude.{nat_lt, ◌==◌, ◌&&◌, if◌then◌else◌}
 use Rattle.cam6_planes.specs.Row.{column_bit}
 use Rattle.cam6_planes.specs.Side.{side_number}
@@ -28,3 +28,7 @@ stored_bit rows p x y = column_bit (slice_index_or (slice_index_or rows y []) p 
 -- the cells that stored planes show
 abbrev pub cells : Stored → Cells
 cells v = torus (side_number v.side) (stored_bit v.rows)
+
+-- these are, of planes f with s columns, row y of each plane
+abbrev pub IsRow : ℕ → Cells → ℕ → List (List ℕ) → Type 0
+IsRow s f y rows = (p x : ℕ) → p < 4 → x < s → column_bit (slice_index_or rows p []) x ≡ f p x y

@@ -21,5 +21,5 @@ mod sides;
 
 pub use memory::NoMemory;
 pub use planes::Planes;
-pub use row::{BYTES, DIGITS, Row, WORDS, east, west};
+pub use row::{BYTES, CellRow, DIGITS, Row, WORDS, east, put_east, put_west, west};
 pub use sides::Side;

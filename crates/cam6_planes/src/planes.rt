@@ -1,15 +1,15 @@
 //! The four planes of a machine.
-ghost use Rattle.std.specs.Prelude.{◌≡◌, ◌<◌, ◌≤◌, ◌*◌, ◌/◌, ℕ, slice_index_or, slice_set, []};
-ghost use Rattle.std.specs.Prelude.{IfOk, length, take, drop, false, replicate};
+ghost use Rattle.std.specs.Prelude.{◌≡◌, ◌≢◌, ◌<◌, ◌≤◌, ◌*◌, ◌/◌, ℕ, slice_index_or, slice_set};
+ghost use Rattle.std.specs.Prelude.{[], IfOk, length, take, drop, false, replicate};
 ghost use Rattle.std.specs.Str.{IsAscii};
 ghost use Rattle.cam6_planes.specs.Row.{column_bit, byte_column, row_text};
 ghost use Rattle.cam6_planes.specs.Side.{side_number};
 ghost use Rattle.cam6_planes.specs.Stored.{width};
 ghost use Rattle.cam6_planes.specs.declared.row.TheConstants.{WORDS};
-ghost use Rattle.cam6_planes.specs.Cells.{cells, no_cells, with_row};
+ghost use Rattle.cam6_planes.specs.Cells.{cells, no_cells, with_row, IsRow};
 
 use crate::memory::NoMemory;
-use crate::row::{DIGITS, Row, WORDS, is_set, row_of_bytes, write_hex};
+use crate::row::{CellRow, DIGITS, Row, WORDS, is_set, row_of_bytes, write_hex};
 use crate::sides::Side;
 use std::alloc::Global;
 use std::marker::Model;
@@ -20,7 +20,7 @@ use std::marker::Model;
 pub struct Planes {
     side: Side,
     limit: Side,
-    rows: Vec<[Row; 4]>,
+    rows: Vec<CellRow>,
 }
 
 impl Model for Planes {
@@ -109,6 +109,27 @@ impl Planes {
         row
     }
 
+    /// Row `y` of all four planes; of its words past the side nothing is said.
+    #[tactic(auto, using(crate::proofs::CellsAt::row_of_stored))]
+    pub fn row(&self, y: usize) -> &CellRow
+        requires { y < width self.now }
+        ensures { IsRow (width self.now) (cells self.now) y result.now }
+    {
+        &self.rows[y]
+    }
+
+    /// Writes row `y` of all four planes; words past the side don't count.
+    pub fn set_row(&mut self, y: usize, row: &CellRow)
+        requires { y < width self.old }
+        ensures written { IsRow (width self.old) (cells self.new) y row.now }
+        ensures others { (p x v : ℕ) → p < 4 → x < width self.old → v < width self.old → v ≢ y →
+            cells self.new p x v ≡ cells self.old p x v }
+        ensures side { self.new.side ≡ self.old.side }
+        ensures limit { self.new.limit ≡ self.old.limit }
+    {
+        self.rows[y] = *row;
+    }
+
     /// Writes row `y` of plane `p` as lower case hexadecimal digits, and answers how many.
     pub fn row_hex(&self, p: usize, y: usize, text: &mut [u8; DIGITS]) -> usize
         requires plane { p < 4 }
@@ -163,7 +184,7 @@ impl Planes {
 }
 
 /// Copies the first rows, so many.
-fn copy_rows(to: &mut [[Row; 4]], from: &[[Row; 4]], count: usize)
+fn copy_rows(to: &mut [CellRow], from: &[CellRow], count: usize)
     requires to { count ≤ length to.old }
     requires from { count ≤ length from.now }
     ensures { (y : ℕ) → y < count → slice_index_or to.new y [] ≡ slice_index_or from.now y [] }
@@ -173,7 +194,7 @@ fn copy_rows(to: &mut [[Row; 4]], from: &[[Row; 4]], count: usize)
     }
 }
 
-fn clear(rows: &mut [[Row; 4]])
+fn clear(rows: &mut [CellRow])
     ensures { (y : ℕ) → y < length rows.old →
         slice_index_or rows.new y [] ≡ replicate 4 (replicate WORDS 0) }
 {
@@ -182,14 +203,14 @@ fn clear(rows: &mut [[Row; 4]])
     }
 }
 
-fn plane_row(rows: &[Row; 4], p: usize) -> Row
+fn plane_row(rows: &CellRow, p: usize) -> Row
     requires { p < 4 }
     ensures { result ≡ slice_index_or rows.now p [] }
 {
     rows[p]
 }
 
-fn set_plane_row(rows: &mut [Row; 4], p: usize, words: Row)
+fn set_plane_row(rows: &mut CellRow, p: usize, words: Row)
     requires { p < 4 }
     ensures planes { length rows.old ≡ 4 }
     ensures value { rows.new ≡ slice_set rows.old p words }

@@ -21,6 +21,9 @@ pub const DIGITS: usize = 128;
 /// the side are 0.
 pub type Row = [u64; WORDS];
 
+/// A row of cells: that row of each of the four planes.
+pub type CellRow = [Row; 4];
+
 /// At each column of the answer, the bit that the row has to the west of it; west of column 0 is
 /// the last column. Words past the side are 0.
 pub fn west(row: &Row, side: Side) -> Row
@@ -28,12 +31,8 @@ pub fn west(row: &Row, side: Side) -> Row
         (x : ℕ) → x < s → column_bit result x ≡ column_bit row.now (west_of s x) }
     ensures past { (x : ℕ) → side_number side ≤ x → column_bit result x ≡ false }
 {
-    let words = side.words();
     let mut shifted = [0; WORDS];
-    for i in 0..words {
-        let before = if i == 0 { words - 1 } else { i - 1 };
-        shifted[i] = moved_east(row[i], row[before]);
-    }
+    put_west(&mut shifted, row, side);
     shifted
 }
 
@@ -44,13 +43,37 @@ pub fn east(row: &Row, side: Side) -> Row
         (x : ℕ) → x < s → column_bit result x ≡ column_bit row.now (east_of s x) }
     ensures past { (x : ℕ) → side_number side ≤ x → column_bit result x ≡ false }
 {
-    let words = side.words();
     let mut shifted = [0; WORDS];
-    for i in 0..words {
-        let after = if i + 1 == words { 0 } else { i + 1 };
-        shifted[i] = moved_west(row[i], row[after]);
-    }
+    put_east(&mut shifted, row, side);
     shifted
+}
+
+/// As `west`, into a row that is there; its words past the side stay as they are.
+pub fn put_west(shifted: &mut Row, row: &Row, side: Side)
+    ensures value { let s = side_number side in
+        (x : ℕ) → x < s → column_bit shifted.new x ≡ column_bit row.now (west_of s x) }
+    ensures past { (x : ℕ) → side_number side ≤ x →
+        column_bit shifted.new x ≡ column_bit shifted.old x }
+{
+    let words = side.words();
+    shifted[0] = moved_east(row[0], row[words - 1]);
+    for i in 1..words {
+        shifted[i] = moved_east(row[i], row[i - 1]);
+    }
+}
+
+/// As `east`, into a row that is there; its words past the side stay as they are.
+pub fn put_east(shifted: &mut Row, row: &Row, side: Side)
+    ensures value { let s = side_number side in
+        (x : ℕ) → x < s → column_bit shifted.new x ≡ column_bit row.now (east_of s x) }
+    ensures past { (x : ℕ) → side_number side ≤ x →
+        column_bit shifted.new x ≡ column_bit shifted.old x }
+{
+    let last = side.words() - 1;
+    for i in 0..last {
+        shifted[i] = moved_west(row[i], row[i + 1]);
+    }
+    shifted[last] = moved_west(row[last], row[0]);
 }
 
 /// The word with its columns one further east, and the last of the word `before` in front of them.

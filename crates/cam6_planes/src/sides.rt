@@ -1,5 +1,5 @@
 //! The three sides that a torus may have.
-ghost use Rattle.std.specs.Prelude.{◌≡◌, ◌*◌, ◌%◌, ◌≤◌, IfSome, min};
+ghost use Rattle.std.specs.Prelude.{◌≡◌, ◌*◌, ◌%◌, ◌≤◌, IfSome};
 ghost use Rattle.cam6_planes.specs.Side.{side_number, side_of};
 ghost use Rattle.cam6_planes.specs.declared.row.TheConstants.{WORDS};
 
@@ -38,17 +38,6 @@ impl Side {
             256 => Some(Side::S256),
             512 => Some(Side::S512),
             _ => None,
-        }
-    }
-
-    /// The smaller of two.
-    pub fn lesser(self, other: Side) -> Side
-        ensures { side_number result ≡ min (side_number self) (side_number other) }
-    {
-        if self.number() <= other.number() {
-            self
-        } else {
-            other
         }
     }
 

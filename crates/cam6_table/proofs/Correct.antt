@@ -7,7 +7,7 @@ use Rattle.cam6_wiring.specs.declared.wirings.Wiring.{Wiring}
 use Rattle.cam6_wiring.specs.declared.names.Name.TheVariants.{Beside}
 use Rattle.cam6_wiring.specs.declared.names.Compass.TheVariants.{Center}
 use Rattle.cam6_wiring.specs.declared.names.Level.TheVariants.{Lower, Upper}
-use Rattle.cam6_wiring.proofs.Lines.{line_of-center, line_of-center_upper}
+use Rattle.cam6_wiring.proofs.LinesOfNames.{line_of-center, line_of-center_upper}
 use Rattle.cam6_forth.specs.Tree.{Part, IsRule}
 use Rattle.cam6_table.specs.declared.faults.RuleFault.{RuleFault}
 use Rattle.cam6_table.specs.declared.outputs.State.{State}

@@ -2,7 +2,7 @@
 use Rattle.std.proofs.Common.{◌≡◌, ◌∙◌, ap, sym, [], List, None}
 use Rattle.cam6_wiring.specs.Seen.{address_of, shown}
 use Rattle.cam6_wiring.specs.declared.wirings.Wiring.{Wiring}
-use Rattle.cam6_wiring.proofs.Lines.{shows_what_is_seen}
+use Rattle.cam6_wiring.proofs.LinesOfNames.{shows_what_is_seen}
 use Rattle.cam6_forth.specs.Tree.{Part, IsRule, rule_of}
 use Rattle.cam6_table.specs.Internal.Emitting.{all_codes}
 use Rattle.cam6_table.specs.Laws.{TreesMeanTheSame}

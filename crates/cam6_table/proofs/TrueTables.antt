@@ -2,7 +2,7 @@
 use Rattle.std.proofs.Common.{◌≡◌, ◌∙◌, ℕ, List, Result, IsOk, sym, subst}
 use Rattle.cam6_wiring.specs.Seen.{Sees, environment, address_of, shown}
 use Rattle.cam6_wiring.specs.declared.wirings.Wiring.{Wiring}
-use Rattle.cam6_wiring.proofs.Lines.{shows_what_is_seen, address_of-lt}
+use Rattle.cam6_wiring.proofs.LinesOfNames.{shows_what_is_seen, address_of-lt}
 use Rattle.cam6_forth.specs.Tree.{Part, IsRule}
 use Rattle.cam6_table.specs.declared.faults.RuleFault.{RuleFault}
 use Rattle.cam6_table.specs.Meaning.{meaning, at_address}

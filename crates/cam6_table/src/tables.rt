@@ -7,7 +7,9 @@ ghost use Rattle.cam6_table.specs.Codes.{result_at};
 use crate::codes::Code;
 use crate::evaluation::{MAX_TURNS, eval};
 use crate::faults::RuleFault;
-use cam6_planes::NoMemory;
+use cam6_exchange::put_rows;
+use cam6_planes::{NoMemory, Row, Side};
+use cam6_wiring::Lines;
 use std::alloc::Global;
 use std::marker::Model;
 
@@ -33,7 +35,12 @@ impl Model for Table {
 }
 
 impl Table {
-    ghost use Rattle.std.specs.Prelude.{slice_set};
+    ghost use Rattle.std.specs.Prelude.{◌<◌, ℕ, slice_set};
+    ghost use Rattle.cam6_planes.specs.Row.{column_bit};
+    ghost use Rattle.cam6_planes.specs.Side.{side_number};
+    ghost use Rattle.cam6_wiring.specs.Lines.{address_in};
+    ghost use Rattle.cam6_wiring.specs.declared.names.Level.TheVariants.{Lower, Upper};
+    ghost use Rattle.cam6_table.specs.NewBits.{bit_for};
 
     /// A table of which every entry is 0.
     pub fn blank(alloc: Global) -> Result<Table, NoMemory>
@@ -58,6 +65,17 @@ impl Table {
     {
         let place = usize::from(address);
         self.entries[place] = entry;
+    }
+
+    /// Writes both planes' new rows of a row's lines: at each column that bit of the entry at the
+    /// address which the lines show there. Of words past the side nothing is said.
+    pub fn put_rows(&self, lower: &mut Row, upper: &mut Row, lines: &Lines, side: Side)
+        ensures lower { (x : ℕ) → x < side_number side → column_bit lower.new x
+            ≡ bit_for Lower (slice_index self.now (address_in lines.now x)) }
+        ensures upper { (x : ℕ) → x < side_number side → column_bit upper.new x
+            ≡ bit_for Upper (slice_index self.now (address_in lines.now x)) }
+    {
+        put_rows(lower, upper, lines, side, &self.entries);
     }
 
     /// Makes the table a copy of another one. It takes no memory.

@@ -3,8 +3,14 @@
 -- A number by its bits.
 pub mod Numbers
 -- The lines of names, and what an address shows on them.
-pub mod Lines
+pub mod LinesOfNames
 -- Turns round a block, by the sides of the block on which cells lie.
 pub mod Turning
 -- Each name stands on one line, so its line and the lines' names say the same.
 pub mod Named
+-- Rows that are the same in each word, or mixed by their columns.
+pub mod MixedColumns
+-- Columns and rows beside a cell.
+pub mod RowsBeside
+-- Lines that are written one by one.
+pub mod LineByLine

@@ -23,7 +23,7 @@ use Rattle.cam6_wiring.specs.declared.wirings.Hood.TheVariants.{Moore, VonNeuman
 use Rattle.cam6_wiring.specs.declared.wirings.Hood.TheVariants.{MargolusPhase, MargolusHorzVert}
 use Rattle.cam6_wiring.specs.declared.wirings.Minor.{Minor}
 use Rattle.cam6_wiring.specs.declared.wirings.Minor.TheVariants.{Centers, Phases, HorzVert}
-use Rattle.cam6_wiring.proofs.Lines.{same_name, at_line}
+use Rattle.cam6_wiring.proofs.LinesOfNames.{same_name, at_line}
 
 level_itself : (l : Level) → is_same_level l l ≡ true
 level_itself Lower = refl

@@ -4,4 +4,5 @@ pub mod Name
 pub mod Wiring
 pub mod Block
 pub mod Seen
+pub mod Lines
 pub mod Laws

@@ -3,7 +3,9 @@
 //! Contract: `line_of` is the line of a name; `seen` the bit that a name means to a cell;
 //! `address_at` is the number whose bits are what the cell sees under the name of each line
 //! (`specs/Seen.antt`), for all five neighbourhoods, three minor assignments, both halves, both
-//! grids and four phases. `corner_of` and `in_block` are a cell's corner of its Margolus block and
+//! grids and four phases. `lines_of_row` and `put_lines` are the same for a whole row of cells: at
+//! each column, on each line, what the cell there sees under the line's name (`specs/Lines.antt`).
+//! `corner_of` and `in_block` are a cell's corner of its Margolus block and
 //! where the block's other cells lie.
 //!
 //! The laws: an address shows, on the line of each name, what is seen under it, and 0 on every
@@ -14,16 +16,21 @@
 //! Stands on: `cam6_planes`.
 //!
 //! Read next: `names`, the names; `wirings`, their lines; `blocks`, the Margolus grids; then
-//! `neighbours`; and `laws`.
+//! `neighbours`; `columns`, `rows` and `lines`, the same a row at a time; and `laws`.
 #![tactic(auto)]
 
 mod blocks;
+mod columns;
 pub mod laws;
+mod lines;
 mod names;
 mod neighbours;
+mod rows;
 mod wirings;
 
 pub use blocks::{Corner, Grid, corner_of, in_block};
+pub use lines::{Lines, lines_of_row, put_lines};
 pub use names::{Compass, Half, Level, Name, Phase, Turn};
 pub use neighbours::{Setting, address_at, seen};
+pub use rows::Rows;
 pub use wirings::{Hood, LINES, Minor, Wiring, line_of};

@@ -123,7 +123,7 @@ fn row_beside(side: Side, compass: Compass, y: usize) -> usize
 }
 
 /// The column to the west of `x`, round the torus.
-fn west_of(side: Side, x: usize) -> usize
+pub(crate) fn west_of(side: Side, x: usize) -> usize
     requires { x < side_number side }
     ensures column { result ≡ west_of (side_number side) x }
     ensures within { result < side_number side }
@@ -133,7 +133,7 @@ fn west_of(side: Side, x: usize) -> usize
 }
 
 /// The column to the east of `x`, round the torus.
-fn east_of(side: Side, x: usize) -> usize
+pub(crate) fn east_of(side: Side, x: usize) -> usize
     requires { x < side_number side }
     ensures column { result ≡ east_of (side_number side) x }
     ensures within { result < side_number side }

@@ -1,34 +1,63 @@
-use Rattle.std.proofs.Common.{◌∙◌, ap, arith}
+use Rattle.std.proofs.Common.{◌<◌, ◌∙◌, ap, arith, subst}
+use Rattle.cam6_planes.specs.Cells.{cells, IsRow}
 use Rattle.cam6_planes.specs.Side.{side_number}
-use Rattle.cam6_planes.proofs.SideNumbers.{side_least}
 use Rattle.cam6_planes.specs.Stored.{width}
-use Rattle.cam6_planes.specs.Cells.{cells}
-use Rattle.cam6_wiring.specs.declared.names.Half.TheVariants.{A, B}
-use Rattle.cam6_machine.specs.Internal.Places.{rules_of, rules_at}
-use Rattle.cam6_machine.specs.Cycles.{setting_for}
-use Rattle.cam6_table.specs.NewBits.{bit_by_table}
-use Rattle.cam6_machine.proofs.TrueSteps.{IsHalf, stepped_planes}
+use Rattle.cam6_planes.proofs.SideNumbers.{side_least}
+use Rattle.cam6_machine.specs.Internal.ByTables.{step_by}
+use Rattle.cam6_machine.proofs.NewRows.{row_more, all_stepped}
 use Rattle.cam6_machine.proofs.steps.step.Goals as goal
+
+pub set_row-requires : goal.set_row-requires
+set_row-requires c =
+    let side = ap side_number c.loop-y.invariant.alike.side in
+    omega (
+      arith,
+      side,
+      c.loop-y-test.true,
+      c.number-y-end.ensures.value,
+      ap side_number c.side.ensures.side,
+    )
+
+pub loop-y-preserved : goal.loop-y-preserved
+loop-y-preserved c =
+    let y = c.loop-y.y in
+    let f = cells c.args.planes.now in
+    let tables = c.args.tables.now in
+    let s = width c.args.planes.now in
+    let side = ap side_number c.loop-y.invariant.alike.side in
+    let rows = c.around-rows in
+    let around = ap side_number rows.ensures.side in
+    let within : y < s =
+    omega (
+      arith,
+      c.loop-y-test.true,
+      c.number-y-end.ensures.value,
+      ap side_number c.side.ensures.side,
+    ) in
+    let right : IsRow s (step_by s tables f) y c.put_new_row.new.row =
+    subst (λ n. IsRow n (step_by n tables f) y c.put_new_row.new.row) around
+    (c.put_new_row.ensures f rows.ensures.rows rows.ensures.rows.here) in
+    let written : IsRow s (cells c.set_row.new.self) y c.put_new_row.new.row =
+    subst (λ n. IsRow n (cells c.set_row.new.self) y c.put_new_row.new.row) side
+    c.set_row.ensures.written in
+    record {
+      written = row_more s (cells c.loop-y.next) (cells c.set_row.new.self) (step_by s tables f) y
+          c.put_new_row.new.row within written right
+          (λ p x v h k l. c.set_row.ensures.others p x v h (omega (arith, k, side))
+          (omega (arith, l, side))) c.loop-y.invariant.written;
+      alike = record {
+        side = c.set_row.ensures.side ∙ c.loop-y.invariant.alike.side;
+        limit = c.set_row.ensures.limit ∙ c.loop-y.invariant.alike.limit;
+      };
+    }
 
 pub returns-clause-planes : goal.returns-clause-planes
 returns-clause-planes c =
     let s = width c.args.planes.now in
-    let entry = rules_at (rules_of c.args.rules.now.entries) c.args.entry in
-    let pair = c.args.tables.now in
-    let old = cells c.args.planes.now in
-    let new = c.step_half-2.new.new in
-    let a : IsHalf s entry A pair.a old (cells new) =
-    λ level x y h k.
-    c.step_half-2.ensures.other level x y h k ∙ c.step_half.ensures.half level x y h k ∙
-    ap (λ wiring. bit_by_table s old (setting_for A entry) wiring pair.a level x y)
-    c.wiring_at.ensures in
-    let b : IsHalf s entry B pair.b old (cells new) =
-    λ level x y h k.
-    c.step_half-2.ensures.half level x y h k ∙
-    ap (λ wiring. bit_by_table s old (setting_for B entry) wiring pair.b level x y)
-    c.wiring_at-2.ensures in
+    let end = ap side_number c.side.ensures.side in
     ap cells c.swap.ensures.x_after ∙
-    stepped_planes s entry old pair new (omega (arith, side_least c.args.planes.now.side))
-    (ap side_number
-    (c.step_half-2.ensures.alike.side ∙ c.step_half.ensures.alike.side ∙ c.requires.alike.side))
-    c.requires.tables a b
+    all_stepped s c.args.tables.now (cells c.args.planes.now) c.loop-y.next
+    (omega (arith, side_least c.args.planes.now.side))
+    (ap side_number c.loop-y.invariant.alike.side)
+    (λ p x y h k l. c.loop-y.invariant.written p x y h k
+    (omega (arith, l, c.loop-y-test.false, c.number-y-end.ensures.value, end)))

@@ -1,4 +1,4 @@
-use Rattle.cam6_wiring.proofs.Lines.{shows_nothing_else}
+use Rattle.cam6_wiring.proofs.LinesOfNames.{shows_nothing_else}
 use Rattle.cam6_wiring.proofs.laws.an_address_shows_nothing_else.Goals as goal
 
 pub returns : goal.returns

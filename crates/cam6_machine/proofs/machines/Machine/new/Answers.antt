@@ -13,7 +13,7 @@ invariant_of-result c =
     c.new-2.result.items c.args.limit planes.side planes.limit no_rules c.new-2.ensures.items in (
       is,
       placed,
-      omega (arith, c.loop-pair.invariant, c.loop-pair-test.false, c.loop-pair.auto._pair-end),
+      omega (arith, c.loop-use.invariant, c.loop-use-test.false, c.loop-use.auto._use-end),
       record {
         side = next.side ∙ sym planes.side;
         limit = next.limit ∙ sym planes.limit;
