@@ -61,7 +61,7 @@ fn round(rows: &Sixteen, digit: Digit) -> Sixteen
 }
 
 /// Row k after the round.
-#[inline(always)]
+#[inline]
 fn row_after(rows: &Sixteen, k: usize, digit: Digit) -> Pair
     requires { k < 16 }
     ensures { (i p : ℕ) → i < 2 → p < 64 → bit_at (slice_index result i) p
