@@ -3,7 +3,8 @@
 //! Contract: the code of a rule answers at each address what the rule means there
 //! (`specs/Meaning.antt`), the two new bits or the first fault. `eval` gives that result in at most
 //! 4,096 turns, one instruction each; `fill` leaves the table of all results, or names the least
-//! address at which any fault comes, with the fault there, also where no cell shows the address.
+//! address at which any fault comes, with the fault there, also where no cell shows the address. A
+//! table gives the new rows of a row's lines (`Table::put_rows`), and is seen as its entries alone.
 //!
 //! What a rule means is defined by recursion on its tree, as a function of what its names mean. The
 //! laws: a true table, read at the address of what is seen, is the rule as a function of what is
@@ -11,7 +12,7 @@
 //! the same; the least address with a fault is what a search over all addresses finds; a stack word
 //! stops for want of values exactly where there are fewer than it wants.
 //!
-//! Stands on: `cam6_planes`, `cam6_wiring` and `cam6_forth`.
+//! Stands on: `cam6_planes`, `cam6_wiring`, `cam6_exchange` and `cam6_forth`.
 //!
 //! Read next: `stacks`, what a word does; `outputs`; `codes`, the instructions; `emitter`, how a
 //! rule becomes code; `evaluation`; `tables`; then `laws`.

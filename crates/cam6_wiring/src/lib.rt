@@ -5,8 +5,8 @@
 //! (`specs/Seen.antt`), for all five neighbourhoods, three minor assignments, both halves, both
 //! grids and four phases. `lines_of_row` and `put_lines` are the same for a whole row of cells: at
 //! each column, on each line, what the cell there sees under the line's name (`specs/Lines.antt`).
-//! `corner_of` and `in_block` are a cell's corner of its Margolus block and
-//! where the block's other cells lie.
+//! `corner_of` and `in_block` are a cell's corner of its Margolus block and where the block's other
+//! cells lie.
 //!
 //! The laws: an address shows, on the line of each name, what is seen under it, and 0 on every
 //! other line; the line of a name and the names of the lines say the same; a name is the same as

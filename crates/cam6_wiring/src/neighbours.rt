@@ -128,8 +128,7 @@ pub(crate) fn west_of(side: Side, x: usize) -> usize
     ensures column { result ≡ west_of (side_number side) x }
     ensures within { result < side_number side }
 {
-    let columns = side.number();
-    (x + (columns - 1)) % columns
+    if x == 0 { side.number() - 1 } else { x - 1 }
 }
 
 /// The column to the east of `x`, round the torus.
@@ -138,7 +137,7 @@ pub(crate) fn east_of(side: Side, x: usize) -> usize
     ensures column { result ≡ east_of (side_number side) x }
     ensures within { result < side_number side }
 {
-    (x + 1) % side.number()
+    if x + 1 == side.number() { 0 } else { x + 1 }
 }
 
 /// The bit of plane `p` that the cell sees in its block.
