@@ -31,7 +31,7 @@ def rows(cells):
 
 
 def example(title, plane, rule, entry, cells):
-    print(f"\n# {title}\nas commands\n> rows {plane}")
+    print(f"\n# {title}\nas session\n> rows {plane}")
     rows(first)
     print(f'> {rule} => {{"ok":"rule"}}')
     print(f'> {{"do":"cycle","entries":[{entry}]}} => {{"ok":"cycle"}}')

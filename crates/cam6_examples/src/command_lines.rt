@@ -35,6 +35,9 @@ fn value_of(alloc: Global, command: &Command) -> Result<Value, AllocError> {
             json!(in alloc; {"do": "cycle", "entries": entries})
         }
         Command::Run { n } => json!(in alloc; {"do": "run", "n": *n}),
+        Command::Row { plane, row } => {
+            json!(in alloc; {"do": "row", "plane": *plane, "row": *row})
+        }
         Command::Plane { plane } => json!(in alloc; {"do": "plane", "plane": *plane}),
         Command::Side { side } => json!(in alloc; {"do": "side", "side": *side}),
     }

@@ -79,9 +79,7 @@ fn played(alloc: Global, part: &Part) -> io::Result<Vec<Vec<u8>>> {
     let sent = part.sent.as_slice();
     let first = match &part.way {
         Way::Session(limit) => sessions::served(alloc, *limit, sent)?,
-        Way::Commands(limit) => sessions::answered_as_commands(alloc, *limit, sent)?,
         Way::Readings => sessions::read(alloc, sent)?,
-        Way::Shown => sessions::read_shown(alloc, sent)?,
         Way::Texts(wiring) => rules::faults_of_texts(alloc, *wiring, sent)?,
         Way::Rules(wiring) => rules::kept_rules(alloc, *wiring, sent)?,
         Way::Entries(wiring, addresses) => {

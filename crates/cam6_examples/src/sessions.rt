@@ -5,8 +5,7 @@ use crate::examples::Sent;
 use cam6_machine::{Command, Machine};
 use cam6_planes::Side;
 use cam6_session::{End, serve_alone};
-use cam6_wire::{LineFault, command_shown, fault_text, read_command, reply_text};
-use serde_json::Value;
+use cam6_wire::{LineFault, fault_text, read_command, reply_text};
 use std::alloc::Global;
 use std::io;
 use std::io::{BufRead, Read};
@@ -91,17 +90,6 @@ pub fn answered_one_by_one(alloc: Global, limit: Side, sent: &[Sent]) -> io::Res
     Ok(answers)
 }
 
-/// The replies of a blank machine to the commands that the lines show.
-pub fn answered_as_commands(alloc: Global, limit: Side, sent: &[Sent]) -> io::Result<Vec<u8>> {
-    let mut machine = Machine::new(alloc, limit).map_err(|_| no_memory())?;
-    let mut answers = Vec::new(alloc);
-    for line in sent {
-        let command = shown(alloc, line.bytes.as_slice());
-        add_answer(alloc, &mut answers, &mut machine, command)?;
-    }
-    Ok(answers)
-}
-
 /// What each line says.
 pub fn read(alloc: Global, sent: &[Sent]) -> io::Result<Vec<u8>> {
     let mut answers = Vec::new(alloc);
@@ -113,21 +101,6 @@ pub fn read(alloc: Global, sent: &[Sent]) -> io::Result<Vec<u8>> {
         )?;
     }
     Ok(answers)
-}
-
-/// What each line's JSON value shows.
-pub fn read_shown(alloc: Global, sent: &[Sent]) -> io::Result<Vec<u8>> {
-    let mut answers = Vec::new(alloc);
-    for line in sent {
-        add_command(alloc, &mut answers, shown(alloc, line.bytes.as_slice()))?;
-    }
-    Ok(answers)
-}
-
-/// The command that a line's JSON value shows, also where no line may say it yet.
-fn shown(alloc: Global, line: &[u8]) -> Result<Command, LineFault> {
-    let value = Value::from_slice(alloc, line).map_err(|_| LineFault::NoJson)?;
-    command_shown(alloc, &value)?.ok_or(LineFault::NoCommand)
 }
 
 /// Adds the machine's reply to a command, or the text of a line's fault.

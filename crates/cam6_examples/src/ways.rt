@@ -12,13 +12,8 @@ pub enum Way {
     /// A session over a blank machine of this limit: its answers, whether its lines are read whole
     /// or a byte at a time, which are those of the machine to one command after another.
     Session(Side),
-    /// Commands to a blank machine of this limit, for whatever wirings and cycles, those that no
-    /// line may ask for yet among them: its replies.
-    Commands(Side),
     /// What each line says, or its fault.
     Readings,
-    /// What each line's JSON value shows, whether a line may say it yet or not.
-    Shown,
     /// Texts of rules under a wiring: the first fault of each, if it has one.
     Texts(Wiring),
     /// What is kept of each rule's text.
@@ -37,9 +32,7 @@ impl Way {
         let (first, rest) = text.split_once(' ').unwrap_or((text, ""));
         match (first, rest) {
             ("session", limit) => Ok(Way::Session(limit_of(limit)?)),
-            ("commands", limit) => Ok(Way::Commands(limit_of(limit)?)),
             ("readings", "") => Ok(Way::Readings),
-            ("shown", "") => Ok(Way::Shown),
             ("stacks", "") => Ok(Way::Stacks),
             ("texts", wiring) => Ok(Way::Texts(wiring_of(wiring)?)),
             ("rules", wiring) => Ok(Way::Rules(wiring_of(wiring)?)),

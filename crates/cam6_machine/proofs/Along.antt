@@ -12,7 +12,7 @@ use Rattle.cam6_machine.specs.Steps.{step}
 use Rattle.cam6_machine.specs.Always.{HaveOwnNames}
 use Rattle.cam6_machine.specs.Machine.{Machine, machine_of, stepped, stepped_by}
 use Rattle.cam6_machine.specs.Internal.Places.{named_entry, named_entries, rules_at, stored}
-use Rattle.cam6_machine.specs.declared.cycles.Entry.{Entry}
+use Rattle.cam6_cycle.specs.declared.entries.Entry.{Entry}
 use Rattle.cam6_machine.proofs.Naming.{same_rules}
 
 -- the planes after a step by the entry at the position, which moves on

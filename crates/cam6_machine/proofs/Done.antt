@@ -9,7 +9,7 @@ use Rattle.cam6_planes.specs.Cells.{Cells, cells, with_row}
 use Rattle.cam6_wiring.specs.declared.wirings.Wiring.{Wiring}
 use Rattle.cam6_machine.specs.Rules as rule
 use Rattle.cam6_machine.specs.Stored.{StoredMachine}
-use Rattle.cam6_machine.specs.Machine.{Machine, machine_of}
+use Rattle.cam6_machine.specs.Machine.{Machine, machine_of, steps}
 use Rattle.cam6_machine.specs.Refusals.{or_then, set_refusal, rule_refusal, cycle_refusal}
 use Rattle.cam6_machine.specs.Refusals.{words_refusal, fault_reply, refusal}
 use Rattle.cam6_machine.specs.Effects.{accepted_reply, effect, with_rule}
@@ -17,13 +17,14 @@ use Rattle.cam6_machine.specs.Always.{IsEntry}
 use Rattle.cam6_machine.specs.Alone.{if_refused, reply, after, some_steps, work_of, command_of}
 use Rattle.cam6_machine.specs.Internal.Places.{placed_entry, named_entries, ArePlaced, stored}
 use Rattle.cam6_machine.specs.declared.commands.Command.{Command}
-use Rattle.cam6_machine.specs.declared.commands.Command.TheVariants.{Set, Rule, Cycle, Run, Plane}
-use Rattle.cam6_machine.specs.declared.commands.Command.TheVariants.{Side}
+use Rattle.cam6_machine.specs.declared.commands.Command.TheVariants.{Set, Rule, Cycle, Run, Row}
+use Rattle.cam6_machine.specs.declared.commands.Command.TheVariants.{Plane, Side}
 use Rattle.cam6_machine.specs.declared.replies.Direction.{Direction}
 use Rattle.cam6_machine.specs.declared.replies.Direction.TheVariants.{Forward}
 use Rattle.cam6_machine.specs.declared.commands.NamedEntry.{NamedEntry}
-use Rattle.cam6_machine.specs.declared.cycles.Entry.{Entry}
+use Rattle.cam6_cycle.specs.declared.entries.Entry.{Entry}
 use Rattle.cam6_machine.specs.declared.replies.Reply.{Reply}
+use Rattle.cam6_machine.specs.declared.replies.Reply.TheVariants as replies
 use Rattle.cam6_machine.proofs.Naming.{entries_with, named_back}
 
 pub reply-refused : (m : Machine) (c : Command) (r : Reply) → refusal m c ≡ Some r →
@@ -48,6 +49,7 @@ pub command_is : (m : Machine) (c : Command) (n : ℕ) (direction : Direction) �
 command_is m (Set plane row bits) n direction e = cc e
 command_is m (Rule name wiring text) n direction e = cc e
 command_is m (Cycle entries) n direction e = cc e
+command_is m (Row plane row) n direction e = cc e
 command_is m (Plane plane) n direction e = cc e
 command_is m (Side side) n direction e = cc e
 command_is m (Run steps) n direction e = by_refusal (refusal m (Run steps)) e
@@ -133,3 +135,16 @@ module _ (planes : Stored) (rules : List rule.Rule) (cycle : List Entry) (positi
         rules = new;
         cycle = l;
       }) (ap (λ l. named_entries l cycle) put ∙ entries_with new_rule rules cycle placed)
+
+  -- the reply to steps that were done, and the machine after them
+  pub after-run : (new : Stored) (last n : ℕ) (direction : Direction) →
+      machine_of (stored new rules cycle last colours) ≡ steps n before →
+      refusal before (command_of n direction) ≡ None →
+      (replies.Run last ≡ reply before (command_of n direction))
+      × (machine_of (stored new rules cycle last colours)
+      ≡ after before (command_of n direction))
+  after-run new last n Forward made accepted = (
+    ap (λ (m : Machine). replies.Run m.position) made ∙
+    sym (reply-accepted before (Run n) accepted),
+    made ∙ sym (after-accepted before (Run n) accepted),
+  )

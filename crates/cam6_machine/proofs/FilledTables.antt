@@ -1,51 +1,22 @@
 -- Tables that are filled use by use.
-use Rattle.std.proofs.Common.{◌≡◌, ℕ, zero, suc, ◌+◌, ◌*◌, ◌<◌, ◌≤◌, List, [], ◌∷◌, ◌++◌, length}
-use Rattle.std.proofs.Common.{Option, Some, None, slice_get, get_or, take, drop, arith, refl, sym}
+use Rattle.std.proofs.Common.{◌≡◌, ℕ, zero, suc, ◌+◌, ◌<◌, ◌≤◌, List, [], ◌∷◌, ◌++◌, length}
+use Rattle.std.proofs.Common.{Option, Some, None, slice_get, get_or, take, arith, refl, sym}
 use Rattle.std.proofs.Common.{ap, ◌∙◌, subst, set}
-use Rattle.std.proofs.lemmas.List.{append_assoc, append-nil, length-append, get_or_append_left}
+use Rattle.std.proofs.lemmas.List.{get_or_append_left}
+use Rattle.std.proofs.lemmas.Option.{slice_get_within}
 use Rattle.std.proofs.Math.Seq.{get_or-append_seam}
-use Rattle.std.proofs.lemmas.Option.{slice_get-get_or}
 use native.Mathlib.Decide.{dec_lt}
+use Rattle.cam6_wiring.specs.declared.names.Half.TheVariants.{A, B}
+use Rattle.cam6_cycle.specs.Tables.{needed_for, tables_needed}
+use Rattle.cam6_cycle.specs.declared.entries.Entry.{Entry}
+use Rattle.cam6_cycle.specs.declared.entries.HalfRule.{HalfRule}
+use Rattle.cam6_cycle.specs.declared.tables.Direction.TheVariants.{Forward}
+use Rattle.cam6_cycle.specs.declared.tables.NeededTable.{NeededTable}
+use Rattle.cam6_cycle.proofs.Needed as needed
 use Rattle.cam6_machine.specs.Rules.{Rule}
-use Rattle.cam6_machine.specs.Internal.Places.{rule_at}
-use Rattle.cam6_machine.specs.Internal.ByTables.{IsTableFor, AreTables, place_used, uses}
-use Rattle.cam6_machine.specs.declared.cycles.Entry.{Entry}
-
--- the uses of one more entry
-pub uses_more : (k : ℕ) (entries : List Entry) (past : Entry) → k < length entries →
-    let entry = get_or entries k past in
-    (uses (take k entries) ++ place_used entry.a) ++ place_used entry.b
-    ≡ uses (take (k + 1) entries)
-uses_more k [] past h = absurd (omega (arith, h))
-uses_more zero (entry ∷ entries) past h =
-    sym (append-nil (place_used entry.a ++ place_used entry.b))
-uses_more (suc k) (entry ∷ entries) past h =
-    let first = place_used entry.a ++ place_used entry.b in
-    let before = uses (take k entries) in
-    let next = get_or entries k past in
-    let long : suc k + 1 ≡ suc (k + 1) = omega arith in
-    ap (λ l. l ++ place_used next.b) (append_assoc first before (place_used next.a)) ∙
-    append_assoc first (before ++ place_used next.a) (place_used next.b) ∙
-    ap (λ l. first ++ l) (uses_more k entries past (omega (arith, h))) ∙
-    ap (λ n. uses (take n (entry ∷ entries))) (sym long)
-
--- an entry uses at most two rules
-pub used-length : (place : Option ℕ) → length (place_used place) ≤ 1
-used-length None = omega arith
-used-length (Some place) = omega arith
-
-pub uses-length : (entries : List Entry) → length (uses entries) ≤ 2 * length entries
-uses-length [] = omega arith
-uses-length (entry ∷ entries) =
-    let first = place_used entry.a ++ place_used entry.b in
-    omega (
-      arith,
-      length-append first (uses entries),
-      length-append (place_used entry.a) (place_used entry.b),
-      used-length entry.a,
-      used-length entry.b,
-      uses-length entries,
-    )
+use Rattle.cam6_machine.specs.TrueTables.{IsTableFor}
+use Rattle.cam6_machine.specs.Internal.Places.{rule_at, place_in, IsPlaced, ArePlaced}
+use Rattle.cam6_machine.specs.Internal.Uses.{AreTables, IsUse}
 
 -- an item of the first items is one of all
 pub within_first : {X : Type 0} (n : ℕ) (xs : List X) (i : ℕ) (x : X) →
@@ -56,95 +27,92 @@ within_first (suc n) (y ∷ ys) zero x found = (omega arith, found)
 within_first (suc n) (y ∷ ys) (suc i) x found =
     let later = within_first n ys i x found in (omega (arith, later.0), later.1)
 
+-- a use among the first ones is one of all, of the rule at that place
+pub used_before : (n first place : ℕ) (uses : List NeededTable) →
+    IsUse place (slice_get (take n uses) first) →
+    (table : NeededTable) × (first < n) × (slice_get uses first ≡ Some table)
+    × (table.rule.number ≡ place)
+used_before n first place uses is = by_table (slice_get (take n uses) first) refl is
+  where
+    by_table : (o : Option NeededTable) → slice_get (take n uses) first ≡ o → IsUse place o →
+        (table : NeededTable) × (first < n) × (slice_get uses first ≡ Some table)
+        × (table.rule.number ≡ place)
+    by_table None e is = absurd is
+    by_table (Some table) e is =
+        let found = within_first n uses first table e in (table, found.0, found.1, is)
+
 -- one more use has its rule's table, where the tables before it stay
-pub one_more : (n : ℕ) (rules : List Rule) (used : List ℕ) (before rest : List (List ℕ))
-    (new : List ℕ) → length before ≡ n → 0 < length rest →
-    AreTables n rules used (before ++ rest) →
-    ((place : ℕ) → slice_get used n ≡ Some place → IsTableFor (rule_at rules (Some place)) new) →
-    AreTables (n + 1) rules used (before ++ set rest 0 new)
-one_more n rules used before [] new long some are here index place h found =
+pub one_more : (n : ℕ) (rules : List Rule) (uses : List NeededTable)
+    (before rest : List (List ℕ)) (new : List ℕ) → length before ≡ n → 0 < length rest →
+    AreTables n rules uses (before ++ rest) →
+    ((table : NeededTable) → slice_get uses n ≡ Some table →
+    IsTableFor (rule_at rules (Some table.rule.number)) new) →
+    AreTables (n + 1) rules uses (before ++ set rest 0 new)
+one_more n rules uses before [] new long some are here index table h found =
     absurd (omega (arith, some))
-one_more n rules used before (old ∷ rest) new long some are here index place h found =
+one_more n rules uses before (old ∷ rest) new long some are here index table h found =
     elim (dec_lt index n) [
       | Prim.yes lt ↦
           let kept : get_or (before ++ (new ∷ rest)) index []
           ≡ get_or (before ++ (old ∷ rest)) index [] =
           get_or_append_left before (new ∷ rest) [] index (omega (arith, lt, long)) ∙
           sym (get_or_append_left before (old ∷ rest) [] index (omega (arith, lt, long))) in
-          subst (IsTableFor (rule_at rules (Some place))) (sym kept) (are index place lt found)
+          subst (IsTableFor (rule_at rules (Some table.rule.number))) (sym kept)
+          (are index table lt found)
       | Prim.no ge ↦
           let last : index ≡ n = omega (arith, ge, h) in
           let end : index ≡ length before = omega (arith, last, long) in
           let there : get_or (before ++ (new ∷ rest)) index [] ≡ new =
           ap (λ i. get_or (before ++ (new ∷ rest)) i []) end ∙
           get_or-append_seam before new rest [] in
-          subst (IsTableFor (rule_at rules (Some place))) (sym there)
-          (here place (ap (slice_get used) (sym last) ∙ found))
+          subst (IsTableFor (rule_at rules (Some table.rule.number))) (sym there)
+          (here table (ap (slice_get uses) (sym last) ∙ found))
     ]
 
 -- no use has its table at first
-pub none_yet : (rules : List Rule) (used : List ℕ) (tables : List (List ℕ)) →
-    AreTables 0 rules used tables
-none_yet rules used tables index place h = absurd (omega (arith, h))
+pub none_yet : (rules : List Rule) (uses : List NeededTable) (tables : List (List ℕ)) →
+    AreTables 0 rules uses tables
+none_yet rules uses tables index table h = absurd (omega (arith, h))
 
 -- fewer uses have theirs too
-pub fewer : (n m : ℕ) (rules : List Rule) (used : List ℕ) (tables : List (List ℕ)) → m ≤ n →
-    AreTables n rules used tables → AreTables m rules used tables
-fewer n m rules used tables le are index place h = are index place (omega (arith, le, h))
-
--- the table of a use that stands behind others
-at_use : (rules : List Rule) (tables : List (List ℕ)) (place : Option ℕ)
-    (before after all : List ℕ) → all ≡ before ++ (place_used place ++ after) →
-    AreTables (length all) rules all tables →
-    IsTableFor (rule_at rules place) (get_or tables (length before) [])
-at_use rules tables None before after all split are = tt
-at_use rules tables (Some place) before after all split are =
-    let within : length before < length all =
-    omega (arith, ap length split, length-append before (place ∷ after)) in
-    let there : get_or all (length before) 0 ≡ place =
-    ap (λ l. get_or l (length before) 0) split ∙ get_or-append_seam before place after 0 in
-    are (length before) place within (slice_get-get_or all (length before) 0 within ∙ ap Some there)
-
--- the uses of a cycle before an entry, of the entry, and after it
-split_at : (k : ℕ) (cycle : List Entry) (past : Entry) → k < length cycle →
-    let entry = get_or cycle k past in
-    uses cycle
-    ≡ uses (take k cycle) ++ (place_used entry.a ++ place_used entry.b ++ uses (drop (k + 1) cycle))
-split_at k [] past h = absurd (omega (arith, h))
-split_at zero (entry ∷ cycle) past h = refl
-split_at (suc k) (entry ∷ cycle) past h =
-    let first = place_used entry.a ++ place_used entry.b in
-    let next = get_or cycle k past in
-    let long : suc (k + 1) ≡ suc k + 1 = omega arith in
-    ap (λ l. first ++ l) (split_at k cycle past (omega (arith, h))) ∙
-    sym (append_assoc first (uses (take k cycle))
-    (place_used next.a ++ place_used next.b ++ uses (drop (k + 1) cycle))) ∙
-    ap (λ n. first ++ uses (take k cycle)
-    ++ (place_used next.a ++ place_used next.b ++ uses (drop n (entry ∷ cycle)))) long
+pub fewer : (n m : ℕ) (rules : List Rule) (uses : List NeededTable) (tables : List (List ℕ)) →
+    m ≤ n → AreTables n rules uses tables → AreTables m rules uses tables
+fewer n m rules uses tables le are index table h = are index table (omega (arith, le, h))
 
 module _ (rules : List Rule) (tables : List (List ℕ)) (k : ℕ) (cycle : List Entry) (past : Entry)
     (within : k < length cycle)
-    (are : AreTables (length (uses cycle)) rules (uses cycle) tables) where
+    (are : AreTables (length (tables_needed Forward cycle)) rules (tables_needed Forward cycle)
+    tables) where
   -- half A's table, and half B's, of the entry at a position
-  pub first_table :
-      IsTableFor (rule_at rules (get_or cycle k past).a)
-      (get_or tables (length (uses (take k cycle))) [])
-  first_table =
-      let entry = get_or cycle k past in
-      let before = uses (take k cycle) in
-      let after = uses (drop (k + 1) cycle) in
-      at_use rules tables entry.a before (place_used entry.b ++ after) (uses cycle)
-      (split_at k cycle past within ∙
-      ap (λ l. before ++ l) (append_assoc (place_used entry.a) (place_used entry.b) after)) are
+  pub first_table : (o : Option HalfRule) → (get_or cycle k past).a ≡ o →
+      IsTableFor (rule_at rules (place_in o))
+      (get_or tables (length (tables_needed Forward (take k cycle))) [])
+  first_table None is = tt
+  first_table (Some rule) is =
+      let index = length (tables_needed Forward (take k cycle)) in
+      let found = needed.first_table Forward cycle k past within rule is in
+      are index (record { half = A; rule = rule; direction = Forward })
+      (slice_get_within (tables_needed Forward cycle) index _ found) found
 
-  pub second_table :
-      IsTableFor (rule_at rules (get_or cycle k past).b)
-      (get_or tables (length (uses (take k cycle) ++ place_used (get_or cycle k past).a)) [])
-  second_table =
-      let entry = get_or cycle k past in
-      let before = uses (take k cycle) in
-      let after = uses (drop (k + 1) cycle) in
-      at_use rules tables entry.b (before ++ place_used entry.a) after (uses cycle)
-      (split_at k cycle past within ∙
-      ap (λ l. before ++ l) (append_assoc (place_used entry.a) (place_used entry.b) after) ∙
-      sym (append_assoc before (place_used entry.a) (place_used entry.b ++ after))) are
+  pub second_table : (o : Option HalfRule) → (get_or cycle k past).b ≡ o →
+      IsTableFor (rule_at rules (place_in o))
+      (get_or tables (length (tables_needed Forward (take k cycle))
+      + length (needed_for Forward A (get_or cycle k past).a)) [])
+  second_table None is = tt
+  second_table (Some rule) is =
+      let index = length (tables_needed Forward (take k cycle))
+      + length (needed_for Forward A (get_or cycle k past).a) in
+      let found = needed.second_table Forward cycle k past within rule is in
+      are index (record { half = B; rule = rule; direction = Forward })
+      (slice_get_within (tables_needed Forward cycle) index _ found) found
+
+-- an entry's rules stand at their places
+pub placed_at : (rules : List Rule) (cycle : List Entry) (position : ℕ) (entry : Entry) →
+    slice_get cycle position ≡ Some entry → ArePlaced rules cycle →
+    IsPlaced rules entry.a × IsPlaced rules entry.b
+placed_at rules [] position entry found placed = cc found
+placed_at rules (first ∷ cycle) zero entry found placed =
+    let same : first ≡ entry = cc found in
+    subst (λ (e : Entry). IsPlaced rules e.a × IsPlaced rules e.b) same placed.0
+placed_at rules (first ∷ cycle) (suc position) entry found placed =
+    placed_at rules cycle position entry found placed.1

@@ -16,8 +16,6 @@ pub mod PlaneTexts
 pub mod Verdicts
 -- The reply to a command and the machine after it, where it is refused and where it is not.
 pub mod Done
--- A row of all planes, half by half, and planes that are written row by row.
-pub mod NewRows
 -- A step by true tables is the step by the rules' words.
 pub mod TrueSteps
 -- What follows of steps.

@@ -1,16 +1,19 @@
 -- Places of rules, and their names: they say the same where the names are the rules' own.
-use Rattle.std.proofs.Common.{◌≡◌, ◌≤◌, ◌<◌, ℕ, zero, suc, Bool, true, false, ◌||◌, ◌==◌, List}
+use Rattle.std.proofs.Common.{◌≡◌, ◌<◌, ℕ, zero, suc, Bool, true, false, ◌||◌, ◌==◌, List}
 use Rattle.std.proofs.Common.{[], ◌∷◌, map, length, Option, Some, None, cond, refl, sym, ap, ◌∙◌}
 use Rattle.std.proofs.Common.{arith, subst, inl, inr, option_map, slice_get, nat_le}
 use Rattle.std.specs.List.{AllByRecursion, list_any}
 use Rattle.std.specs.Str.{bytes_eq}
 use Rattle.std.proofs.lemmas.Bool.Decides.{eqb_tells}
 use Rattle.std.proofs.lemmas.Map.Keys.{IsDistinct-head, IsDistinct-tail}
+use Rattle.std.proofs.lemmas.Option.{slice_get_within}
 use Rattle.std.proofs.lemmas.Slice.Eq.{bytes_eq-Decides}
 use Rattle.cam6_wiring.specs.declared.names.Half.{Half}
 use Rattle.cam6_wiring.specs.declared.names.Half.TheVariants.{A, B}
 use Rattle.cam6_wiring.specs.declared.names.Phase.{Phase}
 use Rattle.cam6_wiring.specs.declared.names.Phase.TheVariants.{P0, P1, P2, P3}
+use Rattle.cam6_cycle.specs.declared.entries.Entry.{Entry}
+use Rattle.cam6_cycle.specs.declared.entries.HalfRule.{HalfRule}
 use Rattle.cam6_machine.specs.Limits.{max_rules}
 use Rattle.cam6_machine.specs.Rules.{Rule, rule_named, rule_if_named, is_rule_name}
 use Rattle.cam6_machine.specs.Cycles.{EntryRules, phase_of, entry_rules}
@@ -20,9 +23,9 @@ use Rattle.cam6_machine.specs.Refusals.{is_name, is_used, room_refusal, rule_ref
 use Rattle.cam6_machine.specs.Internal.Places.{place_of, rule_at, name_of, place_if_named}
 use Rattle.cam6_machine.specs.Internal.Places.{placed_entry, phase_number, named_entry}
 use Rattle.cam6_machine.specs.Internal.Places.{named_entries, rules_at, IsPlace, ArePlaced}
-use Rattle.cam6_machine.specs.Internal.Places.{is_place, uses_place}
+use Rattle.cam6_machine.specs.Internal.Places.{is_place, uses_place, place_in, half_rule}
+use Rattle.cam6_machine.specs.Internal.Places.{half_rule_at, IsPlaced}
 use Rattle.cam6_machine.specs.declared.commands.NamedEntry.{NamedEntry}
-use Rattle.cam6_machine.specs.declared.cycles.Entry.{Entry}
 use Rattle.cam6_machine.specs.declared.faults.Fault.TheVariants.{RuleInUse, TooManyRules}
 use Rattle.cam6_machine.specs.declared.faults.Fault.TheVariants.{OutOfRange}
 
@@ -104,24 +107,24 @@ half_back rules (Some place) own = rule_of_name rules place own
 pub same_rules : (rules : List Rule) (entry : Entry) → HaveOwnNames rules →
     entry_rules rules (named_entry rules entry) ≡ rules_at rules entry
 same_rules rules entry own =
-    let a = half_back rules entry.a own in
-    let b = half_back rules entry.b own in
+    let a = half_back rules (place_in entry.a) own in
+    let b = half_back rules (place_in entry.b) own in
     let phase = phase_back entry.phase in
     ap {B = EntryRules} (λ r. record {
       a = r;
-      b = rule_if_named (name_of (rule_at rules entry.b)) rules;
+      b = rule_if_named (name_of (rule_at rules (place_in entry.b))) rules;
       grid = entry.grid;
       phase = phase_of (phase_number entry.phase);
     }) a ∙
     ap {B = EntryRules} (λ r. record {
-      a = rule_at rules entry.a;
+      a = rule_at rules (place_in entry.a);
       b = r;
       grid = entry.grid;
       phase = phase_of (phase_number entry.phase);
     }) b ∙
     ap {B = EntryRules} (λ p. record {
-      a = rule_at rules entry.a;
-      b = rule_at rules entry.b;
+      a = rule_at rules (place_in entry.a);
+      b = rule_at rules (place_in entry.b);
       grid = entry.grid;
       phase = p;
     }) phase
@@ -258,10 +261,10 @@ module _ (rules : List Rule) (name : List ℕ) (place : ℕ) (rule : Rule) (own 
       is_used (named_entries rules cycle) name ≡ list_any (uses_place place) cycle
   used_by_place [] = refl
   used_by_place (entry ∷ cycle) =
-      ap (λ a. (a || is_name name (name_of (rule_at rules entry.b)))
-      || is_used (named_entries rules cycle) name) (name_by_place entry.a) ∙
-      ap (λ b. (is_place place entry.a || b) || is_used (named_entries rules cycle) name)
-      (name_by_place entry.b) ∙
+      ap (λ a. (a || is_name name (name_of (rule_at rules (place_in entry.b))))
+      || is_used (named_entries rules cycle) name) (name_by_place (place_in entry.a)) ∙
+      ap (λ b. (is_place place (place_in entry.a) || b) || is_used (named_entries rules cycle) name)
+      (name_by_place (place_in entry.b)) ∙
       ap (λ later. uses_place place entry || later) (used_by_place cycle)
 
 -- a rule that is there is refused where an entry has its place
@@ -309,7 +312,7 @@ refused_new rules cycle name full named none is =
     (Some OutOfRange)) named
 
 -- names and places where a rule was put: rules that were there keep both
-name_with : (new : Rule) (rules : List Rule) (place : ℕ) → place < length rules →
+pub name_with : (new : Rule) (rules : List Rule) (place : ℕ) → place < length rules →
     name_of (slice_get (with_rule new rules) place) ≡ name_of (slice_get rules place)
 name_with new [] place within = absurd (omega (arith, within))
 name_with new (rule ∷ rules) place within =
@@ -328,6 +331,12 @@ name_with new (rule ∷ rules) place within =
     by_test false zero within rest = refl
     by_test false (suc place) within rest = rest place (omega (arith, within))
 
+-- a rule that stands at its place has one of the places
+is_within : (rules : List Rule) (o : Option HalfRule) → IsPlaced rules o →
+    IsPlace rules (place_in o)
+is_within rules None placed = tt
+is_within rules (Some half) (rule, here, hood, minor) = slice_get_within rules half.number rule here
+
 half_with : (new : Rule) (rules : List Rule) (o : Option ℕ) → IsPlace rules o →
     name_of (rule_at (with_rule new rules) o) ≡ name_of (rule_at rules o)
 half_with new rules None within = refl
@@ -340,47 +349,44 @@ entries_with new rules (entry ∷ cycle) placed =
     let later = named_entries (with_rule new rules) cycle in
     ap {B = List NamedEntry} (λ a. record {
       a = a;
-      b = name_of (rule_at (with_rule new rules) entry.b);
+      b = name_of (rule_at (with_rule new rules) (place_in entry.b));
       grid = entry.grid;
       phase = phase_number entry.phase;
-    } ∷ later) (half_with new rules entry.a placed.0.0) ∙
+    } ∷ later) (half_with new rules (place_in entry.a)
+    (is_within rules entry.a placed.0.0)) ∙
     ap {B = List NamedEntry} (λ b. record {
-      a = name_of (rule_at rules entry.a);
+      a = name_of (rule_at rules (place_in entry.a));
       b = b;
       grid = entry.grid;
       phase = phase_number entry.phase;
-    } ∷ later) (half_with new rules entry.b placed.0.1) ∙
+    } ∷ later) (half_with new rules (place_in entry.b)
+    (is_within rules entry.b placed.0.1)) ∙
     ap (λ l. named_entry rules entry ∷ l) (entries_with new rules cycle placed.1)
-
-not_fewer : (new : Rule) (rules : List Rule) → length rules ≤ length (with_rule new rules)
-not_fewer new [] = omega arith
-not_fewer new (rule ∷ rules) = by_test (bytes_eq new.name rule.name) (not_fewer new rules)
-  where
-    by_test : (b : Bool) → length rules ≤ length (with_rule new rules) →
-        length (rule ∷ rules) ≤ length (cond b
-        (record rule { wiring = new.wiring; text = new.text } ∷ rules)
-        (rule ∷ with_rule new rules))
-    by_test true rest = omega arith
-    by_test false rest = omega (arith, rest)
-
-place_with : (new : Rule) (rules : List Rule) (o : Option ℕ) → IsPlace rules o →
-    IsPlace (with_rule new rules) o
-place_with new rules None within = tt
-place_with new rules (Some place) within = omega (arith, within, not_fewer new rules)
-
-pub placed_with : (new : Rule) (rules : List Rule) (cycle : List Entry) → ArePlaced rules cycle →
-    ArePlaced (with_rule new rules) cycle
-placed_with new rules [] placed = tt
-placed_with new rules (entry ∷ cycle) placed = (
-  (place_with new rules entry.a placed.0.0, place_with new rules entry.b placed.0.1),
-  placed_with new rules cycle placed.1,
-)
 
 -- names that are placed are had back
 half_named : (rules : List Rule) (half : Half) (o : Option (List ℕ)) → IsNamed rules half o →
     name_of (rule_at rules (place_if_named rules o)) ≡ o
 half_named rules half None named = refl
 half_named rules half (Some name) (rule, found, of_half) = name_placed name rules rule found
+
+half_within : (rules : List Rule) (o : Option (List ℕ)) → IsPlace rules (place_if_named rules o)
+half_within rules None = tt
+half_within rules (Some name) = place_within name rules
+
+-- the place of a rule that an entry was given by its place
+place_back : (rules : List Rule) (o : Option ℕ) → IsPlace rules o →
+    place_in (half_rule_at rules o) ≡ o
+place_back rules None within = refl
+place_back rules (Some place) within =
+    let (rule, here) = found_at rules place within in
+    ap (λ found. place_in (half_rule place found)) here
+
+half_placed : (rules : List Rule) (half : Half) (o : Option (List ℕ)) → IsNamed rules half o →
+    name_of (rule_at rules (place_in (half_rule_at rules (place_if_named rules o)))) ≡ o
+half_placed rules half o named =
+    ap (λ place. name_of (rule_at rules place))
+    (place_back rules (place_if_named rules o) (half_within rules o)) ∙
+    half_named rules half o named
 
 number_back : (n : ℕ) → n < 4 → phase_number (phase_of n) ≡ n
 number_back zero within = refl
@@ -396,16 +402,17 @@ named_back rules (entry ∷ entries) are =
     let later = named_entries rules (map (placed_entry rules) entries) in
     ap {B = List NamedEntry} (λ a. record {
       a = a;
-      b = name_of (rule_at rules (place_if_named rules entry.b));
+      b = name_of (rule_at rules
+          (place_in (half_rule_at rules (place_if_named rules entry.b))));
       grid = entry.grid;
       phase = phase_number (phase_of entry.phase);
-    } ∷ later) (half_named rules A entry.a are.0.0) ∙
+    } ∷ later) (half_placed rules A entry.a are.0.0) ∙
     ap {B = List NamedEntry} (λ b. record {
       a = entry.a;
       b = b;
       grid = entry.grid;
       phase = phase_number (phase_of entry.phase);
-    } ∷ later) (half_named rules B entry.b are.0.1) ∙
+    } ∷ later) (half_placed rules B entry.b are.0.1) ∙
     ap {B = List NamedEntry} (λ n. record {
       a = entry.a;
       b = entry.b;
@@ -414,12 +421,22 @@ named_back rules (entry ∷ entries) are =
     } ∷ later) (number_back entry.phase are.0.2) ∙
     ap (λ l. entry ∷ l) (named_back rules entries are.1)
 
-half_within : (rules : List Rule) (o : Option (List ℕ)) → IsPlace rules (place_if_named rules o)
-half_within rules None = tt
-half_within rules (Some name) = place_within name rules
+half_is_placed : (rules : List Rule) (o : Option ℕ) → IsPlaced rules (half_rule_at rules o)
+half_is_placed rules None = tt
+half_is_placed rules (Some place) = by_rule (slice_get rules place) refl
+  where
+    by_rule : (found : Option Rule) → slice_get rules place ≡ found →
+        IsPlaced rules (half_rule place found)
+    by_rule None here = tt
+    by_rule (Some rule) here = (rule, here, refl, refl)
 
 pub are_placed : (rules : List Rule) (entries : List NamedEntry) →
     ArePlaced rules (map (placed_entry rules) entries)
 are_placed rules [] = tt
-are_placed rules (entry ∷ entries) =
-    ((half_within rules entry.a, half_within rules entry.b), are_placed rules entries)
+are_placed rules (entry ∷ entries) = (
+  (
+    half_is_placed rules (place_if_named rules entry.a),
+    half_is_placed rules (place_if_named rules entry.b),
+  ),
+  are_placed rules entries,
+)

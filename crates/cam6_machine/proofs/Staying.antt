@@ -1,11 +1,12 @@
 -- A machine stays a machine, whatever it is commanded, and its rules run.
 use Rattle.std.proofs.Common.{◌≡◌, ◌≤◌, ◌<◌, ◌+◌, ◌%◌, ℕ, Bool, true, false, ◌&&◌, ◌||◌, List, []}
 use Rattle.std.proofs.Common.{◌∷◌, length, Option, Some, None, cond, refl, sym, ap, ◌∙◌, subst}
-use Rattle.std.proofs.Common.{arith, lit≤, nat_lt, nat_le, IsOk, ◌⊎◌, inl, inr, Result, Ok, Err}
+use Rattle.std.proofs.Common.{arith, lit≤, nat_lt, nat_le, IsOk, slice_get, ◌⊎◌, inl, inr, Result, Ok, Err}
 use Rattle.std.specs.List.{AllByRecursion, list_any, list_all}
 use Rattle.std.specs.Str.{bytes_eq}
 use Rattle.std.proofs.lemmas.Bool.{leb-true, leb-false, ltb-true}
 use Rattle.std.proofs.lemmas.Map.Made.{IsDistinct-from_AllPairs}
+use Rattle.std.proofs.lemmas.Option.{slice_get_within}
 use Rattle.std.proofs.lemmas.Slice.Eq.{bytes_eq-Decides}
 use Rattle.std.proofs.Math.Nat.{mod-lt}
 use Rattle.cam6_planes.specs.Side.{side_number, side_of}
@@ -31,8 +32,10 @@ use Rattle.cam6_machine.specs.Limits.{max_rules, max_entries, max_colour, max_st
 use Rattle.cam6_machine.specs.Rules.{Rule, rule_named, rule_if_named, wiring_for, is_rule_name}
 use Rattle.cam6_machine.specs.Steps.{words_mean}
 use Rattle.cam6_machine.specs.Machine.{Machine, own_colours, first_side, steps, machine_of}
-use Rattle.cam6_machine.specs.Internal.Places.{ArePlaced, stored}
-use Rattle.cam6_machine.specs.declared.cycles.Entry.{Entry}
+use Rattle.cam6_machine.specs.Internal.Places.{IsPlaced, ArePlaced, stored, rule_at, name_of}
+use Rattle.cam6_machine.specs.Internal.Places.{place_in, named_entry, named_entries}
+use Rattle.cam6_cycle.specs.declared.entries.Entry.{Entry}
+use Rattle.cam6_cycle.specs.declared.entries.HalfRule.{HalfRule}
 use Rattle.cam6_planes.specs.Stored.{Stored}
 use Rattle.cam6_machine.specs.Refusals as refuse
 use Rattle.cam6_machine.specs.Effects.{effect, with_rule, with_side}
@@ -52,7 +55,7 @@ use Rattle.cam6_machine.specs.declared.replies.Reply.{Reply}
 use Rattle.cam6_machine.proofs.Done.{after-refused, after-accepted}
 use Rattle.cam6_machine.proofs.KeptNames.{length_at_most, length_same, all_with}
 use Rattle.cam6_machine.proofs.KeptNames.{own_with, other_named}
-use Rattle.cam6_machine.proofs.Naming.{same_bytes}
+use Rattle.cam6_machine.proofs.Naming.{same_bytes, rule_of_name, name_with}
 use Rattle.cam6_machine.proofs.StepLaws.{only_planes_and_position, position_goes_round}
 
 pub none_own : HaveOwnNames []
@@ -280,6 +283,79 @@ has_room rules cycle new (Some old) e none few = (
     by_test true is none = cc none
     by_test false is none = is
 
+-- where a rule isn't refused, each entry of the cycle is apart from it
+apart_if_room : (rules : List Rule) (cycle : List NamedEntry) (name : List ℕ) →
+    refuse.rule_refusal rules cycle name ≡ None → AreApart rules cycle name
+apart_if_room rules cycle name none = by_name (is_rule_name name) none
+  where
+    by_use : (used : Bool) → refuse.is_used cycle name ≡ used →
+        cond used (Some RuleInUse) None ≡ None → refuse.is_used cycle name ≡ false
+    by_use true is none = cc none
+    by_use false is none = is
+
+    by_rule : (o : Option Rule) → rule_named name rules ≡ o →
+        refuse.room_refusal rules cycle name o ≡ None → AreApart rules cycle name
+    by_rule None e none = inl e
+    by_rule (Some old) e none = inr (by_use (refuse.is_used cycle name) refl none)
+
+    by_name : (b : Bool) →
+        cond b (refuse.room_refusal rules cycle name (rule_named name rules)) (Some OutOfRange)
+        ≡ None → AreApart rules cycle name
+    by_name false none = cc none
+    by_name true none = by_rule (rule_named name rules) refl none
+
+-- the rule at a place of an entry that is apart from a rule that is put stays there
+half_stays : (new : Rule) (rules : List Rule) (o : Option HalfRule) → HaveOwnNames rules →
+    IsApart rules new.name (name_of (rule_at rules (place_in o))) → IsPlaced rules o →
+    IsPlaced (with_rule new rules) o
+half_stays new rules None own apart placed = tt
+half_stays new rules (Some kept) own apart (rule, here, hood, minor) =
+    let place = kept.number in
+    let named : rule_named rule.name rules ≡ Some rule =
+    ap (λ found. rule_if_named (name_of found) rules) (sym here) ∙
+    rule_of_name rules place own ∙ here in
+    let other = other_name rules new.name rule.name rule named
+    (subst (λ found. IsApart rules new.name (name_of found)) here apart) in
+    let stays : name_of (slice_get (with_rule new rules) place) ≡ Some rule.name =
+    name_with new rules place (slice_get_within rules place rule here) ∙ ap name_of here in
+    let there : slice_get (with_rule new rules) place ≡ Some rule =
+    sym (rule_of_name (with_rule new rules) place (own_with new rules none_own own)) ∙
+    ap (λ name. rule_if_named name (with_rule new rules)) stays ∙
+    other_named rule.name new rules other ∙ named in (rule, there, hood, minor)
+
+placed_apart : (new : Rule) (rules : List Rule) (cycle : List Entry) → HaveOwnNames rules →
+    AreApart rules (named_entries rules cycle) new.name → ArePlaced rules cycle →
+    ArePlaced (with_rule new rules) cycle
+placed_apart new rules [] own apart placed = tt
+placed_apart new rules (entry ∷ cycle) own (inl none) placed = (
+  (
+    half_stays new rules entry.a own (inl none) placed.0.0,
+    half_stays new rules entry.b own (inl none) placed.0.1,
+  ),
+  placed_apart new rules cycle own (inl none) placed.1,
+)
+placed_apart new rules (entry ∷ cycle) own (inr unused) placed =
+    let named = named_entry rules entry in
+    let (here, later) =
+    neither (refuse.uses new.name named)
+    (list_any (refuse.uses new.name) (named_entries rules cycle)) unused in
+    let (a, b) =
+    neither (refuse.is_name new.name named.a) (refuse.is_name new.name named.b) here in (
+      (
+        half_stays new rules entry.a own (inr a) placed.0.0,
+        half_stays new rules entry.b own (inr b) placed.0.1,
+      ),
+      placed_apart new rules cycle own (inr later) placed.1,
+    )
+
+-- so all rules of a cycle stay at their places where a rule is put that isn't refused
+pub placed_with : (new : Rule) (rules : List Rule) (cycle : List Entry) → HaveOwnNames rules →
+    refuse.rule_refusal rules (named_entries rules cycle) new.name ≡ None →
+    ArePlaced rules cycle → ArePlaced (with_rule new rules) cycle
+placed_with new rules cycle own none placed =
+    placed_apart new rules cycle own
+    (apart_if_room rules (named_entries rules cycle) new.name none) placed
+
 -- a rule that isn't refused is put under its name
 rule_is : (m : Machine) (new : Rule) → IsMachine m →
     refuse.rule_refusal m.rules m.cycle new.name ≡ None →
@@ -334,6 +410,7 @@ effect_is m (command.Cycle entries) is none =
       colours = is.colours;
     }
 effect_is m (command.Run n) is none = steps_is m n is (some_cycle m.cycle n none)
+effect_is m (command.Row plane row) is none = is
 effect_is m (command.Plane plane) is none = is
 effect_is m (command.Side n) is none = by_side (side_of n) (no_fault _ none)
   where
@@ -366,6 +443,7 @@ effect_limit m (command.Set plane row bits) = refl
 effect_limit m (command.Rule name wiring text) = refl
 effect_limit m (command.Cycle entries) = refl
 effect_limit m (command.Run n) = ap (λ (k : Machine). k.limit) (only_planes_and_position m n)
+effect_limit m (command.Row plane row) = refl
 effect_limit m (command.Plane plane) = refl
 effect_limit m (command.Side n) = by_side (side_of n)
   where

@@ -15,10 +15,11 @@ use Rattle.cam6_table.proofs.TrueTables.{true_table}
 use Rattle.cam6_machine.specs.Rules.{Rule}
 use Rattle.cam6_machine.specs.Cycles.{EntryRules, rule_for, setting_for}
 use Rattle.cam6_machine.specs.Steps.{new_bit, new_cell, step}
-use Rattle.cam6_machine.specs.Internal.ByTables.{HasTableFor, AreTablesFor, bit_by_table}
-use Rattle.cam6_machine.specs.Internal.ByTables.{table_for, setting_by, step_by}
-use Rattle.cam6_machine.specs.declared.by_tables.HalfTable.{HalfTable}
-use Rattle.cam6_machine.specs.declared.by_tables.EntryTables.{EntryTables}
+use Rattle.cam6_machine.specs.TrueTables.{HasTableFor, AreTablesFor}
+use Rattle.cam6_band.specs.ByTables.{bit_by_table}
+use Rattle.cam6_band.specs.ByTables.{table_for, setting_by, step_by}
+use Rattle.cam6_band.specs.declared.tables.HalfTable.{HalfTable}
+use Rattle.cam6_band.specs.declared.tables.EntryTables.{EntryTables}
 
 -- a cell's new bit by a true table is the one by the words of the rule
 new_cell_by_table : (s : ℕ) (f : Cells) (setting : Setting) (rule : Option Rule)

@@ -34,6 +34,7 @@ IsLeftBy reply.Rule old new = new ≡ record old { rules = new.rules }
 IsLeftBy reply.Cycle old new = new ≡ record old { cycle = new.cycle; position = 0 }
 IsLeftBy reply.Side old new = new ≡ record old { planes = new.planes; position = 0 }
 IsLeftBy (reply.Run position) old new = new ≡ old
+IsLeftBy (reply.Row bits) old new = new ≡ old
 IsLeftBy (reply.Plane rows) old new = new ≡ old
 IsLeftBy (reply.Fault fault) old new = new ≡ old
 IsLeftBy (reply.RuleText fault) old new = new ≡ old

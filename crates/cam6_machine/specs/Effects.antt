@@ -10,7 +10,7 @@ use Rattle.cam6_machine.specs.Rules.{Rule}
 use Rattle.cam6_machine.specs.Machine.{Machine, steps}
 use Rattle.cam6_machine.specs.declared.commands.Command.{Command}
 use Rattle.cam6_machine.specs.declared.commands.Command.TheVariants.{Set, Rule as SetRule}
-use Rattle.cam6_machine.specs.declared.commands.Command.TheVariants.{Cycle, Run, Plane}
+use Rattle.cam6_machine.specs.declared.commands.Command.TheVariants.{Cycle, Run, Row, Plane}
 use Rattle.cam6_machine.specs.declared.commands.Command.TheVariants.{Side as SetSide}
 use Rattle.cam6_machine.specs.declared.replies.Reply.{Reply}
 use Rattle.cam6_machine.specs.declared.replies.Reply.TheVariants as reply
@@ -38,6 +38,8 @@ accepted_reply m (Set plane row bits) = reply.Set
 accepted_reply m (SetRule name wiring text) = reply.Rule
 accepted_reply m (Cycle entries) = reply.Cycle
 accepted_reply m (Run n) = reply.Run (steps n m).position
+accepted_reply m (Row plane row) =
+    reply.Row (row_text (side_number m.side / 4) (λ x. m.planes plane x row))
 accepted_reply m (Plane plane) =
     let s = side_number m.side in reply.Plane (plane_rows s (s / 4) m.planes plane)
 accepted_reply m (SetSide n) = reply.Side
@@ -50,5 +52,6 @@ effect m (SetRule name wiring text) =
     record m { rules = with_rule (record { name = name; wiring = wiring; text = text }) m.rules }
 effect m (Cycle entries) = record m { cycle = entries; position = 0 }
 effect m (Run n) = steps n m
+effect m (Row plane row) = m
 effect m (Plane plane) = m
 effect m (SetSide n) = with_side (side_of n) m

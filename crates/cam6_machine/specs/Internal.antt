@@ -1,3 +1,6 @@
--- What no public contract says: how the code keeps rules by places, and steps by tables.
+-- What no public contract says: how the code keeps rules by places, what was said of a text that
+-- was tried, how the tables of a run lie, and where a machine's planes are.
 pub mod Places
-pub mod ByTables
+pub mod Verdicts
+pub mod Uses
+pub mod Images

@@ -2,19 +2,28 @@
 use Rattle.std.specs.Prelude.{◌≡◌, ℕ, ◌+◌, ◌<◌, ◌%◌, List, length, Some, None, IsOk}
 use Rattle.std.specs.List.{AllByRecursion}
 use Rattle.cam6_planes.specs.declared.sides.Side.{Side}
-use Rattle.cam6_planes.specs.Cells.{Cells}
+use Rattle.cam6_planes.specs.Cells.{Cells, torus}
 use Rattle.cam6_wiring.specs.Name.{plane_of}
 use Rattle.cam6_wiring.specs.Seen.{Sees}
 use Rattle.cam6_wiring.specs.declared.names.Half.{Half}
 use Rattle.cam6_wiring.specs.declared.names.Level.{Level}
+use Rattle.cam6_band.specs.ByTables.{step_by}
+use Rattle.cam6_band.specs.declared.tables.EntryTables.{EntryTables}
 use Rattle.cam6_machine.specs.Rules.{Rule}
 use Rattle.cam6_machine.specs.Cycles.{EntryRules, name_for, entry_rules, rule_for}
 use Rattle.cam6_machine.specs.Steps.{words_mean, step}
+use Rattle.cam6_machine.specs.TrueTables.{AreTablesFor}
 use Rattle.cam6_machine.specs.Machine.{Machine, blank, steps}
 use Rattle.cam6_machine.specs.Always.{IsMachine}
 use Rattle.cam6_machine.specs.Alone.{after}
 use Rattle.cam6_machine.specs.declared.commands.Command.{Command}
 use Rattle.cam6_machine.specs.declared.commands.NamedEntry.{NamedEntry}
+
+-- by the tables of its rules, an entry steps any planes of a torus as by its rules' words
+abbrev pub TrueTablesStep : Type 0
+TrueTablesStep =
+    (s : ℕ) (entry : EntryRules) (tables : EntryTables) (f : Cells) → AreTablesFor entry tables →
+    torus s f ≡ f → step_by s tables f ≡ step s entry f
 
 -- a half without a rule keeps its planes
 abbrev pub KeepsItsPlanes : Type 0

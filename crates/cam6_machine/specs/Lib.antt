@@ -1,13 +1,14 @@
 -- In the order of reading: limits, the rules that a machine keeps, entries of a cycle, what a cell
--- becomes in a step, all that a machine stores and the machine that it is, when a command is
--- refused, what it does, the machine alone, what is said of a command at once, and what a machine
--- always is. Last, what follows of steps. How the code keeps rules by places and steps by tables
--- stands apart: no public contract says it.
+-- becomes in a step, the tables of rules, all that a machine stores and the machine that it is,
+-- when a command is refused, what it does, the machine alone, what is said of a command at once,
+-- and what a machine always is. Last, what follows of steps. How the code keeps rules by places and
+-- tables by use stands apart: no public contract says it.
 pub mod Limits
 pub mod Faults
 pub mod Rules
 pub mod Cycles
 pub mod Steps
+pub mod TrueTables
 pub mod Stored
 pub mod Machine
 pub mod Refusals

@@ -21,7 +21,7 @@ use Rattle.cam6_machine.specs.Machine.{Machine}
 use Rattle.cam6_machine.specs.declared.commands.NamedEntry.{NamedEntry}
 use Rattle.cam6_machine.specs.declared.commands.Command.{Command}
 use Rattle.cam6_machine.specs.declared.commands.Command.TheVariants.{Set, Rule as SetRule}
-use Rattle.cam6_machine.specs.declared.commands.Command.TheVariants.{Cycle, Run, Plane}
+use Rattle.cam6_machine.specs.declared.commands.Command.TheVariants.{Cycle, Run, Row, Plane}
 use Rattle.cam6_machine.specs.declared.commands.Command.TheVariants.{Side as SetSide}
 use Rattle.cam6_machine.specs.declared.faults.Fault.{Fault}
 use Rattle.cam6_machine.specs.declared.faults.Fault.TheVariants.{NoRule, RuleInUse, TooManyRules}
@@ -43,6 +43,11 @@ abbrev pub set_refusal : Side → ℕ → ℕ → List ℕ → Option Fault
 set_refusal side plane row bits =
     let s = side_number side in
     unless (nat_lt plane 4 && nat_lt row s && (8 * length bits == s)) OutOfRange
+
+-- a row that is asked for is one of a plane
+abbrev pub row_refusal : Side → ℕ → ℕ → Option Fault
+row_refusal side plane row =
+    unless (nat_lt plane 4 && nat_lt row (side_number side)) OutOfRange
 
 abbrev pub plane_refusal : ℕ → Option Fault
 plane_refusal plane = unless (nat_lt plane 4) OutOfRange
@@ -146,5 +151,6 @@ refusal m (SetRule name wiring text) =
     or_then (fault_reply (rule_refusal m.rules m.cycle name)) (words_refusal wiring text)
 refusal m (Cycle entries) = fault_reply (cycle_refusal m.rules entries)
 refusal m (Run n) = fault_reply (run_refusal m.cycle n)
+refusal m (Row plane row) = fault_reply (row_refusal m.side plane row)
 refusal m (Plane plane) = fault_reply (plane_refusal plane)
 refusal m (SetSide n) = fault_reply (side_refusal m.limit n)

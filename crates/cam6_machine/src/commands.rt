@@ -31,6 +31,11 @@ pub enum Command {
     Run {
         n: u64,
     },
+    /// Asks for a row of a plane.
+    Row {
+        plane: u64,
+        row: u64,
+    },
     /// Asks for all rows of a plane.
     Plane {
         plane: u64,

@@ -1,55 +1,65 @@
-//! A cycle: the entries that a run takes in turn.
-
-ghost use Rattle.std.specs.Prelude.{◌≡◌, IfOk, map};
+//! A cycle as a machine keeps it: with the numbers of its rules, which are their places.
+ghost use Rattle.std.specs.Prelude.{◌≡◌, ◌≤◌, length, map};
+ghost use Rattle.cam6_cycle.specs.declared.cycles.TheConstants.{MAX_ENTRIES};
 ghost use Rattle.cam6_machine.specs.Cycles.{phase_of};
 ghost use Rattle.cam6_machine.specs.Internal.Places.{rules_of, place_if_named, placed_entry};
+ghost use Rattle.cam6_machine.specs.Internal.Places.{half_rule_at, entries_of};
 
 use crate::commands::NamedEntry;
-use crate::rules::{KeptRule, place_of};
+use crate::rules::{KeptRule, place_of, wiring_at};
 use crate::texts::Text;
-use cam6_planes::NoMemory;
-use cam6_wiring::{Grid, Phase};
+use arrayvec::ArrayVec;
+use cam6_cycle::{Cycle, Entry, HalfRule, MAX_ENTRIES};
+use cam6_wiring::Phase;
 use indexmap::IndexMap;
-use std::alloc::Global;
 
-/// Entries that a cycle can have.
-pub const MAX_ENTRIES: usize = 16;
-
-/// An entry of a cycle as a machine keeps it: for each half the place of a rule among the rules, or
-/// none; a half without a rule keeps its planes.
-#[derive(Clone, Copy, Debug, PartialEq, Eq)]
-pub struct Entry {
-    pub a: Option<usize>,
-    pub b: Option<usize>,
-    pub grid: Grid,
-    pub phase: Phase,
+/// The entries of a cycle, if one is set.
+pub(crate) fn entries_of(cycle: &Option<Cycle>) -> &[Entry]
+    ensures { result.now ≡ entries_of cycle.now }
+{
+    match cycle {
+        Some(cycle) => cycle.entries(),
+        None => &[],
+    }
 }
 
-/// The entries with the places of their rules.
-pub(crate) fn placed_entries(
-    alloc: Global,
+/// The cycle of these entries, each with the places of its rules; none, if there are no entries.
+pub(crate) fn placed_cycle(
     rules: &IndexMap<String, KeptRule>,
     entries: &[NamedEntry],
-) -> Result<Vec<Entry>, NoMemory>
-    ensures { IfOk result
-        (λ cycle. cycle.items ≡ map (placed_entry (rules_of rules.now.entries)) entries.now) }
+) -> Option<Cycle>
+    requires { length entries.now ≤ MAX_ENTRIES }
+    ensures { entries_of result ≡ map (placed_entry (rules_of rules.now.entries)) entries.now }
 {
-    let mut cycle = Vec::with_capacity(alloc, entries.len())?;
+    let mut placed: ArrayVec<Entry, MAX_ENTRIES> = ArrayVec::new();
     for entry in entries {
-        cycle.push(placed_entry(rules, entry))?;
+        placed.push(placed_entry(rules, entry));
     }
-    Ok(cycle)
+    Cycle::new(placed.as_slice()).ok()
 }
 
 fn placed_entry(rules: &IndexMap<String, KeptRule>, entry: &NamedEntry) -> Entry
     ensures { result ≡ placed_entry (rules_of rules.now.entries) entry.now }
 {
     Entry {
-        a: place_if_named(rules, &entry.a),
-        b: place_if_named(rules, &entry.b),
+        a: half_rule_at(rules, place_if_named(rules, &entry.a)),
+        b: half_rule_at(rules, place_if_named(rules, &entry.b)),
         grid: entry.grid,
         phase: phase_of(entry.phase),
     }
+}
+
+/// The rule at a place with what it is written for, if there is a place and a rule at it.
+fn half_rule_at(rules: &IndexMap<String, KeptRule>, place: Option<usize>) -> Option<HalfRule>
+    ensures { result ≡ half_rule_at (rules_of rules.now.entries) place }
+{
+    let number = place?;
+    let wiring = wiring_at(rules, place)?;
+    Some(HalfRule {
+        number,
+        hood: wiring.hood,
+        minor: wiring.minor,
+    })
 }
 
 /// The place of the rule with this name, if there is a name and such a rule.

@@ -1,8 +1,13 @@
 //! What follows of the definition of steps, and what a machine always is. Each law is the contract
 //! of a function that does nothing.
-ghost use Rattle.cam6_machine.specs.Laws.{KeepsItsPlanes, StepsAddUp};
+ghost use Rattle.cam6_machine.specs.Laws.{TrueTablesStep, KeepsItsPlanes, StepsAddUp};
 ghost use Rattle.cam6_machine.specs.Laws.{OnlyPlanesAndPosition, PositionGoesRound};
 ghost use Rattle.cam6_machine.specs.Laws.{BlankIsMachine, StaysMachine, RulesRun, LimitStays};
+
+/// By the tables of an entry's rules, a step makes of planes what the rules' words make of them.
+pub fn true_tables_step_as_words_do()
+    ensures law { TrueTablesStep }
+{}
 
 /// A half without a rule keeps its planes.
 pub fn a_half_without_a_rule_keeps_its_planes()

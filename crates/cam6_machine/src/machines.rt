@@ -7,16 +7,18 @@ ghost use Rattle.cam6_machine.specs.Machine.{first_side};
 ghost use Rattle.cam6_machine.specs.Effects.{plane_rows};
 
 use crate::commands::{Command, NamedEntries};
-use crate::cycles::{Entry, placed_entries};
+use crate::cycles::{entries_of, placed_cycle};
 use crate::refusals::{
-    cycle_refusal, plane_refusal, rule_refusal, run_refusal, set_refusal, side_within,
+    cycle_refusal, plane_refusal, row_refusal, rule_refusal, run_refusal, set_refusal, side_within,
 };
 use crate::replies::{Direction, Now, Reply};
 use crate::rows::{Bits, PlaneRows, RowText};
 use crate::rules::{KeptRule, RuleRefusal, put, tried_rule};
 use crate::runs::run_along;
-use crate::tables::{MAX_USES, fill_tables};
+use crate::tables::fill_tables;
 use crate::texts::Text;
+use cam6_band::AtRest;
+use cam6_cycle::{Cycle, MAX_TABLES};
 use cam6_planes::{NoMemory, Planes, Side};
 use cam6_table::Table;
 use cam6_wiring::Wiring;
@@ -28,12 +30,11 @@ use std::marker::Model;
 #[derive(Drop)]
 pub struct Machine {
     alloc: Global,
-    planes: Planes,
-    /// What a step writes; it changes places with the planes at the end of the step.
-    next: Planes,
+    /// The planes. They are away only in the midst of a run.
+    image: Option<AtRest>,
     rules: IndexMap<String, KeptRule>,
-    /// No entries: no cycle is set.
-    cycle: Vec<Entry>,
+    /// With the places of its rules.
+    cycle: Option<Cycle>,
     position: usize,
     colours: [u8; 16],
     /// Room for the table of each use of a rule in a cycle, filled when a run begins.
@@ -43,30 +44,34 @@ pub struct Machine {
 }
 
 impl Model for Machine {
-    ghost use Rattle.std.specs.Prelude.{◌≡◌, ◌*◌, vec_len};
+    ghost use Rattle.std.specs.Prelude.{◌≡◌, ◌*◌, vec_len, IsSome};
     ghost use Rattle.cam6_machine.specs.Limits.{max_entries};
     ghost use Rattle.cam6_machine.specs.Stored.{StoredMachine};
     ghost use Rattle.cam6_machine.specs.Machine.{machine_of};
     ghost use Rattle.cam6_machine.specs.Always.{IsMachine};
-    ghost use Rattle.cam6_planes.specs.Stored.{AreAlike};
-    ghost use Rattle.cam6_machine.specs.Internal.Places.{rules_of, stored, ArePlaced};
+    ghost use Rattle.cam6_machine.specs.Internal.Images.{planes_of};
+    ghost use Rattle.cam6_machine.specs.Internal.Places.{rules_of, entries_of, stored, ArePlaced};
 
     ghost Value = { StoredMachine };
 
     ghost view = { λ m.
-        stored m.planes (rules_of m.rules.entries) m.cycle.items m.position m.colours };
+        stored (planes_of m.image) (rules_of m.rules.entries) (entries_of m.cycle) m.position
+        m.colours };
 
     ghost invariant = { λ m.
         IsMachine (machine_of
-        (stored m.planes (rules_of m.rules.entries) m.cycle.items m.position m.colours))
-        × ArePlaced (rules_of m.rules.entries) m.cycle.items × (vec_len m.tables ≡ 2 * max_entries)
-        × AreAlike m.planes m.next };
+        (stored (planes_of m.image) (rules_of m.rules.entries) (entries_of m.cycle) m.position
+        m.colours))
+        × ArePlaced (rules_of m.rules.entries) (entries_of m.cycle)
+        × (vec_len m.tables ≡ 2 * max_entries)
+        × IsSome m.image };
 }
 
 impl Machine {
     ghost use Rattle.std.specs.Prelude.{ℕ, false, List, Some, None, IsOk, OnErr};
     ghost use Rattle.cam6_machine.specs.Machine.{blank, machine_of};
     ghost use Rattle.cam6_machine.specs.Refusals.{refusal};
+    ghost use Rattle.cam6_machine.specs.declared.commands.NamedEntry.{NamedEntry};
     ghost use Rattle.cam6_machine.specs.declared.faults.Fault.{Fault};
     ghost use Rattle.cam6_forth.specs.declared.faults.TextFault.{TextFault};
     ghost use Rattle.cam6_forth.specs.Reading.{keeps};
@@ -79,16 +84,15 @@ impl Machine {
     pub fn new(alloc: Global, limit: Side) -> Result<Machine, NoMemory>
         ensures machine { IfOk result (λ m. machine_of m ≡ blank limit) }
     {
-        let mut tables = Vec::with_capacity(alloc, MAX_USES)?;
-        for _use in 0..MAX_USES {
+        let mut tables = Vec::with_capacity(alloc, MAX_TABLES)?;
+        for _use in 0..MAX_TABLES {
             tables.push(Table::blank(alloc)?)?;
         }
         Ok(Machine {
             alloc,
-            planes: first_planes(alloc, limit)?,
-            next: first_planes(alloc, limit)?,
+            image: Some(AtRest::of(first_planes(alloc, limit)?)),
             rules: IndexMap::new(alloc),
-            cycle: Vec::new(alloc),
+            cycle: None,
             position: 0,
             colours: [0, 1, 2, 3, 4, 5, 6, 7, 8, 9, 10, 11, 12, 13, 14, 15],
             tables,
@@ -107,10 +111,13 @@ impl Machine {
         ensures left { IfOk result (λ now. Leaves now self.old self.new) }
         ensures ready { IfOk result (λ now. CanWork now (machine_of self.new)) }
         ensures err { OnErr result (self.new ≡ self.old) }
-        // Memory is wanted neither for a row, a run or a side, nor where a number, a name or a
-        // cycle is refused, nor for a text of which nothing is kept.
+        // Memory is wanted neither for a row, set or asked for, a cycle, a run or a side, nor where a
+        // number or a name is refused, nor for a text of which nothing is kept.
         ensures row { (plane row : ℕ) (bits : List ℕ) →
             command ≡ Command.Set plane row bits → IsOk result }
+        ensures asked { (plane row : ℕ) → command ≡ Command.Row plane row → IsOk result }
+        ensures cycle { (entries : List NamedEntry) →
+            command ≡ Command.Cycle entries → IsOk result }
         ensures run { (n : ℕ) → command ≡ Command.Run n → IsOk result }
         ensures side { (n : ℕ) → command ≡ Command.Side n → IsOk result }
         ensures refused { (fault : Fault) →
@@ -125,8 +132,9 @@ impl Machine {
             Command::Rule { name, wiring, text } => {
                 Ok(Now::Reply(self.define(name, wiring, text)?))
             }
-            Command::Cycle { entries } => Ok(Now::Reply(self.set_cycle(&entries)?)),
+            Command::Cycle { entries } => Ok(Now::Reply(self.set_cycle(&entries))),
             Command::Run { n } => Ok(self.work_of_run(n)),
+            Command::Row { plane, row } => Ok(Now::Reply(self.show_row(plane, row))),
             Command::Plane { plane } => Ok(Now::Reply(self.show(plane)?)),
             Command::Side { side } => Ok(Now::Reply(self.set_side(side))),
         }
@@ -138,7 +146,10 @@ impl Machine {
             ≡ after (machine_of self.old) (Command.Set plane row bits.now) }
         ensures left { IsLeftBy result self.old self.new }
     {
-        let planes = &mut self.planes;
+        let Some(image) = &mut self.image else {
+            unreachable!()
+        };
+        let planes = image.planes_mut();
         let bits = bits.as_slice();
         if let Some(fault) = set_refusal(planes.side(), plane, row, bits) {
             return Reply::Fault(fault);
@@ -153,10 +164,13 @@ impl Machine {
             ≡ after (machine_of self.old) (Command.Side number) }
         ensures left { IsLeftBy result self.old self.new }
     {
-        match side_within(self.planes.limit(), number) {
+        let Some(image) = &mut self.image else {
+            unreachable!()
+        };
+        let planes = image.planes_mut();
+        match side_within(planes.limit(), number) {
             Ok(side) => {
-                self.planes.set_side(side);
-                self.next.set_side(side);
+                planes.set_side(side);
                 self.position = 0;
                 Reply::Side
             }
@@ -178,7 +192,7 @@ impl Machine {
             refusal (machine_of self.old) (Command.Rule name wiring text)
             ≡ Some (Reply.RuleText fault) → keeps wiring text ≡ false → IsOk result }
     {
-        if let Some(fault) = rule_refusal(&self.rules, &self.cycle, &name) {
+        if let Some(fault) = rule_refusal(&self.rules, entries_of(&self.cycle), &name) {
             return Ok(Reply::Fault(fault));
         }
         match tried_rule(self.alloc, wiring, text, &mut self.trial) {
@@ -192,23 +206,18 @@ impl Machine {
         }
     }
 
-    fn set_cycle(&mut self, entries: &NamedEntries) -> Result<Reply, NoMemory>
-        ensures reply { IfOk result (λ r.
-            r ≡ reply (machine_of self.old) (Command.Cycle entries.now)) }
-        ensures machine { IfOk result (λ r.
-            machine_of self.new ≡ after (machine_of self.old) (Command.Cycle entries.now)) }
-        ensures left { IfOk result (λ r. IsLeftBy r self.old self.new) }
-        ensures err { OnErr result (self.new ≡ self.old) }
-        ensures refused { (fault : Fault) →
-            refusal (machine_of self.old) (Command.Cycle entries.now)
-            ≡ Some (Reply.Fault fault) → IsOk result }
+    fn set_cycle(&mut self, entries: &NamedEntries) -> Reply
+        ensures reply { result ≡ reply (machine_of self.old) (Command.Cycle entries.now) }
+        ensures machine { machine_of self.new
+            ≡ after (machine_of self.old) (Command.Cycle entries.now) }
+        ensures left { IsLeftBy result self.old self.new }
     {
         if let Some(fault) = cycle_refusal(&self.rules, entries) {
-            return Ok(Reply::Fault(fault));
+            return Reply::Fault(fault);
         }
-        self.cycle = placed_entries(self.alloc, &self.rules, entries.as_slice())?;
+        self.cycle = placed_cycle(&self.rules, entries.as_slice());
         self.position = 0;
-        Ok(Reply::Cycle)
+        Reply::Cycle
     }
 
     /// The steps that a run has to do, or the reply where there are none.
@@ -220,7 +229,7 @@ impl Machine {
         ensures left { Leaves result self.now self.now }
         ensures ready { CanWork result (machine_of self.now) }
     {
-        if let Some(fault) = run_refusal(&self.cycle, n) {
+        if let Some(fault) = run_refusal(entries_of(&self.cycle), n) {
             return Now::Reply(Reply::Fault(fault));
         }
         if n == 0 {
@@ -229,6 +238,23 @@ impl Machine {
             });
         }
         Now::Work(n as u16, Direction::Forward)
+    }
+
+    fn show_row(&self, plane: u64, row: u64) -> Reply
+        ensures reply { result ≡ reply (machine_of self.now) (Command.Row plane row) }
+        ensures machine { machine_of self.now
+            ≡ after (machine_of self.now) (Command.Row plane row) }
+        ensures left { IsLeftBy result self.now self.now }
+    {
+        let Some(image) = &self.image else {
+            unreachable!()
+        };
+        let planes = image.planes();
+        if let Some(fault) = row_refusal(planes.side(), plane, row) {
+            return Reply::Fault(fault);
+        }
+        let bits = RowText::of(planes, plane as usize, row as usize);
+        Reply::Row { bits }
     }
 
     fn show(&self, plane: u64) -> Result<Reply, NoMemory>
@@ -243,7 +269,10 @@ impl Machine {
         if let Some(fault) = plane_refusal(plane) {
             return Ok(Reply::Fault(fault));
         }
-        let rows = plane_rows(self.alloc, &self.planes, plane as usize)?;
+        let Some(image) = &self.image else {
+            unreachable!()
+        };
+        let rows = plane_rows(self.alloc, image.planes(), plane as usize)?;
         let rows = PlaneRows::new(rows);
         Ok(Reply::Plane { rows })
     }
@@ -258,19 +287,17 @@ impl Machine {
             ≡ record self.old { planes = self.new.planes; position = self.new.position } }
     {
         let Direction::Forward = direction;
-        fill_tables(&self.rules, &self.cycle, &mut self.tables);
-        self.position = run_along(
-            &mut self.planes,
-            &mut self.next,
-            &self.rules,
-            &self.cycle,
-            &self.tables,
-            self.position,
-            n,
-        );
-        Reply::Run {
-            position: self.position,
-        }
+        let Some(cycle) = &self.cycle else {
+            unreachable!()
+        };
+        let Some(image) = self.image.take() else {
+            unreachable!()
+        };
+        fill_tables(&self.rules, cycle, &mut self.tables);
+        let (image, position) = run_along(image, cycle, &self.tables, self.position, n);
+        self.image = Some(image);
+        self.position = position;
+        Reply::Run { position }
     }
 
     /// Answers a command and does its steps.
@@ -282,6 +309,9 @@ impl Machine {
         // Memory is wanted as by `now`.
         ensures row { (plane row : ℕ) (bits : List ℕ) →
             command ≡ Command.Set plane row bits → IsOk result }
+        ensures asked { (plane row : ℕ) → command ≡ Command.Row plane row → IsOk result }
+        ensures cycle { (entries : List NamedEntry) →
+            command ≡ Command.Cycle entries → IsOk result }
         ensures run { (n : ℕ) → command ≡ Command.Run n → IsOk result }
         ensures side { (n : ℕ) → command ≡ Command.Side n → IsOk result }
         ensures refused { (fault : Fault) →

@@ -5,20 +5,21 @@ ghost use Rattle.std.specs.List.{list_any};
 ghost use Rattle.std.specs.Bool.{OnTrue};
 ghost use Rattle.cam6_planes.specs.Side.{side_number, side_of};
 ghost use Rattle.cam6_machine.specs.declared.commands.TheConstants.{MAX_STEPS};
-ghost use Rattle.cam6_machine.specs.declared.cycles.TheConstants.{MAX_ENTRIES};
+ghost use Rattle.cam6_cycle.specs.declared.cycles.TheConstants.{MAX_ENTRIES};
 ghost use Rattle.cam6_machine.specs.Rules.{Rule};
 ghost use Rattle.cam6_machine.specs.Internal.Places.{rules_of, named_entries, uses_place};
-ghost use Rattle.cam6_machine.specs.Refusals.{set_refusal, plane_refusal, run_refusal};
-ghost use Rattle.cam6_machine.specs.Refusals.{side_refusal};
+ghost use Rattle.cam6_machine.specs.Internal.Places.{is_place, place_in};
+ghost use Rattle.cam6_machine.specs.Refusals.{set_refusal, row_refusal, plane_refusal};
+ghost use Rattle.cam6_machine.specs.Refusals.{run_refusal, side_refusal};
 ghost use Rattle.cam6_machine.specs.Refusals.{rule_refusal, cycle_refusal, is_cycle, have_phases};
 ghost use Rattle.cam6_machine.specs.Refusals.{first_refusal, entry_refusal, half_refusal};
 ghost use Rattle.cam6_machine.specs.Always.{HaveOwnNames};
 
 use crate::commands::{MAX_STEPS, NamedEntries, NamedEntry};
-use crate::cycles::{Entry, MAX_ENTRIES};
 use crate::faults::Fault;
 use crate::rules::{KeptRule, MAX_RULES, is_rule_name, place_of, wiring_of};
 use crate::texts::Text;
+use cam6_cycle::{Entry, HalfRule, MAX_ENTRIES};
 use cam6_planes::Side;
 use cam6_wiring::Half;
 use indexmap::IndexMap;
@@ -50,6 +51,17 @@ pub(crate) fn side_within(limit: Side, number: u64) -> Result<Side, Fault>
         return Err(Fault::AboveLimit);
     }
     Ok(side)
+}
+
+/// Planes are 0 to 3, and rows 0 to below the side.
+pub(crate) fn row_refusal(side: Side, plane: u64, row: u64) -> Option<Fault>
+    ensures refusal { result ≡ row_refusal side plane row }
+    ensures within { IfNone result ((plane < 4) × (row < side_number side)) }
+{
+    if plane >= 4 || row >= side.number() as u64 {
+        return Some(Fault::OutOfRange);
+    }
+    None
 }
 
 pub(crate) fn plane_refusal(plane: u64) -> Option<Fault>
@@ -108,7 +120,17 @@ fn is_used(cycle: &[Entry], place: usize) -> bool
 fn uses_place(entry: Entry, place: usize) -> bool
     ensures { result ≡ uses_place place entry }
 {
-    entry.a == Some(place) || entry.b == Some(place)
+    is_place(place, entry.a) || is_place(place, entry.b)
+}
+
+/// Whether a half's rule stands at this place.
+fn is_place(place: usize, rule: Option<HalfRule>) -> bool
+    ensures { result ≡ is_place place (place_in rule) }
+{
+    match rule {
+        Some(rule) => rule.number == place,
+        None => false,
+    }
 }
 
 pub(crate) fn cycle_refusal(

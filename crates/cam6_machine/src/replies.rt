@@ -1,7 +1,7 @@
 //! What a machine says of a command: a reply, or at once that there are steps to do.
 
 use crate::faults::Fault;
-use crate::rows::PlaneRows;
+use crate::rows::{PlaneRows, RowText};
 use cam6_forth::TextFault;
 use cam6_table::RuleFault;
 
@@ -14,6 +14,7 @@ pub enum Reply {
     Side,
     /// The position after the run.
     Run { position: usize },
+    Row { bits: RowText },
     Plane { rows: PlaneRows },
     Fault(Fault),
     /// The first fault of a rule's text.

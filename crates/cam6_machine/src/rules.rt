@@ -7,7 +7,7 @@ ghost use Rattle.cam6_machine.specs.Effects.{with_rule};
 ghost use Rattle.cam6_machine.specs.Refusals.{text_refusal};
 ghost use Rattle.cam6_machine.specs.Rules.{wiring_of, is_rule_name, is_name_byte};
 ghost use Rattle.cam6_machine.specs.Internal.Places.{rules_of, place_of, wiring_at};
-ghost use Rattle.cam6_machine.specs.Internal.ByTables.{IsVerdict};
+ghost use Rattle.cam6_machine.specs.Internal.Verdicts.{IsVerdict};
 ghost use Rattle.cam6_machine.specs.declared.replies.Reply.{Reply};
 
 use crate::texts::Text;

@@ -1,7 +1,7 @@
 -- Within the side, coordinates stand for themselves.
 use Rattle.std.proofs.Common.{◌≡◌, ◌≢◌, ℕ, ◌<◌, ◌%◌, ◌∙◌, sym, [], List, Bool, true, false, ◌&&◌}
-use Rattle.std.proofs.Common.{nat_lt, get_or, set, length, get_or-set_other, get_or-set_same, ap}
-use Rattle.std.proofs.Common.{refl, arith, if◌then◌else◌, ◌==◌}
+use Rattle.std.proofs.Common.{nat_lt, get_or, set, length, ap}
+use Rattle.std.proofs.Common.{refl, arith, if◌then◌else◌, ◌==◌, ◌⊎◌}
 use Rattle.std.proofs.lemmas.Bool.{ltb-true, lt-ltb}
 use Rattle.std.proofs.lemmas.Grind.{common_steps}
 use Rattle.std.proofs.Math.Path.{fun_ext}
@@ -79,21 +79,19 @@ pub row_of_stored : (v : Stored) (y : ℕ) → y < side_number v.side →
     IsRow (side_number v.side) (cells v) y (get_or v.rows y [])
 row_of_stored v y h p x k l = sym (cells_at v p x y k l h)
 
--- once row y of all planes is written, they show it
-pub row_written : (s : ℕ) (rows : List (List (List ℕ))) (y : ℕ) (row : List (List ℕ)) → y < s →
-    y < length rows → IsRow s (torus s (stored_bit (set rows y row))) y row
-row_written s rows y row h k p x l m =
-    sym (torus_at s (stored_bit (set rows y row)) p x y l m h ∙
-    ap (λ r. column_bit (get_or r p []) x) (get_or-set_same rows y row [] k))
+-- the row that is written is there
+pub with_row-here : (s : ℕ) (f : Cells) (p y : ℕ) (row : ℕ → Bool) (x : ℕ) → p < 4 → x < s →
+    y < s → with_row s f p y row p x y ≡ row x
+with_row-here s f p y row x h k l =
+    torus_at s (λ q u v. if (q == p) && (v == y) then row u else f q u v) p x y h k l ∙
+    grind (arith, common_steps)
 
--- and the other rows as before
-pub rows_kept : (s : ℕ) (rows : List (List (List ℕ))) (y : ℕ) (row : List (List ℕ)) (p x v : ℕ) →
-    p < 4 → x < s → v < s → v ≢ y →
-    torus s (stored_bit (set rows y row)) p x v ≡ torus s (stored_bit rows) p x v
-rows_kept s rows y row p x v h k l other =
-    torus_at s (stored_bit (set rows y row)) p x v h k l ∙
-    ap (λ r. column_bit (get_or r p []) x) (get_or-set_other rows y v row [] other) ∙
-    sym (torus_at s (stored_bit rows) p x v h k l)
+-- another plane's row, or another row, stays
+pub with_row-elsewhere : (s : ℕ) (f : Cells) (p y : ℕ) (row : ℕ → Bool) (q x v : ℕ) → q < 4 →
+    x < s → v < s → (q ≢ p) ⊎ (v ≢ y) → with_row s f p y row q x v ≡ f q x v
+with_row-elsewhere s f p y row q x v h k l other =
+    torus_at s (λ q u v. if (q == p) && (v == y) then row u else f q u v) q x v h k l ∙
+    grind (arith, common_steps, other)
 
 -- a torus that is wrapped once more stays the same
 pub torus_again : (s : ℕ) (f : Cells) → 0 < s → torus s (torus s f) ≡ torus s f

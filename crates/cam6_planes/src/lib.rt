@@ -5,8 +5,8 @@
 //! and row of a torus. `blank` sets none; `bit`, `row_words` and `row_hex` show what is there;
 //! `set_row_words` and `put_row` change one row of one plane and nothing else; `copy_from` makes
 //! the planes equal, side and all; `set_side` blanks them at another side, within the limit that
-//! `blank` took memory for; `west` and `east` move a row by one column. `row` and `set_row` are of
-//! a row of all four planes.
+//! `blank` took memory for; `west` and `east` move a row by one column. `row` lends a row of all
+//! four planes.
 //!
 //! Stands on: `hex`, for a row's digits. Column 0 is the highest bit of a row's first word, of its
 //! first byte and of its first hexadecimal digit.

@@ -1,5 +1,5 @@
 //! The four planes of a machine.
-ghost use Rattle.std.specs.Prelude.{◌≡◌, ◌≢◌, ◌<◌, ◌≤◌, ◌*◌, ◌/◌, ℕ, slice_index_or, slice_set};
+ghost use Rattle.std.specs.Prelude.{◌≡◌, ◌<◌, ◌≤◌, ◌*◌, ◌/◌, ℕ, slice_index_or, slice_set};
 ghost use Rattle.std.specs.Prelude.{[], IfOk, length, take, drop, false, replicate};
 ghost use Rattle.std.specs.Str.{IsAscii};
 ghost use Rattle.cam6_planes.specs.Row.{column_bit, byte_column, row_text};
@@ -116,18 +116,6 @@ impl Planes {
         ensures { IsRow (width self.now) (cells self.now) y result.now }
     {
         &self.rows[y]
-    }
-
-    /// Writes row `y` of all four planes; words past the side don't count.
-    pub fn set_row(&mut self, y: usize, row: &CellRow)
-        requires { y < width self.old }
-        ensures written { IsRow (width self.old) (cells self.new) y row.now }
-        ensures others { (p x v : ℕ) → p < 4 → x < width self.old → v < width self.old → v ≢ y →
-            cells self.new p x v ≡ cells self.old p x v }
-        ensures side { self.new.side ≡ self.old.side }
-        ensures limit { self.new.limit ≡ self.old.limit }
-    {
-        self.rows[y] = *row;
     }
 
     /// Writes row `y` of plane `p` as lower case hexadecimal digits, and answers how many.

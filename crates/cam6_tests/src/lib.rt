@@ -6,8 +6,8 @@
 //!
 //! Stands on: all libraries of the repository.
 //!
-//! Read next: `ample_memory`, each call that takes memory; `planes` and `rows`; `blocks`, `corners`
-//! and `addresses`, what a cell sees; `steps`, those of a run and of a rule; then `failing`,
+//! Read next: `ample_memory`, each call that takes memory; `planes` and `rows`; `blocks`, `corners`,
+//! `addresses` and `lines`, what a cell sees; `steps`, those of a run and of a rule; then `failing`,
 //! readers, writers and desks that fail, with the sessions over them in `sessions`.
 #![tactic(auto)]
 
@@ -21,6 +21,8 @@ mod blocks;
 mod corners;
 #[cfg(test)]
 mod failing;
+#[cfg(test)]
+mod lines;
 #[cfg(test)]
 mod planes;
 #[cfg(test)]

@@ -1,7 +1,7 @@
 //! Calls on planes that first try what the calls ask for: that the row, or the cell, is there.
 
-use cam6_planes::{Planes, Row};
-use cam6_wiring::{Hood, Minor, Name, Setting, address_at, seen};
+use cam6_planes::{Planes, Row, WORDS};
+use cam6_wiring::{Hood, Lines, Minor, Name, Rows, Setting, address_at, lines_of_row, seen};
 use std::process::Abort;
 
 pub(crate) fn set_row(rt: &impl Abort, planes: &mut Planes, plane: usize, row: usize, words: Row) {
@@ -40,4 +40,29 @@ pub(crate) fn address_of(
     assert!(rt; x < side && y < side);
     let Setting { half, grid, phase } = setting;
     address_at(planes, half, hood, minor, grid, phase, x, y)
+}
+
+/// The lines of this row.
+pub(crate) fn lines_of(
+    rt: &impl Abort,
+    planes: &Planes,
+    hood: Hood,
+    minor: Minor,
+    setting: Setting,
+    y: usize,
+) -> Lines {
+    assert!(rt; y < planes.side().number());
+    let Setting { half, grid, phase } = setting;
+    lines_of_row(half, hood, minor, grid, phase, y, &Rows::around(planes, y))
+}
+
+/// The address whose bits the lines show at this column.
+pub(crate) fn shown_at(rt: &impl Abort, lines: &Lines, x: usize) -> u16 {
+    let (word, column) = (x / 64, x % 64);
+    assert!(rt; word < WORDS);
+    let mut address: u16 = 0;
+    for line in lines.iter().rev() {
+        address = address.wrapping_mul(2) | u16::from((line[word] >> (63 - column)) % 2 == 1);
+    }
+    address
 }

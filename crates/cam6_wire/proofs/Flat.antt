@@ -3,7 +3,7 @@ use Rattle.std.proofs.Common.{◌≡◌, ◌≤◌, ℕ, List, [], ◌∷◌, re
 use Rattle.serde_json.specs.Data.{depth, items_depth}
 use Rattle.serde_json.specs.Read.{max_depth}
 use Rattle.cam6_machine.specs.declared.replies.Reply.{Reply}
-use Rattle.cam6_machine.specs.declared.replies.Reply.TheVariants.{Set, Rule, Cycle, Side, Run}
+use Rattle.cam6_machine.specs.declared.replies.Reply.TheVariants.{Set, Rule, Cycle, Side, Run, Row}
 use Rattle.cam6_machine.specs.declared.replies.Reply.TheVariants.{Plane}
 use Rattle.cam6_machine.specs.declared.replies.Reply.TheVariants.{Fault, RuleText, RuleStops}
 use Rattle.cam6_wire.specs.Replies.{texts, reply_data}
@@ -18,6 +18,7 @@ flat_reply Rule = omega arith
 flat_reply Cycle = omega arith
 flat_reply Side = omega arith
 flat_reply (Run position) = omega arith
+flat_reply (Row bits) = omega arith
 flat_reply (Plane rows) = omega (arith, flat_texts rows)
 flat_reply (Fault fault) = omega arith
 flat_reply (RuleText fault) = omega arith

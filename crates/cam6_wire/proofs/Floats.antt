@@ -2,7 +2,7 @@
 use Rattle.std.proofs.Common.{◌≡◌, ℕ, List, [], ◌∷◌, false, refl}
 use Rattle.serde_json.specs.Written.{has_float, items_have_float}
 use Rattle.cam6_machine.specs.declared.replies.Reply.{Reply}
-use Rattle.cam6_machine.specs.declared.replies.Reply.TheVariants.{Set, Rule, Cycle, Side, Run}
+use Rattle.cam6_machine.specs.declared.replies.Reply.TheVariants.{Set, Rule, Cycle, Side, Run, Row}
 use Rattle.cam6_machine.specs.declared.replies.Reply.TheVariants.{Plane}
 use Rattle.cam6_machine.specs.declared.replies.Reply.TheVariants.{Fault, RuleText, RuleStops}
 use Rattle.cam6_wire.specs.Replies.{texts, reply_data}
@@ -17,6 +17,7 @@ reply_without_float Rule = refl
 reply_without_float Cycle = refl
 reply_without_float Side = refl
 reply_without_float (Run position) = refl
+reply_without_float (Row bits) = refl
 reply_without_float (Plane rows) = rw (texts_without_float rows)
 reply_without_float (Fault fault) = refl
 reply_without_float (RuleText fault) = refl

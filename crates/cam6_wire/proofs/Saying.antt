@@ -9,7 +9,7 @@ use Rattle.serde_json.specs.Read.{read}
 use Rattle.serde_json.proofs.OnLiterals.{serde_json_on_literals}
 use Rattle.cam6_machine.specs.declared.commands.Command.{Command}
 use Rattle.cam6_wire.specs.Limits.{max_line}
-use Rattle.cam6_wire.specs.Commands.{command, command_in, from_value, value_of, IsSaid}
+use Rattle.cam6_wire.specs.Commands.{command, shown_in, from_value, value_of, IsSaid}
 use Rattle.cam6_wire.specs.declared.faults.LineFault.{LineFault}
 use Rattle.cam6_wire.specs.declared.faults.LineFault.TheVariants.{NoJson, NoCommand, TooLong}
 
@@ -38,7 +38,7 @@ says_no_json line short h =
 
 -- a line that is JSON
 says_value : (line : List ℕ) (d : Data) → length line ≤ max_line → IsUtf8 line →
-    read line ≡ Some d → command line ≡ ok_or (command_in d) NoCommand
+    read line ≡ Some d → command line ≡ ok_or (shown_in d) NoCommand
 says_value line d short text e = short_line line short ∙ ap from_value (value_found line d text e)
 
 same_or_fault : (o : Option Command) (said : Result Command LineFault) →
@@ -49,7 +49,7 @@ same_or_fault (Some c) said e = e
 -- what was found in a line's value is what the line says
 pub reads_value : (line : List ℕ) (d : Data) (found : Option Command)
     (answered : Result Command LineFault) → length line ≤ max_line →
-    IsUtf8 line × (read line ≡ Some d) → found ≡ command_in d → answered ≡ ok_or found NoCommand →
+    IsUtf8 line × (read line ≡ Some d) → found ≡ shown_in d → answered ≡ ok_or found NoCommand →
     IsSaid answered (command line)
 reads_value line d found answered short text e given =
     let said = says_value line d short text.0 text.1 ∙ ap (λ x. ok_or x NoCommand) (sym e) in

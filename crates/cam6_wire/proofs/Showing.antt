@@ -2,7 +2,6 @@
 use Rattle.std.proofs.Common.{◌≡◌, ◌<◌, ◌≤◌, ℕ, List, length, Bool, true, false, cond, nat_lt}
 use Rattle.std.proofs.Common.{codes, Option, Some, None, IfSome, Result, Ok, Err, ok_or, option_map}
 use Rattle.std.proofs.Common.{bytes_eq, refl, ap, ◌∙◌, arith}
-use Rattle.std.specs.Bool.{then_some}
 use Rattle.std.specs.Str.{is_utf8}
 use Rattle.std.proofs.lemmas.Slice.Eq.{bytes_eq-Decides}
 use Rattle.serde_json.specs.Data.{Data, string, array, object, Members, no_members, member}
@@ -11,8 +10,8 @@ use Rattle.serde_json.specs.Read.{read}
 use Rattle.cam6_wiring.specs.Wiring.{wired}
 use Rattle.cam6_wiring.specs.declared.wirings.Wiring.{Wiring}
 use Rattle.cam6_machine.specs.declared.commands.Command.{Command}
-use Rattle.cam6_machine.specs.declared.commands.Command.TheVariants.{Set, Rule, Cycle, Run, Plane}
-use Rattle.cam6_machine.specs.declared.commands.Command.TheVariants.{Side as SetSide}
+use Rattle.cam6_machine.specs.declared.commands.Command.TheVariants.{Set, Rule, Cycle, Run, Row}
+use Rattle.cam6_machine.specs.declared.commands.Command.TheVariants.{Plane, Side as SetSide}
 use Rattle.cam6_wire.specs.declared.faults.LineFault.{LineFault}
 use Rattle.cam6_wire.specs.declared.faults.LineFault.TheVariants.{NoCommand, TooLong}
 use Rattle.cam6_wire.specs.Fields.{count, number_at, text_at, bits_at, ◌>>=◌}
@@ -20,14 +19,13 @@ use Rattle.cam6_wire.specs.Replies.{natural}
 use Rattle.cam6_wire.specs.Wirings.{half_text, hood_text, minor_text}
 use Rattle.cam6_wire.specs.Wirings.{half_named, hood_named, minor_named, wiring_in}
 use Rattle.cam6_wire.specs.Entries.{entries_at}
-use Rattle.cam6_wire.specs.Fragment.{is_in_fragment}
 use Rattle.cam6_wire.specs.Limits.{max_line}
 use Rattle.cam6_wire.specs.Commands.{set_fields, set_of, rule_fields, rule_of, cycle_of, run_of}
-use Rattle.cam6_wire.specs.Commands.{plane_of, side_of, by_word, command_in, from_value, value_of}
-use Rattle.cam6_wire.specs.Commands.{command}
+use Rattle.cam6_wire.specs.Commands.{row_fields, row_of, plane_of, side_of, by_word, shown_in}
+use Rattle.cam6_wire.specs.Commands.{from_value, value_of, command}
 use Rattle.cam6_wire.specs.Shown.{Shows}
 use Rattle.cam6_wire.specs.Laws.{SaidIsShown}
-use Rattle.cam6_wire.proofs.Steps.{of_map, of_step, of_value, of_test, of_three}
+use Rattle.cam6_wire.proofs.Steps.{of_map, of_step, of_value, of_test, of_two, of_three}
 use Rattle.cam6_wire.proofs.Ordered.{IsOrdered, value_is_ordered}
 use Rattle.cam6_wire.proofs.Exactly.{these}
 use Rattle.cam6_wire.proofs.Saying.{not_empty}
@@ -81,6 +79,24 @@ unfolding run_of
 run_shown d given =
     of_object 2 (λ x. option_map Run (number_at (codes "n") x)) (HasWord (codes "run")) Shows
     run_held d given
+
+row_held : (held : Members) → count held ≡ 3 → HasWord (codes "row") (object held) →
+    IfSome (row_fields (object held)) (Shows (object held))
+row_held held same given =
+    of_two (λ plane. get (codes "plane") (object held) ≡ Some (natural plane))
+    (λ row. get (codes "row") (object held) ≡ Some (natural row)) (Shows (object held)) Row
+    (λ plane row at_plane at_row.
+    these
+    (member (codes "do") (string (codes "row"))
+    (member (codes "plane") (natural plane) (member (codes "row") (natural row) no_members)))
+    held ((refl, (refl, tt)), ((refl, tt), (tt, tt))) same given.0
+    (given.1, (at_plane, (at_row, tt))))
+    (number_at (codes "plane") (object held)) (number_at (codes "row") (object held))
+    (number_found (codes "plane") (object held)) (number_found (codes "row") (object held))
+
+row_shown : (d : Data) → HasWord (codes "row") d → IfSome (row_of d) (Shows d)
+unfolding row_of
+row_shown d given = of_object 3 row_fields (HasWord (codes "row")) Shows row_held d given
 
 plane_held : (held : Members) → count held ≡ 2 → HasWord (codes "plane") (object held) →
     IfSome (option_map Plane (number_at (codes "plane") (object held))) (Shows (object held))
@@ -201,26 +217,14 @@ word_shown word d ordered at =
     (of_word word (codes "rule") d (rule_of d) _ ordered at (rule_shown d)
     (of_word word (codes "cycle") d (cycle_of d) _ ordered at (cycle_shown d)
     (of_word word (codes "run") d (run_of d) _ ordered at (run_shown d)
+    (of_word word (codes "row") d (row_of d) _ ordered at (row_shown d)
     (of_word word (codes "plane") d (plane_of d) _ ordered at (plane_shown d)
-    (of_word word (codes "side") d (side_of d) _ ordered at (side_shown d) tt)))))
+    (of_word word (codes "side") d (side_of d) _ ordered at (side_shown d) tt))))))
 
--- a command that is accepted so far
-abbrev IsAccepted : Data → Command → Type 0
-IsAccepted d c = Shows d c × (is_in_fragment c ≡ true)
-
-accepted : (d : Data) (c : Command) (b : Bool) → is_in_fragment c ≡ b → Shows d c →
-    IfSome (then_some b c) (IsAccepted d)
-accepted d c true is shows = (shows, is)
-accepted d c false is shows = tt
-
-pub command_shown : (d : Data) → IsOrdered d → IfSome (command_in d) (IsAccepted d)
+pub command_shown : (d : Data) → IsOrdered d → IfSome (shown_in d) (Shows d)
 command_shown d ordered =
-    of_step (λ word. get (codes "do") d ≡ Some (string word)) (IsAccepted d)
-    (λ word. by_word word d >>= λ c. then_some (is_in_fragment c) c)
-    (λ word at.
-    of_step (Shows d) (IsAccepted d) (λ c. then_some (is_in_fragment c) c)
-    (λ c shows. accepted d c (is_in_fragment c) refl shows) (by_word word d)
-    (word_shown word d ordered at))
+    of_step (λ word. get (codes "do") d ≡ Some (string word)) (Shows d) (λ word. by_word word d)
+    (λ word at. word_shown word d ordered at)
     (text_at (codes "do") d) (text_found (codes "do") d)
 
 -- a line that says a command isn't too long
@@ -235,9 +239,9 @@ has_command None c e = let never : ⊥ = cc in absurd never
 has_command (Some x) c e = let same : x ≡ c = cc in ap Some same
 
 has_value : (o : Option Data) (c : Command) → from_value o ≡ Ok c →
-    (d : Data) × (o ≡ Some d) × (command_in d ≡ Some c)
+    (d : Data) × (o ≡ Some d) × (shown_in d ≡ Some c)
 has_value None c e = let never : ⊥ = cc in absurd never
-has_value (Some d) c e = (d, refl, has_command (command_in d) c e)
+has_value (Some d) c e = (d, refl, has_command (shown_in d) c e)
 
 pub said_is_shown : SaidIsShown
 said_is_shown line c said =
@@ -246,10 +250,8 @@ said_is_shown line c said =
     said in
     let value = has_value (value_of line) c short.1 in
     let ordered = of_value IsOrdered (value_of line) value.0 (value_is_ordered line) value.1 in
-    let is =
-    of_value (IsAccepted value.0) (command_in value.0) c (command_shown value.0 ordered) value.2
-    in
-    (short.0, (value.0, value.1, is.0), is.1)
+    let is = of_value (Shows value.0) (shown_in value.0) c (command_shown value.0 ordered) value.2 in
+    (short.0, (value.0, value.1, is))
 
 is_read : (b : Bool) (o : Option Data) (d : Data) → cond b o None ≡ Some d → o ≡ Some d
 is_read true o d e = e

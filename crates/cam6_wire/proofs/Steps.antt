@@ -35,6 +35,15 @@ of_three P Q R S make holds (Some a) None z p q r = tt
 of_three P Q R S make holds (Some a) (Some b) None p q r = tt
 of_three P Q R S make holds (Some a) (Some b) (Some c) p q r = holds a b c p q r
 
+-- and of two
+pub of_two : {A B C : Type 0} (P : A → Type 0) (Q : B → Type 0) (R : C → Type 0)
+    (make : A → B → C) → ((a : A) (b : B) → P a → Q b → R (make a b)) →
+    (x : Option A) (y : Option B) → IfSome x P → IfSome y Q →
+    IfSome (x >>= λ a. y >>= λ b. Some (make a b)) R
+of_two P Q R make holds None y p q = tt
+of_two P Q R make holds (Some a) None p q = tt
+of_two P Q R make holds (Some a) (Some b) p q = holds a b p q
+
 -- and four
 pub of_four : {A B C D E : Type 0} (P : A → Type 0) (Q : B → Type 0) (R : C → Type 0)
     (S : D → Type 0) (T : E → Type 0) (make : A → B → C → D → E) →

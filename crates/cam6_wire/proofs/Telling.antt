@@ -1,7 +1,6 @@
 -- A line whose value shows a command says it.
-use Rattle.std.proofs.Common.{◌≡◌, ℕ, ◌*◌, ◌/◌, List, [], ◌∷◌, length, true, codes, arith}
+use Rattle.std.proofs.Common.{◌≡◌, ℕ, ◌*◌, ◌/◌, List, [], ◌∷◌, length, codes, arith}
 use Rattle.std.proofs.Common.{Option, Some, Ok, ok_or, option_and_then, option_map, refl, ap, ◌∙◌}
-use Rattle.std.specs.Bool.{then_some}
 use Rattle.std.specs.Result.{result_ok}
 use Rattle.cam6_planes.specs.Side.{side_number}
 use Rattle.cam6_planes.specs.Side as number
@@ -22,8 +21,8 @@ use Rattle.cam6_wiring.specs.Wiring.{wired}
 use Rattle.cam6_wiring.specs.declared.blocks.Grid.{Grid}
 use Rattle.cam6_wiring.specs.declared.blocks.Grid.TheVariants.{Even, Odd}
 use Rattle.cam6_machine.specs.declared.commands.Command.{Command}
-use Rattle.cam6_machine.specs.declared.commands.Command.TheVariants.{Set, Rule, Cycle, Run, Plane}
-use Rattle.cam6_machine.specs.declared.commands.Command.TheVariants.{Side as SetSide}
+use Rattle.cam6_machine.specs.declared.commands.Command.TheVariants.{Set, Rule, Cycle, Run, Row}
+use Rattle.cam6_machine.specs.declared.commands.Command.TheVariants.{Plane, Side as SetSide}
 use Rattle.cam6_machine.specs.declared.commands.NamedEntry.{NamedEntry}
 use Rattle.cam6_wire.specs.declared.faults.LineFault.TheVariants.{NoCommand}
 use Rattle.cam6_wire.specs.Fields.{bits_of, text_at, ◌>>=◌}
@@ -31,9 +30,8 @@ use Rattle.cam6_wire.specs.Replies.{natural}
 use Rattle.cam6_wire.specs.Wirings.{half_text, hood_text, minor_text, grid_text}
 use Rattle.cam6_wire.specs.Wirings.{half_named, hood_named, minor_named, grid_named, wiring_in}
 use Rattle.cam6_wire.specs.Entries.{rule_named, entry_of, entries_of}
-use Rattle.cam6_wire.specs.Fragment.{is_in_fragment}
 use Rattle.cam6_wire.specs.Commands.{set_of, rule_of, cycle_of, run_of, plane_of, side_of}
-use Rattle.cam6_wire.specs.Commands.{by_word, command_in, from_value}
+use Rattle.cam6_wire.specs.Commands.{row_of, by_word, shown_in, from_value}
 use Rattle.cam6_wire.specs.Shown.{ShowsEntries, Shows}
 use Rattle.cam6_wire.specs.Laws.{ShownIsSaid}
 use Rattle.cam6_wire.proofs.Saying.{short_line}
@@ -197,41 +195,48 @@ side_said : (n : ℕ) →
 unfolding side_of
 side_said n = refl
 
--- an accepted command is what a value says by its word
+row_said : (plane row : ℕ) →
+    row_of
+    (object
+    (member (codes "do") (string (codes "row"))
+    (member (codes "plane") (natural plane)
+    (member (codes "row") (natural row) no_members))))
+    ≡ Some (Row plane row)
+unfolding row_of
+row_said plane row = refl
+
+-- a command is what a value says by its word
 by_its_word : (d : Data) (word : List ℕ) (c : Command) → text_at (codes "do") d ≡ Some word →
-    by_word word d ≡ Some c → is_in_fragment c ≡ true → command_in d ≡ Some c
-by_its_word d word c at is accepted =
-    ap (λ o. o >>= λ word. by_word word d >>= λ c. then_some (is_in_fragment c) c) at ∙
-    ap (λ o. o >>= λ c. then_some (is_in_fragment c) c) is ∙ ap (λ b. then_some b c) accepted
+    by_word word d ≡ Some c → shown_in d ≡ Some c
+by_its_word d word c at is = ap (λ o. o >>= λ word. by_word word d) at ∙ is
 
 -- the same of a value that is another one
-of_same : (d e : Data) (c : Command) → d ≡ e → command_in e ≡ Some c → command_in d ≡ Some c
-of_same d e c same is = ap command_in same ∙ is
+of_same : (d e : Data) (c : Command) → d ≡ e → shown_in e ≡ Some c → shown_in d ≡ Some c
+of_same d e c same is = ap shown_in same ∙ is
 
-shown_in : (d : Data) (c : Command) → Shows d c → is_in_fragment c ≡ true →
-    command_in d ≡ Some c
-shown_in d (Set plane row bits) shows accepted =
+says_shown : (d : Data) (c : Command) → Shows d c → shown_in d ≡ Some c
+says_shown d (Set plane row bits) shows =
     of_same d _ (Set plane row bits) shows.3
     (by_its_word _ (codes "set") (Set plane row bits) refl
-    (set_said plane row shows.0 bits shows.1 shows.2) accepted)
-shown_in d (Rule name wiring text) shows accepted =
+    (set_said plane row shows.0 bits shows.1 shows.2))
+says_shown d (Rule name wiring text) shows =
     of_same d _ (Rule name wiring text) shows
-    (by_its_word _ (codes "rule") (Rule name wiring text) refl
-    (rule_said wiring name text) accepted)
-shown_in d (Cycle entries) shows accepted =
+    (by_its_word _ (codes "rule") (Rule name wiring text) refl (rule_said wiring name text))
+says_shown d (Cycle entries) shows =
     of_same d _ (Cycle entries) shows.2
-    (by_its_word _ (codes "cycle") (Cycle entries) refl (cycle_said shows.0 entries shows.1)
-    accepted)
-shown_in d (Run n) shows accepted =
-    of_same d _ (Run n) shows (by_its_word _ (codes "run") (Run n) refl (run_said n) accepted)
-shown_in d (Plane n) shows accepted =
+    (by_its_word _ (codes "cycle") (Cycle entries) refl (cycle_said shows.0 entries shows.1))
+says_shown d (Run n) shows =
+    of_same d _ (Run n) shows (by_its_word _ (codes "run") (Run n) refl (run_said n))
+says_shown d (Row plane row) shows =
+    of_same d _ (Row plane row) shows
+    (by_its_word _ (codes "row") (Row plane row) refl (row_said plane row))
+says_shown d (Plane n) shows =
     of_same d _ (Plane n) shows
-    (by_its_word _ (codes "plane") (Plane n) refl (plane_said n) accepted)
-shown_in d (SetSide n) shows accepted =
-    of_same d _ (SetSide n) shows
-    (by_its_word _ (codes "side") (SetSide n) refl (side_said n) accepted)
+    (by_its_word _ (codes "plane") (Plane n) refl (plane_said n))
+says_shown d (SetSide n) shows =
+    of_same d _ (SetSide n) shows (by_its_word _ (codes "side") (SetSide n) refl (side_said n))
 
 pub shown_is_said : ShownIsSaid
-shown_is_said line d c short is shows accepted =
+shown_is_said line d c short is shows =
     short_line line short ∙ ap from_value is ∙
-    ap (λ o. ok_or o NoCommand) (shown_in d c shows accepted)
+    ap (λ o. ok_or o NoCommand) (says_shown d c shows)

@@ -1,14 +1,13 @@
 -- What a line says: the JSON value that it is, and the command that the value is.
 use Rattle.std.specs.Prelude.{◌≡◌, ℕ, List, length, codes, nat_lt, Bool, false, ◌||◌, if◌then◌else◌}
 use Rattle.std.specs.Prelude.{Option, Some, None, option_map, ok_or, Result, Ok, Err, ⊤}
-use Rattle.std.specs.Bool.{then_some}
 use Rattle.std.specs.Option.{option_map_or}
 use Rattle.std.specs.Str.{bytes_eq, is_utf8}
 use Rattle.serde_json.specs.Data.{Data}
 use Rattle.serde_json.specs.Read.{read}
 use Rattle.cam6_machine.specs.declared.commands.Command.{Command}
-use Rattle.cam6_machine.specs.declared.commands.Command.TheVariants.{Set, Rule, Cycle, Run, Plane}
-use Rattle.cam6_machine.specs.declared.commands.Command.TheVariants.{Side as SetSide}
+use Rattle.cam6_machine.specs.declared.commands.Command.TheVariants.{Set, Rule, Cycle, Run, Row}
+use Rattle.cam6_machine.specs.declared.commands.Command.TheVariants.{Plane, Side as SetSide}
 use Rattle.cam6_wire.specs.declared.faults.LineFault.{LineFault}
 use Rattle.cam6_wire.specs.declared.faults.LineFault.TheVariants.{NoMemory, TooLong}
 use Rattle.cam6_wire.specs.declared.faults.LineFault.TheVariants.{NoJson, NoCommand}
@@ -16,7 +15,6 @@ use Rattle.cam6_wire.specs.Limits.{max_line}
 use Rattle.cam6_wire.specs.Fields.{has_size, number_at, text_at, bits_at, ◌>>=◌}
 use Rattle.cam6_wire.specs.Wirings.{wiring_in}
 use Rattle.cam6_wire.specs.Entries.{entries_at}
-use Rattle.cam6_wire.specs.Fragment.{is_in_fragment}
 
 -- the command of the keys plane, row and bits
 abbrev pub set_fields : Data → Option Command
@@ -50,6 +48,17 @@ cycle_of d = if has_size 2 d then option_map Cycle (entries_at (codes "entries")
 unfoldable pub run_of : Data → Option Command
 run_of d = if has_size 2 d then option_map Run (number_at (codes "n") d) else None
 
+-- the command of the keys plane and row
+abbrev pub row_fields : Data → Option Command
+row_fields d = do
+  plane ← number_at (codes "plane") d
+  row ← number_at (codes "row") d
+  Some (Row plane row)
+
+-- {"do":"row","plane":p,"row":y}
+unfoldable pub row_of : Data → Option Command
+row_of d = if has_size 3 d then row_fields d else None
+
 -- {"do":"plane","plane":p}
 unfoldable pub plane_of : Data → Option Command
 plane_of d = if has_size 2 d then option_map Plane (number_at (codes "plane") d) else None
@@ -65,11 +74,12 @@ by_word word d =
     else if bytes_eq word (codes "rule") then rule_of d
     else if bytes_eq word (codes "cycle") then cycle_of d
     else if bytes_eq word (codes "run") then run_of d
+    else if bytes_eq word (codes "row") then row_of d
     else if bytes_eq word (codes "plane") then plane_of d
     else if bytes_eq word (codes "side") then side_of d
     else None
 
--- the command that a JSON value shows, whether it is accepted so far or not
+-- the command that a JSON value shows
 abbrev pub shown_in : Data → Option Command
 shown_in d = do
   word ← text_at (codes "do") d
@@ -83,13 +93,6 @@ is_of_texts word = bytes_eq word (codes "rule") || bytes_eq word (codes "cycle")
 abbrev pub takes_text : Data → Bool
 takes_text d = option_map_or is_of_texts (text_at (codes "do") d) false
 
--- the command that a JSON value is, where it is one that is accepted so far
-abbrev pub command_in : Data → Option Command
-command_in d = do
-  word ← text_at (codes "do") d
-  command ← by_word word d
-  then_some (is_in_fragment command) command
-
 -- the JSON value that the bytes are, as serde_json reads them
 abbrev pub value_of : List ℕ → Option Data
 value_of line = if is_utf8 line then read line else None
@@ -97,7 +100,7 @@ value_of line = if is_utf8 line then read line else None
 -- what a value says, or the fault where there is none or it is no command
 abbrev pub from_value : Option Data → Result Command LineFault
 from_value None = Err NoJson
-from_value (Some d) = ok_or (command_in d) NoCommand
+from_value (Some d) = ok_or (shown_in d) NoCommand
 
 -- what a line says
 abbrev pub command : List ℕ → Result Command LineFault

@@ -1,29 +1,27 @@
 -- The laws that tie what a line says to the values that commands are shown by, and that answers are
 -- lines.
-use Rattle.std.specs.Prelude.{◌≡◌, ◌≤◌, ℕ, List, length, true, Some, Ok}
+use Rattle.std.specs.Prelude.{◌≡◌, ◌≤◌, ℕ, List, length, Some, Ok}
 use Rattle.serde_json.specs.Data.{Data}
 use Rattle.cam6_machine.specs.declared.commands.Command.{Command}
 use Rattle.cam6_machine.specs.declared.replies.Reply.{Reply}
 use Rattle.cam6_wire.specs.declared.faults.LineFault.{LineFault}
 use Rattle.cam6_wire.specs.Limits.{max_line}
-use Rattle.cam6_wire.specs.Fragment.{is_in_fragment}
 use Rattle.cam6_wire.specs.Commands.{command, value_of}
 use Rattle.cam6_wire.specs.Replies.{reply_bytes, fault_bytes}
 use Rattle.cam6_wire.specs.OneLine.{HasNoLf}
 use Rattle.cam6_wire.specs.Shown.{Shows}
 
--- a line whose value shows a command that is accepted so far says it
+-- a line whose value shows a command says it
 abbrev pub ShownIsSaid : Type 0
 ShownIsSaid =
     (line : List ℕ) (d : Data) (c : Command) → length line ≤ max_line → value_of line ≡ Some d →
-    Shows d c → is_in_fragment c ≡ true → command line ≡ Ok c
+    Shows d c → command line ≡ Ok c
 
 -- a line says no other command
 abbrev pub SaidIsShown : Type 0
 SaidIsShown =
     (line : List ℕ) (c : Command) → command line ≡ Ok c →
-    (length line ≤ max_line) × ((d : Data) × (value_of line ≡ Some d) × Shows d c) ×
-    (is_in_fragment c ≡ true)
+    (length line ≤ max_line) × ((d : Data) × (value_of line ≡ Some d) × Shows d c)
 
 -- the text of a reply is one line, whatever stands in it
 abbrev pub ReplyIsLine : Type 0

@@ -7,7 +7,7 @@ use Rattle.serde_json.specs.Written.{compact_text}
 use Rattle.cam6_table.specs.Faults as rule
 use Rattle.cam6_machine.specs.Faults as machine
 use Rattle.cam6_machine.specs.declared.replies.Reply.{Reply}
-use Rattle.cam6_machine.specs.declared.replies.Reply.TheVariants.{Set, Rule, Cycle, Side, Run}
+use Rattle.cam6_machine.specs.declared.replies.Reply.TheVariants.{Set, Rule, Cycle, Side, Run, Row}
 use Rattle.cam6_machine.specs.declared.replies.Reply.TheVariants.{Plane}
 use Rattle.cam6_machine.specs.declared.replies.Reply.TheVariants.{Fault, RuleText, RuleStops}
 use Rattle.cam6_wire.specs.declared.faults.LineFault.{LineFault}
@@ -37,6 +37,9 @@ reply_data Cycle = done (codes "cycle") no_members
 reply_data Side = done (codes "side") no_members
 reply_data (Run position) =
     done (codes "run") (member (codes "position") (natural position) no_members)
+reply_data (Row bits) =
+    object
+    (member (codes "bits") (string bits) (member (codes "ok") (string (codes "row")) no_members))
 reply_data (Plane rows) =
     done (codes "plane") (member (codes "rows") (array (texts rows)) no_members)
 reply_data (Fault fault) = object (fault_then (machine.fault_number fault) no_members)

@@ -6,8 +6,8 @@ use Rattle.cam6_planes.specs.Side.{side_number}
 use Rattle.cam6_planes.specs.declared.sides.Side.{Side}
 use Rattle.serde_json.specs.Data.{Items, no_items, item, no_members, member}
 use Rattle.cam6_machine.specs.declared.commands.Command.{Command}
-use Rattle.cam6_machine.specs.declared.commands.Command.TheVariants.{Set, Rule, Cycle, Run, Plane}
-use Rattle.cam6_machine.specs.declared.commands.Command.TheVariants.{Side as SetSide}
+use Rattle.cam6_machine.specs.declared.commands.Command.TheVariants.{Set, Rule, Cycle, Run, Row}
+use Rattle.cam6_machine.specs.declared.commands.Command.TheVariants.{Plane, Side as SetSide}
 use Rattle.cam6_machine.specs.declared.commands.NamedEntry.{NamedEntry}
 use Rattle.cam6_wire.specs.Replies.{natural}
 use Rattle.cam6_wire.specs.Wirings.{half_text, hood_text, minor_text, grid_text}
@@ -71,6 +71,14 @@ Shows d (Run n) =
     (member (codes "do") (string (codes "run"))
     (member (codes "n") (natural n)
     no_members))
+-- {"do":"row","plane":p,"row":y}
+Shows d (Row plane row) =
+    d
+    ≡ object
+    (member (codes "do") (string (codes "row"))
+    (member (codes "plane") (natural plane)
+    (member (codes "row") (natural row)
+    no_members)))
 -- {"do":"plane","plane":p}
 Shows d (Plane plane) =
     d

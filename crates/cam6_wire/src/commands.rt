@@ -2,16 +2,15 @@
 ghost use Rattle.std.specs.Prelude.{◌≡◌, ◌<◌, ◌≤◌, length, Err, IfOk, IsOk, false};
 ghost use Rattle.cam6_wire.specs.declared.faults.LineFault.TheVariants.{NoMemory};
 ghost use Rattle.serde_json.specs.View.{view};
-ghost use Rattle.cam6_wire.specs.Commands.{set_of, rule_of, cycle_of, run_of, plane_of, side_of};
-ghost use Rattle.cam6_wire.specs.Commands.{by_word};
-ghost use Rattle.cam6_wire.specs.Commands.{shown_in, command_in, command, IsSaid};
+ghost use Rattle.cam6_wire.specs.Commands.{set_of, rule_of, cycle_of, run_of, row_of};
+ghost use Rattle.cam6_wire.specs.Commands.{plane_of, side_of, by_word};
+ghost use Rattle.cam6_wire.specs.Commands.{shown_in, command, IsSaid};
 ghost use Rattle.cam6_wire.specs.Commands.{is_of_texts, takes_text};
 ghost use Rattle.cam6_wire.specs.Limits.{max_line};
 
 use crate::entries::entries_at;
 use crate::faults::LineFault;
 use crate::fields::{bits_at, has_size, number_at, text_at};
-use crate::fragment::is_in_fragment;
 use crate::wirings::wiring_in;
 use cam6_machine::{Command, Text};
 use serde_json::{Category, Value};
@@ -38,11 +37,10 @@ pub fn read_command(alloc: Global, line: &[u8]) -> Result<Command, LineFault>
             };
         }
     };
-    command_in(alloc, &value)?.ok_or(LineFault::NoCommand)
+    command_shown(alloc, &value)?.ok_or(LineFault::NoCommand)
 }
 
-/// The command that a JSON value shows, for whatever wiring and cycle. A line says those alone that
-/// are accepted so far.
+/// The command that a JSON value shows.
 pub fn command_shown(alloc: Global, value: &Value) -> Result<Option<Command>, AllocError>
     ensures command { IfOk result (λ command. command ≡ shown_in (view value.now)) }
     // Memory is wanted for a rule and a cycle alone.
@@ -50,15 +48,6 @@ pub fn command_shown(alloc: Global, value: &Value) -> Result<Option<Command>, Al
 {
     match text_at(value, "do") {
         Some(word) => by_word(alloc, word, value),
-        None => Ok(None),
-    }
-}
-
-fn command_in(alloc: Global, value: &Value) -> Result<Option<Command>, AllocError>
-    ensures { IfOk result (λ command. command ≡ command_in (view value.now)) }
-{
-    match text_at(value, "do") {
-        Some(word) => Ok(by_word(alloc, word, value)?.filter(is_in_fragment)),
         None => Ok(None),
     }
 }
@@ -72,6 +61,7 @@ fn by_word(alloc: Global, word: &str, value: &Value) -> Result<Option<Command>, 
         "rule" => rule_of(alloc, value),
         "cycle" => cycle_of(alloc, value),
         "run" => Ok(run_of(value)),
+        "row" => Ok(row_of(value)),
         "plane" => Ok(plane_of(value)),
         "side" => Ok(side_of(value)),
         _ => Ok(None),
@@ -136,6 +126,18 @@ fn run_of(value: &Value) -> Option<Command>
     }
     let n = number_at(value, "n")?;
     Some(Command::Run { n })
+}
+
+#[tactic(auto, unfolding(crate::specs::Commands::row_of))]
+fn row_of(value: &Value) -> Option<Command>
+    ensures { result ≡ row_of (view value.now) }
+{
+    if !has_size(value, 3) {
+        return None;
+    }
+    let plane = number_at(value, "plane")?;
+    let row = number_at(value, "row")?;
+    Some(Command::Row { plane, row })
 }
 
 #[tactic(auto, unfolding(crate::specs::Commands::plane_of))]

@@ -2,7 +2,7 @@
 //! lines. Each is the contract of a function that does nothing.
 ghost use Rattle.cam6_wire.specs.Laws.{ShownIsSaid, SaidIsShown, ReplyIsLine, FaultIsLine};
 
-/// A line whose value shows a command that is accepted so far says it.
+/// A line whose value shows a command says it.
 pub fn a_shown_command_is_said()
     ensures law { ShownIsSaid }
 {}

@@ -2,10 +2,10 @@
 //!
 //! Contract: `read_command` answers exactly the command that a line says, or fault 1, 2 or 3
 //! (`specs/Commands.antt`), by `serde_json`'s own reading; memory is wanted neither for an empty
-//! line nor for one that is too long. `command_shown` is the command that a JSON value shows, those
-//! that no line may say yet among them, and wants memory for a rule and a cycle alone. `reply_text`
-//! is exactly the compact JSON text of a reply (`specs/Replies.antt`), which reads back as the
-//! reply's value; `fault_text` is that of a line's fault, and takes no memory.
+//! line nor for one that is too long. `command_shown` is the command that a JSON value shows, and
+//! wants memory for a rule and a cycle alone. `reply_text` is exactly the compact JSON text of a
+//! reply (`specs/Replies.antt`), which reads back as the reply's value; `fault_text` is that of a
+//! line's fault, and takes no memory.
 //!
 //! The laws: a line says a command exactly where it has at most 16,384 bytes and its JSON value
 //! shows the command, with its keys and no others; the text of a reply, and of a line's fault, is
@@ -14,15 +14,14 @@
 //! Stands on: `cam6_planes`, `cam6_wiring`, `cam6_forth`, `cam6_table`, `cam6_machine`;
 //! `serde_json` with its grammar in `json`, and `hex`.
 //!
-//! Read next: `faults`, `commands` and `replies`; what they read, `fields`, `wirings`, `entries`
-//! and `fragment`; then `laws`.
+//! Read next: `faults`, `commands` and `replies`; what they read, `fields`, `wirings` and
+//! `entries`; then `laws`.
 #![tactic(auto)]
 
 mod commands;
 mod entries;
 mod faults;
 mod fields;
-mod fragment;
 pub mod laws;
 mod replies;
 mod wirings;

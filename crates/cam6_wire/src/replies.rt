@@ -42,6 +42,10 @@ fn reply_value(alloc: Global, reply: &Reply) -> Result<Value, AllocError>
         Reply::Cycle => json!(in alloc; {"ok": "cycle"}),
         Reply::Side => json!(in alloc; {"ok": "side"}),
         Reply::Run { position } => json!(in alloc; {"ok": "run", "position": *position}),
+        Reply::Row { bits } => {
+            let bits = Value::try_from_str(alloc, digits(bits.as_slice()))?;
+            json!(in alloc; {"bits": bits, "ok": "row"})
+        }
         Reply::Plane { rows } => {
             let rows = rows_value(alloc, rows)?;
             json!(in alloc; {"ok": "plane", "rows": rows})

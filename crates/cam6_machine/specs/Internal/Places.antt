@@ -1,6 +1,6 @@
 -- How the code keeps rules and a cycle: rules in a map by name, each with its code, and entries
 -- with the places of their rules instead of the names.
-use Rattle.std.specs.Prelude.{ℕ, suc, ◌<◌, Bool, false, ◌||◌, ◌==◌, List, [], ◌∷◌, map, length}
+use Rattle.std.specs.Prelude.{◌≡◌, ℕ, suc, ◌<◌, Bool, false, ◌||◌, ◌==◌, List, [], ◌∷◌, map, length}
 use Rattle.std.specs.Prelude.{Option, Some, None, ⊤, String, string_bytes, if◌then◌else◌}
 use Rattle.std.specs.List.{slice_get, AllByRecursion}
 use Rattle.std.specs.Option.{option_map}
@@ -10,12 +10,13 @@ use Rattle.cam6_planes.specs.Stored.{Stored}
 use Rattle.cam6_wiring.specs.declared.names.Phase.{Phase}
 use Rattle.cam6_wiring.specs.declared.names.Phase.TheVariants.{P0, P1, P2, P3}
 use Rattle.cam6_wiring.specs.declared.wirings.Wiring.{Wiring}
+use Rattle.cam6_cycle.specs.declared.entries.Entry.{Entry}
+use Rattle.cam6_cycle.specs.declared.entries.HalfRule.{HalfRule}
 use Rattle.cam6_table.specs.declared.codes.Instruction.{Instruction}
 use Rattle.cam6_machine.specs.Rules.{Rule, wiring_for}
 use Rattle.cam6_machine.specs.Cycles.{EntryRules, phase_of}
 use Rattle.cam6_machine.specs.Stored.{StoredMachine}
 use Rattle.cam6_machine.specs.declared.commands.NamedEntry.{NamedEntry}
-use Rattle.cam6_machine.specs.declared.cycles.Entry.{Entry}
 
 -- a rule as it is kept, beside its name
 pub record Compiled : Type 0 where
@@ -53,12 +54,33 @@ abbrev pub place_if_named : List Rule → Option (List ℕ) → Option ℕ
 place_if_named rules None = None
 place_if_named rules (Some name) = place_of name rules
 
+-- the entries of a cycle, if one is set
+abbrev pub entries_of : Option (List Entry) → List Entry
+entries_of None = []
+entries_of (Some entries) = entries
+
+-- a rule by its place, with what it is written for
+abbrev pub half_rule : ℕ → Option Rule → Option HalfRule
+half_rule place None = None
+half_rule place (Some rule) =
+    Some (record { number = place; hood = rule.wiring.hood; minor = rule.wiring.minor })
+
+-- the rule at a place so, if there is a place and a rule at it
+abbrev pub half_rule_at : List Rule → Option ℕ → Option HalfRule
+half_rule_at rules None = None
+half_rule_at rules (Some place) = half_rule place (slice_get rules place)
+
+-- the place of an entry's rule, if it has one
+abbrev pub place_in : Option HalfRule → Option ℕ
+place_in None = None
+place_in (Some rule) = Some rule.number
+
 -- an entry with the places of the rules that it names
 abbrev pub placed_entry : List Rule → NamedEntry → Entry
 placed_entry rules entry =
     record {
-      a = place_if_named rules entry.a;
-      b = place_if_named rules entry.b;
+      a = half_rule_at rules (place_if_named rules entry.a);
+      b = half_rule_at rules (place_if_named rules entry.b);
       grid = entry.grid;
       phase = phase_of entry.phase;
     }
@@ -73,8 +95,8 @@ phase_number P3 = 3
 abbrev pub named_entry : List Rule → Entry → NamedEntry
 named_entry rules entry =
     record {
-      a = name_of (rule_at rules entry.a);
-      b = name_of (rule_at rules entry.b);
+      a = name_of (rule_at rules (place_in entry.a));
+      b = name_of (rule_at rules (place_in entry.b));
       grid = entry.grid;
       phase = phase_number entry.phase;
     }
@@ -87,8 +109,8 @@ named_entries rules entries = map (named_entry rules) entries
 abbrev pub rules_at : List Rule → Entry → EntryRules
 rules_at rules entry =
     record {
-      a = rule_at rules entry.a;
-      b = rule_at rules entry.b;
+      a = rule_at rules (place_in entry.a);
+      b = rule_at rules (place_in entry.b);
       grid = entry.grid;
       phase = entry.phase;
     }
@@ -105,12 +127,19 @@ is_place place (Some other) = other == place
 
 -- whether an entry has the rule at this place
 abbrev pub uses_place : ℕ → Entry → Bool
-uses_place place entry = is_place place entry.a || is_place place entry.b
+uses_place place entry = is_place place (place_in entry.a) || is_place place (place_in entry.b)
 
--- rules stand at all places of the entries
+-- the rule of a half, if it has one, stands at its place, and is written for what the half says
+abbrev pub IsPlaced : List Rule → Option HalfRule → Type 0
+IsPlaced rules None = ⊤
+IsPlaced rules (Some half) =
+    (rule : Rule) × (slice_get rules half.number ≡ Some rule) ×
+    (rule.wiring.hood ≡ half.hood) × (rule.wiring.minor ≡ half.minor)
+
+-- so it is with all entries
 abbrev pub ArePlaced : List Rule → List Entry → Type 0
 ArePlaced rules entries =
-    AllByRecursion (λ entry. IsPlace rules entry.a × IsPlace rules entry.b) entries
+    AllByRecursion (λ entry. IsPlaced rules entry.a × IsPlaced rules entry.b) entries
 
 -- the machine of which these are kept
 abbrev pub stored : Stored → List Rule → List Entry → ℕ → List ℕ → StoredMachine

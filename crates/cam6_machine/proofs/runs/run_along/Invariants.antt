@@ -1,15 +1,19 @@
 use Rattle.std.proofs.Common.{◌≡◌, ◌<◌, ℕ, List, length}
-use Rattle.cam6_planes.specs.Stored.{AreAlike}
-use Rattle.cam6_machine.specs.Internal.Places.{rules_of, stored}
+use Rattle.cam6_cycle.specs.Tables.{tables_needed}
+use Rattle.cam6_cycle.specs.declared.tables.Direction.TheVariants.{Forward}
+use Rattle.cam6_machine.specs.Rules.{Rule}
+use Rattle.cam6_machine.specs.Always.{HaveOwnNames}
+use Rattle.cam6_machine.specs.Internal.Places.{stored, ArePlaced}
+use Rattle.cam6_machine.specs.Internal.Uses.{AreTables}
 use Rattle.cam6_machine.specs.Machine.{steps, machine_of}
 use Rattle.cam6_machine.proofs.runs.run_along.Given as goal
 
 abbrev pub invariant-loop-step : goal.invariant-loop-step
 invariant-loop-step l = record {
-  alike : AreAlike l.planes l.next;
   position : l.position < length l.cycle;
-  steps : (colours : List ℕ) →
-      machine_of (stored l.planes (rules_of l.rules.entries) l.cycle l.position colours)
-      ≡ steps l._step (machine_of
-      (stored l.fn.planes (rules_of l.rules.entries) l.cycle l.fn.position colours));
+  steps : (rules : List Rule) (colours : List ℕ) → HaveOwnNames rules → ArePlaced rules l.cycle →
+      (let needed = tables_needed Forward l.cycle in
+      AreTables (length needed) rules needed l.tables) →
+      machine_of (stored l.image.planes rules l.cycle l.position colours)
+      ≡ steps l._step (machine_of (stored l.fn.image.planes rules l.cycle l.fn.position colours));
 }

@@ -1,12 +1,16 @@
-use Rattle.std.proofs.Common.{◌≡◌, ℕ, ◌<◌}
+use Rattle.std.proofs.Common.{◌-◌}
 use Rattle.cam6_planes.specs.Cells.{cells}
 use Rattle.cam6_planes.specs.Stored.{width, AreAlike}
-use Rattle.cam6_machine.specs.Internal.ByTables.{step_by}
+use Rattle.cam6_band.specs.ByTables.{step_by}
+use Rattle.cam6_band.specs.Partway.{Partway}
 use Rattle.cam6_machine.proofs.steps.step.Given as goal
 
-abbrev pub invariant-loop-y : goal.invariant-loop-y
-invariant-loop-y l = record {
-  written : (p x v : ℕ) → p < 4 → x < width l.planes → v < l.y →
-      cells l.next p x v ≡ step_by (width l.planes) l.tables (cells l.planes) p x v;
-  alike : AreAlike l.planes l.next;
+abbrev pub invariant-loop-more : goal.invariant-loop-more
+invariant-loop-more l = record {
+  alike : AreAlike l.fn.image.planes l.mid.planes;
+  partway : let old = l.fn.image.planes in
+      Partway (cells old) (step_by (width old) l.tables (cells old)) l.mid;
 }
+
+abbrev pub decreases-loop-more : goal.decreases-loop-more
+decreases-loop-more l = width l.mid.planes - l.mid.done

@@ -1,5 +1,5 @@
 use Rattle.std.proofs.Common.{sym, subst}
-use Rattle.cam6_machine.specs.Internal.ByTables.{IsTableFor}
+use Rattle.cam6_machine.specs.TrueTables.{IsTableFor}
 use Rattle.cam6_machine.proofs.KeptRules.{rule_found, no_rule_found}
 use Rattle.cam6_machine.proofs.tables.fill_table.Goals as goal
 

@@ -1,10 +1,10 @@
 use Rattle.std.proofs.Common.{◌≡◌, length}
 use Rattle.cam6_machine.specs.Internal.Places.{rules_of}
-use Rattle.cam6_machine.specs.Internal.ByTables.{AreTables}
+use Rattle.cam6_machine.specs.Internal.Uses.{AreTables}
 use Rattle.cam6_machine.proofs.tables.fill_tables.Given as goal
 
 abbrev pub invariant-loop-index : goal.invariant-loop-index
 invariant-loop-index l = record {
-  tables : AreTables l.index (rules_of l.rules.entries) l.used.items l.tables;
+  tables : AreTables l.index (rules_of l.rules.entries) l.needed.items l.tables;
   room : length l.tables ≡ length l.fn.tables;
 }

@@ -1,88 +1,73 @@
-use Rattle.std.proofs.Common.{◌∙◌, ◌++◌, None, [], ap, sym, arith, get_or, length, take, refl}
-use Rattle.std.proofs.Common.{subst}
+use Rattle.std.proofs.Common.{◌≡◌, ◌+◌, ◌∙◌, [], ap, sym, arith, get_or, length, take}
+use Rattle.std.proofs.Common.{refl, subst}
+use mir.Val.{bool_byte}
 use Rattle.std.proofs.lemmas.Option.{get_or_from_slice_get}
-use Rattle.cam6_wiring.specs.declared.blocks.Grid.TheVariants.{Even}
-use Rattle.cam6_wiring.specs.declared.names.Phase.TheVariants.{P0}
-use Rattle.cam6_machine.specs.Internal.ByTables.{AreTablesFor, IsTableFor, place_used}
-use Rattle.cam6_machine.specs.Internal.Places.{rules_of, rule_at, rules_at}
-use Rattle.cam6_machine.specs.declared.cycles.Entry.{Entry}
-use Rattle.cam6_machine.proofs.FilledTables.{first_table, second_table, uses-length}
-use Rattle.cam6_machine.proofs.FilledTables.{used-length}
-use Rattle.std.proofs.lemmas.List.{length-append, length-take-le}
+use Rattle.cam6_wiring.specs.declared.names.Half.TheVariants.{A}
+use Rattle.cam6_cycle.specs.Tables.{needed_for, tables_needed}
+use Rattle.cam6_cycle.specs.declared.entries.Entry.{Entry}
+use Rattle.cam6_cycle.specs.declared.tables.Direction.TheVariants.{Forward}
+use Rattle.cam6_cycle.proofs.Needed.{some-length, needed-length}
+use Rattle.cam6_machine.specs.TrueTables.{AreTablesFor, IsTableFor}
+use Rattle.cam6_machine.specs.Internal.Places.{rule_at, rules_at, place_in}
+use Rattle.cam6_machine.proofs.FilledTables.{first_table, second_table, placed_at}
 use Rattle.cam6_machine.proofs.tables.tables_at.Goals as goal
 
-pub add_use-requires : goal.add_use-requires
-add_use-requires c =
-    let before = take c.args.position c.args.cycle.now in
+pub overflow_add-second : goal.overflow_add-second
+overflow_add-second c =
+    let rule = c.forward.result.0.a in
     omega (
       arith,
-      ap length c.uses_of-before.ensures,
-      uses-length before,
-      length-take-le c.args.position c.args.cycle.now (omega (arith, c.requires.position)),
-      c.requires.position,
-      c.requires.few,
+      c.tables_before-first.ensures.few,
+      c.from.ensures ∙ ap bool_byte c.is_some.ensures ∙ sym (some-length Forward A rule),
+      needed-length Forward A rule,
     )
 
 pub half_table-requires : goal.half_table-requires
-half_table-requires c =
-    let before = take c.args.position c.args.cycle.now in
-    omega (
-      arith,
-      c.len-first.ensures.value,
-      ap length c.uses_of-before.ensures,
-      uses-length before,
-      length-take-le c.args.position c.args.cycle.now (omega (arith, c.requires.position)),
-      c.requires.position,
-      c.requires.few,
-      c.requires.room,
-    )
+half_table-requires c = omega (arith, c.tables_before-first.ensures.few, c.requires.room)
 
 pub half_table-requires-2 : goal.half_table-requires-2
 half_table-requires-2 c =
-    let before = take c.args.position c.args.cycle.now in
-    let past : Entry = record { a = None; b = None; grid = Even; phase = P0 } in
-    let at = get_or c.args.cycle.now c.args.position past in
+    let rule = c.forward.result.0.a in
     omega (
       arith,
-      c.len-second.ensures.value,
-      ap length c.add_use.ensures,
-      length-append c.uses_of-before.result.items (place_used at.a),
-      used-length at.a,
-      ap length c.uses_of-before.ensures,
-      uses-length before,
-      length-take-le c.args.position c.args.cycle.now (omega (arith, c.requires.position)),
-      c.requires.position,
-      c.requires.few,
+      c.tables_before-first.ensures.few,
       c.requires.room,
+      c.from.ensures ∙ ap bool_byte c.is_some.ensures ∙ sym (some-length Forward A rule),
+      needed-length Forward A rule,
     )
 
 pub returns : goal.returns
-returns c = λ entry found.
-    let a = c.args in
-    let rules = rules_of a.rules.now.entries in
-    let tables = a.tables.now in
-    let past : Entry = record { a = None; b = None; grid = Even; phase = P0 } in
-    let at = get_or a.cycle.now a.position past in
-    let used = c.uses_of-before.ensures in
-    let first = c.len-first.ensures.value ∙ ap length used in
-    let second = c.len-second.ensures.value ∙
-    ap length (c.add_use.ensures ∙ ap (λ l. l ++ place_used at.a) used) in
+returns c = λ rules entry placed are found.
+    let cycle = c.args.cycle.now in
+    let tables = c.args.tables.now in
+    let position = c.args.position in
+    let own = c.forward.result.0 in
+    let at = get_or cycle position own in
+    let same : at ≡ own = get_or_from_slice_get cycle position own own c.forward.ensures.entry in
+    let is : own ≡ entry =
+    sym same ∙ get_or_from_slice_get cycle position entry own found in
+    let here = placed_at rules cycle position own c.forward.ensures.entry placed in
+    let first = c.tables_before-first.ensures.before Forward in
+    let of_a : c.from.result ≡ length (needed_for Forward A at.a) =
+    c.from.ensures ∙ ap bool_byte c.is_some.ensures ∙ sym (some-length Forward A own.a) ∙
+    ap (λ (e : Entry). length (needed_for Forward A e.a)) (sym same) in
     subst (λ e. AreTablesFor (rules_at rules e) (record {
       a = c.half_table.result;
       b = c.half_table-2.result;
-      grid = at.grid;
-      phase = at.phase;
-    }))
-    (get_or_from_slice_get a.cycle.now a.position entry past found)
+      grid = own.grid;
+      phase = own.phase;
+    })) is
     (record {
-      a = c.half_table.ensures
-          (subst (λ n. IsTableFor (rule_at rules at.a) (get_or tables n [])) (sym first)
-          (first_table rules tables a.position a.cycle.now past c.requires.position
-          c.requires.tables));
-      b = c.half_table-2.ensures
-          (subst (λ n. IsTableFor (rule_at rules at.b) (get_or tables n [])) (sym second)
-          (second_table rules tables a.position a.cycle.now past c.requires.position
-          c.requires.tables));
+      a = c.half_table.ensures rules here.0
+          (subst (λ n. IsTableFor (rule_at rules (place_in own.a)) (get_or tables n [])) (sym first)
+          (first_table rules tables position cycle own c.requires.position are own.a
+          (ap (λ e. e.a) same)));
+      b = c.half_table-2.ensures rules here.1
+          (subst (λ n. IsTableFor (rule_at rules (place_in own.b)) (get_or tables n []))
+          (sym (ap (λ n. n + c.from.result) first ∙
+          ap (λ n. length (tables_needed Forward (take position cycle)) + n) of_a))
+          (second_table rules tables position cycle own c.requires.position are own.b
+          (ap (λ e. e.b) same)));
       grid = refl;
       phase = refl;
     })

@@ -9,12 +9,12 @@ returns-in_default-clause-said c =
 
 pub returns-clause-said : goal.returns-clause-said
 returns-clause-said c =
-    saying.reads_value c.args.line.now _ c.in_ok-command_in.field-0 c.ok_or.result
-    c.if-line-gt-LINE_LIMIT.false c.in-Ok.ensures.ok c.in_ok-command_in.ensures
+    saying.reads_value c.args.line.now _ c.in_ok-command_shown.field-0 c.ok_or.result
+    c.if-line-gt-LINE_LIMIT.false c.in-Ok.ensures.ok c.in_ok-command_shown.ensures.command
     c.ok_or.ensures.value
 
-pub returns-in_err-command_in-clause-memory : goal.returns-in_err-command_in-clause-memory
-returns-in_err-command_in-clause-memory c = λ wanted. (
+pub returns-in_err-command_shown-clause-memory : goal.returns-in_err-command_shown-clause-memory
+returns-in_err-command_shown-clause-memory c = λ wanted. (
   saying.not_empty c.args.line.now _ (c.in-Ok.ensures.ok.1),
   omega (arith, c.if-line-gt-LINE_LIMIT.false),
 )

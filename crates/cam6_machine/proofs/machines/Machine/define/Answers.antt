@@ -1,16 +1,16 @@
-use Rattle.std.proofs.Common.{◌≡◌, ◌∙◌, Ok, ap, sym, subst}
+use Rattle.std.proofs.Common.{◌≡◌, ◌∙◌, None, Ok, ap, sym, subst}
 use Rattle.cam6_machine.specs.Effects.{with_rule}
 use Rattle.cam6_machine.specs.Stored.{StoredMachine}
 use Rattle.cam6_machine.specs.Machine.{machine_of}
 use Rattle.cam6_machine.specs.Alone.{after}
 use Rattle.cam6_machine.specs.Always.{IsMachine}
 use Rattle.cam6_machine.specs.Refusals.{rule_refusal}
-use Rattle.cam6_machine.specs.Internal.Places.{rules_of, named_entries, stored, ArePlaced}
-use Rattle.cam6_machine.specs.Internal.ByTables.{IsVerdict}
+use Rattle.cam6_machine.specs.Internal.Images.{planes_of}
+use Rattle.cam6_machine.specs.Internal.Places.{rules_of, entries_of, named_entries, stored, ArePlaced}
+use Rattle.cam6_machine.specs.Internal.Verdicts.{IsVerdict}
 use Rattle.cam6_machine.specs.declared.commands.Command.TheVariants.{Rule}
 use Rattle.cam6_machine.proofs.Done as done
-use Rattle.cam6_machine.proofs.Naming.{placed_with}
-use Rattle.cam6_machine.proofs.Staying.{stays_machine}
+use Rattle.cam6_machine.proofs.Staying.{stays_machine, placed_with}
 use Rattle.cam6_machine.proofs.machines.Machine.define.Goals as goal
 
 -- what the trial of the text said
@@ -28,32 +28,39 @@ put c =
     c.args.text c.in-Ok.rule.text c.args.wiring c.in-Ok.rule.wiring (verdict c).1 (verdict c).2
     c.in_ok-put-in-Ok.ensures.ok
 
+-- there is room for it
+room : (c : goal.In_ok-put-in-Ok) →
+    let rules = rules_of c.self.inside.rules.entries in
+    None ≡ rule_refusal rules (named_entries rules (entries_of c.self.inside.cycle)) c.args.name
+room c =
+    let rules = rules_of c.self.inside.rules.entries in
+    c.in_default.ensures ∙
+    ap (λ l. rule_refusal rules (named_entries rules l) c.args.name) c.entries_of.ensures
+
 after_put : (c : goal.In_ok-put-in-Ok) →
-    machine_of (stored c.self.inside.planes (rules_of c.put.new.rules.entries)
-    c.self.inside.cycle.items c.self.inside.position c.self.inside.colours)
-    ≡ after (machine_of (stored c.self.inside.planes (rules_of c.self.inside.rules.entries)
-    c.self.inside.cycle.items c.self.inside.position c.self.inside.colours))
+    machine_of (stored (planes_of c.self.inside.image) (rules_of c.put.new.rules.entries)
+    (entries_of c.self.inside.cycle) c.self.inside.position c.self.inside.colours)
+    ≡ after (machine_of (stored (planes_of c.self.inside.image)
+    (rules_of c.self.inside.rules.entries) (entries_of c.self.inside.cycle) c.self.inside.position c.self.inside.colours))
     (Rule c.args.name c.args.wiring c.args.text)
 after_put c =
     let m = c.self.inside in
-    done.after-rule m.planes (rules_of m.rules.entries) m.cycle.items m.position m.colours
-    c.args.name c.args.text c.args.wiring (rules_of c.put.new.rules.entries)
+    done.after-rule (planes_of m.image) (rules_of m.rules.entries) (entries_of m.cycle) m.position
+    m.colours c.args.name c.args.text c.args.wiring (rules_of c.put.new.rules.entries)
     c.self.invariant.1
-    (c.in_default.ensures ∙
-    ap (λ l. rule_refusal (rules_of m.rules.entries) (named_entries (rules_of m.rules.entries) l)
-    c.args.name) c.deref.ensures.value)
+    (room c)
     (verdict c).0 (put c)
 
 pub invariant_of-self-in-Ok : goal.invariant_of-self-in-Ok
 invariant_of-self-in-Ok c = (
   subst IsMachine (sym (after_put c))
-      (stays_machine (machine_of (stored c.self.inside.planes
-      (rules_of c.self.inside.rules.entries) c.self.inside.cycle.items c.self.inside.position
+      (stays_machine (machine_of (stored (planes_of c.self.inside.image)
+      (rules_of c.self.inside.rules.entries) (entries_of c.self.inside.cycle) c.self.inside.position
       c.self.inside.colours))
       (Rule c.args.name c.args.wiring c.args.text) c.self.invariant.0),
-  subst (λ l. ArePlaced l c.self.inside.cycle.items) (sym (put c))
-      (placed_with _ (rules_of c.self.inside.rules.entries) c.self.inside.cycle.items
-      c.self.invariant.1),
+  subst (λ l. ArePlaced l (entries_of c.self.inside.cycle)) (sym (put c))
+      (placed_with _ (rules_of c.self.inside.rules.entries) (entries_of c.self.inside.cycle)
+      c.self.invariant.0.own (sym (room c)) c.self.invariant.1),
   c.self.invariant.2,
   c.self.invariant.3,
 )
@@ -66,7 +73,7 @@ returns-in-Ok-clause-machine c =
 pub returns-in-Ok-clause-left : goal.returns-in-Ok-clause-left
 returns-in-Ok-clause-left c =
     let m = c.self.inside in
-    done.stored-rule m.planes (rules_of m.rules.entries) m.cycle.items m.position m.colours _
-    (rules_of c.put.new.rules.entries) c.self.invariant.1 (put c) ∙
+    done.stored-rule (planes_of m.image) (rules_of m.rules.entries) (entries_of m.cycle) m.position
+    m.colours _ (rules_of c.put.new.rules.entries) c.self.invariant.1 (put c) ∙
     ap {B = StoredMachine} (λ k. record k { rules = rules_of c.put.new.rules.entries })
     c.self.view_is

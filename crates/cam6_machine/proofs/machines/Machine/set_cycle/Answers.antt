@@ -2,7 +2,9 @@ use Rattle.std.proofs.Common.{◌≡◌, ◌∙◌, map, ap, sym, subst}
 use Rattle.cam6_machine.specs.Machine.{machine_of}
 use Rattle.cam6_machine.specs.Alone.{after}
 use Rattle.cam6_machine.specs.Always.{IsMachine}
-use Rattle.cam6_machine.specs.Internal.Places.{rules_of, placed_entry, stored, ArePlaced}
+use Rattle.cam6_machine.specs.Internal.Images.{planes_of}
+use Rattle.cam6_machine.specs.Internal.Places.{rules_of, entries_of, placed_entry, stored}
+use Rattle.cam6_machine.specs.Internal.Places.{ArePlaced}
 use Rattle.cam6_machine.specs.declared.commands.Command.TheVariants.{Cycle}
 use Rattle.cam6_machine.proofs.Done.{after-cycle}
 use Rattle.cam6_machine.proofs.Naming.{are_placed}
@@ -10,25 +12,26 @@ use Rattle.cam6_machine.proofs.Staying.{accepted_cycle, stays_machine}
 use Rattle.cam6_machine.proofs.machines.Machine.set_cycle.Goals as goal
 
 -- the entries, with the places of the rules that they name
-entries_placed : (c : goal.After-self-1) →
-    c.in_ok-self-inside.field-0.items
+entries_placed : (c : goal.After-self-2-1) →
+    entries_of c.placed_cycle-self-inside.result
     ≡ map (placed_entry (rules_of c.self.inside.rules.entries)) c.args.entries.now
 entries_placed c =
-    c.in_ok-self-inside.ensures ∙
+    c.placed_cycle-self-inside.ensures ∙
     ap (map (placed_entry (rules_of c.self.inside.rules.entries))) c.as_slice.ensures
 
-after_set : (c : goal.After-self-1) →
-    machine_of (stored c.self.inside.planes (rules_of c.self.inside.rules.entries)
-    c.in_ok-self-inside.field-0.items 0 c.self.inside.colours)
-    ≡ after (machine_of (stored c.self.inside.planes (rules_of c.self.inside.rules.entries)
-    c.self.inside.cycle.items c.self.inside.position c.self.inside.colours))
+after_set : (c : goal.After-self-2-1) →
+    machine_of (stored (planes_of c.self.inside.image) (rules_of c.self.inside.rules.entries)
+    (entries_of c.placed_cycle-self-inside.result) 0 c.self.inside.colours)
+    ≡ after (machine_of (stored (planes_of c.self.inside.image)
+    (rules_of c.self.inside.rules.entries) (entries_of c.self.inside.cycle)
+    c.self.inside.position c.self.inside.colours))
     (Cycle c.args.entries.now)
 after_set c =
     let m = c.self.inside in
     let rules = rules_of m.rules.entries in
     let entries = c.args.entries.now in
-    after-cycle m.planes rules m.cycle.items m.position m.colours entries
-    c.in_ok-self-inside.field-0.items c.in_default.ensures.refusal (entries_placed c)
+    after-cycle (planes_of m.image) rules (entries_of m.cycle) m.position m.colours entries
+    (entries_of c.placed_cycle-self-inside.result) c.in_default.ensures.refusal (entries_placed c)
     (accepted_cycle rules entries (sym c.in_default.ensures.refusal)).1
 
 pub invariant_of-self : goal.invariant_of-self
@@ -37,7 +40,7 @@ invariant_of-self c =
     let rules = rules_of m.rules.entries in (
       subst IsMachine (sym (after_set c))
           (stays_machine
-          (machine_of (stored m.planes rules m.cycle.items m.position m.colours))
+          (machine_of (stored (planes_of m.image) rules (entries_of m.cycle) m.position m.colours))
           (Cycle c.args.entries.now) c.self.invariant.0),
       subst (ArePlaced rules) (sym (entries_placed c)) (are_placed rules c.args.entries.now),
       c.self.invariant.2,

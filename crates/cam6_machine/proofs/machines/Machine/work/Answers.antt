@@ -1,20 +1,29 @@
-use Rattle.std.proofs.Common.{◌≡◌, ◌∙◌, None, ap, arith, length, subst, sym}
+use Rattle.std.proofs.Common.{◌≡◌, ◌∙◌, ◌++◌, None, List, refl, ap, arith, length, drop, subst, sym, take}
 use Rattle.std.proofs.lemmas.List.{length-map}
-use Rattle.cam6_machine.specs.Machine.{machine_of}
+use Rattle.std.proofs.Math.Seq.{take-append_seam}
+use Rattle.cam6_planes.specs.Stored.{Stored}
+use Rattle.cam6_cycle.specs.Tables.{tables_needed}
+use Rattle.cam6_cycle.specs.declared.entries.Entry.{Entry}
+use Rattle.cam6_cycle.specs.declared.tables.Direction.TheVariants.{Forward}
+use Rattle.cam6_machine.specs.Machine.{machine_of, steps}
 use Rattle.cam6_machine.specs.Always.{IsMachine}
-use Rattle.cam6_machine.specs.Internal.Places.{rules_of, named_entry, stored}
-use Rattle.cam6_machine.specs.Alone.{command_of}
+use Rattle.cam6_machine.specs.Internal.Images.{planes_of}
+use Rattle.cam6_machine.specs.Internal.Places.{rules_of, entries_of, named_entry, stored, ArePlaced}
+use Rattle.cam6_machine.specs.Internal.Uses.{AreTables}
+use Rattle.cam6_machine.specs.Alone.{reply, after, command_of}
 use Rattle.cam6_machine.specs.Refusals.{refusal}
 use Rattle.cam6_machine.specs.declared.commands.Command.TheVariants.{Run}
+use Rattle.cam6_machine.proofs.Done.{after-run}
 use Rattle.cam6_machine.proofs.Staying.{run_begins, steps_is, work_is_run}
 use Rattle.cam6_machine.proofs.machines.Machine.work.Goals as goal
 
-pub run_along-self-inside-requires-clause-position :
-    goal.run_along-self-inside-requires-clause-position
-run_along-self-inside-requires-clause-position c =
+pub run_along-image-requires-clause-position :
+    goal.run_along-image-requires-clause-position
+run_along-image-requires-clause-position c =
     let m = c.self.inside in
     let rules = rules_of m.rules.entries in
-    let old = machine_of (stored m.planes rules m.cycle.items m.position m.colours) in
+    let old =
+    machine_of (stored (planes_of m.image) rules (entries_of m.cycle) m.position m.colours) in
     let accepted : refusal old (Run c.args.n) ≡ None =
     sym (ap (refusal old) (work_is_run c.args.n c.args.direction)) ∙
     ap (λ k. refusal (machine_of k) (command_of c.args.n c.args.direction)) c.self.view_is ∙
@@ -22,23 +31,77 @@ run_along-self-inside-requires-clause-position c =
     omega (
       arith,
       run_begins old.cycle m.position c.args.n c.self.invariant.0.position accepted,
-      length-map m.cycle.items (named_entry rules),
-      ap length c.deref-2.ensures.value,
+      length-map (entries_of m.cycle) (named_entry rules),
+      ap length (ap entries_of c.in-Some.is),
     )
+
+-- the steps are those of the machine that was there
+done : (c : goal.After-self-4-1) →
+    let m = c.self.inside in
+    let rules = rules_of m.rules.entries in
+    machine_of (stored c.run_along-image.result.0.planes rules (entries_of m.cycle)
+    c.run_along-image.result.1 m.colours)
+    ≡ steps c.args.n
+    (machine_of (stored (planes_of m.image) rules (entries_of m.cycle) m.position m.colours))
+done c =
+    let m = c.self.inside in
+    let rules = rules_of m.rules.entries in
+    let run = c.run_along-image in
+    let cycle = ap entries_of c.in-Some.is in
+    let taken = ap planes_of (sym c.take.ensures.value ∙ c.in-Some-take.is) in
+    let new = c.fill_tables.new.tables in
+    let rest = drop (length new) m.tables.items in
+    let long : m.tables.len ≡ length new =
+    omega (arith, c.fill_tables.ensures.room, c.deref_mut.ensures.len) in
+    let filled : c.deref.result.now ≡ new =
+    c.deref.ensures.value ∙ ap (λ n. take n (new ++ rest)) long ∙ take-append_seam new rest in
+    let needed = tables_needed Forward c.in-Some.cycle in
+    let are = subst (AreTables (length needed) rules needed) (sym filled)
+    c.fill_tables.ensures.tables in
+    let made = run.ensures.steps rules m.colours c.self.invariant.0.own
+    (subst (ArePlaced rules) cycle c.self.invariant.1) are in
+    subst (λ (planes : Stored).
+    machine_of (stored run.result.0.planes rules (entries_of m.cycle) run.result.1 m.colours)
+    ≡ steps c.args.n
+    (machine_of (stored planes rules (entries_of m.cycle) m.position m.colours))) (sym taken)
+    (subst (λ (entries : List Entry).
+    machine_of (stored run.result.0.planes rules entries run.result.1 m.colours)
+    ≡ steps c.args.n
+    (machine_of (stored c.in-Some-take.image.planes rules entries m.position m.colours)))
+    (sym cycle) made)
 
 pub invariant_of-self : goal.invariant_of-self
 invariant_of-self c =
     let m = c.self.inside in
     let rules = rules_of m.rules.entries in
-    let old = machine_of (stored m.planes rules m.cycle.items m.position m.colours) in
-    let run = c.run_along-self-inside.ensures in
-    let same = c.deref-2.ensures.value in
-    let steps = rw same at run.steps m.colours in
-    let within = rw same at run.position in
-    let long = length-map m.cycle.items (named_entry rules) in (
-      subst IsMachine (sym steps)
-          (steps_is old c.args.n c.self.invariant.0 (omega (arith, long, within))),
+    let old =
+    machine_of (stored (planes_of m.image) rules (entries_of m.cycle) m.position m.colours) in
+    let within = c.run_along-image.ensures.position in
+    let long = length-map (entries_of m.cycle) (named_entry rules) in (
+      subst IsMachine (sym (done c))
+          (steps_is old c.args.n c.self.invariant.0
+          (omega (arith, long, within, ap length (ap entries_of c.in-Some.is)))),
       c.self.invariant.1,
       c.self.invariant.2,
-      run.alike,
+      refl,
     )
+
+pub returns-clause-reply : goal.returns-clause-reply
+returns-clause-reply c =
+    let m = c.self.inside in
+    let command = command_of c.args.n c.args.direction in
+    (after-run (planes_of m.image) (rules_of m.rules.entries) (entries_of m.cycle) m.position
+    m.colours c.run_along-image.result.0.planes c.run_along-image.result.1 c.args.n
+    c.args.direction (done c)
+    (ap (λ k. refusal (machine_of k) command) c.self.view_is ∙ c.requires.accepted)).0 ∙
+    ap (λ k. reply (machine_of k) command) c.self.view_is
+
+pub returns-clause-machine : goal.returns-clause-machine
+returns-clause-machine c =
+    let m = c.self.inside in
+    let command = command_of c.args.n c.args.direction in
+    (after-run (planes_of m.image) (rules_of m.rules.entries) (entries_of m.cycle) m.position
+    m.colours c.run_along-image.result.0.planes c.run_along-image.result.1 c.args.n
+    c.args.direction (done c)
+    (ap (λ k. refusal (machine_of k) command) c.self.view_is ∙ c.requires.accepted)).1 ∙
+    ap (λ k. after (machine_of k) command) c.self.view_is

@@ -1,0 +1,146 @@
+//! An image in the middle of a step, and the bands that bring it on.
+ghost use Rattle.std.specs.Prelude.{◌≡◌, ◌<◌, ◌≤◌, ◌%◌};
+ghost use Rattle.cam6_planes.specs.Cells.{Cells, cells};
+ghost use Rattle.cam6_planes.specs.Side.{side_number};
+ghost use Rattle.cam6_planes.specs.Stored.{width};
+ghost use Rattle.cam6_band.specs.ByTables.{step_by};
+ghost use Rattle.cam6_band.specs.Partway.{Partway};
+ghost use Rattle.cam6_band.specs.Next.{GoesOn, IsNext};
+ghost use Rattle.cam6_band.specs.declared.bands.TheConstants.{BAND};
+
+use crate::images::{AtRest, Spare};
+use crate::new_rows::{LinesOfHalves, put_new_row};
+use crate::tables::EntryTables;
+use cam6_planes::{CellRow, Planes};
+use std::marker::Model;
+
+/// Rows of a band.
+pub const BAND: usize = 16;
+
+/// An image in the middle of a step: its first rows are new, and the others are old. It can't be
+/// dropped: it goes on, or it is abandoned.
+pub struct MidStep {
+    pub(crate) image: Planes,
+    /// The old row 0, which the last row sees to its south.
+    pub(crate) first: CellRow,
+    /// The old row to the north of the next one that is made.
+    pub(crate) last: CellRow,
+    /// Rows that are new.
+    pub(crate) done: usize,
+}
+
+impl Model for MidStep {
+    ghost use Rattle.std.specs.Prelude.{◌≡◌, ◌<◌, ◌%◌};
+    ghost use Rattle.cam6_planes.specs.Stored.{width};
+    ghost use Rattle.cam6_band.specs.Partway.{Mid};
+    ghost use Rattle.cam6_band.specs.Internal.KeptRows.{mid_of};
+    ghost use Rattle.cam6_band.specs.declared.bands.TheConstants.{BAND};
+
+    ghost Value = { Mid };
+
+    ghost view = { λ m. mid_of m.image m.first m.last m.done };
+
+    ghost invariant = { λ m. (m.done < width m.image) × (m.done % BAND ≡ 0) };
+}
+
+/// What a band leaves: a step that goes on, or the planes after it.
+pub enum Next {
+    More(MidStep),
+    Whole(AtRest),
+}
+
+impl MidStep {
+    /// Rows that are new: a multiple of sixteen, below the side.
+    pub fn rows(&self) -> u16
+        ensures rows { result ≡ self.now.done }
+        ensures within { result < width self.now.planes }
+        ensures bands { result % BAND ≡ 0 }
+    {
+        self.done as u16
+    }
+
+    /// Makes the next sixteen rows, by the tables that the step goes by.
+    pub fn band(self, tables: &EntryTables) -> Next
+        ensures next { let s = width self.planes in (o : Cells) →
+            Partway o (step_by s tables.now o) self → IsNext o (step_by s tables.now o) result }
+        ensures goes_on { GoesOn self.planes self.done result }
+    {
+        let MidStep {
+            mut image,
+            first,
+            mut last,
+            done,
+        } = self;
+        let side = image.side();
+        let mut lines = LinesOfHalves::blank();
+        for y in done..done + BAND {
+            put_new_row(&mut image, &mut last, &first, y, tables, &mut lines);
+        }
+        let done = done + BAND;
+        if done == side.number() {
+            return Next::Whole(AtRest { planes: image });
+        }
+        Next::More(MidStep {
+            image,
+            first,
+            last,
+            done,
+        })
+    }
+
+    /// Takes the step to another image, to go on there; its own becomes spare.
+    pub fn move_into(self, spare: Spare) -> (MidStep, Spare)
+        requires { width self.planes ≤ side_number spare.planes.limit }
+        ensures partway { (o p : Cells) → Partway o p self → Partway o p result.0 }
+        ensures done { result.0.done ≡ self.done }
+        ensures side { result.0.planes.side ≡ self.planes.side }
+        ensures limit { result.0.planes.limit ≡ spare.planes.limit }
+        ensures spare { result.1.planes.limit ≡ self.planes.limit }
+    {
+        let MidStep {
+            image,
+            first,
+            last,
+            done,
+        } = self;
+        let mut planes = spare.planes;
+        planes.copy_from(&image);
+        let moved = MidStep {
+            image: planes,
+            first,
+            last,
+            done,
+        };
+        (moved, Spare { planes: image })
+    }
+
+    /// Gives the step up: its old planes can't be had back.
+    pub fn abandon(self) -> Spare
+        ensures limit { result.planes.limit ≡ self.planes.limit }
+    {
+        let MidStep {
+            image,
+            first: _,
+            last: _,
+            done: _,
+        } = self;
+        Spare { planes: image }
+    }
+}
+
+/// A step of which no row is made yet.
+pub(crate) fn begun(planes: Planes) -> MidStep
+    ensures partway { (p : Cells) → Partway (cells planes) p result }
+    ensures done { result.done ≡ 0 }
+    ensures side { result.planes.side ≡ planes.side }
+    ensures limit { result.planes.limit ≡ planes.limit }
+{
+    let first = *planes.row(0);
+    let last = *planes.row(planes.side().number() - 1);
+    MidStep {
+        image: planes,
+        first,
+        last,
+        done: 0,
+    }
+}

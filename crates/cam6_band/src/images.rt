@@ -1,0 +1,76 @@
+//! Images that are not in the middle of a step.
+ghost use Rattle.std.specs.Prelude.{◌≡◌};
+ghost use Rattle.std.specs.Borrow.{sem};
+ghost use Rattle.cam6_planes.specs.Cells.{Cells, cells};
+ghost use Rattle.cam6_band.specs.Partway.{Partway};
+
+use crate::bands::{MidStep, begun};
+use crate::tables::EntryTables;
+use cam6_planes::Planes;
+
+/// An image that shows whole planes.
+#[derive(Drop)]
+pub struct AtRest {
+    pub(crate) planes: Planes,
+}
+
+/// An image of which nobody wants to know what it shows.
+#[derive(Drop)]
+pub struct Spare {
+    pub(crate) planes: Planes,
+}
+
+impl AtRest {
+    ghost use Rattle.cam6_band.specs.Lending.{LendsPlanes};
+
+    /// The image that shows these planes.
+    pub fn of(planes: Planes) -> AtRest
+        ensures { result.planes ≡ planes }
+    {
+        AtRest { planes }
+    }
+
+    pub fn into_planes(self) -> Planes
+        ensures { result ≡ self.planes }
+    {
+        self.planes
+    }
+
+    pub fn planes(&self) -> &Planes
+        ensures { result.now ≡ self.now.planes }
+    {
+        &self.planes
+    }
+
+    pub fn planes_mut(&mut self) -> &mut Planes
+        ensures* writes_back { sem 𝓛 (LendsPlanes self.entry result) }
+        ensures value { result.now ≡ self.old.planes }
+    {
+        &mut self.planes
+    }
+
+    /// Begins a step. Each of its bands is then to go by the same tables.
+    pub fn begin(self, _tables: &EntryTables) -> MidStep
+        ensures partway { (p : Cells) → Partway (cells self.planes) p result }
+        ensures done { result.done ≡ 0 }
+        ensures side { result.planes.side ≡ self.planes.side }
+        ensures limit { result.planes.limit ≡ self.planes.limit }
+    {
+        begun(self.planes)
+    }
+}
+
+impl Spare {
+    /// The image with these planes.
+    pub fn of(planes: Planes) -> Spare
+        ensures { result.planes ≡ planes }
+    {
+        Spare { planes }
+    }
+
+    pub fn into_planes(self) -> Planes
+        ensures { result ≡ self.planes }
+    {
+        self.planes
+    }
+}

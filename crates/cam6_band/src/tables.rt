@@ -1,0 +1,24 @@
+//! What a step goes by: the tables of a cycle's entry.
+ghost use Rattle.std.specs.Prelude.{◌≡◌};
+ghost use Rattle.cam6_band.specs.ByTables.{table_for, setting_by};
+
+use cam6_table::Table;
+use cam6_wiring::{Grid, Half, Hood, Minor, Phase, Setting};
+
+/// A half's table, and what names are on its address lines.
+#[derive(Clone, Copy)]
+pub struct HalfTable<'a> {
+    pub table: &'a Table,
+    pub hood: Hood,
+    pub minor: Minor,
+}
+
+/// The tables of both halves, with the grid and the phase of the step. A half without a table keeps
+/// its planes.
+#[derive(Clone, Copy)]
+pub struct EntryTables<'a> {
+    pub a: Option<HalfTable<'a>>,
+    pub b: Option<HalfTable<'a>>,
+    pub grid: Grid,
+    pub phase: Phase,
+}

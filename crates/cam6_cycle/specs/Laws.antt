@@ -1,0 +1,38 @@
+-- What follows of cycles.
+use Rattle.std.specs.Prelude.{◌≡◌, ◌<◌, ◌≤◌, ◌+◌, ◌*◌, ℕ, List, length, take, Some}
+use Rattle.std.specs.List.{slice_get}
+use Rattle.cam6_wiring.specs.declared.names.Half.TheVariants.{A, B}
+use Rattle.cam6_cycle.specs.Limits.{max_entries}
+use Rattle.cam6_cycle.specs.Turns.{next, previous}
+use Rattle.cam6_cycle.specs.Tables.{needed_for, tables_needed}
+use Rattle.cam6_cycle.specs.declared.entries.Entry.{Entry}
+use Rattle.cam6_cycle.specs.declared.entries.HalfRule.{HalfRule}
+use Rattle.cam6_cycle.specs.declared.tables.Direction.{Direction}
+
+-- going on by one and back by one leads to the same position, and so does going back and on. As
+-- going on takes the entry at the position that it leaves, and going back the entry at the position
+-- that it reaches, both take the same entry
+abbrev pub UndoEachOther : Type 0
+UndoEachOther =
+    (n position : ℕ) → position < n →
+    (previous n (next n position) ≡ position) × (next n (previous n position) ≡ position)
+
+-- a cycle's tables have room among 32
+abbrev pub AreFew : Type 0
+AreFew =
+    (direction : Direction) (entries : List Entry) → length entries ≤ max_entries →
+    length (tables_needed direction entries) ≤ 2 * max_entries
+
+-- behind the tables of the entries before it stand an entry's own, half A's first
+abbrev pub HaveTheirTables : Type 0
+HaveTheirTables =
+    (direction : Direction) (entries : List Entry) (position : ℕ) (entry : Entry) →
+    slice_get entries position ≡ Some entry →
+    let before = length (tables_needed direction (take position entries)) in
+    let behind_a = before + length (needed_for direction A entry.a) in
+    ((rule : HalfRule) → entry.a ≡ Some rule →
+    slice_get (tables_needed direction entries) before
+    ≡ Some (record { half = A; rule = rule; direction = direction })) ×
+    ((rule : HalfRule) → entry.b ≡ Some rule →
+    slice_get (tables_needed direction entries) behind_a
+    ≡ Some (record { half = B; rule = rule; direction = direction }))

@@ -1,0 +1,21 @@
+-- The tables by which a cycle is gone along: one for each use of a rule.
+use Rattle.std.specs.Prelude.{List, [], ◌∷◌, ◌++◌, Option, Some, None}
+use Rattle.cam6_wiring.specs.declared.names.Half.{Half}
+use Rattle.cam6_wiring.specs.declared.names.Half.TheVariants.{A, B}
+use Rattle.cam6_cycle.specs.declared.entries.Entry.{Entry}
+use Rattle.cam6_cycle.specs.declared.entries.HalfRule.{HalfRule}
+use Rattle.cam6_cycle.specs.declared.tables.Direction.{Direction}
+use Rattle.cam6_cycle.specs.declared.tables.NeededTable.{NeededTable}
+
+-- the table of a half's rule, if it has one
+abbrev pub needed_for : Direction → Half → Option HalfRule → List NeededTable
+needed_for direction half None = []
+needed_for direction half (Some rule) =
+    record { half = half; rule = rule; direction = direction } ∷ []
+
+-- those of entries in their order: of each entry half A's before half B's
+abbrev pub tables_needed : Direction → List Entry → List NeededTable
+tables_needed direction [] = []
+tables_needed direction (entry ∷ entries) =
+    needed_for direction A entry.a ++ needed_for direction B entry.b
+    ++ tables_needed direction entries

@@ -1,0 +1,119 @@
+//! A cycle of entries, and the ways along it.
+ghost use Rattle.std.specs.Prelude.{◌≡◌, ◌<◌, ◌≤◌, ◌+◌, Some, length, take};
+ghost use Rattle.std.specs.List.{slice_get};
+ghost use Rattle.cam6_cycle.specs.Turns.{cycle_of, next, previous};
+ghost use Rattle.cam6_cycle.specs.Tables.{tables_needed};
+ghost use Rattle.cam6_cycle.specs.declared.cycles.TheConstants.{MAX_ENTRIES};
+ghost use Rattle.cam6_cycle.specs.declared.tables.Direction.{Direction};
+ghost use Rattle.cam6_cycle.specs.declared.tables.TheConstants.{MAX_TABLES};
+
+use crate::entries::Entry;
+use crate::tables::{Direction, MAX_TABLES, NeededTable, add_table};
+use arrayvec::ArrayVec;
+use cam6_wiring::Half;
+use std::marker::Model;
+
+/// Entries that a cycle can have.
+pub const MAX_ENTRIES: usize = 16;
+
+/// Entries that are no cycle: none, or too many.
+#[derive(Clone, Copy, Debug, PartialEq, Eq)]
+pub struct CycleFault;
+
+/// 1 to 16 entries. Contracts see them as a list.
+#[derive(Drop)]
+pub struct Cycle {
+    entries: ArrayVec<Entry, MAX_ENTRIES>,
+}
+
+impl Model for Cycle {
+    ghost use Rattle.std.specs.Prelude.{◌<◌, ◌≤◌, List, length};
+    ghost use Rattle.cam6_cycle.specs.declared.cycles.TheConstants.{MAX_ENTRIES};
+    ghost use Rattle.cam6_cycle.specs.declared.entries.Entry.{Entry};
+
+    ghost Value = { List Entry };
+
+    ghost view = { λ c. c.entries.items };
+
+    ghost invariant = { λ c.
+        (0 < length c.entries.items) × (length c.entries.items ≤ MAX_ENTRIES) };
+}
+
+impl Cycle {
+    /// The cycle of these entries, if they are 1 to 16.
+    pub fn new(entries: &[Entry]) -> Result<Cycle, CycleFault>
+        ensures { result ≡ cycle_of entries.now }
+    {
+        if entries.is_empty() {
+            return Err(CycleFault);
+        }
+        let mut kept = ArrayVec::new();
+        match kept.try_extend_from_slice(entries) {
+            Ok(()) => Ok(Cycle { entries: kept }),
+            Err(_) => Err(CycleFault),
+        }
+    }
+
+    pub fn entries(&self) -> &[Entry]
+        ensures entries { result.now ≡ self.now }
+        ensures some { 0 < length result.now }
+        ensures few { length result.now ≤ MAX_ENTRIES }
+    {
+        self.entries.as_slice()
+    }
+
+    /// The entry at a position, and the position after it.
+    pub fn forward(&self, position: usize) -> (Entry, usize)
+        requires { position < length self.now }
+        ensures entry { slice_get self.now position ≡ Some result.0 }
+        ensures next { result.1 ≡ next (length self.now) position }
+        ensures within { result.1 < length self.now }
+    {
+        let entries = self.entries.as_slice();
+        (entries[position], (position + 1) % entries.len())
+    }
+
+    /// The entry before a position, and its position.
+    pub fn backward(&self, position: usize) -> (Entry, usize)
+        requires { position < length self.now }
+        ensures entry { slice_get self.now result.1 ≡ Some result.0 }
+        ensures previous { result.1 ≡ previous (length self.now) position }
+        ensures within { result.1 < length self.now }
+    {
+        let entries = self.entries.as_slice();
+        let before = if position == 0 {
+            entries.len() - 1
+        } else {
+            position - 1
+        };
+        (entries[before], before)
+    }
+
+    /// The tables by which the cycle is gone along, one for each use of a rule: entry by entry,
+    /// half A's before half B's.
+    pub fn tables_needed(&self, direction: Direction) -> ArrayVec<NeededTable, MAX_TABLES>
+        ensures { result.items ≡ tables_needed direction self.now }
+    {
+        let mut tables = ArrayVec::new();
+        for entry in self.entries.as_slice() {
+            add_table(&mut tables, direction, Half::A, entry.a);
+            add_table(&mut tables, direction, Half::B, entry.b);
+        }
+        tables
+    }
+
+    /// How many of these tables stand before those of the entry at a position.
+    pub fn tables_before(&self, position: usize) -> usize
+        requires { position < length self.now }
+        ensures before { (direction : Direction) →
+            result ≡ length (tables_needed direction (take position self.now)) }
+        // Behind them there is room for both of the entry's own.
+        ensures few { result + 2 ≤ MAX_TABLES }
+    {
+        let mut before = 0;
+        for entry in &self.entries.as_slice()[..position] {
+            before += usize::from(entry.a.is_some()) + usize::from(entry.b.is_some());
+        }
+        before
+    }
+}

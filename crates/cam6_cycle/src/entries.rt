@@ -1,0 +1,33 @@
+//! The entries of a cycle.
+
+use cam6_wiring::{Grid, Hood, Minor, Phase};
+
+/// A half's rule: its number among the rules that are kept, and what it is written for.
+#[derive(Clone, Copy, Debug, PartialEq, Eq)]
+pub struct HalfRule {
+    pub number: usize,
+    pub hood: Hood,
+    pub minor: Minor,
+}
+
+/// What a step is done by: for each half a rule or none, and the grid and the phase. A half without
+/// a rule keeps its planes.
+#[derive(Clone, Copy, Debug, PartialEq, Eq)]
+pub struct Entry {
+    pub a: Option<HalfRule>,
+    pub b: Option<HalfRule>,
+    pub grid: Grid,
+    pub phase: Phase,
+}
+
+impl Default for Entry {
+    /// An entry by which every plane stays.
+    fn default() -> Entry {
+        Entry {
+            a: None,
+            b: None,
+            grid: Grid::Even,
+            phase: Phase::P0,
+        }
+    }
+}

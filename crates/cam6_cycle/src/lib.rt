@@ -1,0 +1,26 @@
+//! Cycles of entries, which the steps of a run take in turn.
+//!
+//! Contract: a cycle is a list of 1 to 16 entries (`Cycle::new`). `forward` takes the entry at a
+//! position and goes on to the next, `backward` goes back by one and takes the entry there, both
+//! round the cycle (`specs/Turns.antt`); the law: they undo each other. `tables_needed` lists a
+//! table for each use of a rule, entry by entry, half A's before half B's (`specs/Tables.antt`),
+//! and `tables_before` says where those of an entry begin. No call takes memory.
+//!
+//! So, of a cycle of two entries, the first with the rules 0 and 1, the second with rule 0 for half
+//! B alone: `forward(1)` takes the second and goes on to 0, `backward(0)` takes the second and
+//! stands at 1. Three tables are needed, of the rules 0, 1 and 0, and those of the second entry
+//! begin after two.
+//!
+//! Stands on: `cam6_wiring`, and on `arrayvec`.
+//!
+//! Read next: `entries`; `tables`, one for each use of a rule; then `cycles`; and `laws`.
+#![tactic(auto)]
+
+mod cycles;
+mod entries;
+pub mod laws;
+mod tables;
+
+pub use cycles::{Cycle, CycleFault, MAX_ENTRIES};
+pub use entries::{Entry, HalfRule};
+pub use tables::{Direction, MAX_TABLES, NeededTable};

@@ -1,0 +1,62 @@
+//! The tables that the steps of a cycle go by.
+ghost use Rattle.std.specs.Prelude.{◌≡◌, ◌<◌, ◌++◌};
+ghost use Rattle.arrayvec.specs.ArrayVec.{array_vec_len};
+ghost use Rattle.cam6_cycle.specs.Tables.{needed_for};
+ghost use Rattle.cam6_cycle.specs.declared.tables.TheConstants.{MAX_TABLES};
+
+use crate::cycles::MAX_ENTRIES;
+use crate::entries::HalfRule;
+use arrayvec::ArrayVec;
+use cam6_wiring::{Half, Hood, Minor};
+
+/// Tables that a cycle can need: one for each half of each entry.
+pub const MAX_TABLES: usize = 2 * MAX_ENTRIES;
+
+/// Which way a cycle is gone along: by the rules' own tables, or by the inverted ones.
+#[derive(Clone, Copy, Debug, PartialEq, Eq)]
+pub enum Direction {
+    Forward,
+    Backward,
+}
+
+/// A table that a half goes by: of this rule, its own or the inverted one.
+#[derive(Clone, Copy, Debug, PartialEq, Eq)]
+pub struct NeededTable {
+    pub half: Half,
+    pub rule: HalfRule,
+    pub direction: Direction,
+}
+
+impl Default for NeededTable {
+    /// What stands in a place that isn't used.
+    fn default() -> NeededTable {
+        NeededTable {
+            half: Half::A,
+            rule: HalfRule {
+                number: 0,
+                hood: Hood::Moore,
+                minor: Minor::Centers,
+            },
+            direction: Direction::Forward,
+        }
+    }
+}
+
+/// Adds the table of a half's rule, if it has one.
+pub(crate) fn add_table(
+    tables: &mut ArrayVec<NeededTable, MAX_TABLES>,
+    direction: Direction,
+    half: Half,
+    rule: Option<HalfRule>,
+)
+    requires { array_vec_len tables.old < MAX_TABLES }
+    ensures { tables.new.items ≡ tables.old.items ++ needed_for direction half rule }
+{
+    if let Some(rule) = rule {
+        tables.push(NeededTable {
+            half,
+            rule,
+            direction,
+        });
+    }
+}

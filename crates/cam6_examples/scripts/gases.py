@@ -1,0 +1,189 @@
+#!/usr/bin/env python3
+"""Writes data/gases.example: particles of the book's two lattice gases, by plain steps over blocks.
+
+Shares nothing with the program. Where a flight is known by hand, the steps are compared with it here.
+"""
+
+# A block's places clockwise from its upper left cell.
+PLACES = [(0, 0), (1, 0), (1, 1), (0, 1)]
+PAIRS = ({0, 2}, {1, 3})
+
+
+def hpp(places, phase):
+    """Two particles head on turn; all others cross the block."""
+    turn = 1 if places in PAIRS else 2
+    return {(place + turn) % 4 for place in places}
+
+
+def tm(places, phase):
+    """Two particles head on stay; all others go on by one place, in phase 0 against the clock."""
+    turn = 0 if places in PAIRS else (1 if phase else 3)
+    return {(place + turn) % 4 for place in places}
+
+
+def step(gas, cells, n, side):
+    """The n-th step: even ones on the even grid in phase 0, odd ones on the odd grid in phase 1."""
+    odd = n % 2
+    blocks = {}
+    for x, y in cells:
+        right, low = (x + odd) % 2, (y + odd) % 2
+        block = ((x - right) % side, (y - low) % side)
+        blocks.setdefault(block, set()).add(PLACES.index((right, low)))
+    after = set()
+    for (x, y), places in blocks.items():
+        for place in gas(places, odd):
+            i, j = PLACES[place]
+            after.add(((x + i) % side, (y + j) % side))
+    assert len(after) == len(cells)
+    return after
+
+
+def after(gas, cells, steps, side):
+    for n in range(steps):
+        cells = step(gas, cells, n, side)
+    return cells
+
+
+def short(text):
+    first = text.rstrip("0")
+    return min((text[:n] + "*" + text[n:].lstrip("0") for n in range(len(first) + 1)), key=len)
+
+
+def print_rows(cells, side):
+    for y in range(side):
+        bits = "".join("1" if (x, y) in cells else "0" for x in range(side))
+        digits = f"{int(bits, 2):0{side // 4}x}"
+        if int(bits, 2):
+            print(f"= {y} {digits if len(short(digits)) > len(digits) else short(digits)}")
+
+
+def print_set(cells, side):
+    print("> rows 0")
+    print_rows(cells, side)
+
+
+def print_plane(cells, side):
+    print('> {"do":"plane","plane":0}\n< plane')
+    print_rows(cells, side)
+
+
+def print_run(steps, done):
+    """A run of so many steps, after which so many are done."""
+    print(f'> {{"do":"run","n":{steps}}} => {{"ok":"run","position":{done % 2}}}')
+
+
+def print_side(side):
+    print(f'side {side}\n> {{"do":"side","side":{side}}} => {{"ok":"side"}}')
+
+
+def print_rule(name, text):
+    line = f'{{"do":"rule","name":"{name}","half":"A","hood":"N/MARG","minor":"&/PHASES","text":"{text}"}}'
+    print(f'> {line} => {{"ok":"rule"}}')
+
+
+def print_cycle(name, *entries):
+    texts = [f'{{"a":"{name}","b":"-","grid":"{grid}","phase":{phase}}}' for grid, phase in entries]
+    print(f'> {{"do":"cycle","entries":[{",".join(texts)}]}} => {{"ok":"cycle"}}')
+
+
+def print_states(gas, cells, side, times):
+    print_set(cells, side)
+    done = 0
+    for time in times:
+        print_run(time - done, time)
+        print_plane(after(gas, cells, time, side), side)
+        done = time
+
+
+def four(side):
+    """One particle at each place of its block, far from the others."""
+    return [(0, 0), (1, side // 4), (1, side // 2 + 1), (0, side * 3 // 4 + 1)]
+
+
+def flown(cells, ways, steps, side):
+    return {((x + i * steps) % side, (y + j * steps) % side) for (x, y), (i, j) in zip(cells, ways)}
+
+
+HPP_WAYS = [(1, 1), (-1, 1), (-1, -1), (1, -1)]
+TM_WAYS = [(0, 1), (-1, 0), (0, -1), (1, 0)]
+
+
+def without_a_pattern(x, y):
+    return ((x + 512 * y) * 0x9E3779B97F4A7C15) % 2**64 >> 61 < 3
+
+
+def check_by_hand(side):
+    for n in range(1, 9):
+        assert after(hpp, set(four(side)), n, side) == flown(four(side), HPP_WAYS, n, side)
+        assert after(tm, set(four(side)), n, side) == flown(four(side), TM_WAYS, n, side)
+    pair = {(0, 0), (11, 11)}
+    assert after(hpp, pair, 5, side) == {(5, 5), (6, 6)}
+    assert after(hpp, pair, 6, side) == {(6, 5), (5, 6)}
+    assert after(hpp, pair, 8, side) == {(8, 3), (3, 8)}
+    assert after(hpp, pair, side, side) == pair
+    pair = {(0, 0), (1, 9)}
+    assert after(tm, pair, 4, side) == after(tm, pair, 5, side) == {(0, 4), (1, 5)}
+    assert after(tm, pair, 6, side) == {(side - 1, 4), (2, 5)}
+    assert after(tm, pair, 2 * side, side) == pair
+
+
+def main():
+    print("# Two gases of particles, as the book has them: HPP-GAS, after Hardy, de Pazzis and Pomeau (1976), and TM-GAS.")
+    print("# A block's particles are kept in number, and each gas can be run back, to the very start.")
+    print("# Answers: by hand, as is told at each; of the gases without a pattern, after a few steps, by scripts/gases.py,")
+    print("# which steps block by block.")
+    print("as session within 512")
+    print("\n# HPP-GAS: a particle crosses its block, and on the other grid the next one, so that it runs along a diagonal,")
+    print("# by the place in its block at which it begins: two columns and two rows in two steps. Two that meet head on,")
+    print("# on a diagonal of a block by themselves, leave it by the other diagonal.")
+    print_rule("G", ": PAIR CENTER OPP = CW CCW = AND CENTER CW = 0= AND ; : G PAIR IF CW ELSE OPP THEN >PLN0 ;")
+    print_cycle("G", ("EVEN", 0), ("ODD", 1))
+    for side in (128, 256, 512):
+        check_by_hand(side)
+        print(f"\n# Side {side}. A particle at each of the four places, after one step, two, and a turn of the torus; on the way")
+        print("# the first and the last cross a block side by side, and so do the second and the third.")
+        print_side(side)
+        print_states(hpp, set(four(side)), side, (1, 2, side))
+        print("# Two of which the one runs down to the right from (0, 0) and the other up to the left from (11, 11): they meet")
+        print("# after 5 steps at (5, 5) and (6, 6) and leave from (6, 5) and (5, 6), at right angles. Half a turn later they meet")
+        print("# on the far side of the torus and turn again, and after the turn they are back where they began.")
+        print_side(side)
+        print_states(hpp, {(0, 0), (11, 11)}, side, (5, 6, 8) if side == 512 else (5, 6, 8, side))
+    side = 128
+    cells = {(x, y) for x in range(side) for y in range(side) if without_a_pattern(x, y)}
+    print("\n# A gas without a pattern, after 10 steps and 300. What crossed crosses back, and what turned turns back, so that")
+    print("# the grids in the other order lead to the start.")
+    print_side(side)
+    print_states(hpp, cells, side, (10,))
+    print_run(290, 300)
+    print_cycle("G", ("ODD", 1), ("EVEN", 0))
+    print_run(300, 300)
+    print_plane(cells, side)
+    print("\n# TM-GAS: in phase 0 on the even grid each particle goes on by a place against the clock, in phase 1 on the odd")
+    print("# one by a place with it, so that it runs along a column or a row; two that are alone on a diagonal stay.")
+    print_rule("T", ": PAIR CENTER OPP = CW CCW = AND CENTER CW = 0= AND ; : T PAIR IF CENTER ELSE &PHASE { CW CCW } THEN >PLN0 ;")
+    print_cycle("T", ("EVEN", 0), ("ODD", 1))
+    for side in (128, 256, 512):
+        print(f"\n# Side {side}. From its four places a particle runs down, to the left, up, to the right.")
+        print_side(side)
+        print_states(tm, set(four(side)), side, (1, 2) if side == 512 else (1, 2, side))
+        print("# Two that run down from (0, 0) and up from (1, 9): they meet after 4 steps, stay for one, and leave to the left and")
+        print("# to the right. So they turn again with each half of the torus, and after a turn they meet half a torus farther on,")
+        print("# by columns and by rows. After two turns they are back where they began.")
+        print_side(side)
+        turns = () if side == 512 else (side + 4, 2 * side)
+        print_states(tm, {(0, 0), (1, 9)}, side, (4, 5, 6, 8, *turns))
+    side = 512
+    beside = [*range(-12, 12)]
+    cells = {(x % side, y % side) for x in beside for y in beside if without_a_pattern(x + 12, y + 12)}
+    print("\n# A drop without a pattern round the corner of the torus, after 9 steps and 31, and back: the grids in the other")
+    print("# order, and each in the other phase.")
+    print_side(side)
+    print_states(tm, cells, side, (9,))
+    print_run(22, 31)
+    print_cycle("T", ("EVEN", 1), ("ODD", 0))
+    print_run(31, 31)
+    print_plane(cells, side)
+
+
+main()
