@@ -145,6 +145,6 @@ module _ (planes : Stored) (rules : List rule.Rule) (cycle : List Entry) (positi
       ≡ after before (command_of n direction))
   after-run new last n Forward made accepted = (
     ap (λ (m : Machine). replies.Run m.position) made ∙
-    sym (reply-accepted before (Run n) accepted),
+        sym (reply-accepted before (Run n) accepted),
     made ∙ sym (after-accepted before (Run n) accepted),
   )

@@ -13,14 +13,14 @@
 //! }`, and the cell stands at row 6: each cell took what its northern neighbour was.
 //!
 //! `Machine::now` leaves steps to do exactly for a run that is accepted and has at least one;
-//! memory is wanted neither for a row, set or asked for, a cycle, a run or a side, nor where a number
-//! or a name is refused, nor for a text of which nothing is kept. `Machine::work` takes none; its tables are
-//! proved to be the rules' words. The laws: a step by tables is the step by the rules' words where
-//! the tables are theirs (`specs/TrueTables.antt`); what a machine always is (`specs/Always.antt`)
-//! the blank one is, and stays whatever it is commanded; no command changes its limit; the rules
-//! that its cycle names run, whatever is seen; a half without a rule keeps its planes; some steps
-//! and then more are all of them together; steps change planes and position alone; the position
-//! goes round the cycle.
+//! memory is wanted neither for a row, set or asked for, a cycle, a run or a side, nor where a
+//! number or a name is refused, nor for a text of which nothing is kept. `Machine::work` takes
+//! none; its tables are proved to be the rules' words. The laws: a step by tables is the step by
+//! the rules' words where the tables are theirs (`specs/TrueTables.antt`); what a machine always is
+//! (`specs/Always.antt`) the blank one is, and stays whatever it is commanded; no command changes
+//! its limit; the rules that its cycle names run, whatever is seen; a half without a rule keeps its
+//! planes; some steps and then more are all of them together; steps change planes and position
+//! alone; the position goes round the cycle.
 //!
 //! Stands on: `cam6_planes`, `cam6_wiring`, `cam6_forth`, `cam6_table`, `cam6_band`, `cam6_cycle`,
 //! and on `arrayvec` and `indexmap`.

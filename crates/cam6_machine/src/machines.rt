@@ -111,8 +111,8 @@ impl Machine {
         ensures left { IfOk result (λ now. Leaves now self.old self.new) }
         ensures ready { IfOk result (λ now. CanWork now (machine_of self.new)) }
         ensures err { OnErr result (self.new ≡ self.old) }
-        // Memory is wanted neither for a row, set or asked for, a cycle, a run or a side, nor where a
-        // number or a name is refused, nor for a text of which nothing is kept.
+        // Memory is wanted neither for a row, set or asked for, a cycle, a run or a side, nor where
+        // a number or a name is refused, nor for a text of which nothing is kept.
         ensures row { (plane row : ℕ) (bits : List ℕ) →
             command ≡ Command.Set plane row bits → IsOk result }
         ensures asked { (plane row : ℕ) → command ≡ Command.Row plane row → IsOk result }

@@ -71,11 +71,7 @@ fn fill_table(rules: &IndexMap<String, KeptRule>, place: usize, table: &mut Tabl
 }
 
 /// The tables of the entry at a position.
-pub(crate) fn tables_at<'a>(
-    cycle: &Cycle,
-    position: usize,
-    tables: &'a [Table],
-) -> EntryTables<'a>
+pub(crate) fn tables_at<'a>(cycle: &Cycle, position: usize, tables: &'a [Table]) -> EntryTables<'a>
     requires position { position < length cycle.now }
     requires room { length tables.now ≡ MAX_TABLES }
     ensures { (rules : List Rule) (entry : Entry) → ArePlaced rules cycle.now →
