@@ -10,6 +10,7 @@ use Rattle.std.proofs.lemmas.Option.{slice_get_within}
 use Rattle.std.proofs.lemmas.Slice.Eq.{bytes_eq-Decides}
 use Rattle.cam6_wiring.specs.declared.names.Half.{Half}
 use Rattle.cam6_wiring.specs.declared.names.Half.TheVariants.{A, B}
+use Rattle.cam6_wiring.specs.Name.{phase_number}
 use Rattle.cam6_wiring.specs.declared.names.Phase.{Phase}
 use Rattle.cam6_wiring.specs.declared.names.Phase.TheVariants.{P0, P1, P2, P3}
 use Rattle.cam6_cycle.specs.declared.entries.Entry.{Entry}
@@ -21,7 +22,7 @@ use Rattle.cam6_machine.specs.Effects.{with_rule}
 use Rattle.cam6_machine.specs.Always.{HaveOwnNames, IsNamed, IsEntry}
 use Rattle.cam6_machine.specs.Refusals.{is_name, is_used, room_refusal, rule_refusal}
 use Rattle.cam6_machine.specs.Internal.Places.{place_of, rule_at, name_of, place_if_named}
-use Rattle.cam6_machine.specs.Internal.Places.{placed_entry, phase_number, named_entry}
+use Rattle.cam6_machine.specs.Internal.Places.{placed_entry, named_entry}
 use Rattle.cam6_machine.specs.Internal.Places.{named_entries, rules_at, IsPlace, ArePlaced}
 use Rattle.cam6_machine.specs.Internal.Places.{is_place, uses_place, place_in, half_rule}
 use Rattle.cam6_machine.specs.Internal.Places.{half_rule_at, IsPlaced}

@@ -49,6 +49,13 @@ phase_bit P2 Lower = false
 phase_bit P2 Upper = true
 phase_bit P3 level = true
 
+-- the phase's number
+abbrev pub phase_number : Phase → ℕ
+phase_number P0 = 0
+phase_number P1 = 1
+phase_number P2 = 2
+phase_number P3 = 3
+
 abbrev pub is_same_level : Level → Level → Bool
 is_same_level Lower Lower = true
 is_same_level Lower Upper = false

@@ -1,6 +1,6 @@
 //! The names that a rule may use for what a cell sees.
 ghost use Rattle.std.specs.Prelude.{◌≡◌, ◌<◌};
-ghost use Rattle.cam6_wiring.specs.Name.{plane_of, other_half, phase_bit};
+ghost use Rattle.cam6_wiring.specs.Name.{plane_of, other_half, phase_number, phase_bit};
 
 /// Where a cell itself lies, or a neighbour of it.
 #[derive(Clone, Copy, Debug, PartialEq, Eq)]
@@ -94,6 +94,18 @@ impl Half {
 }
 
 impl Phase {
+    /// The phase's number.
+    pub fn number(self) -> u8
+        ensures { result ≡ phase_number self }
+    {
+        match self {
+            Phase::P0 => 0,
+            Phase::P1 => 1,
+            Phase::P2 => 2,
+            Phase::P3 => 3,
+        }
+    }
+
     /// The phase's low bit, or its high bit.
     pub fn bit(self, level: Level) -> bool
         ensures { result ≡ phase_bit self level }

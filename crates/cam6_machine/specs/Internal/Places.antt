@@ -7,8 +7,7 @@ use Rattle.std.specs.Option.{option_map}
 use Rattle.std.specs.Str.{bytes_eq}
 use Rattle.std.specs.declared.alloc.Global.{Global}
 use Rattle.cam6_planes.specs.Stored.{Stored}
-use Rattle.cam6_wiring.specs.declared.names.Phase.{Phase}
-use Rattle.cam6_wiring.specs.declared.names.Phase.TheVariants.{P0, P1, P2, P3}
+use Rattle.cam6_wiring.specs.Name.{phase_number}
 use Rattle.cam6_wiring.specs.declared.wirings.Wiring.{Wiring}
 use Rattle.cam6_cycle.specs.declared.entries.Entry.{Entry}
 use Rattle.cam6_cycle.specs.declared.entries.HalfRule.{HalfRule}
@@ -84,12 +83,6 @@ placed_entry rules entry =
       grid = entry.grid;
       phase = phase_of entry.phase;
     }
-
-abbrev pub phase_number : Phase → ℕ
-phase_number P0 = 0
-phase_number P1 = 1
-phase_number P2 = 2
-phase_number P3 = 3
 
 -- an entry with the names of the rules at its places
 abbrev pub named_entry : List Rule → Entry → NamedEntry
