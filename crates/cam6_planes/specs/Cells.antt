@@ -21,6 +21,10 @@ no_cells p x y = false
 abbrev pub with_row : ℕ → Cells → ℕ → ℕ → (ℕ → Bool) → Cells
 with_row s f p y row = torus s (λ q u v. if (q == p) && (v == y) then row u else f q u v)
 
+-- the same cells but for plane p, of which none is set
+abbrev pub without_plane : ℕ → Cells → ℕ → Cells
+without_plane s f p = torus s (λ q x y. if q == p then false else f q x y)
+
 -- the bit that the words hold
 abbrev pub stored_bit : List (List (List ℕ)) → Cells
 stored_bit rows p x y = column_bit (slice_index_or (slice_index_or rows y []) p []) x

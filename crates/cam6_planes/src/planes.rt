@@ -6,7 +6,7 @@ ghost use Rattle.cam6_planes.specs.Row.{column_bit, byte_column, row_text};
 ghost use Rattle.cam6_planes.specs.Side.{side_number};
 ghost use Rattle.cam6_planes.specs.Stored.{width};
 ghost use Rattle.cam6_planes.specs.declared.row.TheConstants.{WORDS};
-ghost use Rattle.cam6_planes.specs.Cells.{cells, no_cells, with_row, IsRow};
+ghost use Rattle.cam6_planes.specs.Cells.{cells, no_cells, with_row, without_plane, IsRow};
 
 use crate::memory::NoMemory;
 use crate::row::{CellRow, DIGITS, Row, WORDS, is_set, row_of_bytes, write_hex};
@@ -159,6 +159,16 @@ impl Planes {
         self.set_row_words(p, y, row_of_bytes(bits, words));
     }
 
+    /// Sets every bit of plane `p` to 0.
+    pub fn clear_plane(&mut self, p: usize)
+        requires { p < 4 }
+        ensures cells { cells self.new ≡ without_plane (width self.old) (cells self.old) p }
+        ensures side { self.new.side ≡ self.old.side }
+        ensures limit { self.new.limit ≡ self.old.limit }
+    {
+        clear_rows(&mut self.rows, p);
+    }
+
     /// Makes these planes show what the others show, at the others' side.
     pub fn copy_from(&mut self, other: &Planes)
         requires { width other.now ≤ side_number self.old.limit }
@@ -188,6 +198,18 @@ fn clear(rows: &mut [CellRow])
 {
     for row in rows {
         *row = [[0; WORDS]; 4];
+    }
+}
+
+/// Clears the rows of plane `p`.
+fn clear_rows(rows: &mut [CellRow], p: usize)
+    requires { p < 4 }
+    ensures planes { (y : ℕ) → y < length rows.old → length (slice_index_or rows.old y []) ≡ 4 }
+    ensures value { (y : ℕ) → y < length rows.old → slice_index_or rows.new y []
+        ≡ slice_set (slice_index_or rows.old y []) p (replicate WORDS 0) }
+{
+    for row in rows {
+        set_plane_row(row, p, [0; WORDS]);
     }
 }
 
