@@ -1,0 +1,53 @@
+//! The colours of a row of cells.
+ghost use Rattle.std.specs.Prelude.{◌≡◌, ◌<◌, ◌*◌, take, drop};
+ghost use Rattle.cam6_planes.specs.Cells.{cells};
+ghost use Rattle.cam6_planes.specs.Row.{bit_number, column_bit};
+ghost use Rattle.cam6_planes.specs.Stored.{width};
+ghost use Rattle.cam6_planes.specs.declared.row.TheConstants.{WORDS};
+ghost use Rattle.cam6_view.specs.States.{row_colours};
+ghost use Rattle.cam6_view.specs.Internal.{state_in_row};
+
+use cam6_band::AtRest;
+use cam6_planes::{CellRow, Row, WORDS};
+
+/// Colours of a row of the largest side.
+pub const COLOURS: usize = 512;
+
+/// Writes the colour of each cell of row `y`, from column 0 on, by the map's colour for its state,
+/// and answers how many.
+pub fn colour_row(rest: &AtRest, map: &[u8; 16], y: usize, colours: &mut [u8; COLOURS]) -> usize
+    requires row { y < width rest.now.planes }
+    ensures count { result ≡ width rest.now.planes }
+    ensures value { take result colours.new
+        ≡ row_colours result map.now (cells rest.now.planes) y }
+    ensures past { drop result colours.new ≡ drop result colours.old }
+{
+    let planes = rest.planes();
+    let side = planes.side().number();
+    let rows = planes.row(y);
+    for x in 0..side {
+        colours[x] = map[state_in_row(rows, x)];
+    }
+    side
+}
+
+/// The state of the cell at column `x`.
+fn state_in_row(rows: &CellRow, x: usize) -> usize
+    requires { x < 64 * WORDS }
+    ensures value { result ≡ state_in_row rows.now x }
+    ensures bound { result < 16 }
+{
+    bit_in_row(&rows[0], x)
+        + 2 * bit_in_row(&rows[1], x)
+        + 4 * bit_in_row(&rows[2], x)
+        + 8 * bit_in_row(&rows[3], x)
+}
+
+/// The bit at column `x`, as a number.
+fn bit_in_row(row: &Row, x: usize) -> usize
+    requires { x < 64 * WORDS }
+    ensures value { result ≡ bit_number (column_bit row.now x) }
+    ensures bound { result < 2 }
+{
+    (row[x / 64] >> (63 - x % 64) & 1) as usize
+}
