@@ -16,6 +16,7 @@ fn value_of(alloc: Global, command: &Command) -> Result<Value, AllocError> {
             let bits = hex::encode(alloc, bits.as_slice())?;
             json!(in alloc; {"bits": bits, "do": "set", "plane": *plane, "row": *row})
         }
+        Command::Clear { plane } => json!(in alloc; {"do": "clear", "plane": *plane}),
         Command::Rule { name, wiring, text } => {
             json!(in alloc; {
                 "do": "rule",
@@ -26,6 +27,8 @@ fn value_of(alloc: Global, command: &Command) -> Result<Value, AllocError> {
                 "text": text.as_str()
             })
         }
+        Command::Drop { name } => json!(in alloc; {"do": "drop", "name": name.as_str()}),
+        Command::Rules => json!(in alloc; {"do": "rules"}),
         Command::Cycle { entries } => {
             let mut values = Vec::new(alloc);
             for entry in entries.as_slice() {
@@ -40,7 +43,19 @@ fn value_of(alloc: Global, command: &Command) -> Result<Value, AllocError> {
         }
         Command::Plane { plane } => json!(in alloc; {"do": "plane", "plane": *plane}),
         Command::Side { side } => json!(in alloc; {"do": "side", "side": *side}),
+        Command::Map { colours } => map_value(alloc, colours),
+        Command::Colours { row } => json!(in alloc; {"do": "colours", "row": *row}),
+        Command::Count { mask } => json!(in alloc; {"do": "count", "mask": *mask}),
     }
+}
+
+fn map_value(alloc: Global, colours: &[u64; 16]) -> Result<Value, AllocError> {
+    let mut values = Vec::new(alloc);
+    for colour in colours {
+        values.push(json!(in alloc; *colour)?)?;
+    }
+    let colours = Value::Array(values);
+    json!(in alloc; {"colours": colours, "do": "map"})
 }
 
 fn entry_value(alloc: Global, entry: &NamedEntry) -> Result<Value, AllocError> {

@@ -1,24 +1,27 @@
 -- The reply to a command and the machine after it, where it is refused and where it is not.
-use Rattle.std.proofs.Common.{◌≡◌, ◌∙◌, ℕ, zero, suc, List, map, Option, Some, None, sym, ap}
-use Rattle.std.specs.List.{AllByRecursion}
+use Rattle.std.proofs.Common.{◌≡◌, ◌∙◌, ℕ, zero, suc, false, List, map, Option, Some, None, sym, ap}
+use Rattle.std.specs.List.{AllByRecursion, list_any}
 use Rattle.std.proofs.lemmas.Option.{same_Some}
 use Rattle.cam6_planes.specs.Row.{byte_column}
 use Rattle.cam6_planes.specs.Side.{side_number}
 use Rattle.cam6_planes.specs.Stored.{Stored, AreAlike}
-use Rattle.cam6_planes.specs.Cells.{Cells, cells, with_row}
+use Rattle.cam6_planes.specs.Cells.{Cells, cells, with_row, without_plane}
 use Rattle.cam6_wiring.specs.declared.wirings.Wiring.{Wiring}
 use Rattle.cam6_machine.specs.Rules as rule
 use Rattle.cam6_machine.specs.Stored.{StoredMachine}
 use Rattle.cam6_machine.specs.Machine.{Machine, machine_of, steps}
 use Rattle.cam6_machine.specs.Refusals.{or_then, set_refusal, rule_refusal, cycle_refusal}
-use Rattle.cam6_machine.specs.Refusals.{words_refusal, fault_reply, refusal}
-use Rattle.cam6_machine.specs.Effects.{accepted_reply, effect, with_rule}
+use Rattle.cam6_machine.specs.Refusals.{words_refusal, fault_reply, refusal, plane_refusal, drop_refusal}
+use Rattle.cam6_machine.specs.Effects.{accepted_reply, effect, with_rule, without_rule}
 use Rattle.cam6_machine.specs.Always.{IsEntry}
 use Rattle.cam6_machine.specs.Alone.{if_refused, reply, after, some_steps, work_of, command_of}
 use Rattle.cam6_machine.specs.Internal.Places.{placed_entry, named_entries, ArePlaced, stored}
+use Rattle.cam6_machine.specs.Internal.Places.{place_of, uses_place, closed_entry}
+use Rattle.cam6_machine.proofs.Dropped.{names_closed}
 use Rattle.cam6_machine.specs.declared.commands.Command.{Command}
 use Rattle.cam6_machine.specs.declared.commands.Command.TheVariants.{Set, Rule, Cycle, Run, Row}
-use Rattle.cam6_machine.specs.declared.commands.Command.TheVariants.{Plane, Side}
+use Rattle.cam6_machine.specs.declared.commands.Command.TheVariants.{Plane, Side, Clear, Drop}
+use Rattle.cam6_machine.specs.declared.commands.Command.TheVariants.{Rules, Map, Colours, Count}
 use Rattle.cam6_machine.specs.declared.replies.Direction.{Direction}
 use Rattle.cam6_machine.specs.declared.replies.Direction.TheVariants.{Forward}
 use Rattle.cam6_machine.specs.declared.commands.NamedEntry.{NamedEntry}
@@ -48,6 +51,12 @@ pub command_is : (m : Machine) (c : Command) (n : ℕ) (direction : Direction) �
     work_of m c ≡ Some (n, direction) → command_of n direction ≡ c
 command_is m (Set plane row bits) n direction e = cc e
 command_is m (Rule name wiring text) n direction e = cc e
+command_is m (Clear plane) n direction e = cc e
+command_is m (Drop name) n direction e = cc e
+command_is m Rules n direction e = cc e
+command_is m (Map colours) n direction e = cc e
+command_is m (Colours row) n direction e = cc e
+command_is m (Count mask) n direction e = cc e
 command_is m (Cycle entries) n direction e = cc e
 command_is m (Row plane row) n direction e = cc e
 command_is m (Plane plane) n direction e = cc e
@@ -93,6 +102,48 @@ module _ (planes : Stored) (rules : List rule.Rule) (cycle : List Entry) (positi
       ap {B = Machine} (λ l. record m { limit = l; planes = cells new }) alike.limit ∙
       ap {B = Machine} (λ (f : Cells). record m { planes = f }) set ∙
       sym (after-accepted m (Set plane row bits) (ap fault_reply (sym within)))
+
+  -- after a plane was cleared
+  pub after-clear : (new : Stored) (plane : ℕ) → AreAlike planes new →
+      None ≡ plane_refusal plane →
+      cells new ≡ without_plane (side_number planes.side) (cells planes) plane →
+      machine_of (stored new rules cycle position colours) ≡ after before (Clear plane)
+  after-clear new plane alike within cleared =
+      let m = machine_of (stored planes rules cycle position colours) in
+      ap {B = Machine} (λ s. record m { side = s; limit = new.limit; planes = cells new })
+      alike.side ∙
+      ap {B = Machine} (λ l. record m { limit = l; planes = cells new }) alike.limit ∙
+      ap {B = Machine} (λ (f : Cells). record m { planes = f }) cleared ∙
+      sym (after-accepted m (Clear plane) (ap fault_reply (sym within)))
+
+  -- after a rule was dropped
+  pub after-drop : (name : List ℕ) (new : List rule.Rule) (place : ℕ) (closed : List Entry) →
+      place_of name rules ≡ Some place → list_any (uses_place place) cycle ≡ false →
+      drop_refusal rules (named_entries rules cycle) name ≡ None →
+      new ≡ without_rule name rules → closed ≡ map (closed_entry place) cycle →
+      machine_of (stored planes new closed position colours) ≡ after before (Drop name)
+  after-drop name new place closed found unused accepted dropped are_closed =
+      let m = machine_of (stored planes rules cycle position colours) in
+      ap (λ l. machine_of (stored planes l closed position colours)) dropped ∙
+      ap (λ l. machine_of (stored planes (without_rule name rules) l position colours))
+      are_closed ∙
+      ap {B = Machine} (λ l. record m { rules = without_rule name rules; cycle = l })
+      (names_closed name rules place found cycle unused) ∙
+      sym (after-accepted m (Drop name) (ap fault_reply accepted))
+
+  -- what is stored then
+  pub stored-drop : (name : List ℕ) (new : List rule.Rule) (place : ℕ) (closed : List Entry) →
+      place_of name rules ≡ Some place → list_any (uses_place place) cycle ≡ false →
+      new ≡ without_rule name rules → closed ≡ map (closed_entry place) cycle →
+      stored planes new closed position colours
+      ≡ record (stored planes rules cycle position colours) { rules = new }
+  stored-drop name new place closed found unused dropped are_closed =
+      ap {B = StoredMachine} (λ l. record (stored planes rules cycle position colours) {
+        rules = new;
+        cycle = l;
+      }) (ap (λ l. named_entries l closed) dropped ∙
+      ap (named_entries (without_rule name rules)) are_closed ∙
+      names_closed name rules place found cycle unused)
 
   -- after a rule was put
   pub after-rule : (name text : List ℕ) (wiring : Wiring) (new : List rule.Rule) →

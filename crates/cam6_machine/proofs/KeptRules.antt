@@ -2,14 +2,14 @@
 use Rattle.std.proofs.Common.{◌≡◌, ℕ, suc, ◌+◌, List, [], ◌∷◌, Bool, true, false, cond}
 use Rattle.std.proofs.Common.{Option, Some, None, String, Global, refl, sym, ap, ◌∙◌, map, arith}
 use Rattle.std.proofs.Common.{string_bytes, option_map, slice_get}
-use Rattle.std.specs.Map.{lookup}
+use Rattle.std.specs.Map.{lookup, remove_entry}
 use Rattle.std.specs.List.{position, position_from}
 use Rattle.std.specs.Str.{bytes_eq}
 use Rattle.std.proofs.lemmas.Iterator.Adapters.{position_from-zero}
 use Rattle.std.specs.String.{string_eq}
 use Rattle.std.proofs.lemmas.Option.{slice_get-map}
 use Rattle.indexmap.specs.IndexMap.{insert_entry}
-use Rattle.cam6_machine.specs.Effects.{with_rule}
+use Rattle.cam6_machine.specs.Effects.{with_rule, without_rule}
 use Rattle.cam6_machine.specs.Rules.{Rule, rule_named, wiring_for, wiring_of}
 use Rattle.cam6_machine.specs.Internal.Places.{rules_of, place_of, rule_at}
 use Rattle.cam6_machine.specs.declared.rules.KeptRule.{KeptRule}
@@ -91,6 +91,19 @@ rules_of-insert_entry (e ∷ es) k v =
         (first ∷ with_rule new (rules_of es))
     put true h = refl
     put false h = ap (λ l. first ∷ l) h
+
+pub rules_of-remove_entry : (name : List ℕ) (es : List (String Global × KeptRule)) →
+    rules_of (remove_entry (is_name name) es) ≡ without_rule name (rules_of es)
+rules_of-remove_entry name [] = refl
+rules_of-remove_entry name (e ∷ es) =
+    by_test (bytes_eq name (string_bytes e.0)) (rules_of-remove_entry name es)
+  where
+    by_test : (b : Bool) → rules_of (remove_entry (is_name name) es)
+        ≡ without_rule name (rules_of es) →
+        rules_of (cond b es (e ∷ remove_entry (is_name name) es))
+        ≡ cond b (rules_of es) (listed e ∷ without_rule name (rules_of es))
+    by_test true rest = refl
+    by_test false rest = ap (λ l. listed e ∷ l) rest
 
 pub rule_at-rules_of : (es : List (String Global × KeptRule)) (place : ℕ) →
     rule_at (rules_of es) (Some place) ≡ option_map listed (slice_get es place)

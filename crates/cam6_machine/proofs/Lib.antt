@@ -6,12 +6,16 @@ pub mod Naming
 pub mod Along
 -- Rules after one was put under its name: what held of them holds.
 pub mod KeptNames
+-- Rules after one was dropped: what held of them holds, and places and names still say the same.
+pub mod Dropped
 -- Tables that are filled use by use.
 pub mod FilledTables
 -- The rules of a map, looked up by name.
 pub mod KeptRules
 -- The texts of a plane's rows, row by row.
 pub mod PlaneTexts
+-- The colours of a row are among those of the states.
+pub mod ColoursOfRows
 -- What the reading of a text and the trial of its rule's code say of the verdict.
 pub mod Verdicts
 -- The reply to a command and the machine after it, where it is refused and where it is not.

@@ -21,6 +21,7 @@ use Rattle.cam6_machine.specs.Cycles.{EntryRules, phase_of, entry_rules}
 use Rattle.cam6_machine.specs.Effects.{with_rule}
 use Rattle.cam6_machine.specs.Always.{HaveOwnNames, IsNamed, IsEntry}
 use Rattle.cam6_machine.specs.Refusals.{is_name, is_used, room_refusal, rule_refusal}
+use Rattle.cam6_machine.specs.Refusals.{gone_refusal, drop_refusal}
 use Rattle.cam6_machine.specs.Internal.Places.{place_of, rule_at, name_of, place_if_named}
 use Rattle.cam6_machine.specs.Internal.Places.{placed_entry, named_entry}
 use Rattle.cam6_machine.specs.Internal.Places.{named_entries, rules_at, IsPlace, ArePlaced}
@@ -28,7 +29,7 @@ use Rattle.cam6_machine.specs.Internal.Places.{is_place, uses_place, place_in, h
 use Rattle.cam6_machine.specs.Internal.Places.{half_rule_at, IsPlaced}
 use Rattle.cam6_machine.specs.declared.commands.NamedEntry.{NamedEntry}
 use Rattle.cam6_machine.specs.declared.faults.Fault.TheVariants.{RuleInUse, TooManyRules}
-use Rattle.cam6_machine.specs.declared.faults.Fault.TheVariants.{OutOfRange}
+use Rattle.cam6_machine.specs.declared.faults.Fault.TheVariants.{OutOfRange, NoRule}
 
 -- names of rules
 abbrev pub names_of : List Rule → List (List ℕ)
@@ -281,6 +282,27 @@ room_placed rules cycle name place own found =
     ap (room_refusal rules (named_entries rules cycle) name) is ∙
     ap (λ used. cond used (Some RuleInUse) None)
     (used_by_place rules name place rule own here (name_at_place name rules rule is) cycle)
+
+-- the refusal of a rule that is dropped, by its place
+pub dropped_placed : (rules : List Rule) (cycle : List Entry) (name : List ℕ) (place : ℕ)
+    (used : Bool) → HaveOwnNames rules → place_of name rules ≡ Some place →
+    used ≡ list_any (uses_place place) cycle →
+    drop_refusal rules (named_entries rules cycle) name ≡ cond used (Some RuleInUse) None
+dropped_placed rules cycle name place used own found is =
+    let within : place < length rules = subst (IsPlace rules) found (place_within name rules) in
+    let (rule, here) = found_at rules place within in
+    let there : rule_named name rules ≡ Some rule =
+    named_at name rules ∙ ap (rule_at rules) found ∙ here in
+    ap (gone_refusal (named_entries rules cycle) name) there ∙
+    ap (λ used. cond used (Some RuleInUse) None)
+    (used_by_place rules name place rule own here (name_at_place name rules rule there) cycle ∙
+    sym is)
+
+-- and without a place
+pub dropped_none : (rules : List Rule) (cycle : List NamedEntry) (name : List ℕ) →
+    place_of name rules ≡ None → drop_refusal rules cycle name ≡ Some NoRule
+dropped_none rules cycle name none =
+    ap (gone_refusal cycle name) (named_at name rules ∙ ap (rule_at rules) none)
 
 -- a new one where there are too many
 pub room_new : (rules : List Rule) (cycle : List NamedEntry) (name : List ℕ) →

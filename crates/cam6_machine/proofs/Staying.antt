@@ -1,10 +1,10 @@
 -- A machine stays a machine, whatever it is commanded, and its rules run.
 use Rattle.std.proofs.Common.{◌≡◌, ◌≤◌, ◌<◌, ◌+◌, ◌%◌, ℕ, Bool, true, false, ◌&&◌, ◌||◌, List, []}
-use Rattle.std.proofs.Common.{◌∷◌, length, Option, Some, None, cond, refl, sym, ap, ◌∙◌, subst}
+use Rattle.std.proofs.Common.{◌∷◌, ◌==◌, length, Option, Some, None, cond, refl, sym, ap, ◌∙◌, subst}
 use Rattle.std.proofs.Common.{arith, lit≤, nat_lt, nat_le, IsOk, slice_get, ◌⊎◌, inl, inr, Result, Ok, Err}
 use Rattle.std.specs.List.{AllByRecursion, list_any, list_all}
 use Rattle.std.specs.Str.{bytes_eq}
-use Rattle.std.proofs.lemmas.Bool.{leb-true, leb-false, ltb-true}
+use Rattle.std.proofs.lemmas.Bool.{leb-true, leb-false, ltb-true, eqb-true}
 use Rattle.std.proofs.lemmas.Map.Made.{IsDistinct-from_AllPairs}
 use Rattle.std.proofs.lemmas.Option.{slice_get_within}
 use Rattle.std.proofs.lemmas.Slice.Eq.{bytes_eq-Decides}
@@ -28,7 +28,7 @@ use Rattle.cam6_table.specs.declared.faults.RuleFault.{RuleFault}
 use Rattle.cam6_table.specs.Meaning.{at_address}
 use Rattle.cam6_table.specs.Tables.{least_stop}
 use Rattle.cam6_table.proofs.TrueTables.{runs_everywhere}
-use Rattle.cam6_machine.specs.Limits.{max_rules, max_entries, max_colour, max_steps}
+use Rattle.cam6_machine.specs.Limits.{max_rules, max_entries, max_colour, max_steps, states}
 use Rattle.cam6_machine.specs.Rules.{Rule, rule_named, rule_if_named, wiring_for, is_rule_name}
 use Rattle.cam6_machine.specs.Steps.{words_mean}
 use Rattle.cam6_machine.specs.Machine.{Machine, own_colours, first_side, steps, machine_of}
@@ -38,7 +38,7 @@ use Rattle.cam6_cycle.specs.declared.entries.Entry.{Entry}
 use Rattle.cam6_cycle.specs.declared.entries.HalfRule.{HalfRule}
 use Rattle.cam6_planes.specs.Stored.{Stored}
 use Rattle.cam6_machine.specs.Refusals as refuse
-use Rattle.cam6_machine.specs.Effects.{effect, with_rule, with_side}
+use Rattle.cam6_machine.specs.Effects.{effect, with_rule, without_rule, with_side}
 use Rattle.cam6_machine.specs.Alone.{if_refused, after, command_of}
 use Rattle.cam6_machine.specs.Always.{HaveOwnNames, IsNamed, IsEntry, IsPosition, IsMachine}
 use Rattle.cam6_machine.specs.Laws.{BlankIsMachine, StaysMachine, LimitStays, IsRuled, RulesRun}
@@ -55,6 +55,8 @@ use Rattle.cam6_machine.specs.declared.replies.Reply.{Reply}
 use Rattle.cam6_machine.proofs.Done.{after-refused, after-accepted}
 use Rattle.cam6_machine.proofs.KeptNames.{length_at_most, length_same, all_with}
 use Rattle.cam6_machine.proofs.KeptNames.{own_with, other_named}
+use Rattle.cam6_machine.proofs.Dropped.{length_without, all_without, own_without}
+use Rattle.cam6_machine.proofs.Dropped.{entries_without}
 use Rattle.cam6_machine.proofs.Naming.{same_bytes, rule_of_name, name_with}
 use Rattle.cam6_machine.proofs.StepLaws.{only_planes_and_position, position_goes_round}
 
@@ -386,6 +388,52 @@ rule_is m new is none words = by_name (is_rule_name new.name) refl none
           colours = is.colours;
         }
 
+small : (colours : List ℕ) → list_all (λ colour. nat_le colour max_colour) colours ≡ true →
+    AllByRecursion (λ colour. colour ≤ max_colour) colours
+small [] are = tt
+small (colour ∷ colours) are =
+    let (here, later) =
+    both (nat_le colour max_colour) (list_all (λ colour. nat_le colour max_colour) colours) are in
+    (leb-true colour max_colour here, small colours later)
+
+-- colours that aren't refused
+allowed_colours : (colours : List ℕ) → refuse.map_refusal colours ≡ None →
+    (length colours ≡ states) × AllByRecursion (λ colour. colour ≤ max_colour) colours
+allowed_colours colours none =
+    let (sixteen, are) =
+    both (length colours == states) (list_all (λ colour. nat_le colour max_colour) colours)
+    (allowed _ OutOfRange none) in
+    (eqb-true (length colours) states sixteen, small colours are)
+
+-- a rule that isn't refused is dropped
+dropped_is : (m : Machine) (name : List ℕ) → IsMachine m →
+    refuse.drop_refusal m.rules m.cycle name ≡ None →
+    IsMachine (record m { rules = without_rule name m.rules })
+dropped_is m name is none = record {
+  within = is.within;
+  few = omega (arith, is.few, length_without name m.rules);
+  names = all_without (λ rule. is_rule_name rule.name ≡ true) name m.rules is.names;
+  own = own_without name m.rules is.own;
+  sound = all_without (λ rule. refuse.words_refusal rule.wiring rule.text ≡ None) name m.rules
+      is.sound;
+  short = is.short;
+  entries = entries_without name m.rules m.cycle (by_rule (rule_named name m.rules) none)
+      is.entries;
+  position = is.position;
+  coloured = is.coloured;
+  colours = is.colours;
+}
+  where
+    by_use : (used : Bool) → refuse.is_used m.cycle name ≡ used →
+        cond used (Some RuleInUse) None ≡ None → refuse.is_used m.cycle name ≡ false
+    by_use true is none = cc none
+    by_use false is none = is
+
+    by_rule : (o : Option Rule) → refuse.gone_refusal m.cycle name o ≡ None →
+        refuse.is_used m.cycle name ≡ false
+    by_rule None none = cc none
+    by_rule (Some rule) none = by_use (refuse.is_used m.cycle name) refl none
+
 -- what a command that isn't refused makes of a machine
 effect_is : (m : Machine) (c : Command) → IsMachine m → refuse.refusal m c ≡ None →
     IsMachine (effect m c)
@@ -395,6 +443,26 @@ effect_is m (command.Rule name wiring text) is none =
     let new : Rule = record { name = name; wiring = wiring; text = text } in
     let (place, words) = first_none _ (refuse.words_refusal wiring text) none in
     rule_is m new is (no_fault _ place) words
+effect_is m (command.Clear plane) is none =
+    moved_is m (effect m (command.Clear plane)).planes m.position is is.position
+effect_is m (command.Drop name) is none = dropped_is m name is (no_fault _ none)
+effect_is m command.Rules is none = is
+effect_is m (command.Map colours) is none =
+    let (coloured, small) = allowed_colours colours (no_fault _ none) in
+    record {
+      within = is.within;
+      few = is.few;
+      names = is.names;
+      own = is.own;
+      sound = is.sound;
+      short = is.short;
+      entries = is.entries;
+      position = is.position;
+      coloured = coloured;
+      colours = small;
+    }
+effect_is m (command.Colours row) is none = is
+effect_is m (command.Count mask) is none = is
 effect_is m (command.Cycle entries) is none =
     let (short, are) = accepted_cycle m.rules entries (no_fault _ none) in
     record {
@@ -441,6 +509,12 @@ stays_machine m c is = by_refusal (refuse.refusal m c) refl
 effect_limit : (m : Machine) (c : Command) → (effect m c).limit ≡ m.limit
 effect_limit m (command.Set plane row bits) = refl
 effect_limit m (command.Rule name wiring text) = refl
+effect_limit m (command.Clear plane) = refl
+effect_limit m (command.Drop name) = refl
+effect_limit m command.Rules = refl
+effect_limit m (command.Map colours) = refl
+effect_limit m (command.Colours row) = refl
+effect_limit m (command.Count mask) = refl
 effect_limit m (command.Cycle entries) = refl
 effect_limit m (command.Run n) = ap (λ (k : Machine). k.limit) (only_planes_and_position m n)
 effect_limit m (command.Row plane row) = refl
@@ -457,14 +531,6 @@ limit_stays m c = by_refusal (refuse.refusal m c)
     by_refusal : (o : Option Reply) → (if_refused o (λ r. m) (effect m c)).limit ≡ m.limit
     by_refusal None = effect_limit m c
     by_refusal (Some r) = refl
-
-small : (colours : List ℕ) → list_all (λ colour. nat_le colour max_colour) colours ≡ true →
-    AllByRecursion (λ colour. colour ≤ max_colour) colours
-small [] are = tt
-small (colour ∷ colours) are =
-    let (here, later) =
-    both (nat_le colour max_colour) (list_all (λ colour. nat_le colour max_colour) colours) are in
-    (leb-true colour max_colour here, small colours later)
 
 first_within : (limit : Side) → side_number (first_side limit) ≤ side_number limit
 first_within S128 = lit≤ tt

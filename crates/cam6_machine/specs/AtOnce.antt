@@ -1,10 +1,11 @@
 -- What a machine says of a command at once: a reply, or that there are steps to do.
-use Rattle.std.specs.Prelude.{◌≡◌, ℕ, ◌≤◌, Option, Some, None, ⊤}
+use Rattle.std.specs.Prelude.{◌≡◌, ℕ, ◌≤◌, Bool, true, false, Option, Some, None, ⊤}
 use Rattle.cam6_machine.specs.Stored.{StoredMachine}
 use Rattle.cam6_machine.specs.Machine.{Machine}
 use Rattle.cam6_machine.specs.Refusals.{refusal}
 use Rattle.cam6_machine.specs.Alone.{reply as reply_to, after, command_of}
 use Rattle.cam6_machine.specs.declared.commands.Command.{Command}
+use Rattle.cam6_machine.specs.declared.commands.Command.TheVariants as command
 use Rattle.cam6_machine.specs.declared.replies.Direction.{Direction}
 use Rattle.cam6_machine.specs.declared.replies.Now.{Now}
 use Rattle.cam6_machine.specs.declared.replies.Now.TheVariants as now
@@ -26,16 +27,22 @@ abbrev pub machine_after : Now → Machine → Command → Machine
 machine_after (now.Reply r) m c = after m c
 machine_after (now.Work n direction) m c = m
 
--- what a reply leaves, of all that is stored: everything but planes, rules, or the cycle or the
--- planes with the position; a refusal leaves everything
+-- what a reply leaves, of all that is stored: everything but planes, rules, colours, or the cycle
+-- or the planes with the position; a refusal leaves everything
 abbrev pub IsLeftBy : Reply → StoredMachine → StoredMachine → Type 0
 IsLeftBy reply.Set old new = new ≡ record old { planes = new.planes }
+IsLeftBy reply.Clear old new = new ≡ record old { planes = new.planes }
 IsLeftBy reply.Rule old new = new ≡ record old { rules = new.rules }
+IsLeftBy reply.Drop old new = new ≡ record old { rules = new.rules }
+IsLeftBy (reply.Rules names) old new = new ≡ old
 IsLeftBy reply.Cycle old new = new ≡ record old { cycle = new.cycle; position = 0 }
 IsLeftBy reply.Side old new = new ≡ record old { planes = new.planes; position = 0 }
+IsLeftBy reply.Map old new = new ≡ record old { colours = new.colours }
 IsLeftBy (reply.Run position) old new = new ≡ old
 IsLeftBy (reply.Row bits) old new = new ≡ old
 IsLeftBy (reply.Plane rows) old new = new ≡ old
+IsLeftBy (reply.Colours colours) old new = new ≡ old
+IsLeftBy (reply.Count count) old new = new ≡ old
 IsLeftBy (reply.Fault fault) old new = new ≡ old
 IsLeftBy (reply.RuleText fault) old new = new ≡ old
 IsLeftBy (reply.RuleStops address fault) old new = new ≡ old
@@ -44,6 +51,23 @@ IsLeftBy (reply.RuleStops address fault) old new = new ≡ old
 abbrev pub Leaves : Now → StoredMachine → StoredMachine → Type 0
 Leaves (now.Reply r) old new = IsLeftBy r old new
 Leaves (now.Work n direction) old new = new ≡ old
+
+-- the commands for which memory may be wanted: what is kept of a rule, and the rows and the names
+-- that a reply lists
+abbrev pub may_want_memory : Command → Bool
+may_want_memory (command.Set plane row bits) = false
+may_want_memory (command.Clear plane) = false
+may_want_memory (command.Rule name wiring text) = true
+may_want_memory (command.Drop name) = false
+may_want_memory command.Rules = true
+may_want_memory (command.Cycle entries) = false
+may_want_memory (command.Run n) = false
+may_want_memory (command.Row plane row) = false
+may_want_memory (command.Plane plane) = true
+may_want_memory (command.Side n) = false
+may_want_memory (command.Map colours) = false
+may_want_memory (command.Colours row) = false
+may_want_memory (command.Count mask) = false
 
 -- steps that are left can be done: there is at least one, and their command is not refused
 abbrev pub CanWork : Now → Machine → Type 0

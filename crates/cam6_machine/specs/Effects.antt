@@ -5,13 +5,15 @@ use Rattle.std.specs.Str.{bytes_eq}
 use Rattle.cam6_planes.specs.Row.{byte_column, row_text}
 use Rattle.cam6_planes.specs.Side.{side_number, side_of}
 use Rattle.cam6_planes.specs.declared.sides.Side.{Side}
-use Rattle.cam6_planes.specs.Cells.{Cells, no_cells, with_row}
+use Rattle.cam6_planes.specs.Cells.{Cells, no_cells, with_row, without_plane}
+use Rattle.cam6_view.specs.States.{row_colours, count_of}
 use Rattle.cam6_machine.specs.Rules.{Rule}
 use Rattle.cam6_machine.specs.Machine.{Machine, steps}
 use Rattle.cam6_machine.specs.declared.commands.Command.{Command}
 use Rattle.cam6_machine.specs.declared.commands.Command.TheVariants.{Set, Rule as SetRule}
 use Rattle.cam6_machine.specs.declared.commands.Command.TheVariants.{Cycle, Run, Row, Plane}
-use Rattle.cam6_machine.specs.declared.commands.Command.TheVariants.{Side as SetSide}
+use Rattle.cam6_machine.specs.declared.commands.Command.TheVariants.{Side as SetSide, Map, Colours, Count}
+use Rattle.cam6_machine.specs.declared.commands.Command.TheVariants.{Clear, Drop as DropRule, Rules}
 use Rattle.cam6_machine.specs.declared.replies.Reply.{Reply}
 use Rattle.cam6_machine.specs.declared.replies.Reply.TheVariants as reply
 
@@ -27,6 +29,12 @@ with_rule new (rule ∷ rules) =
     then record rule { wiring = new.wiring; text = new.text } ∷ rules
     else rule ∷ with_rule new rules
 
+-- the rules but for the one of this name; those behind it close up
+abbrev pub without_rule : List ℕ → List Rule → List Rule
+without_rule name [] = []
+without_rule name (rule ∷ rules) =
+    if bytes_eq name rule.name then rules else rule ∷ without_rule name rules
+
 -- a side is taken on with no cell set and with position 0, also where it is the side already
 abbrev pub with_side : Option Side → Machine → Machine
 with_side None m = m
@@ -35,7 +43,10 @@ with_side (Some side) m = record m { side = side; planes = no_cells; position = 
 -- the reply to a command that is not refused
 abbrev pub accepted_reply : Machine → Command → Reply
 accepted_reply m (Set plane row bits) = reply.Set
+accepted_reply m (Clear plane) = reply.Clear
 accepted_reply m (SetRule name wiring text) = reply.Rule
+accepted_reply m (DropRule name) = reply.Drop
+accepted_reply m Rules = reply.Rules (map (λ rule. rule.name) m.rules)
 accepted_reply m (Cycle entries) = reply.Cycle
 accepted_reply m (Run n) = reply.Run (steps n m).position
 accepted_reply m (Row plane row) =
@@ -43,15 +54,25 @@ accepted_reply m (Row plane row) =
 accepted_reply m (Plane plane) =
     let s = side_number m.side in reply.Plane (plane_rows s (s / 4) m.planes plane)
 accepted_reply m (SetSide n) = reply.Side
+accepted_reply m (Map colours) = reply.Map
+accepted_reply m (Colours row) =
+    reply.Colours (row_colours (side_number m.side) m.colours m.planes row)
+accepted_reply m (Count mask) = reply.Count (count_of (side_number m.side) m.planes mask)
 
 -- the machine after it
 abbrev pub effect : Machine → Command → Machine
 effect m (Set plane row bits) =
     record m { planes = with_row (side_number m.side) m.planes plane row (byte_column bits) }
+effect m (Clear plane) = record m { planes = without_plane (side_number m.side) m.planes plane }
 effect m (SetRule name wiring text) =
     record m { rules = with_rule (record { name = name; wiring = wiring; text = text }) m.rules }
+effect m (DropRule name) = record m { rules = without_rule name m.rules }
+effect m Rules = m
 effect m (Cycle entries) = record m { cycle = entries; position = 0 }
 effect m (Run n) = steps n m
 effect m (Row plane row) = m
 effect m (Plane plane) = m
 effect m (SetSide n) = with_side (side_of n) m
+effect m (Map colours) = record m { colours = colours }
+effect m (Colours row) = m
+effect m (Count mask) = m

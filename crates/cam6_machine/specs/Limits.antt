@@ -22,3 +22,7 @@ states = 16
 
 abbrev pub max_colour : ℕ
 max_colour = 15
+
+-- the set of all states, as a mask
+abbrev pub max_mask : ℕ
+max_mask = 65535

@@ -22,7 +22,8 @@ use Rattle.cam6_machine.specs.declared.commands.NamedEntry.{NamedEntry}
 use Rattle.cam6_machine.specs.declared.commands.Command.{Command}
 use Rattle.cam6_machine.specs.declared.commands.Command.TheVariants.{Set, Rule as SetRule}
 use Rattle.cam6_machine.specs.declared.commands.Command.TheVariants.{Cycle, Run, Row, Plane}
-use Rattle.cam6_machine.specs.declared.commands.Command.TheVariants.{Side as SetSide}
+use Rattle.cam6_machine.specs.declared.commands.Command.TheVariants.{Side as SetSide, Map, Colours, Count}
+use Rattle.cam6_machine.specs.declared.commands.Command.TheVariants.{Clear, Drop as DropRule, Rules}
 use Rattle.cam6_machine.specs.declared.faults.Fault.{Fault}
 use Rattle.cam6_machine.specs.declared.faults.Fault.TheVariants.{NoRule, RuleInUse, TooManyRules}
 use Rattle.cam6_machine.specs.declared.faults.Fault.TheVariants.{NoCycle, OutOfRange, WrongHalf}
@@ -61,6 +62,20 @@ within_refusal limit (Some side) =
 abbrev pub side_refusal : Side → ℕ → Option Fault
 side_refusal limit n = within_refusal limit (side_of n)
 
+-- a colour for each state
+abbrev pub map_refusal : List ℕ → Option Fault
+map_refusal colours =
+    unless ((length colours == limits.states) && list_all (λ colour. nat_le colour limits.max_colour) colours)
+    OutOfRange
+
+-- a row whose colours are asked for
+abbrev pub colours_refusal : Side → ℕ → Option Fault
+colours_refusal side row = unless (nat_lt row (side_number side)) OutOfRange
+
+-- a mask has no bit but those of states
+abbrev pub count_refusal : ℕ → Option Fault
+count_refusal mask = unless (nat_le mask limits.max_mask) OutOfRange
+
 abbrev pub some_cycle : List NamedEntry → Option Fault
 some_cycle [] = Some NoCycle
 some_cycle (entry ∷ entries) = None
@@ -91,6 +106,14 @@ abbrev pub rule_refusal : List Rule → List NamedEntry → List ℕ → Option 
 rule_refusal rules cycle name =
     if is_rule_name name then room_refusal rules cycle name (rule_named name rules)
     else Some OutOfRange
+
+-- a rule that is dropped must be there, and the cycle must not use it
+abbrev pub gone_refusal : List NamedEntry → List ℕ → Option Rule → Option Fault
+gone_refusal cycle name None = Some NoRule
+gone_refusal cycle name (Some rule) = if is_used cycle name then Some RuleInUse else None
+
+abbrev pub drop_refusal : List Rule → List NamedEntry → List ℕ → Option Fault
+drop_refusal rules cycle name = gone_refusal cycle name (rule_named name rules)
 
 -- phases are 0 to 3
 abbrev pub have_phases : List NamedEntry → Bool
@@ -147,10 +170,16 @@ fault_reply (Some fault) = Some (reply.Fault fault)
 -- the reply with which a machine refuses a command, if it does
 abbrev pub refusal : Machine → Command → Option Reply
 refusal m (Set plane row bits) = fault_reply (set_refusal m.side plane row bits)
+refusal m (Clear plane) = fault_reply (plane_refusal plane)
 refusal m (SetRule name wiring text) =
     or_then (fault_reply (rule_refusal m.rules m.cycle name)) (words_refusal wiring text)
+refusal m (DropRule name) = fault_reply (drop_refusal m.rules m.cycle name)
+refusal m Rules = None
 refusal m (Cycle entries) = fault_reply (cycle_refusal m.rules entries)
 refusal m (Run n) = fault_reply (run_refusal m.cycle n)
 refusal m (Row plane row) = fault_reply (row_refusal m.side plane row)
 refusal m (Plane plane) = fault_reply (plane_refusal plane)
 refusal m (SetSide n) = fault_reply (side_refusal m.limit n)
+refusal m (Map colours) = fault_reply (map_refusal colours)
+refusal m (Colours row) = fault_reply (colours_refusal m.side row)
+refusal m (Count mask) = fault_reply (count_refusal mask)

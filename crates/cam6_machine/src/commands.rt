@@ -8,6 +8,12 @@ use std::marker::Model;
 /// Steps that one command can do.
 pub const MAX_STEPS: u64 = 65_535;
 
+/// The largest colour of a state.
+pub const MAX_COLOUR: u64 = 15;
+
+/// The largest mask: it has a bit for each state.
+pub const MAX_MASK: u64 = 65_535;
+
 /// A command. Its numbers are checked by the machine.
 #[derive(Debug, Drop)]
 pub enum Command {
@@ -17,12 +23,22 @@ pub enum Command {
         row: u64,
         bits: Bits,
     },
+    /// Sets every bit of a plane to 0.
+    Clear {
+        plane: u64,
+    },
     /// Keeps a rule under a name, in place of the one that has the name already.
     Rule {
         name: Text,
         wiring: Wiring,
         text: Text,
     },
+    /// Forgets a rule. Those behind it close up.
+    Drop {
+        name: Text,
+    },
+    /// Asks for the names of the rules, in their order.
+    Rules,
     /// Sets the cycle, and the position to 0.
     Cycle {
         entries: NamedEntries,
@@ -43,6 +59,18 @@ pub enum Command {
     /// Takes on a side, with blank planes and the position 0.
     Side {
         side: u64,
+    },
+    /// Sets the colour of each of the sixteen states of a cell.
+    Map {
+        colours: [u64; 16],
+    },
+    /// Asks for the colours of a row's cells.
+    Colours {
+        row: u64,
+    },
+    /// Asks how many cells have a state whose bit is set in the mask.
+    Count {
+        mask: u64,
     },
 }
 

@@ -3,7 +3,7 @@ ghost use Rattle.std.specs.Prelude.{◌≡◌, ◌≤◌, length, map};
 ghost use Rattle.cam6_cycle.specs.declared.cycles.TheConstants.{MAX_ENTRIES};
 ghost use Rattle.cam6_machine.specs.Cycles.{phase_of};
 ghost use Rattle.cam6_machine.specs.Internal.Places.{rules_of, place_if_named, placed_entry};
-ghost use Rattle.cam6_machine.specs.Internal.Places.{half_rule_at, entries_of};
+ghost use Rattle.cam6_machine.specs.Internal.Places.{half_rule_at, entries_of, closed_half, closed_entry};
 
 use crate::commands::NamedEntry;
 use crate::rules::{KeptRule, place_of, wiring_at};
@@ -36,6 +36,45 @@ pub(crate) fn placed_cycle(
         placed.push(placed_entry(rules, entry));
     }
     Cycle::new(placed.as_slice()).ok()
+}
+
+/// The cycle once the rule at a place is dropped: the rules behind it have closed up.
+pub(crate) fn closed_cycle(cycle: &[Entry], place: usize) -> Option<Cycle>
+    requires { length cycle.now ≤ MAX_ENTRIES }
+    ensures { entries_of result ≡ map (closed_entry place) cycle.now }
+{
+    let mut closed: ArrayVec<Entry, MAX_ENTRIES> = ArrayVec::new();
+    for entry in cycle {
+        closed.push(closed_entry(*entry, place));
+    }
+    Cycle::new(closed.as_slice()).ok()
+}
+
+fn closed_entry(entry: Entry, place: usize) -> Entry
+    ensures { result ≡ closed_entry place entry }
+{
+    Entry {
+        a: closed_half(entry.a, place),
+        b: closed_half(entry.b, place),
+        grid: entry.grid,
+        phase: entry.phase,
+    }
+}
+
+fn closed_half(rule: Option<HalfRule>, place: usize) -> Option<HalfRule>
+    ensures { result ≡ closed_half place rule }
+{
+    let rule = rule?;
+    let number = if place < rule.number {
+        rule.number - 1
+    } else {
+        rule.number
+    };
+    Some(HalfRule {
+        number,
+        hood: rule.hood,
+        minor: rule.minor,
+    })
 }
 
 fn placed_entry(rules: &IndexMap<String, KeptRule>, entry: &NamedEntry) -> Entry

@@ -46,10 +46,10 @@ mod tables;
 mod texts;
 
 pub use alone::replies_alone;
-pub use commands::{Command, MAX_STEPS, NamedEntries, NamedEntry};
+pub use commands::{Command, MAX_COLOUR, MAX_MASK, MAX_STEPS, NamedEntries, NamedEntry};
 pub use faults::Fault;
 pub use machines::Machine;
 pub use replies::{Direction, Now, Reply};
-pub use rows::{Bits, PlaneRows, RowText};
+pub use rows::{Bits, PlaneRows, RowColours, RowText};
 pub use rules::MAX_RULES;
-pub use texts::Text;
+pub use texts::{Names, Text};

@@ -7,20 +7,22 @@ ghost use Rattle.cam6_machine.specs.Machine.{first_side};
 ghost use Rattle.cam6_machine.specs.Effects.{plane_rows};
 
 use crate::commands::{Command, NamedEntries};
-use crate::cycles::{entries_of, placed_cycle};
+use crate::cycles::{closed_cycle, entries_of, placed_cycle};
 use crate::refusals::{
-    cycle_refusal, plane_refusal, row_refusal, rule_refusal, run_refusal, set_refusal, side_within,
+    colours_refusal, colours_within, count_refusal, cycle_refusal, droppable, plane_refusal,
+    row_refusal, rule_refusal, run_refusal, set_refusal, side_within,
 };
 use crate::replies::{Direction, Now, Reply};
-use crate::rows::{Bits, PlaneRows, RowText};
-use crate::rules::{KeptRule, RuleRefusal, put, tried_rule};
+use crate::rows::{Bits, PlaneRows, RowColours, RowText};
+use crate::rules::{KeptRule, RuleRefusal, names_of, put, remove, tried_rule};
 use crate::runs::run_along;
 use crate::tables::fill_tables;
-use crate::texts::Text;
+use crate::texts::{Names, Text};
 use cam6_band::AtRest;
 use cam6_cycle::{Cycle, MAX_TABLES};
 use cam6_planes::{NoMemory, Planes, Side};
 use cam6_table::Table;
+use cam6_view::count;
 use cam6_wiring::Wiring;
 use indexmap::IndexMap;
 use std::alloc::Global;
@@ -71,13 +73,12 @@ impl Machine {
     ghost use Rattle.std.specs.Prelude.{ℕ, false, List, Some, None, IsOk, OnErr};
     ghost use Rattle.cam6_machine.specs.Machine.{blank, machine_of};
     ghost use Rattle.cam6_machine.specs.Refusals.{refusal};
-    ghost use Rattle.cam6_machine.specs.declared.commands.NamedEntry.{NamedEntry};
     ghost use Rattle.cam6_machine.specs.declared.faults.Fault.{Fault};
     ghost use Rattle.cam6_forth.specs.declared.faults.TextFault.{TextFault};
     ghost use Rattle.cam6_forth.specs.Reading.{keeps};
     ghost use Rattle.cam6_machine.specs.Alone.{reply, after, work_of, command_of};
     ghost use Rattle.cam6_machine.specs.AtOnce.{work_left, IsReplyTo, machine_after};
-    ghost use Rattle.cam6_machine.specs.AtOnce.{IsLeftBy, Leaves, CanWork};
+    ghost use Rattle.cam6_machine.specs.AtOnce.{IsLeftBy, Leaves, may_want_memory, CanWork};
 
     /// A machine with blank planes, no rules and no cycle, whose side is the lesser of 256 and the
     /// limit.
@@ -111,15 +112,9 @@ impl Machine {
         ensures left { IfOk result (λ now. Leaves now self.old self.new) }
         ensures ready { IfOk result (λ now. CanWork now (machine_of self.new)) }
         ensures err { OnErr result (self.new ≡ self.old) }
-        // Memory is wanted neither for a row, set or asked for, a cycle, a run or a side, nor where
-        // a number or a name is refused, nor for a text of which nothing is kept.
-        ensures row { (plane row : ℕ) (bits : List ℕ) →
-            command ≡ Command.Set plane row bits → IsOk result }
-        ensures asked { (plane row : ℕ) → command ≡ Command.Row plane row → IsOk result }
-        ensures cycle { (entries : List NamedEntry) →
-            command ≡ Command.Cycle entries → IsOk result }
-        ensures run { (n : ℕ) → command ≡ Command.Run n → IsOk result }
-        ensures side { (n : ℕ) → command ≡ Command.Side n → IsOk result }
+        // Memory is wanted for what is kept of a rule and for the lists of a reply alone; neither
+        // where a number or a name is refused, nor for a text of which nothing is kept.
+        ensures memory { may_want_memory command ≡ false → IsOk result }
         ensures refused { (fault : Fault) →
             refusal (machine_of self.old) command ≡ Some (Reply.Fault fault) → IsOk result }
         ensures unkept { (name text : List ℕ) (wiring : Wiring) (fault : TextFault) →
@@ -129,14 +124,20 @@ impl Machine {
     {
         match command {
             Command::Set { plane, row, bits } => Ok(Now::Reply(self.set(plane, row, &bits))),
+            Command::Clear { plane } => Ok(Now::Reply(self.clear(plane))),
             Command::Rule { name, wiring, text } => {
                 Ok(Now::Reply(self.define(name, wiring, text)?))
             }
+            Command::Drop { name } => Ok(Now::Reply(self.drop_rule(&name))),
+            Command::Rules => Ok(Now::Reply(self.list_rules()?)),
             Command::Cycle { entries } => Ok(Now::Reply(self.set_cycle(&entries))),
             Command::Run { n } => Ok(self.work_of_run(n)),
             Command::Row { plane, row } => Ok(Now::Reply(self.show_row(plane, row))),
             Command::Plane { plane } => Ok(Now::Reply(self.show(plane)?)),
             Command::Side { side } => Ok(Now::Reply(self.set_side(side))),
+            Command::Map { colours } => Ok(Now::Reply(self.set_colours(&colours))),
+            Command::Colours { row } => Ok(Now::Reply(self.show_colours(row))),
+            Command::Count { mask } => Ok(Now::Reply(self.count_cells(mask))),
         }
     }
 
@@ -156,6 +157,22 @@ impl Machine {
         }
         planes.put_row(plane as usize, row as usize, bits);
         Reply::Set
+    }
+
+    fn clear(&mut self, plane: u64) -> Reply
+        ensures reply { result ≡ reply (machine_of self.old) (Command.Clear plane) }
+        ensures machine { machine_of self.new
+            ≡ after (machine_of self.old) (Command.Clear plane) }
+        ensures left { IsLeftBy result self.old self.new }
+    {
+        if let Some(fault) = plane_refusal(plane) {
+            return Reply::Fault(fault);
+        }
+        let Some(image) = &mut self.image else {
+            unreachable!()
+        };
+        image.planes_mut().clear_plane(plane as usize);
+        Reply::Clear
     }
 
     fn set_side(&mut self, number: u64) -> Reply
@@ -203,6 +220,47 @@ impl Machine {
             Err(RuleRefusal::Text(fault)) => Ok(Reply::RuleText(fault)),
             Err(RuleRefusal::Stops { address, fault }) => Ok(Reply::RuleStops { address, fault }),
             Err(RuleRefusal::NoMemory) => Err(NoMemory),
+        }
+    }
+
+    fn drop_rule(&mut self, name: &Text) -> Reply
+        ensures reply { result ≡ reply (machine_of self.old) (Command.Drop name.now) }
+        ensures machine { machine_of self.new
+            ≡ after (machine_of self.old) (Command.Drop name.now) }
+        ensures left { IsLeftBy result self.old self.new }
+    {
+        let cycle = entries_of(&self.cycle);
+        match droppable(&self.rules, cycle, name) {
+            Ok(place) => {
+                self.cycle = closed_cycle(cycle, place);
+                remove(&mut self.rules, name);
+                Reply::Drop
+            }
+            Err(fault) => Reply::Fault(fault),
+        }
+    }
+
+    fn list_rules(&self) -> Result<Reply, NoMemory>
+        ensures reply { IfOk result (λ r. r ≡ reply (machine_of self.now) Command.Rules) }
+        ensures machine { machine_of self.now ≡ after (machine_of self.now) Command.Rules }
+        ensures left { IfOk result (λ r. IsLeftBy r self.now self.now) }
+    {
+        let names = Names::new(names_of(self.alloc, &self.rules)?);
+        Ok(Reply::Rules { names })
+    }
+
+    fn set_colours(&mut self, colours: &[u64; 16]) -> Reply
+        ensures reply { result ≡ reply (machine_of self.old) (Command.Map colours.now) }
+        ensures machine { machine_of self.new
+            ≡ after (machine_of self.old) (Command.Map colours.now) }
+        ensures left { IsLeftBy result self.old self.new }
+    {
+        match colours_within(colours) {
+            Ok(kept) => {
+                self.colours = kept;
+                Reply::Map
+            }
+            Err(fault) => Reply::Fault(fault),
         }
     }
 
@@ -277,6 +335,36 @@ impl Machine {
         Ok(Reply::Plane { rows })
     }
 
+    fn show_colours(&self, row: u64) -> Reply
+        ensures reply { result ≡ reply (machine_of self.now) (Command.Colours row) }
+        ensures machine { machine_of self.now ≡ after (machine_of self.now) (Command.Colours row) }
+        ensures left { IsLeftBy result self.now self.now }
+    {
+        let Some(image) = &self.image else {
+            unreachable!()
+        };
+        if let Some(fault) = colours_refusal(image.planes().side(), row) {
+            return Reply::Fault(fault);
+        }
+        let colours = RowColours::of(image, &self.colours, row as usize);
+        Reply::Colours { colours }
+    }
+
+    fn count_cells(&self, mask: u64) -> Reply
+        ensures reply { result ≡ reply (machine_of self.now) (Command.Count mask) }
+        ensures machine { machine_of self.now ≡ after (machine_of self.now) (Command.Count mask) }
+        ensures left { IsLeftBy result self.now self.now }
+    {
+        if let Some(fault) = count_refusal(mask) {
+            return Reply::Fault(fault);
+        }
+        let Some(image) = &self.image else {
+            unreachable!()
+        };
+        let count = count(image, mask as u16);
+        Reply::Count { count }
+    }
+
     /// Does the steps of a command, and replies to it. It takes no memory.
     pub fn work(&mut self, n: u16, direction: Direction) -> Reply
         requires accepted { refusal (machine_of self.old) (command_of n direction) ≡ None }
@@ -307,13 +395,7 @@ impl Machine {
             machine_of self.new ≡ after (machine_of self.old) command) }
         ensures err { OnErr result (self.new ≡ self.old) }
         // Memory is wanted as by `now`.
-        ensures row { (plane row : ℕ) (bits : List ℕ) →
-            command ≡ Command.Set plane row bits → IsOk result }
-        ensures asked { (plane row : ℕ) → command ≡ Command.Row plane row → IsOk result }
-        ensures cycle { (entries : List NamedEntry) →
-            command ≡ Command.Cycle entries → IsOk result }
-        ensures run { (n : ℕ) → command ≡ Command.Run n → IsOk result }
-        ensures side { (n : ℕ) → command ≡ Command.Side n → IsOk result }
+        ensures memory { may_want_memory command ≡ false → IsOk result }
         ensures refused { (fault : Fault) →
             refusal (machine_of self.old) command ≡ Some (Reply.Fault fault) → IsOk result }
         ensures unkept { (name text : List ℕ) (wiring : Wiring) (fault : TextFault) →

@@ -1,21 +1,22 @@
 //! Which fault a command is refused for, before anything is done.
-ghost use Rattle.std.specs.Prelude.{◌≡◌, ◌<◌, ◌≤◌, ◌*◌, List, length, IfNone, Some, None, IfOk};
+ghost use Rattle.std.specs.Prelude.{◌≡◌, ◌<◌, ◌≤◌, ◌*◌, false, List, length, IfNone, Some, None, IfOk};
 ghost use Rattle.std.specs.Prelude.{IfErr};
 ghost use Rattle.std.specs.List.{list_any};
 ghost use Rattle.std.specs.Bool.{OnTrue};
 ghost use Rattle.cam6_planes.specs.Side.{side_number, side_of};
-ghost use Rattle.cam6_machine.specs.declared.commands.TheConstants.{MAX_STEPS};
+ghost use Rattle.cam6_machine.specs.declared.commands.TheConstants.{MAX_STEPS, MAX_MASK};
 ghost use Rattle.cam6_cycle.specs.declared.cycles.TheConstants.{MAX_ENTRIES};
 ghost use Rattle.cam6_machine.specs.Rules.{Rule};
 ghost use Rattle.cam6_machine.specs.Internal.Places.{rules_of, named_entries, uses_place};
-ghost use Rattle.cam6_machine.specs.Internal.Places.{is_place, place_in};
+ghost use Rattle.cam6_machine.specs.Internal.Places.{is_place, place_in, place_of};
 ghost use Rattle.cam6_machine.specs.Refusals.{set_refusal, row_refusal, plane_refusal};
 ghost use Rattle.cam6_machine.specs.Refusals.{run_refusal, side_refusal};
 ghost use Rattle.cam6_machine.specs.Refusals.{rule_refusal, cycle_refusal, is_cycle, have_phases};
 ghost use Rattle.cam6_machine.specs.Refusals.{first_refusal, entry_refusal, half_refusal};
+ghost use Rattle.cam6_machine.specs.Refusals.{drop_refusal, map_refusal, colours_refusal, count_refusal};
 ghost use Rattle.cam6_machine.specs.Always.{HaveOwnNames};
 
-use crate::commands::{MAX_STEPS, NamedEntries, NamedEntry};
+use crate::commands::{MAX_COLOUR, MAX_MASK, MAX_STEPS, NamedEntries, NamedEntry};
 use crate::faults::Fault;
 use crate::rules::{KeptRule, MAX_RULES, is_rule_name, place_of, wiring_of};
 use crate::texts::Text;
@@ -59,6 +60,28 @@ pub(crate) fn row_refusal(side: Side, plane: u64, row: u64) -> Option<Fault>
     ensures within { IfNone result ((plane < 4) × (row < side_number side)) }
 {
     if plane >= 4 || row >= side.number() as u64 {
+        return Some(Fault::OutOfRange);
+    }
+    None
+}
+
+/// Rows are 0 to below the side.
+pub(crate) fn colours_refusal(side: Side, row: u64) -> Option<Fault>
+    ensures refusal { result ≡ colours_refusal side row }
+    ensures within { IfNone result (row < side_number side) }
+{
+    if row >= side.number() as u64 {
+        return Some(Fault::OutOfRange);
+    }
+    None
+}
+
+/// A mask has a bit for each of sixteen states.
+pub(crate) fn count_refusal(mask: u64) -> Option<Fault>
+    ensures refusal { result ≡ count_refusal mask }
+    ensures within { IfNone result (mask ≤ MAX_MASK) }
+{
+    if mask > MAX_MASK {
         return Some(Fault::OutOfRange);
     }
     None
@@ -108,6 +131,46 @@ pub(crate) fn rule_refusal(
         None if rules.len() >= MAX_RULES => Some(Fault::TooManyRules),
         None => None,
     }
+}
+
+/// The place of the rule that has the name, where it can be dropped: it is there, and the cycle
+/// doesn't use it.
+pub(crate) fn droppable(
+    rules: &IndexMap<String, KeptRule>,
+    cycle: &[Entry],
+    name: &Text,
+) -> Result<usize, Fault>
+    requires names { HaveOwnNames (rules_of rules.now.entries) }
+    ensures place { IfOk result (λ place.
+        place_of name.now (rules_of rules.now.entries) ≡ Some place) }
+    ensures unused { IfOk result (λ place. list_any (uses_place place) cycle.now ≡ false) }
+    ensures ok { IfOk result (λ _. drop_refusal (rules_of rules.now.entries)
+        (named_entries (rules_of rules.now.entries) cycle.now) name.now ≡ None) }
+    ensures err { IfErr result (λ fault. drop_refusal (rules_of rules.now.entries)
+        (named_entries (rules_of rules.now.entries) cycle.now) name.now ≡ Some fault) }
+{
+    match place_of(rules, name) {
+        Some(place) if is_used(cycle, place) => Err(Fault::RuleInUse),
+        Some(place) => Ok(place),
+        None => Err(Fault::NoRule),
+    }
+}
+
+/// The colours of the states as they are kept: each is at most 15.
+pub(crate) fn colours_within(colours: &[u64; 16]) -> Result<[u8; 16], Fault>
+    ensures ok { IfOk result (λ _. map_refusal colours.now ≡ None) }
+    ensures colours { IfOk result (λ kept. kept ≡ colours.now) }
+    ensures err { IfErr result (λ fault. map_refusal colours.now ≡ Some fault) }
+{
+    let mut kept = [0; 16];
+    for state in 0..16 {
+        let colour = colours[state];
+        if colour > MAX_COLOUR {
+            return Err(Fault::OutOfRange);
+        }
+        kept[state] = colour as u8;
+    }
+    Ok(kept)
 }
 
 /// Whether an entry of the cycle has the rule at this place.

@@ -1,7 +1,8 @@
 //! What a machine says of a command: a reply, or at once that there are steps to do.
 
 use crate::faults::Fault;
-use crate::rows::{PlaneRows, RowText};
+use crate::rows::{PlaneRows, RowColours, RowText};
+use crate::texts::Names;
 use cam6_forth::TextFault;
 use cam6_table::RuleFault;
 
@@ -9,13 +10,20 @@ use cam6_table::RuleFault;
 #[derive(Debug, Drop)]
 pub enum Reply {
     Set,
+    Clear,
     Rule,
+    Drop,
+    /// The names of the rules, in their order.
+    Rules { names: Names },
     Cycle,
     Side,
+    Map,
     /// The position after the run.
     Run { position: usize },
     Row { bits: RowText },
     Plane { rows: PlaneRows },
+    Colours { colours: RowColours },
+    Count { count: u32 },
     Fault(Fault),
     /// The first fault of a rule's text.
     RuleText(TextFault),

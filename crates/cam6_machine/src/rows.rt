@@ -1,12 +1,16 @@
 //! Rows as commands and replies have them.
-ghost use Rattle.std.specs.Prelude.{◌≡◌, ◌<◌, ◌/◌, take};
+ghost use Rattle.std.specs.Prelude.{◌≡◌, ◌<◌, ◌≤◌, ◌/◌, take};
+ghost use Rattle.std.specs.List.{AllByRecursion};
 ghost use Rattle.std.specs.Str.{IsAscii};
 ghost use Rattle.cam6_planes.specs.Side.{side_number};
 ghost use Rattle.cam6_planes.specs.Stored.{width};
 ghost use Rattle.cam6_planes.specs.Cells.{cells};
 ghost use Rattle.cam6_planes.specs.Row.{row_text};
+ghost use Rattle.cam6_machine.specs.Limits.{max_colour};
 
+use cam6_band::AtRest;
 use cam6_planes::{BYTES, DIGITS, Planes, Side};
+use cam6_view::{COLOURS, colour_row};
 use std::marker::Model;
 
 /// The bits of a row of one of the three sides. Contracts see them as bytes, of which the first has
@@ -78,6 +82,53 @@ impl RowText {
         ensures ascii { IsAscii result.now }
     {
         &self.text[..self.digits]
+    }
+}
+
+/// The colours of a row's cells, from column 0 on. Contracts see them as a list.
+#[derive(Debug, Drop)]
+pub struct RowColours {
+    count: usize,
+    colours: [u8; COLOURS],
+}
+
+impl Model for RowColours {
+    ghost use Rattle.std.specs.Prelude.{List, ℕ, ◌≤◌, take};
+    ghost use Rattle.std.specs.List.{AllByRecursion};
+    ghost use Rattle.cam6_view.specs.declared.colours.TheConstants.{COLOURS};
+    ghost use Rattle.cam6_machine.specs.Limits.{max_colour};
+
+    ghost Value = { List ℕ };
+
+    ghost view = { λ r. take r.count r.colours };
+
+    ghost invariant = { λ r.
+        (r.count ≤ COLOURS) × AllByRecursion (λ colour. colour ≤ max_colour) (take r.count r.colours) };
+}
+
+impl RowColours {
+    ghost use Rattle.std.specs.Prelude.{◌≡◌, length};
+    ghost use Rattle.cam6_view.specs.declared.colours.TheConstants.{COLOURS};
+    ghost use Rattle.cam6_view.specs.States.{row_colours};
+
+    /// The colours of row `y`, by a colour for each state.
+    pub fn of(rest: &AtRest, map: &[u8; 16], y: usize) -> RowColours
+        requires row { y < width rest.now.planes }
+        requires colours { AllByRecursion (λ colour. colour ≤ max_colour) map.now }
+        ensures { result
+            ≡ row_colours (width rest.now.planes) map.now (cells rest.now.planes) y }
+    {
+        let mut colours = [0; COLOURS];
+        let count = colour_row(rest, map, y, &mut colours);
+        RowColours { count, colours }
+    }
+
+    pub fn as_slice(&self) -> &[u8]
+        ensures value { result.now ≡ self.now }
+        ensures few { length result.now ≤ COLOURS }
+        ensures small { AllByRecursion (λ colour. colour ≤ max_colour) result.now }
+    {
+        &self.colours[..self.count]
     }
 }
 

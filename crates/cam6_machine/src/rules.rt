@@ -1,9 +1,9 @@
 //! The rules of a machine, by name, in the order in which their names came first.
-ghost use Rattle.std.specs.Prelude.{◌≡◌, ◌≢◌, false, Some, Err, OnOk, OnErr};
+ghost use Rattle.std.specs.Prelude.{◌≡◌, ◌≢◌, false, map, Some, Err, IfOk, OnOk, OnErr};
 ghost use Rattle.std.specs.List.{list_all};
 ghost use Rattle.cam6_forth.specs.Reading.{read_text, keeps};
 ghost use Rattle.cam6_forth.specs.declared.faults.TextFault.{TextFault};
-ghost use Rattle.cam6_machine.specs.Effects.{with_rule};
+ghost use Rattle.cam6_machine.specs.Effects.{with_rule, without_rule};
 ghost use Rattle.cam6_machine.specs.Refusals.{text_refusal};
 ghost use Rattle.cam6_machine.specs.Rules.{wiring_of, is_rule_name, is_name_byte};
 ghost use Rattle.cam6_machine.specs.Internal.Places.{rules_of, place_of, wiring_at};
@@ -165,6 +165,31 @@ pub(crate) fn wiring_at(rules: &IndexMap<String, KeptRule>, place: Option<usize>
 {
     let (_, rule) = rules.get_index(place?)?;
     Some(rule.wiring())
+}
+
+/// Drops the rule that has the name; those behind it close up.
+pub(crate) fn remove(rules: &mut IndexMap<String, KeptRule>, name: &Text)
+    ensures { rules_of rules.new.entries ≡ without_rule name.now (rules_of rules.old.entries) }
+{
+    rules.shift_remove(name.as_str());
+}
+
+/// The names of the rules, in their order.
+pub(crate) fn names_of(
+    alloc: Global,
+    rules: &IndexMap<String, KeptRule>,
+) -> Result<Vec<Text>, NoMemory>
+    ensures { IfOk result (λ names.
+        names.items ≡ map (λ rule. rule.name) (rules_of rules.now.entries)) }
+{
+    let mut names = Vec::with_capacity(alloc, rules.len())?;
+    for place in 0..rules.len() {
+        let Some((name, _)) = rules.get_index(place) else {
+            unreachable!()
+        };
+        names.push(Text::new(String::from_str(alloc, name.as_str())?))?;
+    }
+    Ok(names)
 }
 
 /// Keeps a rule under a name, in place of the one that has it.

@@ -1,4 +1,4 @@
-//! A text of a command.
+//! Texts of commands and replies.
 
 use std::marker::Model;
 
@@ -35,5 +35,35 @@ impl Text {
         ensures { string_bytes result ≡ self }
     {
         self.text
+    }
+}
+
+/// Names of rules, in order. Contracts see them as a list of their bytes.
+#[derive(Debug, Drop)]
+pub struct Names {
+    names: Vec<Text>,
+}
+
+impl Model for Names {
+    ghost use Rattle.std.specs.Prelude.{List, ℕ};
+
+    ghost Value = { List (List ℕ) };
+
+    ghost view = { λ n. n.names.items };
+}
+
+impl Names {
+    ghost use Rattle.std.specs.Prelude.{◌≡◌};
+
+    pub fn new(names: Vec<Text>) -> Names
+        ensures { result ≡ names.items }
+    {
+        Names { names }
+    }
+
+    pub fn as_slice(&self) -> &[Text]
+        ensures { result.now ≡ self.now }
+    {
+        self.names.as_slice()
     }
 }

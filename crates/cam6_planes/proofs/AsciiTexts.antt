@@ -19,7 +19,7 @@ IsAscii-map_any f [] h i = omega arith
 IsAscii-map_any f (x ∷ xs) h zero = h x
 IsAscii-map_any f (x ∷ xs) h (suc i) = IsAscii-map_any f xs h i
 
-digits-ascii : IsAscii (codes "0123456789abcdef")
+pub digits-ascii : IsAscii (codes "0123456789abcdef")
 digits-ascii = IsAscii-below (codes "0123456789abcdef") (
   lit< tt,
   (

@@ -4,7 +4,8 @@ use Rattle.serde_json.specs.Data.{depth, items_depth}
 use Rattle.serde_json.specs.Read.{max_depth}
 use Rattle.cam6_machine.specs.declared.replies.Reply.{Reply}
 use Rattle.cam6_machine.specs.declared.replies.Reply.TheVariants.{Set, Rule, Cycle, Side, Run, Row}
-use Rattle.cam6_machine.specs.declared.replies.Reply.TheVariants.{Plane}
+use Rattle.cam6_machine.specs.declared.replies.Reply.TheVariants.{Plane, Clear}
+use Rattle.cam6_machine.specs.declared.replies.Reply.TheVariants.{Drop, Rules, Map, Colours, Count}
 use Rattle.cam6_machine.specs.declared.replies.Reply.TheVariants.{Fault, RuleText, RuleStops}
 use Rattle.cam6_wire.specs.Replies.{texts, reply_data}
 
@@ -14,7 +15,13 @@ flat_texts (row ∷ rows) = omega (arith, flat_texts rows)
 
 pub flat_reply : (reply : Reply) → depth (reply_data reply) ≤ max_depth
 flat_reply Set = omega arith
+flat_reply Clear = omega arith
 flat_reply Rule = omega arith
+flat_reply Drop = omega arith
+flat_reply (Rules names) = omega (arith, flat_texts names)
+flat_reply Map = omega arith
+flat_reply (Colours colours) = omega arith
+flat_reply (Count count) = omega arith
 flat_reply Cycle = omega arith
 flat_reply Side = omega arith
 flat_reply (Run position) = omega arith

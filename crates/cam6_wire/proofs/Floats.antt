@@ -3,7 +3,8 @@ use Rattle.std.proofs.Common.{◌≡◌, ℕ, List, [], ◌∷◌, false, refl}
 use Rattle.serde_json.specs.Written.{has_float, items_have_float}
 use Rattle.cam6_machine.specs.declared.replies.Reply.{Reply}
 use Rattle.cam6_machine.specs.declared.replies.Reply.TheVariants.{Set, Rule, Cycle, Side, Run, Row}
-use Rattle.cam6_machine.specs.declared.replies.Reply.TheVariants.{Plane}
+use Rattle.cam6_machine.specs.declared.replies.Reply.TheVariants.{Plane, Clear}
+use Rattle.cam6_machine.specs.declared.replies.Reply.TheVariants.{Drop, Rules, Map, Colours, Count}
 use Rattle.cam6_machine.specs.declared.replies.Reply.TheVariants.{Fault, RuleText, RuleStops}
 use Rattle.cam6_wire.specs.Replies.{texts, reply_data}
 
@@ -13,7 +14,13 @@ texts_without_float (row ∷ rows) = texts_without_float rows
 
 pub reply_without_float : (reply : Reply) → has_float (reply_data reply) ≡ false
 reply_without_float Set = refl
+reply_without_float Clear = refl
 reply_without_float Rule = refl
+reply_without_float Drop = refl
+reply_without_float (Rules names) = rw (texts_without_float names)
+reply_without_float Map = refl
+reply_without_float (Colours colours) = refl
+reply_without_float (Count count) = refl
 reply_without_float Cycle = refl
 reply_without_float Side = refl
 reply_without_float (Run position) = refl

@@ -12,13 +12,14 @@ use Rattle.cam6_planes.specs.declared.sides.Side.{Side}
 use Rattle.hex.specs.declared.error.FromHexError.{FromHexError}
 use Rattle.serde_json.specs.Data.{Data, null, boolean, number, string, array, object}
 use Rattle.serde_json.specs.Data.{unsigned, negative, float, Members}
-use Rattle.serde_json.specs.Find.{get, as_number, as_u64, as_str}
+use Rattle.serde_json.specs.Find.{get, as_str}
 use Rattle.cam6_wiring.specs.declared.names.Half.TheVariants.{A, B}
 use Rattle.cam6_wiring.specs.declared.wirings.Hood.TheVariants.{Moore, VonNeumann, Margolus}
 use Rattle.cam6_wiring.specs.declared.wirings.Hood.TheVariants.{MargolusPhase, MargolusHorzVert}
 use Rattle.cam6_wiring.specs.declared.wirings.Minor.TheVariants.{Centers, Phases, HorzVert}
 use Rattle.cam6_wiring.specs.declared.blocks.Grid.TheVariants.{Even, Odd}
-use Rattle.cam6_wire.specs.Fields.{count, has_size, number_at, text_at, bits_of, bits_at, ◌>>=◌}
+use Rattle.cam6_wire.specs.Fields.{count, has_size, number_in, number_at, text_at}
+use Rattle.cam6_wire.specs.Fields.{bits_of, bits_at, ◌>>=◌}
 use Rattle.cam6_wire.specs.Replies.{natural}
 use Rattle.cam6_wire.specs.Wirings.{half_text, hood_text, minor_text, grid_text}
 use Rattle.cam6_wire.specs.Wirings.{half_named, hood_named, minor_named, grid_named}
@@ -30,15 +31,15 @@ at_key : {A : Type 0} (shown : A → Data) (f : Data → Option A) →
 at_key shown f holds None = tt
 at_key shown f holds (Some d) = IfSome_then (f d) (holds d) (λ a is. ap Some is)
 
-number_in : (d : Data) → IfSome (as_number d >>= λ n. as_u64 n) (λ n. d ≡ natural n)
-number_in null = tt
-number_in (boolean b) = tt
-number_in (number (unsigned n)) = refl
-number_in (number (negative z)) = tt
-number_in (number (float x)) = tt
-number_in (string s) = tt
-number_in (array items) = tt
-number_in (object held) = tt
+pub number_shown : (d : Data) → IfSome (number_in d) (λ n. d ≡ natural n)
+number_shown null = tt
+number_shown (boolean b) = tt
+number_shown (number (unsigned n)) = refl
+number_shown (number (negative z)) = tt
+number_shown (number (float x)) = tt
+number_shown (string s) = tt
+number_shown (array items) = tt
+number_shown (object held) = tt
 
 text_in : (d : Data) → IfSome (as_str d) (λ text. d ≡ string text)
 text_in null = tt
@@ -50,7 +51,7 @@ text_in (object held) = tt
 
 pub number_found : (key : List ℕ) (d : Data) →
     IfSome (number_at key d) (λ n. get key d ≡ Some (natural n))
-number_found key d = at_key natural (λ x. as_number x >>= λ n. as_u64 n) number_in (get key d)
+number_found key d = at_key natural number_in number_shown (get key d)
 
 pub text_found : (key : List ℕ) (d : Data) →
     IfSome (text_at key d) (λ text. get key d ≡ Some (string text))

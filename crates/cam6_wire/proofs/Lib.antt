@@ -16,6 +16,12 @@ pub mod Ordered
 pub mod Exactly
 -- What stands at a key, where something is read there.
 pub mod Found
+-- Colours as a list of numbers: what is read of one, and what one says.
+pub mod ColourLists
+-- Colours are as many as the values that they are read of.
+pub mod ColourCount
+-- The digits of colours are ASCII.
+pub mod ColourDigits
 -- A list that is read as a cycle's entries shows them.
 pub mod ShownEntries
 -- A line that says a command has a value that shows it.

@@ -11,18 +11,22 @@ use Rattle.cam6_wiring.specs.Wiring.{wired}
 use Rattle.cam6_wiring.specs.declared.wirings.Wiring.{Wiring}
 use Rattle.cam6_machine.specs.declared.commands.Command.{Command}
 use Rattle.cam6_machine.specs.declared.commands.Command.TheVariants.{Set, Rule, Cycle, Run, Row}
-use Rattle.cam6_machine.specs.declared.commands.Command.TheVariants.{Plane, Side as SetSide}
+use Rattle.cam6_machine.specs.declared.commands.Command.TheVariants.{Plane, Side as SetSide, Clear}
+use Rattle.cam6_machine.specs.declared.commands.Command.TheVariants.{Drop as DropRule, Rules, Map}
+use Rattle.cam6_machine.specs.declared.commands.Command.TheVariants.{Colours, Count}
 use Rattle.cam6_wire.specs.declared.faults.LineFault.{LineFault}
 use Rattle.cam6_wire.specs.declared.faults.LineFault.TheVariants.{NoCommand, TooLong}
-use Rattle.cam6_wire.specs.Fields.{count, number_at, text_at, bits_at, ◌>>=◌}
-use Rattle.cam6_wire.specs.Replies.{natural}
+use Rattle.cam6_wire.specs.Fields.{count, number_at, text_at, bits_at, colours_at}
+use Rattle.cam6_wire.specs.Fields.{◌>>=◌}
+use Rattle.cam6_wire.specs.Replies.{natural, naturals}
 use Rattle.cam6_wire.specs.Wirings.{half_text, hood_text, minor_text}
 use Rattle.cam6_wire.specs.Wirings.{half_named, hood_named, minor_named, wiring_in}
 use Rattle.cam6_wire.specs.Entries.{entries_at}
 use Rattle.cam6_wire.specs.Limits.{max_line}
 use Rattle.cam6_wire.specs.Commands.{set_fields, set_of, rule_fields, rule_of, cycle_of, run_of}
 use Rattle.cam6_wire.specs.Commands.{row_fields, row_of, plane_of, side_of, by_word, shown_in}
-use Rattle.cam6_wire.specs.Commands.{from_value, value_of, command}
+use Rattle.cam6_wire.specs.Commands.{from_value, value_of, command, clear_of, drop_of}
+use Rattle.cam6_wire.specs.Commands.{rules_of, map_of, colours_of, count_of}
 use Rattle.cam6_wire.specs.Shown.{Shows}
 use Rattle.cam6_wire.specs.Laws.{SaidIsShown}
 use Rattle.cam6_wire.proofs.Steps.{of_map, of_step, of_value, of_test, of_two, of_three}
@@ -31,6 +35,7 @@ use Rattle.cam6_wire.proofs.Exactly.{these}
 use Rattle.cam6_wire.proofs.Saying.{not_empty}
 use Rattle.cam6_wire.proofs.Found.{number_found, text_found, AreDigits, bits_found}
 use Rattle.cam6_wire.proofs.Found.{half_found, hood_found, minor_found, of_object}
+use Rattle.cam6_wire.proofs.ColourLists.{HasColours, colours_found}
 use Rattle.cam6_wire.proofs.ShownEntries.{HasEntries, entries_found}
 
 -- what holds of a value whose word at the key do is known
@@ -132,6 +137,105 @@ side_shown d given =
     of_object 2 (λ x. option_map SetSide (number_at (codes "side") x)) (HasWord (codes "side"))
     Shows side_held d given
 
+clear_held : (held : Members) → count held ≡ 2 → HasWord (codes "clear") (object held) →
+    IfSome (option_map Clear (number_at (codes "plane") (object held))) (Shows (object held))
+clear_held held same given =
+    of_map (λ n. get (codes "plane") (object held) ≡ Some (natural n)) (Shows (object held)) Clear
+    (λ n at_plane.
+    these
+    (member (codes "do") (string (codes "clear"))
+    (member (codes "plane") (natural n) no_members))
+    held ((refl, tt), (tt, tt)) same given.0 (given.1, (at_plane, tt)))
+    (number_at (codes "plane") (object held)) (number_found (codes "plane") (object held))
+
+clear_shown : (d : Data) → HasWord (codes "clear") d → IfSome (clear_of d) (Shows d)
+unfolding clear_of
+clear_shown d given =
+    of_object 2 (λ x. option_map Clear (number_at (codes "plane") x)) (HasWord (codes "clear"))
+    Shows clear_held d given
+
+colours_held : (held : Members) → count held ≡ 2 → HasWord (codes "colours") (object held) →
+    IfSome (option_map Colours (number_at (codes "row") (object held))) (Shows (object held))
+colours_held held same given =
+    of_map (λ n. get (codes "row") (object held) ≡ Some (natural n)) (Shows (object held)) Colours
+    (λ n at_row.
+    these
+    (member (codes "do") (string (codes "colours"))
+    (member (codes "row") (natural n) no_members))
+    held ((refl, tt), (tt, tt)) same given.0 (given.1, (at_row, tt)))
+    (number_at (codes "row") (object held)) (number_found (codes "row") (object held))
+
+colours_shown : (d : Data) → HasWord (codes "colours") d → IfSome (colours_of d) (Shows d)
+unfolding colours_of
+colours_shown d given =
+    of_object 2 (λ x. option_map Colours (number_at (codes "row") x)) (HasWord (codes "colours"))
+    Shows colours_held d given
+
+count_held : (held : Members) → count held ≡ 2 → HasWord (codes "count") (object held) →
+    IfSome (option_map Count (number_at (codes "mask") (object held))) (Shows (object held))
+count_held held same given =
+    of_map (λ n. get (codes "mask") (object held) ≡ Some (natural n)) (Shows (object held)) Count
+    (λ n at_mask.
+    these
+    (member (codes "do") (string (codes "count"))
+    (member (codes "mask") (natural n) no_members))
+    held ((refl, tt), (tt, tt)) same given.0 (given.1, (at_mask, tt)))
+    (number_at (codes "mask") (object held)) (number_found (codes "mask") (object held))
+
+count_shown : (d : Data) → HasWord (codes "count") d → IfSome (count_of d) (Shows d)
+unfolding count_of
+count_shown d given =
+    of_object 2 (λ x. option_map Count (number_at (codes "mask") x)) (HasWord (codes "count"))
+    Shows count_held d given
+
+drop_held : (held : Members) → count held ≡ 2 → HasWord (codes "drop") (object held) →
+    IfSome (option_map DropRule (text_at (codes "name") (object held))) (Shows (object held))
+drop_held held same given =
+    of_map (λ name. get (codes "name") (object held) ≡ Some (string name)) (Shows (object held))
+    DropRule
+    (λ name at_name.
+    these
+    (member (codes "do") (string (codes "drop"))
+    (member (codes "name") (string name) no_members))
+    held ((refl, tt), (tt, tt)) same given.0 (given.1, (at_name, tt)))
+    (text_at (codes "name") (object held)) (text_found (codes "name") (object held))
+
+drop_shown : (d : Data) → HasWord (codes "drop") d → IfSome (drop_of d) (Shows d)
+unfolding drop_of
+drop_shown d given =
+    of_object 2 (λ x. option_map DropRule (text_at (codes "name") x)) (HasWord (codes "drop"))
+    Shows drop_held d given
+
+rules_held : (held : Members) → count held ≡ 1 → HasWord (codes "rules") (object held) →
+    IfSome (Some Rules) (Shows (object held))
+rules_held held same given =
+    these (member (codes "do") (string (codes "rules")) no_members) held (tt, tt) same given.0
+    (given.1, tt)
+
+rules_shown : (d : Data) → HasWord (codes "rules") d → IfSome (rules_of d) (Shows d)
+unfolding rules_of
+rules_shown d given =
+    of_object 1 (λ x. Some Rules) (HasWord (codes "rules")) Shows rules_held d given
+
+map_held : (held : Members) → count held ≡ 2 → HasWord (codes "map") (object held) →
+    IfSome (option_map Map (colours_at (codes "colours") (object held))) (Shows (object held))
+map_held held same given =
+    of_map (HasColours (codes "colours") (object held)) (Shows (object held)) Map
+    (λ colours has. (
+      has.0,
+      these
+          (member (codes "colours") (array (naturals colours))
+          (member (codes "do") (string (codes "map")) no_members))
+          held ((refl, tt), (tt, tt)) same given.0 (has.1, (given.1, tt)),
+    ))
+    (colours_at (codes "colours") (object held)) (colours_found (codes "colours") (object held))
+
+map_shown : (d : Data) → HasWord (codes "map") d → IfSome (map_of d) (Shows d)
+unfolding map_of
+map_shown d given =
+    of_object 2 (λ x. option_map Map (colours_at (codes "colours") x)) (HasWord (codes "map"))
+    Shows map_held d given
+
 -- the wiring of a rule
 abbrev HasWiring : Data → Wiring → Type 0
 HasWiring d wiring =
@@ -214,12 +318,18 @@ word_shown : (word : List ℕ) (d : Data) → IsOrdered d →
     get (codes "do") d ≡ Some (string word) → IfSome (by_word word d) (Shows d)
 word_shown word d ordered at =
     of_word word (codes "set") d (set_of d) _ ordered at (set_shown d)
+    (of_word word (codes "clear") d (clear_of d) _ ordered at (clear_shown d)
     (of_word word (codes "rule") d (rule_of d) _ ordered at (rule_shown d)
+    (of_word word (codes "drop") d (drop_of d) _ ordered at (drop_shown d)
+    (of_word word (codes "rules") d (rules_of d) _ ordered at (rules_shown d)
     (of_word word (codes "cycle") d (cycle_of d) _ ordered at (cycle_shown d)
     (of_word word (codes "run") d (run_of d) _ ordered at (run_shown d)
     (of_word word (codes "row") d (row_of d) _ ordered at (row_shown d)
     (of_word word (codes "plane") d (plane_of d) _ ordered at (plane_shown d)
-    (of_word word (codes "side") d (side_of d) _ ordered at (side_shown d) tt))))))
+    (of_word word (codes "side") d (side_of d) _ ordered at (side_shown d)
+    (of_word word (codes "map") d (map_of d) _ ordered at (map_shown d)
+    (of_word word (codes "colours") d (colours_of d) _ ordered at (colours_shown d)
+    (of_word word (codes "count") d (count_of d) _ ordered at (count_shown d) tt))))))))))))
 
 pub command_shown : (d : Data) → IsOrdered d → IfSome (shown_in d) (Shows d)
 command_shown d ordered =

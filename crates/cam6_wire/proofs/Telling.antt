@@ -22,19 +22,24 @@ use Rattle.cam6_wiring.specs.declared.blocks.Grid.{Grid}
 use Rattle.cam6_wiring.specs.declared.blocks.Grid.TheVariants.{Even, Odd}
 use Rattle.cam6_machine.specs.declared.commands.Command.{Command}
 use Rattle.cam6_machine.specs.declared.commands.Command.TheVariants.{Set, Rule, Cycle, Run, Row}
-use Rattle.cam6_machine.specs.declared.commands.Command.TheVariants.{Plane, Side as SetSide}
+use Rattle.cam6_machine.specs.declared.commands.Command.TheVariants.{Plane, Side as SetSide, Clear}
+use Rattle.cam6_machine.specs.declared.commands.Command.TheVariants.{Drop as DropRule, Rules, Map}
+use Rattle.cam6_machine.specs.declared.commands.Command.TheVariants.{Colours, Count}
+use Rattle.cam6_machine.specs.Limits.{states}
 use Rattle.cam6_machine.specs.declared.commands.NamedEntry.{NamedEntry}
 use Rattle.cam6_wire.specs.declared.faults.LineFault.TheVariants.{NoCommand}
 use Rattle.cam6_wire.specs.Fields.{bits_of, text_at, ◌>>=◌}
-use Rattle.cam6_wire.specs.Replies.{natural}
+use Rattle.cam6_wire.specs.Replies.{natural, naturals}
 use Rattle.cam6_wire.specs.Wirings.{half_text, hood_text, minor_text, grid_text}
 use Rattle.cam6_wire.specs.Wirings.{half_named, hood_named, minor_named, grid_named, wiring_in}
 use Rattle.cam6_wire.specs.Entries.{rule_named, entry_of, entries_of}
 use Rattle.cam6_wire.specs.Commands.{set_of, rule_of, cycle_of, run_of, plane_of, side_of}
-use Rattle.cam6_wire.specs.Commands.{row_of, by_word, shown_in, from_value}
+use Rattle.cam6_wire.specs.Commands.{row_of, by_word, shown_in, from_value, clear_of}
+use Rattle.cam6_wire.specs.Commands.{drop_of, rules_of, map_of, colours_of, count_of}
 use Rattle.cam6_wire.specs.Shown.{ShowsEntries, Shows}
 use Rattle.cam6_wire.specs.Laws.{ShownIsSaid}
 use Rattle.cam6_wire.proofs.Saying.{short_line}
+use Rattle.cam6_wire.proofs.ColourLists.{colours_said}
 
 half_of_text : (half : Half) → half_named (half_text half) ≡ Some half
 half_of_text A = refl
@@ -205,6 +210,55 @@ row_said : (plane row : ℕ) →
 unfolding row_of
 row_said plane row = refl
 
+clear_said : (n : ℕ) →
+    clear_of
+    (object
+    (member (codes "do") (string (codes "clear"))
+    (member (codes "plane") (natural n) no_members)))
+    ≡ Some (Clear n)
+unfolding clear_of
+clear_said n = refl
+
+drop_said : (name : List ℕ) →
+    drop_of
+    (object
+    (member (codes "do") (string (codes "drop"))
+    (member (codes "name") (string name) no_members)))
+    ≡ Some (DropRule name)
+unfolding drop_of
+drop_said name = refl
+
+rules_said : rules_of (object (member (codes "do") (string (codes "rules")) no_members)) ≡ Some Rules
+unfolding rules_of
+rules_said = refl
+
+map_said : (colours : List ℕ) → length colours ≡ states →
+    map_of
+    (object
+    (member (codes "colours") (array (naturals colours))
+    (member (codes "do") (string (codes "map")) no_members)))
+    ≡ Some (Map colours)
+unfolding map_of
+map_said colours sixteen = ap (option_map Map) (colours_said colours sixteen)
+
+colours_said_by : (n : ℕ) →
+    colours_of
+    (object
+    (member (codes "do") (string (codes "colours"))
+    (member (codes "row") (natural n) no_members)))
+    ≡ Some (Colours n)
+unfolding colours_of
+colours_said_by n = refl
+
+count_said : (n : ℕ) →
+    count_of
+    (object
+    (member (codes "do") (string (codes "count"))
+    (member (codes "mask") (natural n) no_members)))
+    ≡ Some (Count n)
+unfolding count_of
+count_said n = refl
+
 -- a command is what a value says by its word
 by_its_word : (d : Data) (word : List ℕ) (c : Command) → text_at (codes "do") d ≡ Some word →
     by_word word d ≡ Some c → shown_in d ≡ Some c
@@ -219,6 +273,21 @@ says_shown d (Set plane row bits) shows =
     of_same d _ (Set plane row bits) shows.3
     (by_its_word _ (codes "set") (Set plane row bits) refl
     (set_said plane row shows.0 bits shows.1 shows.2))
+says_shown d (Clear n) shows =
+    of_same d _ (Clear n) shows (by_its_word _ (codes "clear") (Clear n) refl (clear_said n))
+says_shown d (DropRule name) shows =
+    of_same d _ (DropRule name) shows
+    (by_its_word _ (codes "drop") (DropRule name) refl (drop_said name))
+says_shown d Rules shows =
+    of_same d _ Rules shows (by_its_word _ (codes "rules") Rules refl rules_said)
+says_shown d (Map colours) shows =
+    of_same d _ (Map colours) shows.1
+    (by_its_word _ (codes "map") (Map colours) refl (map_said colours shows.0))
+says_shown d (Colours n) shows =
+    of_same d _ (Colours n) shows
+    (by_its_word _ (codes "colours") (Colours n) refl (colours_said_by n))
+says_shown d (Count n) shows =
+    of_same d _ (Count n) shows (by_its_word _ (codes "count") (Count n) refl (count_said n))
 says_shown d (Rule name wiring text) shows =
     of_same d _ (Rule name wiring text) shows
     (by_its_word _ (codes "rule") (Rule name wiring text) refl (rule_said wiring name text))

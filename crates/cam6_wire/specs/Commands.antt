@@ -7,12 +7,15 @@ use Rattle.serde_json.specs.Data.{Data}
 use Rattle.serde_json.specs.Read.{read}
 use Rattle.cam6_machine.specs.declared.commands.Command.{Command}
 use Rattle.cam6_machine.specs.declared.commands.Command.TheVariants.{Set, Rule, Cycle, Run, Row}
-use Rattle.cam6_machine.specs.declared.commands.Command.TheVariants.{Plane, Side as SetSide}
+use Rattle.cam6_machine.specs.declared.commands.Command.TheVariants.{Plane, Side as SetSide, Clear}
+use Rattle.cam6_machine.specs.declared.commands.Command.TheVariants.{Drop as DropRule, Rules, Map}
+use Rattle.cam6_machine.specs.declared.commands.Command.TheVariants.{Colours, Count}
 use Rattle.cam6_wire.specs.declared.faults.LineFault.{LineFault}
 use Rattle.cam6_wire.specs.declared.faults.LineFault.TheVariants.{NoMemory, TooLong}
 use Rattle.cam6_wire.specs.declared.faults.LineFault.TheVariants.{NoJson, NoCommand}
 use Rattle.cam6_wire.specs.Limits.{max_line}
-use Rattle.cam6_wire.specs.Fields.{has_size, number_at, text_at, bits_at, ◌>>=◌}
+use Rattle.cam6_wire.specs.Fields.{has_size, number_at, text_at, bits_at, colours_at}
+use Rattle.cam6_wire.specs.Fields.{◌>>=◌}
 use Rattle.cam6_wire.specs.Wirings.{wiring_in}
 use Rattle.cam6_wire.specs.Entries.{entries_at}
 
@@ -28,6 +31,10 @@ set_fields d = do
 unfoldable pub set_of : Data → Option Command
 set_of d = if has_size 4 d then set_fields d else None
 
+-- {"do":"clear","plane":p}
+unfoldable pub clear_of : Data → Option Command
+clear_of d = if has_size 2 d then option_map Clear (number_at (codes "plane") d) else None
+
 -- the command of the keys name, half, hood, minor and text
 abbrev pub rule_fields : Data → Option Command
 rule_fields d = do
@@ -39,6 +46,14 @@ rule_fields d = do
 -- {"do":"rule","name":n,"half":h,"hood":o,"minor":m,"text":t}
 unfoldable pub rule_of : Data → Option Command
 rule_of d = if has_size 6 d then rule_fields d else None
+
+-- {"do":"drop","name":n}
+unfoldable pub drop_of : Data → Option Command
+drop_of d = if has_size 2 d then option_map DropRule (text_at (codes "name") d) else None
+
+-- {"do":"rules"}
+unfoldable pub rules_of : Data → Option Command
+rules_of d = if has_size 1 d then Some Rules else None
 
 -- {"do":"cycle","entries":[{"a":n,"b":n,"grid":g,"phase":f},..]}
 unfoldable pub cycle_of : Data → Option Command
@@ -67,16 +82,34 @@ plane_of d = if has_size 2 d then option_map Plane (number_at (codes "plane") d)
 unfoldable pub side_of : Data → Option Command
 side_of d = if has_size 2 d then option_map SetSide (number_at (codes "side") d) else None
 
+-- {"do":"map","colours":[16 numbers]}
+unfoldable pub map_of : Data → Option Command
+map_of d = if has_size 2 d then option_map Map (colours_at (codes "colours") d) else None
+
+-- {"do":"colours","row":y}
+unfoldable pub colours_of : Data → Option Command
+colours_of d = if has_size 2 d then option_map Colours (number_at (codes "row") d) else None
+
+-- {"do":"count","mask":m}
+unfoldable pub count_of : Data → Option Command
+count_of d = if has_size 2 d then option_map Count (number_at (codes "mask") d) else None
+
 -- by the word at the key do
 abbrev pub by_word : List ℕ → Data → Option Command
 by_word word d =
     if bytes_eq word (codes "set") then set_of d
+    else if bytes_eq word (codes "clear") then clear_of d
     else if bytes_eq word (codes "rule") then rule_of d
+    else if bytes_eq word (codes "drop") then drop_of d
+    else if bytes_eq word (codes "rules") then rules_of d
     else if bytes_eq word (codes "cycle") then cycle_of d
     else if bytes_eq word (codes "run") then run_of d
     else if bytes_eq word (codes "row") then row_of d
     else if bytes_eq word (codes "plane") then plane_of d
     else if bytes_eq word (codes "side") then side_of d
+    else if bytes_eq word (codes "map") then map_of d
+    else if bytes_eq word (codes "colours") then colours_of d
+    else if bytes_eq word (codes "count") then count_of d
     else None
 
 -- the command that a JSON value shows
@@ -85,11 +118,12 @@ shown_in d = do
   word ← text_at (codes "do") d
   by_word word d
 
--- whether a word is rule or cycle
+-- whether a word is rule, drop or cycle
 abbrev pub is_of_texts : List ℕ → Bool
-is_of_texts word = bytes_eq word (codes "rule") || bytes_eq word (codes "cycle")
+is_of_texts word =
+    bytes_eq word (codes "rule") || bytes_eq word (codes "drop") || bytes_eq word (codes "cycle")
 
--- whether the word at the key do is rule or cycle, the commands of which texts are kept
+-- whether the word at the key do is one of these, the commands of which texts are kept
 abbrev pub takes_text : Data → Bool
 takes_text d = option_map_or is_of_texts (text_at (codes "do") d) false
 

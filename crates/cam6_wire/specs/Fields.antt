@@ -1,12 +1,14 @@
 -- What stands at a key of a JSON object.
-use Rattle.std.specs.Prelude.{ℕ, ◌+◌, ◌*◌, ◌/◌, List, length, Bool, false, ◌==◌, Option}
+use Rattle.std.specs.Prelude.{ℕ, ◌+◌, ◌*◌, ◌/◌, List, [], ◌∷◌, length, Bool, false, ◌==◌}
+use Rattle.std.specs.Prelude.{Option, Some, None, if◌then◌else◌}
 use Rattle.std.specs.Prelude.{option_and_then}
 use Rattle.std.specs.Option.{option_map_or}
 use Rattle.std.specs.Result.{result_ok}
 use Rattle.hex.specs.Hex.{decode_sized}
 use Rattle.cam6_planes.specs.Side.{side_number, side_of}
-use Rattle.serde_json.specs.Data.{Data, Members, no_members, member}
-use Rattle.serde_json.specs.Find.{get, as_number, as_u64, as_str, as_object}
+use Rattle.serde_json.specs.Data.{Data, Items, no_items, item, Members, no_members, member}
+use Rattle.serde_json.specs.Find.{get, as_number, as_u64, as_str, as_array, as_object}
+use Rattle.cam6_machine.specs.Limits.{states}
 
 -- the second step, if the first gave a value
 infixl 10 ◌>>=◌
@@ -22,12 +24,33 @@ count (member key d members) = count members + 1
 abbrev pub has_size : ℕ → Data → Bool
 has_size n d = option_map_or (λ members. count members == n) (as_object d) false
 
--- the number at a key, where it is a whole one from 0 to 18,446,744,073,709,551,615
+-- a value that is a whole number from 0 to 18,446,744,073,709,551,615
+abbrev pub number_in : Data → Option ℕ
+number_in d = option_and_then as_u64 (as_number d)
+
+-- the number at a key
 abbrev pub number_at : List ℕ → Data → Option ℕ
-number_at key d = do
+number_at key d = option_and_then number_in (get key d)
+
+-- a list of such numbers
+abbrev pub numbers_of : Items → Option (List ℕ)
+numbers_of no_items = Some []
+numbers_of (item d ds) = do
+  n ← number_in d
+  numbers ← numbers_of ds
+  Some (n ∷ numbers)
+
+-- a colour for each of the sixteen states
+abbrev pub of_states : List ℕ → Option (List ℕ)
+of_states numbers = if length numbers == states then Some numbers else None
+
+-- the colours at a key
+abbrev pub colours_at : List ℕ → Data → Option (List ℕ)
+colours_at key d = do
   found ← get key d
-  number ← as_number found
-  as_u64 number
+  items ← as_array found
+  numbers ← numbers_of items
+  of_states numbers
 
 -- the text at a key
 abbrev pub text_at : List ℕ → Data → Option (List ℕ)

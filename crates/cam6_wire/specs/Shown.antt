@@ -1,5 +1,5 @@
 -- The JSON value of each command, its keys in byte order.
-use Rattle.std.specs.Prelude.{◌≡◌, ℕ, ◌/◌, List, [], ◌∷◌, codes, Ok, ⊤}
+use Rattle.std.specs.Prelude.{◌≡◌, ℕ, ◌/◌, List, [], ◌∷◌, length, codes, Ok, ⊤}
 use Rattle.hex.specs.Hex.{decode_sized}
 use Rattle.serde_json.specs.Data.{Data, string, array, object}
 use Rattle.cam6_planes.specs.Side.{side_number}
@@ -7,9 +7,12 @@ use Rattle.cam6_planes.specs.declared.sides.Side.{Side}
 use Rattle.serde_json.specs.Data.{Items, no_items, item, no_members, member}
 use Rattle.cam6_machine.specs.declared.commands.Command.{Command}
 use Rattle.cam6_machine.specs.declared.commands.Command.TheVariants.{Set, Rule, Cycle, Run, Row}
-use Rattle.cam6_machine.specs.declared.commands.Command.TheVariants.{Plane, Side as SetSide}
+use Rattle.cam6_machine.specs.declared.commands.Command.TheVariants.{Plane, Side as SetSide, Clear}
+use Rattle.cam6_machine.specs.declared.commands.Command.TheVariants.{Drop as DropRule, Rules, Map}
+use Rattle.cam6_machine.specs.declared.commands.Command.TheVariants.{Colours, Count}
+use Rattle.cam6_machine.specs.Limits.{states}
 use Rattle.cam6_machine.specs.declared.commands.NamedEntry.{NamedEntry}
-use Rattle.cam6_wire.specs.Replies.{natural}
+use Rattle.cam6_wire.specs.Replies.{natural, naturals}
 use Rattle.cam6_wire.specs.Wirings.{half_text, hood_text, minor_text, grid_text}
 use Rattle.cam6_wire.specs.Entries.{rule_named}
 
@@ -45,6 +48,13 @@ Shows d (Set plane row bits) =
     (member (codes "plane") (natural plane)
     (member (codes "row") (natural row)
     no_members)))))
+-- {"do":"clear","plane":p}
+Shows d (Clear plane) =
+    d
+    ≡ object
+    (member (codes "do") (string (codes "clear"))
+    (member (codes "plane") (natural plane)
+    no_members))
 -- {"do":"rule","half":h,"hood":o,"minor":m,"name":n,"text":t}
 Shows d (Rule name wiring text) =
     d
@@ -56,6 +66,15 @@ Shows d (Rule name wiring text) =
     (member (codes "name") (string name)
     (member (codes "text") (string text)
     no_members))))))
+-- {"do":"drop","name":n}
+Shows d (DropRule name) =
+    d
+    ≡ object
+    (member (codes "do") (string (codes "drop"))
+    (member (codes "name") (string name)
+    no_members))
+-- {"do":"rules"}
+Shows d Rules = d ≡ object (member (codes "do") (string (codes "rules")) no_members)
 -- {"do":"cycle","entries":[{"a":n,"b":n,"grid":g,"phase":f},..]}
 Shows d (Cycle entries) =
     (items : Items) × ShowsEntries items entries ×
@@ -92,4 +111,26 @@ Shows d (SetSide n) =
     ≡ object
     (member (codes "do") (string (codes "side"))
     (member (codes "side") (natural n)
+    no_members))
+-- {"colours":[16 numbers],"do":"map"}
+Shows d (Map colours) =
+    (length colours ≡ states) ×
+    (d
+    ≡ object
+    (member (codes "colours") (array (naturals colours))
+    (member (codes "do") (string (codes "map"))
+    no_members)))
+-- {"do":"colours","row":y}
+Shows d (Colours row) =
+    d
+    ≡ object
+    (member (codes "do") (string (codes "colours"))
+    (member (codes "row") (natural row)
+    no_members))
+-- {"do":"count","mask":m}
+Shows d (Count mask) =
+    d
+    ≡ object
+    (member (codes "do") (string (codes "count"))
+    (member (codes "mask") (natural mask)
     no_members))

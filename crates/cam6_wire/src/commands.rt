@@ -3,14 +3,15 @@ ghost use Rattle.std.specs.Prelude.{◌≡◌, ◌<◌, ◌≤◌, length, Err, 
 ghost use Rattle.cam6_wire.specs.declared.faults.LineFault.TheVariants.{NoMemory};
 ghost use Rattle.serde_json.specs.View.{view};
 ghost use Rattle.cam6_wire.specs.Commands.{set_of, rule_of, cycle_of, run_of, row_of};
-ghost use Rattle.cam6_wire.specs.Commands.{plane_of, side_of, by_word};
+ghost use Rattle.cam6_wire.specs.Commands.{plane_of, side_of, by_word, clear_of, drop_of};
+ghost use Rattle.cam6_wire.specs.Commands.{rules_of, map_of, colours_of, count_of};
 ghost use Rattle.cam6_wire.specs.Commands.{shown_in, command, IsSaid};
 ghost use Rattle.cam6_wire.specs.Commands.{is_of_texts, takes_text};
 ghost use Rattle.cam6_wire.specs.Limits.{max_line};
 
 use crate::entries::entries_at;
 use crate::faults::LineFault;
-use crate::fields::{bits_at, has_size, number_at, text_at};
+use crate::fields::{bits_at, colours_at, has_size, number_at, text_at};
 use crate::wirings::wiring_in;
 use cam6_machine::{Command, Text};
 use serde_json::{Category, Value};
@@ -43,7 +44,7 @@ pub fn read_command(alloc: Global, line: &[u8]) -> Result<Command, LineFault>
 /// The command that a JSON value shows.
 pub fn command_shown(alloc: Global, value: &Value) -> Result<Option<Command>, AllocError>
     ensures command { IfOk result (λ command. command ≡ shown_in (view value.now)) }
-    // Memory is wanted for a rule and a cycle alone.
+    // Memory is wanted for a rule, a name and a cycle alone.
     ensures memory { takes_text (view value.now) ≡ false → IsOk result }
 {
     match text_at(value, "do") {
@@ -58,12 +59,18 @@ fn by_word(alloc: Global, word: &str, value: &Value) -> Result<Option<Command>, 
 {
     match word {
         "set" => Ok(set_of(value)),
+        "clear" => Ok(clear_of(value)),
         "rule" => rule_of(alloc, value),
+        "drop" => drop_of(alloc, value),
+        "rules" => Ok(rules_of(value)),
         "cycle" => cycle_of(alloc, value),
         "run" => Ok(run_of(value)),
         "row" => Ok(row_of(value)),
         "plane" => Ok(plane_of(value)),
         "side" => Ok(side_of(value)),
+        "map" => Ok(map_of(value)),
+        "colours" => Ok(colours_of(value)),
+        "count" => Ok(count_of(value)),
         _ => Ok(None),
     }
 }
@@ -79,6 +86,17 @@ fn set_of(value: &Value) -> Option<Command>
     let row = number_at(value, "row")?;
     let bits = bits_at(value, "bits")?;
     Some(Command::Set { plane, row, bits })
+}
+
+#[tactic(auto, unfolding(crate::specs::Commands::clear_of))]
+fn clear_of(value: &Value) -> Option<Command>
+    ensures { result ≡ clear_of (view value.now) }
+{
+    if !has_size(value, 2) {
+        return None;
+    }
+    let plane = number_at(value, "plane")?;
+    Some(Command::Clear { plane })
 }
 
 #[tactic(auto, unfolding(crate::specs::Commands::rule_of))]
@@ -102,6 +120,31 @@ fn rule_of(alloc: Global, value: &Value) -> Result<Option<Command>, AllocError>
         wiring,
         text: Text::new(String::from_str(alloc, text)?),
     }))
+}
+
+#[tactic(auto, unfolding(crate::specs::Commands::drop_of))]
+fn drop_of(alloc: Global, value: &Value) -> Result<Option<Command>, AllocError>
+    ensures { IfOk result (λ command. command ≡ drop_of (view value.now)) }
+{
+    if !has_size(value, 2) {
+        return Ok(None);
+    }
+    let Some(name) = text_at(value, "name") else {
+        return Ok(None);
+    };
+    Ok(Some(Command::Drop {
+        name: Text::new(String::from_str(alloc, name)?),
+    }))
+}
+
+#[tactic(auto, unfolding(crate::specs::Commands::rules_of))]
+fn rules_of(value: &Value) -> Option<Command>
+    ensures { result ≡ rules_of (view value.now) }
+{
+    if !has_size(value, 1) {
+        return None;
+    }
+    Some(Command::Rules)
 }
 
 #[tactic(auto, unfolding(crate::specs::Commands::cycle_of))]
@@ -160,4 +203,37 @@ fn side_of(value: &Value) -> Option<Command>
     }
     let side = number_at(value, "side")?;
     Some(Command::Side { side })
+}
+
+#[tactic(auto, unfolding(crate::specs::Commands::map_of))]
+fn map_of(value: &Value) -> Option<Command>
+    ensures { result ≡ map_of (view value.now) }
+{
+    if !has_size(value, 2) {
+        return None;
+    }
+    let colours = colours_at(value, "colours")?;
+    Some(Command::Map { colours })
+}
+
+#[tactic(auto, unfolding(crate::specs::Commands::colours_of))]
+fn colours_of(value: &Value) -> Option<Command>
+    ensures { result ≡ colours_of (view value.now) }
+{
+    if !has_size(value, 2) {
+        return None;
+    }
+    let row = number_at(value, "row")?;
+    Some(Command::Colours { row })
+}
+
+#[tactic(auto, unfolding(crate::specs::Commands::count_of))]
+fn count_of(value: &Value) -> Option<Command>
+    ensures { result ≡ count_of (view value.now) }
+{
+    if !has_size(value, 2) {
+        return None;
+    }
+    let mask = number_at(value, "mask")?;
+    Some(Command::Count { mask })
 }

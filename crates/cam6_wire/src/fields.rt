@@ -1,7 +1,8 @@
 //! What stands at a key of a JSON object.
-ghost use Rattle.std.specs.Prelude.{◌≡◌, ◌*◌, option_map};
-ghost use Rattle.serde_json.specs.View.{view};
+ghost use Rattle.std.specs.Prelude.{◌≡◌, ◌*◌, option_map, option_and_then};
+ghost use Rattle.serde_json.specs.View.{view, items_view};
 ghost use Rattle.cam6_wire.specs.Fields.{has_size, number_at, text_at, bits_of, bits_at};
+ghost use Rattle.cam6_wire.specs.Fields.{numbers_of, of_states, colours_at};
 ghost use Rattle.cam6_planes.specs.Side.{side_of};
 
 use cam6_machine::Bits;
@@ -22,6 +23,27 @@ pub(crate) fn number_at(value: &Value, key: &str) -> Option<u64>
     ensures { result ≡ number_at key.now (view value.now) }
 {
     value.get(key).and_then(Value::as_u64)
+}
+
+/// Sixteen whole numbers, a colour for each state.
+pub(crate) fn colours_at(value: &Value, key: &str) -> Option<[u64; 16]>
+    ensures { result ≡ colours_at key.now (view value.now) }
+{
+    let values = value.get(key).and_then(Value::as_array)?;
+    colours_of(values)
+}
+
+fn colours_of(values: &[Value]) -> Option<[u64; 16]>
+    ensures { result ≡ option_and_then of_states (numbers_of (items_view values.now)) }
+{
+    if values.len() != 16 {
+        return None;
+    }
+    let mut colours = [0; 16];
+    for state in 0..16 {
+        colours[state] = values[state].as_u64()?;
+    }
+    Some(colours)
 }
 
 pub(crate) fn text_at<'a>(value: &'a Value, key: &str) -> Option<&'a str>

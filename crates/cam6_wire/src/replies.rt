@@ -1,16 +1,23 @@
 //! Replies and the faults of lines as lines of JSON.
-ghost use Rattle.std.specs.Prelude.{◌≡◌, ◌≢◌, Some, IfOk, string_bytes};
+ghost use Rattle.std.specs.Prelude.{◌≡◌, ◌≢◌, ◌≤◌, Some, IfOk, string_bytes, length, map, take};
+ghost use Rattle.std.specs.List.{AllByRecursion};
 ghost use Rattle.std.specs.Str.{IsAscii};
-ghost use Rattle.serde_json.specs.Data.{array};
+ghost use Rattle.serde_json.specs.Data.{array, string, no_members};
 ghost use Rattle.serde_json.specs.Read.{read};
 ghost use Rattle.serde_json.specs.View.{view};
-ghost use Rattle.cam6_wire.specs.Replies.{texts, reply_data, reply_bytes, fault_bytes};
+ghost use Rattle.cam6_wire.specs.Replies.{texts, colour_digit, done, reply_data, reply_bytes};
+ghost use Rattle.cam6_wire.specs.Replies.{fault_bytes};
+ghost use Rattle.cam6_machine.specs.Limits.{max_colour};
+ghost use Rattle.cam6_view.specs.declared.colours.TheConstants.{COLOURS};
 
 use crate::faults::LineFault;
-use cam6_machine::{PlaneRows, Reply};
+use cam6_machine::{Names, PlaneRows, Reply, RowColours};
 use cam6_planes::NoMemory;
+use cam6_view::COLOURS;
 use serde_json::{Value, json};
 use std::alloc::{AllocError, Global};
+
+const HEX_DIGITS: [u8; 16] = *b"0123456789abcdef";
 
 /// The line that answers a command, without its LF.
 pub fn reply_text(alloc: Global, reply: &Reply) -> Result<String, NoMemory>
@@ -37,10 +44,17 @@ fn reply_value(alloc: Global, reply: &Reply) -> Result<Value, AllocError>
     ensures { IfOk result (λ value. view value ≡ reply_data reply.now) }
 {
     match reply {
-        Reply::Set => json!(in alloc; {"ok": "set"}),
-        Reply::Rule => json!(in alloc; {"ok": "rule"}),
-        Reply::Cycle => json!(in alloc; {"ok": "cycle"}),
-        Reply::Side => json!(in alloc; {"ok": "side"}),
+        Reply::Set => done(alloc, "set"),
+        Reply::Clear => done(alloc, "clear"),
+        Reply::Rule => done(alloc, "rule"),
+        Reply::Drop => done(alloc, "drop"),
+        Reply::Rules { names } => {
+            let names = names_value(alloc, names)?;
+            json!(in alloc; {"names": names, "ok": "rules"})
+        }
+        Reply::Cycle => done(alloc, "cycle"),
+        Reply::Side => done(alloc, "side"),
+        Reply::Map => done(alloc, "map"),
         Reply::Run { position } => json!(in alloc; {"ok": "run", "position": *position}),
         Reply::Row { bits } => {
             let bits = Value::try_from_str(alloc, digits(bits.as_slice()))?;
@@ -50,12 +64,24 @@ fn reply_value(alloc: Global, reply: &Reply) -> Result<Value, AllocError>
             let rows = rows_value(alloc, rows)?;
             json!(in alloc; {"ok": "plane", "rows": rows})
         }
+        Reply::Colours { colours } => {
+            let colours = colours_value(alloc, colours)?;
+            json!(in alloc; {"colours": colours, "ok": "colours"})
+        }
+        Reply::Count { count } => json!(in alloc; {"count": *count, "ok": "count"}),
         Reply::Fault(fault) => json!(in alloc; {"fault": fault.number()}),
         Reply::RuleText(fault) => { json!(in alloc; {"fault": fault.number, "token": fault.token}) }
         Reply::RuleStops { address, fault } => {
             json!(in alloc; {"address": *address, "fault": fault.number()})
         }
     }
+}
+
+/// The reply to a command of which nothing is told but that it is done.
+fn done(alloc: Global, word: &str) -> Result<Value, AllocError>
+    ensures { IfOk result (λ value. view value ≡ done word.now no_members) }
+{
+    json!(in alloc; {"ok": word})
 }
 
 fn rows_value(alloc: Global, rows: &PlaneRows) -> Result<Value, AllocError>
@@ -66,6 +92,39 @@ fn rows_value(alloc: Global, rows: &PlaneRows) -> Result<Value, AllocError>
         values.push(Value::try_from_str(alloc, digits(row.as_slice()))?)?;
     }
     Ok(Value::Array(values))
+}
+
+fn names_value(alloc: Global, names: &Names) -> Result<Value, AllocError>
+    ensures { IfOk result (λ value. view value ≡ array (texts names.now)) }
+{
+    let mut values = Vec::new(alloc);
+    for name in names.as_slice() {
+        values.push(Value::try_from_str(alloc, name.as_str())?)?;
+    }
+    Ok(Value::Array(values))
+}
+
+/// A hexadecimal digit for each colour.
+fn colours_value(alloc: Global, colours: &RowColours) -> Result<Value, AllocError>
+    ensures { IfOk result (λ value. view value ≡ string (map colour_digit colours.now)) }
+{
+    let colours = colours.as_slice();
+    let text = colour_digits(colours);
+    Value::try_from_str(alloc, digits(&text[..colours.len()]))
+}
+
+/// The digits of colours, from the front on.
+fn colour_digits(colours: &[u8]) -> [u8; COLOURS]
+    requires few { length colours.now ≤ COLOURS }
+    requires small { AllByRecursion (λ colour. colour ≤ max_colour) colours.now }
+    ensures digits { take (length colours.now) result ≡ map colour_digit colours.now }
+    ensures ascii { IsAscii (take (length colours.now) result) }
+{
+    let mut text = [0; COLOURS];
+    for x in 0..colours.len() {
+        text[x] = HEX_DIGITS[usize::from(colours[x])];
+    }
+    text
 }
 
 fn digits(row: &[u8]) -> &str

@@ -1,6 +1,6 @@
 -- How the code keeps rules and a cycle: rules in a map by name, each with its code, and entries
 -- with the places of their rules instead of the names.
-use Rattle.std.specs.Prelude.{◌≡◌, ℕ, suc, ◌<◌, Bool, false, ◌||◌, ◌==◌, List, [], ◌∷◌, map, length}
+use Rattle.std.specs.Prelude.{◌≡◌, ℕ, suc, ◌-◌, ◌<◌, nat_lt, Bool, false, ◌||◌, ◌==◌, List, [], ◌∷◌, map, length}
 use Rattle.std.specs.Prelude.{Option, Some, None, ⊤, String, string_bytes, if◌then◌else◌}
 use Rattle.std.specs.List.{slice_get, AllByRecursion}
 use Rattle.std.specs.Option.{option_map}
@@ -121,6 +121,19 @@ is_place place (Some other) = other == place
 -- whether an entry has the rule at this place
 abbrev pub uses_place : ℕ → Entry → Bool
 uses_place place entry = is_place place (place_in entry.a) || is_place place (place_in entry.b)
+
+-- a place once the rule at a place is gone: those behind it close up
+abbrev pub closed_up : ℕ → ℕ → ℕ
+closed_up place other = if nat_lt place other then other - 1 else other
+
+abbrev pub closed_half : ℕ → Option HalfRule → Option HalfRule
+closed_half place None = None
+closed_half place (Some rule) = Some (record rule { number = closed_up place rule.number })
+
+-- an entry then
+abbrev pub closed_entry : ℕ → Entry → Entry
+closed_entry place entry =
+    record entry { a = closed_half place entry.a; b = closed_half place entry.b }
 
 -- the rule of a half, if it has one, stands at its place, and is written for what the half says
 abbrev pub IsPlaced : List Rule → Option HalfRule → Type 0

@@ -1,0 +1,238 @@
+-- Rules after one was dropped: what held of them holds, and places and names still say the same.
+use Rattle.std.proofs.Common.{◌≡◌, ◌≤◌, ◌<◌, ◌-◌, ℕ, zero, suc, Bool, true, false, ◌||◌, ◌==◌, List}
+use Rattle.std.proofs.Common.{[], ◌∷◌, map, length, Option, Some, None, cond, refl, sym, ap, ◌∙◌}
+use Rattle.std.proofs.Common.{arith, subst, option_map, slice_get, nat_lt}
+use Rattle.std.specs.List.{AllByRecursion, list_any}
+use Rattle.std.specs.Str.{bytes_eq}
+use Rattle.std.proofs.lemmas.Bool.{lt-ltb, le-ltb, eq-eqb}
+use Rattle.std.proofs.lemmas.Map.Keys.{IsDistinct-head, IsDistinct-tail, IsDistinct-cons}
+use native.Mathlib.Decide.{dec_lt}
+use Rattle.cam6_wiring.specs.declared.names.Half.{Half}
+use Rattle.cam6_cycle.specs.declared.entries.Entry.{Entry}
+use Rattle.cam6_cycle.specs.declared.entries.HalfRule.{HalfRule}
+use Rattle.cam6_machine.specs.Rules.{Rule, rule_named}
+use Rattle.cam6_machine.specs.Effects.{without_rule}
+use Rattle.cam6_machine.specs.Always.{HaveOwnNames, IsNamed, IsEntry}
+use Rattle.cam6_machine.specs.Refusals.{is_name, uses}
+use Rattle.cam6_machine.specs.Internal.Places.{place_of, rule_at, name_of, place_in, is_place}
+use Rattle.cam6_machine.specs.Internal.Places.{uses_place, named_entry, named_entries, IsPlaced}
+use Rattle.cam6_machine.specs.Internal.Places.{ArePlaced, closed_up, closed_half, closed_entry}
+use Rattle.cam6_machine.specs.declared.commands.NamedEntry.{NamedEntry}
+use Rattle.cam6_machine.proofs.Naming.{names_of, same_bytes}
+
+neither : (a b : Bool) → (a || b) ≡ false → (a ≡ false) × (b ≡ false)
+neither true b e = cc e
+neither false b e = (refl, e)
+
+differ : (a b : ℕ) → (a == b) ≡ false → a ≡ b → ⊥
+differ a b e same = cc (e, eq-eqb a b same)
+
+pub length_without : (name : List ℕ) (rules : List Rule) →
+    length (without_rule name rules) ≤ length rules
+length_without name [] = omega arith
+length_without name (rule ∷ rules) =
+    by_test (bytes_eq name rule.name) (length_without name rules)
+  where
+    by_test : (b : Bool) → length (without_rule name rules) ≤ length rules →
+        length (cond b rules (rule ∷ without_rule name rules)) ≤ length (rule ∷ rules)
+    by_test true rest = omega arith
+    by_test false rest = omega (arith, rest)
+
+pub all_without : (Q : Rule → Type 0) (name : List ℕ) (rules : List Rule) →
+    AllByRecursion Q rules → AllByRecursion Q (without_rule name rules)
+all_without Q name [] all = tt
+all_without Q name (rule ∷ rules) all =
+    by_test (bytes_eq name rule.name) (all_without Q name rules all.1)
+  where
+    by_test : (b : Bool) → AllByRecursion Q (without_rule name rules) →
+        AllByRecursion Q (cond b rules (rule ∷ without_rule name rules))
+    by_test true rest = all.1
+    by_test false rest = (all.0, rest)
+
+names_without : (P : List ℕ → Type 0) (name : List ℕ) (rules : List Rule) →
+    AllByRecursion P (names_of rules) → AllByRecursion P (names_of (without_rule name rules))
+names_without P name [] all = tt
+names_without P name (rule ∷ rules) all =
+    by_test (bytes_eq name rule.name) (names_without P name rules all.1)
+  where
+    by_test : (b : Bool) → AllByRecursion P (names_of (without_rule name rules)) →
+        AllByRecursion P (names_of (cond b rules (rule ∷ without_rule name rules)))
+    by_test true rest = all.1
+    by_test false rest = (all.0, rest)
+
+pub own_without : (name : List ℕ) (rules : List Rule) → HaveOwnNames rules →
+    HaveOwnNames (without_rule name rules)
+own_without name [] own = own
+own_without name (rule ∷ rules) own =
+    by_test (bytes_eq name rule.name)
+    (own_without name rules (IsDistinct-tail bytes_eq rule.name (names_of rules) own))
+  where
+    by_test : (b : Bool) → HaveOwnNames (without_rule name rules) →
+        HaveOwnNames (cond b rules (rule ∷ without_rule name rules))
+    by_test true rest = IsDistinct-tail bytes_eq rule.name (names_of rules) own
+    by_test false rest =
+        IsDistinct-cons bytes_eq rule.name (names_of (without_rule name rules))
+        (names_without (λ other. bytes_eq rule.name other ≡ false) name rules
+        (IsDistinct-head bytes_eq rule.name (names_of rules) own))
+        rest
+
+-- another name's rule stays
+named_without : (name other : List ℕ) (rules : List Rule) → bytes_eq other name ≡ false →
+    rule_named other (without_rule name rules) ≡ rule_named other rules
+named_without name other [] apart = refl
+named_without name other (rule ∷ rules) apart =
+    by_test (bytes_eq name rule.name) refl (named_without name other rules apart)
+  where
+    by_test : (b : Bool) → bytes_eq name rule.name ≡ b →
+        rule_named other (without_rule name rules) ≡ rule_named other rules →
+        rule_named other (cond b rules (rule ∷ without_rule name rules))
+        ≡ cond (bytes_eq other rule.name) (Some rule) (rule_named other rules)
+    by_test true e rest =
+        let none : bytes_eq other rule.name ≡ false =
+        sym (ap (bytes_eq other) (same_bytes name rule.name e)) ∙ apart in
+        sym (ap (λ b. cond b (Some rule) (rule_named other rules)) none)
+    by_test false e rest = ap (λ o. cond (bytes_eq other rule.name) (Some rule) o) rest
+
+half_without : (name : List ℕ) (rules : List Rule) (half : Half) (o : Option (List ℕ)) →
+    is_name name o ≡ false → IsNamed rules half o → IsNamed (without_rule name rules) half o
+half_without name rules half None apart named = tt
+half_without name rules half (Some other) apart (rule, found, of_half) =
+    (rule, named_without name other rules apart ∙ found, of_half)
+
+-- the entries of a cycle that doesn't use it
+pub entries_without : (name : List ℕ) (rules : List Rule) (cycle : List NamedEntry) →
+    list_any (uses name) cycle ≡ false → AllByRecursion (IsEntry rules) cycle →
+    AllByRecursion (IsEntry (without_rule name rules)) cycle
+entries_without name rules [] unused are = tt
+entries_without name rules (entry ∷ cycle) unused are =
+    let (here, later) = neither (uses name entry) (list_any (uses name) cycle) unused in
+    let (a, b) = neither (is_name name entry.a) (is_name name entry.b) here in (
+      (
+        half_without name rules _ entry.a a are.0.0,
+        half_without name rules _ entry.b b are.0.1,
+        are.0.2,
+      ),
+      entries_without name rules cycle later are.1,
+    )
+
+-- places behind it, and before it
+behind : (place other : ℕ) → place < other → closed_up place other ≡ other - 1
+behind place other h = ap (λ b. cond b (other - 1) other) (lt-ltb place other h)
+
+before : (place other : ℕ) → other ≤ place → closed_up place other ≡ other
+before place other h = ap (λ b. cond b (other - 1) other) (le-ltb place other h)
+
+closed_up-suc : (place other : ℕ) → closed_up (suc place) (suc other) ≡ suc (closed_up place other)
+closed_up-suc place other =
+    elim (dec_lt place other) [
+      | Prim.yes lt ↦
+          behind (suc place) (suc other) (omega (arith, lt)) ∙ one_more other (omega (arith, lt)) ∙
+          sym (ap suc (behind place other lt))
+      | Prim.no ge ↦
+          before (suc place) (suc other) (omega (arith, ge)) ∙
+          sym (ap suc (before place other (omega (arith, ge))))
+    ]
+  where
+    one_more : (n : ℕ) → 0 < n → suc n - 1 ≡ suc (n - 1)
+    one_more n some = omega (arith, some)
+
+one_less : (n : ℕ) → suc n - 1 ≡ n
+one_less n = omega arith
+
+-- rules at other places stand where their places are closed up
+abbrev StandClosed : List ℕ → List Rule → Type 0
+StandClosed name rules =
+    (place other : ℕ) → place_of name rules ≡ Some place → (other ≡ place → ⊥) →
+    slice_get (without_rule name rules) (closed_up place other) ≡ slice_get rules other
+
+get_without : (name : List ℕ) (rules : List Rule) → StandClosed name rules
+get_without name [] place other found apart = cc found
+get_without name (rule ∷ rules) place other found apart =
+    by_test (bytes_eq name rule.name) other found apart
+    (λ p k here different. get_without name rules p k here different)
+  where
+    later : (p other : ℕ) → place_of name rules ≡ Some p → (other ≡ suc p → ⊥) → StandClosed name rules →
+        slice_get (rule ∷ without_rule name rules) (closed_up (suc p) other)
+        ≡ slice_get (rule ∷ rules) other
+    later p zero found apart rest =
+        ap (slice_get (rule ∷ without_rule name rules)) (before (suc p) zero (omega arith))
+    later p (suc other) found apart rest =
+        ap (slice_get (rule ∷ without_rule name rules)) (closed_up-suc p other) ∙
+        rest p other found (λ same. apart (ap suc same))
+
+    by_place : (o : Option ℕ) (other : ℕ) → place_of name rules ≡ o →
+        option_map suc o ≡ Some place → (other ≡ place → ⊥) → StandClosed name rules →
+        slice_get (rule ∷ without_rule name rules) (closed_up place other)
+        ≡ slice_get (rule ∷ rules) other
+    by_place None other e found apart rest = cc found
+    by_place (Some p) other e found apart rest =
+        let is : suc p ≡ place = cc found in
+        subst (λ place. slice_get (rule ∷ without_rule name rules) (closed_up place other)
+        ≡ slice_get (rule ∷ rules) other) is
+        (later p other e (λ same. apart (same ∙ is)) rest)
+
+    by_test : (b : Bool) (other : ℕ) →
+        cond b (Some 0) (option_map suc (place_of name rules)) ≡ Some place →
+        (other ≡ place → ⊥) → StandClosed name rules →
+        slice_get (cond b rules (rule ∷ without_rule name rules)) (closed_up place other)
+        ≡ slice_get (rule ∷ rules) other
+    by_test true zero found apart rest =
+        let is : 0 ≡ place = cc found in
+        absurd (apart is)
+    by_test true (suc other) found apart rest =
+        let is : 0 ≡ place = cc found in
+        subst (λ place. slice_get rules (closed_up place (suc other)) ≡ slice_get rules other) is
+        (ap (slice_get rules) (behind 0 (suc other) (omega arith) ∙ one_less other))
+    by_test false other found apart rest =
+        by_place (place_of name rules) other refl found apart rest
+
+module _ (name : List ℕ) (rules : List Rule) (place : ℕ) (found : place_of name rules ≡ Some place)
+  where
+    half_closed : (o : Option HalfRule) → is_place place (place_in o) ≡ false →
+        name_of (rule_at (without_rule name rules) (place_in (closed_half place o)))
+        ≡ name_of (rule_at rules (place_in o))
+    half_closed None apart = refl
+    half_closed (Some half) apart = ap name_of (get_without name rules place half.number found (differ half.number place apart))
+
+    -- the entries have the names that they had
+    pub names_closed : (cycle : List Entry) → list_any (uses_place place) cycle ≡ false →
+        named_entries (without_rule name rules) (map (closed_entry place) cycle)
+        ≡ named_entries rules cycle
+    names_closed [] unused = refl
+    names_closed (entry ∷ cycle) unused =
+        let (here, later) =
+        neither (uses_place place entry) (list_any (uses_place place) cycle) unused in
+        let (a, b) =
+        neither (is_place place (place_in entry.a)) (is_place place (place_in entry.b)) here in
+        let named = named_entry (without_rule name rules) (closed_entry place entry) in
+        let rest = named_entries (without_rule name rules) (map (closed_entry place) cycle) in
+        ap {B = List NamedEntry} (λ n. record named { a = n } ∷ rest) (half_closed entry.a a) ∙
+        ap {B = List NamedEntry}
+        (λ n. record (named_entry rules entry) { b = n } ∷ rest) (half_closed entry.b b) ∙
+        ap (λ l. named_entry rules entry ∷ l) (names_closed cycle later)
+
+    half_is_closed : (o : Option HalfRule) → is_place place (place_in o) ≡ false →
+        IsPlaced rules o → IsPlaced (without_rule name rules) (closed_half place o)
+    half_is_closed None apart placed = tt
+    half_is_closed (Some half) apart (rule, here, hood, minor) = (
+      rule,
+      get_without name rules place half.number found (differ half.number place apart) ∙ here,
+      hood,
+      minor,
+    )
+
+    -- and stand at their places
+    pub placed_closed : (cycle : List Entry) → list_any (uses_place place) cycle ≡ false →
+        ArePlaced rules cycle → ArePlaced (without_rule name rules) (map (closed_entry place) cycle)
+    placed_closed [] unused placed = tt
+    placed_closed (entry ∷ cycle) unused placed =
+        let (here, later) =
+        neither (uses_place place entry) (list_any (uses_place place) cycle) unused in
+        let (a, b) =
+        neither (is_place place (place_in entry.a)) (is_place place (place_in entry.b)) here in (
+          (
+            half_is_closed entry.a a placed.0.0,
+            half_is_closed entry.b b placed.0.1,
+          ),
+          placed_closed cycle later placed.1,
+        )

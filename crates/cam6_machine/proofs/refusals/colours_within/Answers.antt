@@ -1,0 +1,25 @@
+use Rattle.std.proofs.Common.{◌≡◌, ◌∙◌, ◌&&◌, Bool, true, length, nat_le, arith, ap}
+use Rattle.std.specs.List.{list_all}
+use Rattle.std.proofs.lemmas.Bool.{eq-eqb}
+use Rattle.std.proofs.lemmas.Grind.{same_number_lists, get_or_default_zero}
+use Rattle.std.proofs.lemmas.List.Sums.{list_all-from_AllPass}
+use Rattle.cam6_machine.specs.Limits.{max_colour, states}
+use Rattle.cam6_machine.specs.Refusals.{unless}
+use Rattle.cam6_machine.specs.declared.faults.Fault.TheVariants.{OutOfRange}
+use Rattle.cam6_machine.proofs.refusals.colours_within.Goals as goal
+
+pub returns-clause-colours : goal.returns-clause-colours
+returns-clause-colours c =
+    same_number_lists c.loop-state.kept c.args.colours.now (omega (arith, c.loop-state.invariant.long))
+    (λ i within. c.loop-state.invariant.same i (omega (arith, within, c.loop-state.invariant.long)))
+
+pub returns-clause-ok : goal.returns-clause-ok
+returns-clause-ok c =
+    let colours = c.args.colours.now in
+    let sixteen : length colours ≡ states = omega arith in
+    ap (λ (b : Bool). unless (b && list_all (λ colour. nat_le colour max_colour) colours) OutOfRange)
+    (eq-eqb (length colours) states sixteen) ∙
+    ap (λ (b : Bool). unless b OutOfRange)
+    (list_all-from_AllPass (λ colour. nat_le colour max_colour) colours
+    (λ k d within. ap (λ n. nat_le n max_colour) (get_or_default_zero colours k d within) ∙
+    c.loop-state.invariant.small k (omega (arith, within))))
