@@ -1,0 +1,12 @@
+-- Lemmas, in the order of reading.
+
+-- States of a block and their bits.
+pub mod States
+-- A map of states of which no two have one image takes each state.
+pub mod Pigeonhole
+-- A search of all states, which keeps the state of each image.
+pub mod Search
+-- The least state with an image.
+pub mod Preimages
+-- The lines that a place of a block shows.
+pub mod Lines

@@ -1,0 +1,13 @@
+use Rattle.std.proofs.Common.{◌∙◌, arith}
+use Rattle.cam6_block.proofs.Lines.{address_by_parts}
+use Rattle.cam6_block.proofs.places.place_address.Goals as goal
+
+pub returns-clause-address : goal.returns-clause-address
+returns-clause-address c =
+    let a = c.args in
+    omega (
+      arith,
+      c.from-block.ensures ∙ c.block_lines.ensures,
+      c.from-hood.ensures ∙ c.hood_lines.ensures.lines,
+      c.from-minor.ensures ∙ c.minor_lines.ensures.lines,
+    ) ∙ address_by_parts a.hood a.minor a.phase a.state a.place c.requires.blocks

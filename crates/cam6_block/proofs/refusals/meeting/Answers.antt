@@ -1,0 +1,23 @@
+use Rattle.std.proofs.Common.{◌∙◌, refl, arith}
+use Rattle.cam6_block.specs.BlockMaps.{by_table, block_map}
+use Rattle.cam6_block.proofs.Search.{none_kept, is_meeting, one_more, none_meet}
+use Rattle.cam6_block.proofs.refusals.meeting.Goals as goal
+
+pub loop-state-init : goal.loop-state-init
+loop-state-init c = none_kept _ _ refl refl
+
+pub returns-in-Some-clause-some : goal.returns-in-Some-clause-some
+returns-in-Some-clause-some c =
+    let a = c.args in
+    let now = c.loop-state in
+    is_meeting (block_map (by_table a.hood a.minor a.table.now) a.phase) now.state
+    c.from-image.result now.state_of_image now.invariant (c.from-image.ensures ∙ c.image.ensures)
+    c.in-Some.a c.loop-state-test.true c.in-Some.is
+
+pub loop-state-preserved : goal.loop-state-preserved
+loop-state-preserved c =
+    let a = c.args in
+    let now = c.loop-state in
+    one_more (block_map (by_table a.hood a.minor a.table.now) a.phase) now.state
+    c.from-image.result now.state_of_image now.invariant (c.from-image.ensures ∙ c.image.ensures)
+    (omega (arith, c.from-image.ensures, c.image.type_inv)) c.in-None.is

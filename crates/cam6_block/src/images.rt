@@ -1,0 +1,64 @@
+//! What a table makes of a block.
+ghost use Rattle.std.specs.Prelude.{◌≡◌, ◌<◌, [], ◌∷◌, true};
+ghost use Rattle.cam6_wiring.specs.Seen.{number_of};
+ghost use Rattle.cam6_wiring.specs.declared.names.Level.TheVariants.{Lower, Upper};
+ghost use Rattle.cam6_table.specs.NewBits.{bit_for};
+ghost use Rattle.cam6_block.specs.Blocks.{place_sees};
+ghost use Rattle.cam6_block.specs.BlockMaps.{by_table, block_map, is_margolus};
+ghost use Rattle.cam6_block.specs.declared.places.TheConstants.{PLACES};
+
+use crate::places::{PLACES, place_address};
+use cam6_table::Table;
+use cam6_wiring::{Hood, Minor, Phase};
+
+/// What becomes of a block's state.
+#[tactic(auto, unfolding(crate::specs::BlockMaps::block_map, crate::specs::Blocks::state_of))]
+pub(crate) fn image(table: &Table, hood: Hood, minor: Minor, phase: Phase, state: u8) -> u8
+    requires blocks { is_margolus hood ≡ true }
+    ensures { result ≡ block_map (by_table hood minor table.now) phase state }
+{
+    let upper_left = new_bits(table, hood, minor, phase, state, 0);
+    let upper_right = new_bits(table, hood, minor, phase, state, 1);
+    let lower_right = new_bits(table, hood, minor, phase, state, 2);
+    let lower_left = new_bits(table, hood, minor, phase, state, 3);
+    let lower_plane = lower_bit(upper_left)
+        + 2 * lower_bit(upper_right)
+        + 4 * lower_bit(lower_right)
+        + 8 * lower_bit(lower_left);
+    let upper_plane = upper_bit(upper_left)
+        + 2 * upper_bit(upper_right)
+        + 4 * upper_bit(lower_right)
+        + 8 * upper_bit(lower_left);
+    lower_plane + 16 * upper_plane
+}
+
+/// The entry at the address that a place shows.
+#[tactic(auto, unfolding(crate::specs::Blocks::place_address))]
+fn new_bits(
+    table: &Table,
+    hood: Hood,
+    minor: Minor,
+    phase: Phase,
+    state: u8,
+    place: u8,
+) -> u8
+    requires blocks { is_margolus hood ≡ true }
+    requires place { place < PLACES }
+    ensures { result ≡ by_table hood minor table.now (place_sees phase state place) }
+{
+    table.at(place_address(hood, minor, phase, state, place))
+}
+
+fn lower_bit(bits: u8) -> u8
+    ensures bit { result ≡ number_of (bit_for Lower bits ∷ []) }
+    ensures within { result < 2 }
+{
+    bits % 2
+}
+
+fn upper_bit(bits: u8) -> u8
+    ensures bit { result ≡ number_of (bit_for Upper bits ∷ []) }
+    ensures within { result < 2 }
+{
+    bits / 2 % 2
+}

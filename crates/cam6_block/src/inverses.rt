@@ -1,0 +1,78 @@
+//! The table that undoes what a table makes of blocks.
+ghost use Rattle.std.specs.Prelude.{◌≡◌, ◌<◌, ◌%◌, ℕ, true, IfOk, IfErr, OnErr, length};
+ghost use Rattle.std.specs.Prelude.{slice_index};
+ghost use Rattle.cam6_wiring.specs.declared.names.Phase.{Phase};
+ghost use Rattle.cam6_table.specs.Limits.{addresses};
+ghost use Rattle.cam6_block.specs.BlockMaps.{by_table, block_map, is_margolus};
+ghost use Rattle.cam6_block.specs.BlockMaps.{IsOneToOne, IsReversible};
+ghost use Rattle.cam6_block.specs.Inverted.{IsInverted};
+ghost use Rattle.cam6_block.specs.Refusals.{IsRefused};
+
+use crate::images::image;
+use crate::places::{PLACES, STATES, bits_at, is_margolus, place_address};
+use crate::refusals::{NotReversible, Pair, meeting};
+use cam6_table::{ENTRIES, Table};
+use cam6_wiring::{Hood, Minor, Phase};
+
+/// The phases, each at its number.
+const PHASES: [Phase; 4] = [Phase::P0, Phase::P1, Phase::P2, Phase::P3];
+
+/// Writes the table that undoes the blocks of `table`, or says why there is none; then `out` stays
+/// as it was. It takes no memory.
+pub fn invert(table: &Table, hood: Hood, minor: Minor, out: &mut Table) -> Result<(), NotReversible>
+    ensures inverted { IfOk result (λ _.
+        IsInverted (by_table hood minor table.now) hood minor out.new) }
+    ensures reversible { IfOk result (λ _.
+        IsReversible (by_table hood minor table.now) hood minor) }
+    ensures refused { IfErr result (λ cause.
+        IsRefused (by_table hood minor table.now) hood minor cause) }
+    ensures unchanged { OnErr result (out.new ≡ out.old) }
+{
+    if !is_margolus(hood) {
+        return Err(NotReversible::Hood);
+    }
+    if minor == Minor::Centers {
+        return Err(NotReversible::Centres);
+    }
+    for phase in PHASES {
+        if let Some(Pair { a, b }) = meeting(table, hood, minor, phase) {
+            return Err(NotReversible::Meeting { phase, a, b });
+        }
+    }
+    fill_hidden(out);
+    fill_shown(table, hood, minor, out);
+    Ok(())
+}
+
+/// Writes to each address its own two lowest bits.
+fn fill_hidden(out: &mut Table)
+    ensures whole { length out.new ≡ addresses }
+    ensures entries { (address : ℕ) → address < addresses →
+        slice_index out.new address ≡ address % 4 }
+{
+    for address in 0..ENTRIES {
+        out.put(address, (address % 4) as u8);
+    }
+}
+
+/// Writes to each address that a place shows the bits that the place had before.
+fn fill_shown(table: &Table, hood: Hood, minor: Minor, out: &mut Table)
+    requires blocks { is_margolus hood ≡ true }
+    requires one_to_one { (phase : Phase) →
+        IsOneToOne (block_map (by_table hood minor table.now) phase) }
+    requires whole { length out.old ≡ addresses }
+    requires hidden { (address : ℕ) → address < addresses →
+        slice_index out.old address ≡ address % 4 }
+    ensures { IsInverted (by_table hood minor table.now) hood minor out.new }
+{
+    for phase in PHASES {
+        for state in 0..STATES {
+            let state = state as u8;
+            let image = image(table, hood, minor, phase, state);
+            for place in 0..PLACES {
+                let address = place_address(hood, minor, phase, image, place);
+                out.put(address, bits_at(state, place));
+            }
+        }
+    }
+}

@@ -1,0 +1,34 @@
+//! Laws of blocks and of the tables that undo them. Each is the contract of a function that does
+//! nothing.
+ghost use Rattle.cam6_block.specs.Laws.{TrueTableHasTheBlockMap, TakesEach, PlacesAgree};
+ghost use Rattle.cam6_block.specs.Laws.{IsTheOnlyOne, InvertedTakesPreimages, InvertedUndoes};
+
+/// The true table of a rule makes of a block what the rule's words make of it.
+pub fn a_true_table_has_the_block_map()
+    ensures law { TrueTableHasTheBlockMap }
+{}
+
+/// A map of states of which no two have one image takes each state.
+pub fn one_to_one_takes_each_state()
+    ensures law { TakesEach }
+{}
+
+/// Two places that show one address take the same bits of what they were.
+pub fn places_that_show_one_address_agree()
+    ensures law { PlacesAgree }
+{}
+
+/// A table has one inverse.
+pub fn there_is_one_inverse()
+    ensures law { IsTheOnlyOne }
+{}
+
+/// The inverted table makes of each state the least one with this image.
+pub fn the_inverse_takes_preimages()
+    ensures law { InvertedTakesPreimages }
+{}
+
+/// The inverted table gives each block back.
+pub fn the_inverse_gives_blocks_back()
+    ensures law { InvertedUndoes }
+{}

@@ -1,0 +1,27 @@
+//! Blocks of the Margolus neighbourhoods, and the table that undoes them.
+//!
+//! Contract: a table makes of each state of a block another one, at each phase
+//! (`specs/BlockMaps.antt`). `invert` writes the table by which each place takes its bits of the
+//! state that the block was made from (`specs/Inverted.antt`), or says why there is none, and with
+//! which states (`specs/Refusals.antt`). It takes no memory. The laws: a true table has the block
+//! map of its rule; a map of states of which no two have one image takes each state; two places
+//! that show one address agree; there is one inverted table, and it gives each block back.
+//!
+//! So, of the rule `: R CW >PLN0 ;`, by which each cell takes what the next one clockwise was: the
+//! inverted table gives each cell what the next one counter-clockwise is. Of `: R CENTER CW AND
+//! >PLN0 ;` there is none, for at phase 0 the states 0 and 1 both become 0.
+//!
+//! Stands on: `cam6_wiring`, `cam6_forth` and `cam6_table`.
+//!
+//! Read next: `places`, what a place of a block sees; `images`; `refusals`; then `inverses`; and
+//! `laws`.
+#![tactic(auto)]
+
+mod images;
+mod inverses;
+pub mod laws;
+mod places;
+mod refusals;
+
+pub use inverses::invert;
+pub use refusals::NotReversible;
