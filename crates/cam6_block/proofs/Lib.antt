@@ -10,3 +10,11 @@ pub mod Search
 pub mod Preimages
 -- The lines that a place of a block shows.
 pub mod Lines
+-- Phases by their numbers.
+pub mod Phases
+-- What lines 8 to 11 tell of places.
+pub mod OtherLines
+-- Two places that show one address were two places with the same bits.
+pub mod Turned
+-- What inverted tables do, and that there is one.
+pub mod Undoing

@@ -62,13 +62,13 @@ none_too_many (suc m) f below one =
 
 -- a value is taken below n, or not
 pub found : (f : ℕ → ℕ) (t n : ℕ) →
-    ((s : ℕ) × ((s < n) × (f s ≡ t))) ⊎ ((s : ℕ) → s < n → f s ≢ t)
+    ((s : ℕ) × (s < n) × (f s ≡ t)) ⊎ ((s : ℕ) → s < n → f s ≢ t)
 found f t zero = inr (λ s h. absurd (omega arith))
 found f t (suc n) =
     elim (found f t n) [
-      | inl e ↦ inl (e.0, (omega (arith, e.1.0), e.1.1))
+      | inl e ↦ inl (e.0, omega (arith, e.1), e.2)
       | inr none ↦ elim (eqb_tells (f n) t) [
-        | inl e ↦ inl (n, (omega arith, e.1))
+        | inl e ↦ inl (n, omega arith, e.1)
         | inr e ↦ inr (λ s h. elim (dec_lt s n) [
           | Prim.yes k ↦ none s k
           | Prim.no k ↦ let same : s ≡ n = omega arith in λ p. e.1 (ap f (sym same) ∙ p)
@@ -89,7 +89,7 @@ with_value_at f n t i =
     ]
 
 pub takes_each_below : (n : ℕ) (f : ℕ → ℕ) → ((i : ℕ) → i < n → f i < n) → IsOneToOneBelow n f →
-    (t : ℕ) → t < n → (s : ℕ) × ((s < n) × (f s ≡ t))
+    (t : ℕ) → t < n → (s : ℕ) × (s < n) × (f s ≡ t)
 takes_each_below n f below one t h =
     elim (found f t n) [
       | inl e ↦ e

@@ -1,5 +1,5 @@
 -- The least state with an image, where no two have one.
-use Rattle.std.proofs.Common.{◌≡◌, ℕ, zero, suc, ◌+◌, ◌<◌, ◌≤◌, ◌==◌, Bool, true, false, ⊥}
+use Rattle.std.proofs.Common.{◌≡◌, ℕ, zero, suc, ◌+◌, ◌<◌, ◌≤◌, ◌==◌, Bool, true, false}
 use Rattle.std.proofs.Common.{if◌then◌else◌, refl, sym, ◌∙◌, ap, arith}
 use Rattle.std.proofs.lemmas.Bool.{eqb-true, eq-eqb}
 use native.Mathlib.Decide.{dec_lt}
@@ -39,6 +39,6 @@ preimage-lt read phase image h one =
     let from : (s : ℕ) × (s < 256) × (block_map read phase s ≡ image) =
     takes_each (block_map read phase) (λ s _. block_map-lt read phase s) one image h in
     let same : preimage (block_map read phase) image ≡ from.0 =
-    ap (preimage (block_map read phase)) (sym (from.1.1)) ∙
-    preimage_is (block_map read phase) (from.0) (from.1.0) one in
-    omega (arith, from.1.0)
+    ap (preimage (block_map read phase)) (sym (from.2)) ∙
+    preimage_is (block_map read phase) (from.0) (from.1) one in
+    omega (arith, from.1)
