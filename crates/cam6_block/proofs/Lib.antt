@@ -18,3 +18,5 @@ pub mod OtherLines
 pub mod Turned
 -- What inverted tables do, and that there is one.
 pub mod Undoing
+-- A table that is filled place by place.
+pub mod Filled

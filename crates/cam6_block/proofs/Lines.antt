@@ -1,18 +1,13 @@
 -- The lines that a place of a block shows: eight bits of the block, and four that its state has no
 -- part in.
-use Rattle.std.proofs.Common.{◌≡◌, ℕ, ◌+◌, ◌*◌, ◌%◌, ◌<◌, ◌==◌, ◌||◌, Bool, true, false, List, [], ◌∷◌}
-use Rattle.std.proofs.Common.{◌++◌, length, drop, map, Option, Some, None, refl, sym, ◌∙◌, ap, arith}
+use Rattle.std.proofs.Common.{◌≡◌, ℕ, ◌+◌, ◌*◌, Bool, true, false, List, [], ◌∷◌}
+use Rattle.std.proofs.Common.{◌++◌, length, drop, map, refl, sym, ◌∙◌, ap, arith}
 use Rattle.std.proofs.lemmas.List.{length-map}
 use Rattle.cam6_wiring.specs.Name.{phase_bit}
 use Rattle.cam6_wiring.specs.Seen.{number_of, line_shows, address_of}
-use Rattle.cam6_wiring.specs.Wiring.{names_of, hood_names, minor_names, block_names}
-use Rattle.cam6_wiring.specs.declared.names.Compass.TheVariants.{Center}
-use Rattle.cam6_wiring.specs.declared.names.Level.{Level}
+use Rattle.cam6_wiring.specs.Wiring.{names_of, hood_names, minor_names}
 use Rattle.cam6_wiring.specs.declared.names.Level.TheVariants.{Lower, Upper}
-use Rattle.cam6_wiring.specs.declared.names.Name.{Name}
-use Rattle.cam6_wiring.specs.declared.names.Name.TheVariants as name
 use Rattle.cam6_wiring.specs.declared.names.Phase.{Phase}
-use Rattle.cam6_wiring.specs.declared.names.Turn.TheVariants.{Clockwise, Opposite, CounterClockwise}
 use Rattle.cam6_wiring.specs.declared.wirings.Hood.{Hood}
 use Rattle.cam6_wiring.specs.declared.wirings.Hood.TheVariants.{Moore, VonNeumann, Margolus}
 use Rattle.cam6_wiring.specs.declared.wirings.Hood.TheVariants.{MargolusPhase, MargolusHorzVert}
@@ -20,7 +15,6 @@ use Rattle.cam6_wiring.specs.declared.wirings.Minor.{Minor}
 use Rattle.cam6_wiring.specs.declared.wirings.Minor.TheVariants.{Centers, Phases, HorzVert}
 use Rattle.cam6_block.specs.Blocks.{place_bit, place_sees, place_address, is_right, is_low}
 use Rattle.cam6_block.specs.BlockMaps.{is_margolus}
-use Rattle.cam6_block.proofs.States.{place_bit-mod}
 
 -- what a place shows on each line
 abbrev pub lines : Hood → Minor → Phase → ℕ → ℕ → List Bool
@@ -103,6 +97,9 @@ pub address_by_parts : (hood : Hood) (minor : Minor) (phase : Phase) (state plac
     ≡ place_address hood minor phase state place
 unfolding place_address address_of
 address_by_parts hood minor phase state place h =
-    omega (arith, other_number hood minor phase place h,
-    eight_more state place (other_lines hood minor phase place),
-    ap number_of (split hood minor phase state place h))
+    omega (
+      arith,
+      other_number hood minor phase place h,
+      eight_more state place (other_lines hood minor phase place),
+      ap number_of (split hood minor phase state place h),
+    )

@@ -165,7 +165,7 @@ module _ (read : Reading) (hood : Hood) (minor : Minor) (reads : IsReading hood 
       let v = block_map read other u in
       let d = i + (4 - j) in
       let all : block_lines t i ++ other_lines hood minor phase i
-          ≡ block_lines v j ++ other_lines hood minor other j =
+      ≡ block_lines v j ++ other_lines hood minor other j =
       sym (split hood minor phase t i blocks) ∙
       same_bits (lines hood minor phase t i) (lines hood minor other v j)
       (length-map (names_of hood minor) _ ∙ sym (length-map (names_of hood minor) _)) e ∙
@@ -174,7 +174,7 @@ module _ (read : Reading) (hood : Hood) (minor : Minor) (reads : IsReading hood 
       let rest : other_lines hood minor phase i ≡ other_lines hood minor other j =
       ap (drop 8) all in
       let turns : (k : ℕ) → k < 4 →
-          other_lines hood minor phase (d + k) ≡ other_lines hood minor other k =
+      other_lines hood minor phase (d + k) ≡ other_lines hood minor other k =
       λ k h. same_bits _ _ (other_long hood minor phase other (d + k) k)
       (other_turned hood minor phase other i j k hi hj h (ap number_of rest)) in
       let image : turned d t ≡ v =

@@ -1,17 +1,15 @@
 -- What inverted tables do, and that there is one.
-use Rattle.std.proofs.Common.{◌≡◌, ◌≢◌, inl, inr, ℕ, zero, suc, ◌+◌, ◌*◌, ◌/◌, ◌%◌, ◌<◌, List, []}
-use Rattle.std.proofs.Common.{◌∷◌, length, get_or, slice_index, Result, Ok, refl, sym, ◌∙◌, ap, arith}
+use Rattle.std.proofs.Common.{◌≡◌, ◌≢◌, inl, inr, ℕ, suc, ◌+◌, ◌*◌, ◌/◌, ◌%◌, ◌<◌, List, []}
+use Rattle.std.proofs.Common.{◌∷◌, length, get_or, refl, sym, ◌∙◌, ap, arith}
 use Rattle.std.proofs.Math.Path.{fun_ext}
 use Rattle.cam6_wiring.specs.Name.{phase_number}
-use Rattle.cam6_wiring.specs.Seen.{address_of}
 use Rattle.cam6_wiring.specs.declared.names.Phase.{Phase}
 use Rattle.cam6_wiring.specs.declared.wirings.Hood.{Hood}
 use Rattle.cam6_wiring.specs.declared.wirings.Minor.{Minor}
 use Rattle.cam6_table.specs.NewBits.{bit_for}
 use Rattle.cam6_table.proofs.TrueTables.{true_table}
-use Rattle.cam6_block.specs.Blocks.{place_bit, place_address, place_sees, bits_at}
-use Rattle.cam6_block.specs.BlockMaps.{Reading, by_table, by_words, made, block_map, preimage}
-use Rattle.cam6_block.specs.Inverted.{IsInverted}
+use Rattle.cam6_block.specs.Blocks.{place_address, bits_at}
+use Rattle.cam6_block.specs.BlockMaps.{Reading, by_table, made, block_map, preimage}
 use Rattle.cam6_block.specs.Laws.{TrueTableHasTheBlockMap, PlacesAgree, IsTheOnlyOne}
 use Rattle.cam6_block.specs.Laws.{InvertedTakesPreimages, InvertedUndoes}
 use Rattle.cam6_block.proofs.States.{place_bit-block_map, block_map-lt, same_state}
@@ -94,11 +92,13 @@ shown_once hood minor phase state place hs hk =
     let np : n / 1024 ≡ phase_number phase = omega arith in
     let ep : phase_at n ≡ phase = ap phase_of np ∙ phase_of-number phase in
     let es : state_at n ≡ state = omega arith in
-    let ek : place_at n ≡ place = omega arith in
-    (n, omega arith,
-    ap (λ p. place_address hood minor p (state_at n) (place_at n)) ep ∙
-    ap (λ s. place_address hood minor phase s (place_at n)) es ∙
-    ap (place_address hood minor phase state) ek)
+    let ek : place_at n ≡ place = omega arith in (
+      n,
+      omega arith,
+      ap (λ p. place_address hood minor p (state_at n) (place_at n)) ep ∙
+          ap (λ s. place_address hood minor phase s (place_at n)) es ∙
+          ap (place_address hood minor phase state) ek,
+    )
 
 pub only_one : IsTheOnlyOne
 only_one read hood minor first second is it =
@@ -114,7 +114,7 @@ only_one read hood minor first second is it =
           ap (λ i. get_or second i 0) (w.2)
       | inr none ↦
           let never : (phase : Phase) (state place : ℕ) → state < 256 → place < 4 →
-              place_address hood minor phase state place ≢ a =
+          place_address hood minor phase state place ≢ a =
           λ phase state place hs hk e.
           let there = shown_once hood minor phase state place hs hk in
           none there.0 there.1 (there.2 ∙ e) in

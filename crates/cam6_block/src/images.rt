@@ -14,7 +14,7 @@ use cam6_wiring::{Hood, Minor, Phase};
 /// What becomes of a block's state.
 #[tactic(auto, unfolding(crate::specs::BlockMaps::block_map, crate::specs::Blocks::state_of))]
 pub(crate) fn image(table: &Table, hood: Hood, minor: Minor, phase: Phase, state: u8) -> u8
-    requires blocks { is_margolus hood ≡ true }
+    requires margolus { is_margolus hood ≡ true }
     ensures { result ≡ block_map (by_table hood minor table.now) phase state }
 {
     let upper_left = new_bits(table, hood, minor, phase, state, 0);
@@ -34,15 +34,8 @@ pub(crate) fn image(table: &Table, hood: Hood, minor: Minor, phase: Phase, state
 
 /// The entry at the address that a place shows.
 #[tactic(auto, unfolding(crate::specs::Blocks::place_address))]
-fn new_bits(
-    table: &Table,
-    hood: Hood,
-    minor: Minor,
-    phase: Phase,
-    state: u8,
-    place: u8,
-) -> u8
-    requires blocks { is_margolus hood ≡ true }
+fn new_bits(table: &Table, hood: Hood, minor: Minor, phase: Phase, state: u8, place: u8) -> u8
+    requires margolus { is_margolus hood ≡ true }
     requires place { place < PLACES }
     ensures { result ≡ by_table hood minor table.now (place_sees phase state place) }
 {

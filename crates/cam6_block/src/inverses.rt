@@ -11,7 +11,7 @@ ghost use Rattle.cam6_block.specs.Refusals.{IsRefused};
 use crate::images::image;
 use crate::places::{PLACES, STATES, bits_at, is_margolus, place_address};
 use crate::refusals::{NotReversible, Pair, meeting};
-use cam6_table::{ENTRIES, Table};
+use cam6_table::Table;
 use cam6_wiring::{Hood, Minor, Phase};
 
 /// The phases, each at its number.
@@ -31,7 +31,7 @@ pub fn invert(table: &Table, hood: Hood, minor: Minor, out: &mut Table) -> Resul
     if !is_margolus(hood) {
         return Err(NotReversible::Hood);
     }
-    if minor == Minor::Centers {
+    if let Minor::Centers = minor {
         return Err(NotReversible::Centres);
     }
     for phase in PHASES {
@@ -50,14 +50,14 @@ fn fill_hidden(out: &mut Table)
     ensures entries { (address : ℕ) → address < addresses →
         slice_index out.new address ≡ address % 4 }
 {
-    for address in 0..ENTRIES {
+    for address in 0..out.len() {
         out.put(address, (address % 4) as u8);
     }
 }
 
 /// Writes to each address that a place shows the bits that the place had before.
 fn fill_shown(table: &Table, hood: Hood, minor: Minor, out: &mut Table)
-    requires blocks { is_margolus hood ≡ true }
+    requires margolus { is_margolus hood ≡ true }
     requires one_to_one { (phase : Phase) →
         IsOneToOne (block_map (by_table hood minor table.now) phase) }
     requires whole { length out.old ≡ addresses }

@@ -30,7 +30,7 @@ pub(crate) fn is_margolus(hood: Hood) -> bool
 /// block's state has no part in.
 #[tactic(auto, unfolding(crate::specs::Blocks::place_address))]
 pub(crate) fn place_address(hood: Hood, minor: Minor, phase: Phase, state: u8, place: u8) -> u16
-    requires blocks { is_margolus hood ≡ true }
+    requires margolus { is_margolus hood ≡ true }
     requires place { place < PLACES }
     ensures address { result ≡ place_address hood minor phase state place }
     ensures within { result < addresses }

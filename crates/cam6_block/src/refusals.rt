@@ -29,7 +29,7 @@ pub(crate) struct Pair {
 
 /// The first state that has the image of a smaller one, with that smaller one, if there is any.
 pub(crate) fn meeting(table: &Table, hood: Hood, minor: Minor, phase: Phase) -> Option<Pair>
-    requires blocks { is_margolus hood ≡ true }
+    requires margolus { is_margolus hood ≡ true }
     ensures some { IfSome result (λ pair.
         IsMeeting (block_map (by_table hood minor table.now) phase) pair.a pair.b) }
     ensures none { result ≡ None → IsOneToOne (block_map (by_table hood minor table.now) phase) }

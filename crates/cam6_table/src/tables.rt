@@ -35,7 +35,7 @@ impl Model for Table {
 }
 
 impl Table {
-    ghost use Rattle.std.specs.Prelude.{◌<◌, ℕ, slice_set};
+    ghost use Rattle.std.specs.Prelude.{◌<◌, ℕ, length, slice_set};
     ghost use Rattle.cam6_planes.specs.Row.{column_bit};
     ghost use Rattle.cam6_planes.specs.Side.{side_number};
     ghost use Rattle.cam6_wiring.specs.Lines.{address_in};
@@ -48,6 +48,15 @@ impl Table {
     {
         let entries = vec![in alloc; 0; usize::from(ENTRIES)]?;
         Ok(Table { entries })
+    }
+
+    /// How many entries there are; in every table as many.
+    pub fn len(&self) -> u16
+        ensures entries { result ≡ length self.now }
+        ensures whole { result ≡ ENTRIES }
+    {
+        prove!(self.entries.len() == usize::from(ENTRIES));
+        ENTRIES
     }
 
     /// The entry at an address.

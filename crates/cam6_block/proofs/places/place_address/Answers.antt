@@ -10,4 +10,4 @@ returns-clause-address c =
       c.from-block.ensures ∙ c.block_lines.ensures,
       c.from-hood.ensures ∙ c.hood_lines.ensures.lines,
       c.from-minor.ensures ∙ c.minor_lines.ensures.lines,
-    ) ∙ address_by_parts a.hood a.minor a.phase a.state a.place c.requires.blocks
+    ) ∙ address_by_parts a.hood a.minor a.phase a.state a.place c.requires.margolus
