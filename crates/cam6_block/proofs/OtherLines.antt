@@ -1,7 +1,7 @@
 -- What lines 8 to 11 tell of places: where two places show the same there, so do the places that
 -- lie equally far clockwise of them. A test of every case.
-use Rattle.std.proofs.Common.{◌≡◌, ℕ, zero, suc, ◌+◌, ◌-◌, ◌*◌, ◌/◌, ◌%◌, ◌<◌, ◌==◌, Bool, true, false}
-use Rattle.std.proofs.Common.{◌&&◌, ◌||◌, not, ◌∙◌, refl, sym, ap, arith}
+use Rattle.std.proofs.Common.{◌≡◌, ℕ, zero, suc, ◌+◌, ◌-◌, ◌*◌, ◌/◌, ◌%◌, ◌<◌, ◌==◌, Bool, true}
+use Rattle.std.proofs.Common.{false, ◌&&◌, ◌||◌, not, ◌∙◌, refl, sym, ap, arith}
 use Rattle.std.proofs.lemmas.Bool.{eqb-true, eq-eqb}
 use native.Mathlib.Decide.{dec_lt}
 use Rattle.cam6_wiring.specs.Name.{phase_number}

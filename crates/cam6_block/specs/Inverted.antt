@@ -15,7 +15,8 @@ IsHidden hood minor address =
 
 -- at the address that a place shows stand the bits that the place has in the least state with this
 -- image; an address that no place shows has its own two lowest bits
-pub record IsInverted (read : Reading) (hood : Hood) (minor : Minor) (entries : List ℕ) : Type 0 where
+pub record IsInverted (read : Reading) (hood : Hood) (minor : Minor) (entries : List ℕ) :
+    Type 0 where
   pub whole : length entries ≡ addresses
   pub shown : (phase : Phase) (state place : ℕ) → state < states → place < 4 →
       slice_index entries (place_address hood minor phase state place)
