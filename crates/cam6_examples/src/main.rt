@@ -5,15 +5,16 @@
 //! with `wrong_` has one answer that is wrong on purpose: what is printed of it shows that answers
 //! are compared. The program makes no claim of its own beyond being safe.
 //!
-//! Stands on: `cam6_session` and all below it.
+//! Stands on: `cam6_session` and all below it, and `cam6_block`.
 //!
 //! Read next: `data/`, the examples; `examples`, how their files are read; `ways`, how they are
-//! played; then `sessions`, `rules` and `stacks`.
+//! played; then `sessions`, `rules`, `inverses` and `stacks`.
 #![tactic(auto)]
 
 mod command_lines;
 mod examples;
 mod faults;
+mod inverses;
 mod repeats;
 mod rows;
 mod rules;
@@ -86,6 +87,8 @@ fn played(alloc: Global, part: &Part) -> io::Result<Vec<Vec<u8>>> {
             rules::entries(alloc, *wiring, addresses.as_slice(), sent)?
         }
         Way::Tables(wiring) => rules::tables(alloc, *wiring, sent)?,
+        Way::Inverses(wiring) => inverses::inverses(alloc, *wiring, sent)?,
+        Way::InversesTwice(wiring) => inverses::inverses_twice(alloc, *wiring, sent)?,
         Way::Stacks => stacks::stacks(alloc, sent)?,
     };
     let mut all = Vec::new(alloc);

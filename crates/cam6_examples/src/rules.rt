@@ -137,27 +137,39 @@ pub fn tables(alloc: Global, wiring: Wiring, sent: &[Sent]) -> io::Result<Vec<u8
     let mut answers = Vec::new(alloc);
     let mut table = Table::blank(alloc).map_err(|_| no_memory())?;
     for text in sent {
-        let rule = match read_rule(alloc, wiring, text.bytes.as_slice())? {
-            Ok(rule) => rule,
-            Err(fault) => {
-                add_line(&mut answers, text_fault(alloc, fault)?.as_str())?;
-                continue;
-            }
-        };
-        let code = Code::of(alloc, &rule).map_err(|_| no_memory())?;
-        match fill(&code, &mut table) {
+        match fill_by_text(alloc, wiring, text, &mut table)? {
             Ok(()) => add_table(&mut answers, &table)?,
-            Err((address, fault)) => {
-                let number = fault.number();
-                let stop = format!(in alloc; r#"{{"address":{address},"fault":{number}}}"#)?;
-                add_line(&mut answers, stop.as_str())?;
-            }
+            Err(fault) => add_line(&mut answers, fault.as_str())?,
         }
     }
     Ok(answers)
 }
 
-fn add_table(answers: &mut Vec<u8>, table: &Table) -> io::Result<()> {
+/// Makes the table that of a rule's text, or tells the text's fault, or the least address at which
+/// the rule stops.
+pub fn fill_by_text(
+    alloc: Global,
+    wiring: Wiring,
+    text: &Sent,
+    table: &mut Table,
+) -> io::Result<Result<(), String>> {
+    let rule = match read_rule(alloc, wiring, text.bytes.as_slice())? {
+        Ok(rule) => rule,
+        Err(fault) => return Ok(Err(text_fault(alloc, fault)?)),
+    };
+    let code = Code::of(alloc, &rule).map_err(|_| no_memory())?;
+    match fill(&code, table) {
+        Ok(()) => Ok(Ok(())),
+        Err((address, fault)) => {
+            let number = fault.number();
+            let stop = format!(in alloc; r#"{{"address":{address},"fault":{number}}}"#)?;
+            Ok(Err(stop))
+        }
+    }
+}
+
+/// Adds a table's entries, 64 in a line.
+pub fn add_table(answers: &mut Vec<u8>, table: &Table) -> io::Result<()> {
     for address in 0..ENTRIES {
         answers.push(b"0123"[usize::from(table.at(address) & 3)])?;
         if address % LINE == LINE - 1 {

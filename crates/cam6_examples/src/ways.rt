@@ -22,6 +22,10 @@ pub enum Way {
     Entries(Wiring, Vec<u16>),
     /// Each rule's whole table, or the least address at which it stops.
     Tables(Wiring),
+    /// The table that undoes each rule's table, or why there is none.
+    Inverses(Wiring),
+    /// The table that undoes the one which undoes each rule's.
+    InversesTwice(Wiring),
     /// Words of a body: what they leave on the stack, the top value last.
     Stacks,
 }
@@ -37,6 +41,10 @@ impl Way {
             ("texts", wiring) => Ok(Way::Texts(wiring_of(wiring)?)),
             ("rules", wiring) => Ok(Way::Rules(wiring_of(wiring)?)),
             ("tables", wiring) => Ok(Way::Tables(wiring_of(wiring)?)),
+            ("inverses", rest) => match rest.strip_prefix("twice ") {
+                Some(wiring) => Ok(Way::InversesTwice(wiring_of(wiring)?)),
+                None => Ok(Way::Inverses(wiring_of(rest)?)),
+            },
             ("entries", rest) => {
                 let (wiring, addresses) = rest.split_once(" at ").ok_or(Unplayable::Unread)?;
                 let addresses = addresses_of(alloc, addresses)?;

@@ -1,0 +1,80 @@
+//! Tables that undo those of rules.
+
+use crate::examples::Sent;
+use crate::rules::{add_table, fill_by_text};
+use crate::sessions::{add_line, no_memory};
+use cam6_block::{NotReversible, invert};
+use cam6_table::Table;
+use cam6_wiring::Wiring;
+use std::alloc::Global;
+use std::io;
+
+/// The table that undoes each rule's, in lines of 64 entries, or why there is none.
+pub fn inverses(alloc: Global, wiring: Wiring, sent: &[Sent]) -> io::Result<Vec<u8>> {
+    let mut answers = Vec::new(alloc);
+    let mut table = Table::blank(alloc).map_err(|_| no_memory())?;
+    let mut inverse = Table::blank(alloc).map_err(|_| no_memory())?;
+    for text in sent {
+        match inverse_of_text(alloc, wiring, text, &mut table, &mut inverse)? {
+            Ok(()) => add_table(&mut answers, &inverse)?,
+            Err(cause) => add_line(&mut answers, cause.as_str())?,
+        }
+    }
+    Ok(answers)
+}
+
+/// The table that undoes the one which undoes each rule's, or why there is none.
+pub fn inverses_twice(alloc: Global, wiring: Wiring, sent: &[Sent]) -> io::Result<Vec<u8>> {
+    let mut answers = Vec::new(alloc);
+    let mut table = Table::blank(alloc).map_err(|_| no_memory())?;
+    let mut inverse = Table::blank(alloc).map_err(|_| no_memory())?;
+    for text in sent {
+        let first = inverse_of_text(alloc, wiring, text, &mut table, &mut inverse)?;
+        let second = match first {
+            Ok(()) => inverse_of(alloc, wiring, &inverse, &mut table)?,
+            Err(cause) => Err(cause),
+        };
+        match second {
+            Ok(()) => add_table(&mut answers, &table)?,
+            Err(cause) => add_line(&mut answers, cause.as_str())?,
+        }
+    }
+    Ok(answers)
+}
+
+/// Fills the table of a rule's text, and the one that undoes it.
+fn inverse_of_text(
+    alloc: Global,
+    wiring: Wiring,
+    text: &Sent,
+    table: &mut Table,
+    inverse: &mut Table,
+) -> io::Result<Result<(), String>> {
+    match fill_by_text(alloc, wiring, text, table)? {
+        Ok(()) => inverse_of(alloc, wiring, table, inverse),
+        Err(fault) => Ok(Err(fault)),
+    }
+}
+
+fn inverse_of(
+    alloc: Global,
+    wiring: Wiring,
+    table: &Table,
+    inverse: &mut Table,
+) -> io::Result<Result<(), String>> {
+    match invert(table, wiring.hood, wiring.minor, inverse) {
+        Ok(()) => Ok(Ok(())),
+        Err(cause) => Ok(Err(cause_text(alloc, cause)?)),
+    }
+}
+
+fn cause_text(alloc: Global, cause: NotReversible) -> io::Result<String> {
+    match cause {
+        NotReversible::Hood => Ok(String::from_str(alloc, "hood")?),
+        NotReversible::Centres => Ok(String::from_str(alloc, "centres")?),
+        NotReversible::Meeting { phase, a, b } => {
+            let number = phase.number();
+            Ok(format!(in alloc; "meeting at phase {number} of {a} and {b}")?)
+        }
+    }
+}
