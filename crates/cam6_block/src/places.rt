@@ -35,10 +35,10 @@ pub(crate) fn place_address(hood: Hood, minor: Minor, phase: Phase, state: u8, p
     ensures address { result ≡ place_address hood minor phase state place }
     ensures within { result < addresses }
 {
-    let block = u16::from(block_lines(state, place));
-    let hood = u16::from(hood_lines(hood, phase, place));
-    let minor = u16::from(minor_lines(minor, phase, place));
-    block + 256 * hood + 1024 * minor
+    let first_eight = u16::from(block_lines(state, place));
+    let next_two = u16::from(hood_lines(hood, phase, place));
+    let last_two = u16::from(minor_lines(minor, phase, place));
+    first_eight + 256 * next_two + 1024 * last_two
 }
 
 /// A place's two bits, as a table has them.

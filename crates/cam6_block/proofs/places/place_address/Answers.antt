@@ -7,7 +7,7 @@ returns-clause-address c =
     let a = c.args in
     omega (
       arith,
-      c.from-block.ensures ∙ c.block_lines.ensures,
-      c.from-hood.ensures ∙ c.hood_lines.ensures.lines,
-      c.from-minor.ensures ∙ c.minor_lines.ensures.lines,
+      c.from-first_eight.ensures ∙ c.block_lines.ensures,
+      c.from-next_two.ensures ∙ c.hood_lines.ensures.lines,
+      c.from-last_two.ensures ∙ c.minor_lines.ensures.lines,
     ) ∙ address_by_parts a.hood a.minor a.phase a.state a.place c.requires.margolus
