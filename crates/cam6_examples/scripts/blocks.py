@@ -295,7 +295,7 @@ REFUSED = [
         ": R CENTER 0= - >PLN0 ;",
         '{"address":0,"fault":40}',
     ),
-    ("", "A N/MARG &/PHASES", ": R NORTH >PLN0 ;", '{"fault":20,"token":2}'),
+    ("", "A N/MARG &/PHASES", ": R NORTH >PLN0 ;", '{"fault":20,"token":3}'),
 ]
 
 
