@@ -1,5 +1,5 @@
 -- What follows of blocks and of the tables that undo them.
-use Rattle.std.specs.Prelude.{◌≡◌, ◌<◌, ℕ, List}
+use Rattle.std.specs.Prelude.{◌≡◌, ◌<◌, ℕ, List, Some, None}
 use Rattle.cam6_wiring.specs.declared.names.Phase.{Phase}
 use Rattle.cam6_wiring.specs.declared.wirings.Hood.{Hood}
 use Rattle.cam6_wiring.specs.declared.wirings.Minor.{Minor}
@@ -9,7 +9,9 @@ use Rattle.cam6_table.specs.Tables.{IsTrueTable}
 use Rattle.cam6_block.specs.Blocks.{states, bits_at, place_address}
 use Rattle.cam6_block.specs.BlockMaps.{Reading, by_table, by_words, block_map, preimage}
 use Rattle.cam6_block.specs.BlockMaps.{IsOneToOne, IsReversible}
+use Rattle.cam6_block.specs.Refusals.{IsRefused, cause_of}
 use Rattle.cam6_block.specs.Inverted.{IsInverted}
+use Rattle.cam6_block.specs.declared.refusals.NotReversible.{NotReversible}
 
 -- the true table of a rule makes of a block what the rule's words make of it
 abbrev pub TrueTableHasTheBlockMap : Type 0
@@ -59,3 +61,13 @@ InvertedUndoes =
     let read = by_table hood minor entries in
     IsReversible read hood minor → IsInverted read hood minor inverted → state < states →
     block_map (by_table hood minor inverted) phase (block_map read phase state) ≡ state
+
+-- what is refused is refused for its cause, and what is reversible has none; what has none is
+-- reversible
+abbrev pub CauseIsFound : Type 0
+CauseIsFound =
+    (read : Reading) (hood : Hood) (minor : Minor) →
+    ((cause : NotReversible) → IsRefused read hood minor cause →
+    cause_of read hood minor ≡ Some cause) ×
+    (IsReversible read hood minor → cause_of read hood minor ≡ None) ×
+    (cause_of read hood minor ≡ None → IsReversible read hood minor)

@@ -1,12 +1,15 @@
 -- Why a table can't be inverted.
-use Rattle.std.specs.Prelude.{◌≡◌, ◌≢◌, ◌<◌, ℕ, true, false}
+use Rattle.std.specs.Prelude.{◌≡◌, ◌≢◌, ◌<◌, ℕ, Bool, true, false, nat_lt}
+use Rattle.std.specs.Prelude.{Option, Some, None, if◌then◌else◌}
 use Rattle.cam6_wiring.specs.Name.{phase_number}
 use Rattle.cam6_wiring.specs.declared.names.Phase.{Phase}
+use Rattle.cam6_wiring.specs.declared.names.Phase.TheVariants.{P0, P1, P2, P3}
 use Rattle.cam6_wiring.specs.declared.wirings.Hood.{Hood}
 use Rattle.cam6_wiring.specs.declared.wirings.Minor.{Minor}
-use Rattle.cam6_wiring.specs.declared.wirings.Minor.TheVariants.{Centers}
+use Rattle.cam6_wiring.specs.declared.wirings.Minor.TheVariants.{Centers, Phases, HorzVert}
 use Rattle.cam6_block.specs.Blocks.{states}
-use Rattle.cam6_block.specs.BlockMaps.{Reading, block_map, IsOneToOne, is_margolus}
+use Rattle.cam6_block.specs.BlockMaps.{Reading, block_map, preimage, first_from}
+use Rattle.cam6_block.specs.BlockMaps.{IsOneToOne, is_margolus}
 use Rattle.cam6_block.specs.declared.refusals.NotReversible.{NotReversible}
 use Rattle.cam6_block.specs.declared.refusals.NotReversible.TheVariants as not_reversible
 
@@ -27,3 +30,36 @@ IsRefused read hood minor (not_reversible.Meeting phase a b) =
     × ((before : Phase) → phase_number before < phase_number phase →
     IsOneToOne (block_map read before))
     × IsMeeting (block_map read phase) a b
+
+-- whether a smaller state has the same image
+abbrev pub has_met : (ℕ → ℕ) → ℕ → Bool
+has_met f state = nat_lt (preimage f (f state)) state
+
+-- the least state of which this is so, behind the smaller one with its image, if there is any
+unfoldable pub meeting_of : (ℕ → ℕ) → Option (ℕ × ℕ)
+meeting_of f =
+    let b = first_from (has_met f) states 0 in
+    if nat_lt b states then Some (preimage f (f b), b) else None
+
+-- the meeting at a phase, or else the later cause
+abbrev pub or_later : Phase → Option (ℕ × ℕ) → Option NotReversible → Option NotReversible
+or_later phase None later = later
+or_later phase (Some pair) later = Some (not_reversible.Meeting phase pair.0 pair.1)
+
+-- the meeting at the least phase, if there is any
+abbrev pub first_meeting : Reading → Option NotReversible
+first_meeting read =
+    or_later P0 (meeting_of (block_map read P0)) (or_later P1 (meeting_of (block_map read P1))
+    (or_later P2 (meeting_of (block_map read P2)) (or_later P3 (meeting_of (block_map read P3))
+    None)))
+
+-- the other half's centres, or else the later cause
+abbrev pub centres_or : Minor → Option NotReversible → Option NotReversible
+centres_or Centers later = Some not_reversible.Centres
+centres_or Phases later = later
+centres_or HorzVert later = later
+
+-- the cause, if there is one
+abbrev pub cause_of : Reading → Hood → Minor → Option NotReversible
+cause_of read hood minor =
+    if is_margolus hood then centres_or minor (first_meeting read) else Some not_reversible.Hood

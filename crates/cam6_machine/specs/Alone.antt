@@ -1,12 +1,12 @@
 -- The machine alone: what it replies to each command, and what it then is.
 use Rattle.std.specs.Prelude.{ℕ, zero, suc, List, [], ◌∷◌, Option, Some, None}
+use Rattle.cam6_cycle.specs.declared.tables.Direction.{Direction}
+use Rattle.cam6_cycle.specs.declared.tables.Direction.TheVariants.{Forward, Backward}
 use Rattle.cam6_machine.specs.Machine.{Machine}
 use Rattle.cam6_machine.specs.Refusals.{refusal}
 use Rattle.cam6_machine.specs.Effects.{accepted_reply, effect}
 use Rattle.cam6_machine.specs.declared.commands.Command.{Command}
-use Rattle.cam6_machine.specs.declared.commands.Command.TheVariants.{Run}
-use Rattle.cam6_machine.specs.declared.replies.Direction.{Direction}
-use Rattle.cam6_machine.specs.declared.replies.Direction.TheVariants.{Forward}
+use Rattle.cam6_machine.specs.declared.commands.Command.TheVariants.{Run, Back}
 use Rattle.cam6_machine.specs.declared.replies.Reply.{Reply}
 
 -- the first where there is a refusal, and else the second
@@ -32,15 +32,18 @@ abbrev pub after_all : Machine → List Command → Machine
 after_all m [] = m
 after_all m (c ∷ later) = after_all (after m c) later
 
-abbrev pub some_steps : ℕ → Option (ℕ × Direction)
-some_steps zero = None
-some_steps (suc n) = Some (suc n, Forward)
+-- so many steps in a direction, if it is one at least
+abbrev pub some_steps : ℕ → Direction → Option (ℕ × Direction)
+some_steps zero direction = None
+some_steps (suc n) direction = Some (suc n, direction)
 
 -- the steps that a command does, and their direction, if it does any
 abbrev pub work_of : Machine → Command → Option (ℕ × Direction)
-work_of m (Run n) = if_refused (refusal m (Run n)) (λ r. None) (some_steps n)
+work_of m (Run n) = if_refused (refusal m (Run n)) (λ r. None) (some_steps n Forward)
+work_of m (Back n) = if_refused (refusal m (Back n)) (λ r. None) (some_steps n Backward)
 work_of m c = None
 
 -- the command of which so many steps are the work
 abbrev pub command_of : ℕ → Direction → Command
 command_of n Forward = Run n
+command_of n Backward = Back n

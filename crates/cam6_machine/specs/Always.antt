@@ -6,6 +6,7 @@ use Rattle.std.specs.Str.{bytes_eq}
 use Rattle.cam6_wiring.specs.declared.names.Half.{Half}
 use Rattle.cam6_wiring.specs.declared.names.Half.TheVariants.{A, B}
 use Rattle.cam6_planes.specs.Side.{side_number}
+use Rattle.cam6_planes.specs.Cells.{torus}
 use Rattle.cam6_machine.specs.Limits.{max_rules, max_entries, states, max_colour}
 use Rattle.cam6_machine.specs.Rules.{Rule, rule_named, is_rule_name}
 use Rattle.cam6_machine.specs.Refusals.{words_refusal}
@@ -31,11 +32,12 @@ abbrev pub IsPosition : List NamedEntry → ℕ → Type 0
 IsPosition [] position = position ≡ 0
 IsPosition (entry ∷ cycle) position = position < length (entry ∷ cycle)
 
--- a side within the limit; a few rules with rule names of their own, the texts of which have no
+-- a side within the limit, and planes of it; a few rules with rule names of their own, the texts of which have no
 -- fault and stop nowhere; a few entries, and a position among them; and a colour for each state of
 -- a cell
 pub record IsMachine (m : Machine) : Type 0 where
   pub within : side_number m.side ≤ side_number m.limit
+  pub planes : torus (side_number m.side) m.planes ≡ m.planes
   pub few : length m.rules ≤ max_rules
   pub names : AllByRecursion (λ rule. is_rule_name rule.name ≡ true) m.rules
   pub own : HaveOwnNames m.rules

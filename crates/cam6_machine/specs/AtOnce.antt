@@ -1,12 +1,12 @@
 -- What a machine says of a command at once: a reply, or that there are steps to do.
 use Rattle.std.specs.Prelude.{◌≡◌, ℕ, ◌≤◌, Bool, true, false, Option, Some, None, ⊤}
+use Rattle.cam6_cycle.specs.declared.tables.Direction.{Direction}
 use Rattle.cam6_machine.specs.Stored.{StoredMachine}
 use Rattle.cam6_machine.specs.Machine.{Machine}
 use Rattle.cam6_machine.specs.Refusals.{refusal}
 use Rattle.cam6_machine.specs.Alone.{reply as reply_to, after, command_of}
 use Rattle.cam6_machine.specs.declared.commands.Command.{Command}
 use Rattle.cam6_machine.specs.declared.commands.Command.TheVariants as command
-use Rattle.cam6_machine.specs.declared.replies.Direction.{Direction}
 use Rattle.cam6_machine.specs.declared.replies.Now.{Now}
 use Rattle.cam6_machine.specs.declared.replies.Now.TheVariants as now
 use Rattle.cam6_machine.specs.declared.replies.Reply.{Reply}
@@ -39,6 +39,7 @@ IsLeftBy reply.Cycle old new = new ≡ record old { cycle = new.cycle; position 
 IsLeftBy reply.Side old new = new ≡ record old { planes = new.planes; position = 0 }
 IsLeftBy reply.Map old new = new ≡ record old { colours = new.colours }
 IsLeftBy (reply.Run position) old new = new ≡ old
+IsLeftBy (reply.Back position) old new = new ≡ old
 IsLeftBy (reply.Row bits) old new = new ≡ old
 IsLeftBy (reply.Plane rows) old new = new ≡ old
 IsLeftBy (reply.Colours colours) old new = new ≡ old
@@ -46,6 +47,7 @@ IsLeftBy (reply.Count count) old new = new ≡ old
 IsLeftBy (reply.Fault fault) old new = new ≡ old
 IsLeftBy (reply.RuleText fault) old new = new ≡ old
 IsLeftBy (reply.RuleStops address fault) old new = new ≡ old
+IsLeftBy (reply.NotReversible entry half cause) old new = new ≡ old
 
 -- the same of what is said at once; where steps are left, nothing is done yet
 abbrev pub Leaves : Now → StoredMachine → StoredMachine → Type 0
@@ -62,6 +64,7 @@ may_want_memory (command.Drop name) = false
 may_want_memory command.Rules = true
 may_want_memory (command.Cycle entries) = false
 may_want_memory (command.Run n) = false
+may_want_memory (command.Back n) = false
 may_want_memory (command.Row plane row) = false
 may_want_memory (command.Plane plane) = true
 may_want_memory (command.Side n) = false

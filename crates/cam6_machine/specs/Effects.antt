@@ -8,11 +8,12 @@ use Rattle.cam6_planes.specs.declared.sides.Side.{Side}
 use Rattle.cam6_planes.specs.Cells.{Cells, no_cells, with_row, without_plane}
 use Rattle.cam6_view.specs.States.{row_colours, count_of}
 use Rattle.cam6_machine.specs.Rules.{Rule}
-use Rattle.cam6_machine.specs.Machine.{Machine, steps}
+use Rattle.cam6_machine.specs.Machine.{Machine, steps, unsteps}
 use Rattle.cam6_machine.specs.declared.commands.Command.{Command}
 use Rattle.cam6_machine.specs.declared.commands.Command.TheVariants.{Set, Rule as SetRule}
-use Rattle.cam6_machine.specs.declared.commands.Command.TheVariants.{Cycle, Run, Row, Plane}
-use Rattle.cam6_machine.specs.declared.commands.Command.TheVariants.{Side as SetSide, Map, Colours, Count}
+use Rattle.cam6_machine.specs.declared.commands.Command.TheVariants.{Cycle, Run, Back, Row}
+use Rattle.cam6_machine.specs.declared.commands.Command.TheVariants.{Plane, Side as SetSide, Map}
+use Rattle.cam6_machine.specs.declared.commands.Command.TheVariants.{Colours, Count}
 use Rattle.cam6_machine.specs.declared.commands.Command.TheVariants.{Clear, Drop as DropRule, Rules}
 use Rattle.cam6_machine.specs.declared.replies.Reply.{Reply}
 use Rattle.cam6_machine.specs.declared.replies.Reply.TheVariants as reply
@@ -49,6 +50,7 @@ accepted_reply m (DropRule name) = reply.Drop
 accepted_reply m Rules = reply.Rules (map (λ rule. rule.name) m.rules)
 accepted_reply m (Cycle entries) = reply.Cycle
 accepted_reply m (Run n) = reply.Run (steps n m).position
+accepted_reply m (Back n) = reply.Back (unsteps n m).position
 accepted_reply m (Row plane row) =
     reply.Row (row_text (side_number m.side / 4) (λ x. m.planes plane x row))
 accepted_reply m (Plane plane) =
@@ -70,6 +72,7 @@ effect m (DropRule name) = record m { rules = without_rule name m.rules }
 effect m Rules = m
 effect m (Cycle entries) = record m { cycle = entries; position = 0 }
 effect m (Run n) = steps n m
+effect m (Back n) = unsteps n m
 effect m (Row plane row) = m
 effect m (Plane plane) = m
 effect m (SetSide n) = with_side (side_of n) m

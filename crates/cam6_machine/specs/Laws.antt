@@ -1,5 +1,6 @@
 -- What follows of steps, and what a machine always is.
-use Rattle.std.specs.Prelude.{◌≡◌, ℕ, ◌+◌, ◌<◌, ◌%◌, List, length, Some, None, IsOk}
+use Rattle.std.specs.Prelude.{◌≡◌, ◌≢◌, ℕ, ◌+◌, ◌<◌, ◌%◌, true, List, length, Option, Some, None}
+use Rattle.std.specs.Prelude.{IsOk, ⊤}
 use Rattle.std.specs.List.{AllByRecursion}
 use Rattle.cam6_planes.specs.declared.sides.Side.{Side}
 use Rattle.cam6_planes.specs.Cells.{Cells, torus}
@@ -7,23 +8,29 @@ use Rattle.cam6_wiring.specs.Name.{plane_of}
 use Rattle.cam6_wiring.specs.Seen.{Sees}
 use Rattle.cam6_wiring.specs.declared.names.Half.{Half}
 use Rattle.cam6_wiring.specs.declared.names.Level.{Level}
+use Rattle.cam6_wiring.specs.declared.wirings.Minor.TheVariants.{Centers}
+use Rattle.cam6_block.specs.BlockMaps.{is_margolus}
 use Rattle.cam6_band.specs.ByTables.{step_by}
 use Rattle.cam6_band.specs.declared.tables.EntryTables.{EntryTables}
+use Rattle.cam6_cycle.specs.declared.tables.Direction.TheVariants.{Forward, Backward}
 use Rattle.cam6_machine.specs.Rules.{Rule}
 use Rattle.cam6_machine.specs.Cycles.{EntryRules, name_for, entry_rules, rule_for}
 use Rattle.cam6_machine.specs.Steps.{words_mean, step}
+use Rattle.cam6_machine.specs.Undoing.{blockwise, done_by, unstep, IsUndoableEntry}
 use Rattle.cam6_machine.specs.TrueTables.{AreTablesFor}
-use Rattle.cam6_machine.specs.Machine.{Machine, blank, steps}
+use Rattle.cam6_machine.specs.Machine.{Machine, blank, steps, unsteps, IsUndoableCycle}
+use Rattle.cam6_machine.specs.Refusals.{refusal, words_refusal}
 use Rattle.cam6_machine.specs.Always.{IsMachine}
 use Rattle.cam6_machine.specs.Alone.{after}
 use Rattle.cam6_machine.specs.declared.commands.Command.{Command}
+use Rattle.cam6_machine.specs.declared.commands.Command.TheVariants.{Run, Back}
 use Rattle.cam6_machine.specs.declared.commands.NamedEntry.{NamedEntry}
 
 -- by the tables of its rules, an entry steps any planes of a torus as by its rules' words
 abbrev pub TrueTablesStep : Type 0
 TrueTablesStep =
-    (s : ℕ) (entry : EntryRules) (tables : EntryTables) (f : Cells) → AreTablesFor entry tables →
-    torus s f ≡ f → step_by s tables f ≡ step s entry f
+    (s : ℕ) (entry : EntryRules) (tables : EntryTables) (f : Cells) →
+    AreTablesFor Forward entry tables → torus s f ≡ f → step_by s tables f ≡ step s entry f
 
 -- a half without a rule keeps its planes
 abbrev pub KeepsItsPlanes : Type 0
@@ -72,3 +79,44 @@ IsRuled m entry =
 -- so it is with each entry of a machine's cycle
 abbrev pub RulesRun : Type 0
 RulesRun = (m : Machine) → IsMachine m → AllByRecursion (IsRuled m) m.cycle
+
+-- a rule, where there is one, whose text has no fault and stops nowhere, and whose cells see their
+-- blocks alone
+abbrev pub IsOfBlocks : Option Rule → Type 0
+IsOfBlocks None = ⊤
+IsOfBlocks (Some rule) =
+    (words_refusal rule.wiring rule.text ≡ None)
+    × (is_margolus rule.wiring.hood ≡ true) × (rule.wiring.minor ≢ Centers)
+
+-- on a torus of an even side, a step by rules of blocks changes each block of the grid as a whole
+abbrev pub StepChangesBlocks : Type 0
+StepChangesBlocks =
+    (s : ℕ) (entry : EntryRules) (f : Cells) → 0 < s → s % 2 ≡ 0 →
+    IsOfBlocks entry.a → IsOfBlocks entry.b →
+    step s entry f
+    ≡ blockwise s entry.grid (λ half. done_by entry.phase (rule_for half entry)) f
+
+-- by the tables that undo its rules, a step is one undone
+abbrev pub InvertedTablesUndo : Type 0
+InvertedTablesUndo =
+    (s : ℕ) (entry : EntryRules) (tables : EntryTables) (f : Cells) → 0 < s → s % 2 ≡ 0 →
+    IsUndoableEntry entry → AreTablesFor Backward entry tables → torus s f ≡ f →
+    step_by s tables f ≡ unstep s entry f
+
+-- where every rule of the cycle can be undone, steps that are done and undone again give the
+-- machine back
+abbrev pub UndoingUndoes : Type 0
+UndoingUndoes =
+    (m : Machine) (n : ℕ) → IsMachine m → IsUndoableCycle m → unsteps n (steps n m) ≡ m
+
+-- and so do steps that are undone and done again
+abbrev pub DoingRedoes : Type 0
+DoingRedoes =
+    (m : Machine) (n : ℕ) → IsMachine m → IsUndoableCycle m → steps n (unsteps n m) ≡ m
+
+-- a machine that goes back as far as it ran, where it isn't refused this, is the machine that it
+-- was, and so is one that then runs as far as it went back
+abbrev pub BackGivesTheMachineBack : Type 0
+BackGivesTheMachineBack =
+    (m : Machine) (n : ℕ) → IsMachine m → refusal m (Back n) ≡ None →
+    (after (after m (Run n)) (Back n) ≡ m) × (after (after m (Back n)) (Run n) ≡ m)

@@ -1,5 +1,5 @@
 -- In the order of reading: limits, the rules that a machine keeps, entries of a cycle, what a cell
--- becomes in a step, the tables of rules, all that a machine stores and the machine that it is,
+-- becomes in a step, a step undone, the tables of rules, all that a machine stores and the machine that it is,
 -- when a command is refused, what it does, the machine alone, what is said of a command at once,
 -- and what a machine always is. Last, what follows of steps. How the code keeps rules by places and
 -- tables by use stands apart: no public contract says it.
@@ -8,6 +8,7 @@ pub mod Faults
 pub mod Rules
 pub mod Cycles
 pub mod Steps
+pub mod Undoing
 pub mod TrueTables
 pub mod Stored
 pub mod Machine

@@ -1,13 +1,15 @@
 -- The machine that a user has, and steps along its cycle.
 use Rattle.std.specs.Prelude.{ℕ, zero, suc, ◌+◌, ◌%◌, List, [], ◌∷◌, length, Option, Some, None}
-use Rattle.std.specs.List.{slice_get}
+use Rattle.std.specs.List.{slice_get, AllByRecursion}
 use Rattle.cam6_planes.specs.Side.{side_number}
 use Rattle.cam6_planes.specs.declared.sides.Side.{Side}
 use Rattle.cam6_planes.specs.declared.sides.Side.TheVariants.{S128, S256, S512}
 use Rattle.cam6_planes.specs.Cells.{Cells, cells, no_cells}
+use Rattle.cam6_cycle.specs.Turns.{previous}
 use Rattle.cam6_machine.specs.Rules.{Rule}
 use Rattle.cam6_machine.specs.Cycles.{entry_rules}
 use Rattle.cam6_machine.specs.Steps.{step}
+use Rattle.cam6_machine.specs.Undoing.{unstep, IsUndoableEntry}
 use Rattle.cam6_machine.specs.Stored.{StoredMachine}
 use Rattle.cam6_machine.specs.declared.commands.NamedEntry.{NamedEntry}
 
@@ -63,6 +65,30 @@ stepped m = stepped_by (slice_get m.cycle m.position) m
 abbrev pub steps : ℕ → Machine → Machine
 steps zero m = m
 steps (suc n) m = stepped (steps n m)
+
+-- the step by this entry undone; the position becomes the entry's
+abbrev pub unstepped_by : ℕ → Option NamedEntry → Machine → Machine
+unstepped_by position None m = m
+unstepped_by position (Some entry) m =
+    record m {
+      planes = unstep (side_number m.side) (entry_rules m.rules entry) m.planes;
+      position = position;
+    }
+
+-- one step undone: that of the entry before the position, round the cycle
+abbrev pub unstepped : Machine → Machine
+unstepped m =
+    let before = previous (length m.cycle) m.position in
+    unstepped_by before (slice_get m.cycle before) m
+
+-- so many steps undone
+abbrev pub unsteps : ℕ → Machine → Machine
+unsteps zero m = m
+unsteps (suc n) m = unstepped (unsteps n m)
+
+-- every rule of the cycle can be undone
+abbrev pub IsUndoableCycle : Machine → Type 0
+IsUndoableCycle m = AllByRecursion (λ entry. IsUndoableEntry (entry_rules m.rules entry)) m.cycle
 
 -- the machine that is stored
 abbrev pub machine_of : StoredMachine → Machine

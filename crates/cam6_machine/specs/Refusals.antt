@@ -1,5 +1,5 @@
 -- When a command is refused, and with which reply.
-use Rattle.std.specs.Prelude.{ℕ, ◌*◌, Bool, false, ◌&&◌, ◌||◌, ◌==◌, List, [], ◌∷◌, length}
+use Rattle.std.specs.Prelude.{ℕ, suc, ◌*◌, Bool, false, ◌&&◌, ◌||◌, ◌==◌, List, [], ◌∷◌, length}
 use Rattle.std.specs.Prelude.{nat_le, nat_lt, Option, Some, None, Result, Ok, Err, if◌then◌else◌}
 use Rattle.std.specs.List.{list_all, list_any}
 use Rattle.std.specs.Str.{bytes_eq}
@@ -13,16 +13,21 @@ use Rattle.cam6_forth.specs.Trees.{tree_of}
 use Rattle.cam6_table.specs.declared.faults.RuleFault.{RuleFault}
 use Rattle.cam6_table.specs.Meaning.{at_address}
 use Rattle.cam6_table.specs.Tables.{least_stop}
+use Rattle.cam6_block.specs.Refusals.{cause_of}
+use Rattle.cam6_block.specs.declared.refusals.NotReversible.{NotReversible}
 use Rattle.cam6_planes.specs.Side.{side_number, side_of}
 use Rattle.cam6_planes.specs.declared.sides.Side.{Side}
 use Rattle.cam6_machine.specs.Limits as limits
 use Rattle.cam6_machine.specs.Rules.{Rule, rule_named, wiring_of, is_rule_name}
+use Rattle.cam6_machine.specs.Cycles.{EntryRules, entry_rules}
+use Rattle.cam6_machine.specs.Undoing.{reading_of}
 use Rattle.cam6_machine.specs.Machine.{Machine}
 use Rattle.cam6_machine.specs.declared.commands.NamedEntry.{NamedEntry}
 use Rattle.cam6_machine.specs.declared.commands.Command.{Command}
 use Rattle.cam6_machine.specs.declared.commands.Command.TheVariants.{Set, Rule as SetRule}
-use Rattle.cam6_machine.specs.declared.commands.Command.TheVariants.{Cycle, Run, Row, Plane}
-use Rattle.cam6_machine.specs.declared.commands.Command.TheVariants.{Side as SetSide, Map, Colours, Count}
+use Rattle.cam6_machine.specs.declared.commands.Command.TheVariants.{Cycle, Run, Back, Row}
+use Rattle.cam6_machine.specs.declared.commands.Command.TheVariants.{Plane, Side as SetSide, Map}
+use Rattle.cam6_machine.specs.declared.commands.Command.TheVariants.{Colours, Count}
 use Rattle.cam6_machine.specs.declared.commands.Command.TheVariants.{Clear, Drop as DropRule, Rules}
 use Rattle.cam6_machine.specs.declared.faults.Fault.{Fault}
 use Rattle.cam6_machine.specs.declared.faults.Fault.TheVariants.{NoRule, RuleInUse, TooManyRules}
@@ -167,6 +172,34 @@ abbrev pub fault_reply : Option Fault → Option Reply
 fault_reply None = None
 fault_reply (Some fault) = Some (reply.Fault fault)
 
+-- why a rule can't be undone, if there is a rule and it can't
+abbrev pub rule_cause : Option Rule → Option NotReversible
+rule_cause None = None
+rule_cause (Some rule) = cause_of (reading_of rule) rule.wiring.hood rule.wiring.minor
+
+-- the reply for a half's rule of the entry with this number
+abbrev pub cause_reply : ℕ → Half → Option NotReversible → Option Reply
+cause_reply entry half None = None
+cause_reply entry half (Some cause) = Some (reply.NotReversible entry half cause)
+
+-- half A's rule is looked at before half B's
+abbrev pub entry_cause : ℕ → EntryRules → Option Reply
+entry_cause number entry =
+    or_then (cause_reply number half.A (rule_cause entry.a))
+    (cause_reply number half.B (rule_cause entry.b))
+
+-- the first of a cycle's entries, from one of this number on, that has a rule which can't be undone
+abbrev pub first_cause : List Rule → ℕ → List NamedEntry → Option Reply
+first_cause rules number [] = None
+first_cause rules number (entry ∷ entries) =
+    or_then (entry_cause number (entry_rules rules entry)) (first_cause rules (suc number) entries)
+
+-- a run can be refused as well, and then each rule of the cycle must be one that can be undone; also
+-- where no step is to be undone
+abbrev pub back_refusal : List Rule → List NamedEntry → ℕ → Option Reply
+back_refusal rules cycle n =
+    or_then (fault_reply (run_refusal cycle n)) (first_cause rules 0 cycle)
+
 -- the reply with which a machine refuses a command, if it does
 abbrev pub refusal : Machine → Command → Option Reply
 refusal m (Set plane row bits) = fault_reply (set_refusal m.side plane row bits)
@@ -177,6 +210,7 @@ refusal m (DropRule name) = fault_reply (drop_refusal m.rules m.cycle name)
 refusal m Rules = None
 refusal m (Cycle entries) = fault_reply (cycle_refusal m.rules entries)
 refusal m (Run n) = fault_reply (run_refusal m.cycle n)
+refusal m (Back n) = back_refusal m.rules m.cycle n
 refusal m (Row plane row) = fault_reply (row_refusal m.side plane row)
 refusal m (Plane plane) = fault_reply (plane_refusal plane)
 refusal m (SetSide n) = fault_reply (side_refusal m.limit n)

@@ -1,28 +1,41 @@
--- The tables of rules.
+-- The tables of rules, by which a machine goes forward or backward.
 use Rattle.std.specs.Prelude.{◌≡◌, ℕ, List, Option, Some, None, ⊤}
 use Rattle.cam6_table.specs.RuleTexts.{IsTableOf}
+use Rattle.cam6_block.specs.Inverted.{IsInverted}
+use Rattle.cam6_cycle.specs.declared.tables.Direction.{Direction}
+use Rattle.cam6_cycle.specs.declared.tables.Direction.TheVariants.{Forward, Backward}
 use Rattle.cam6_band.specs.declared.tables.HalfTable.{HalfTable}
 use Rattle.cam6_band.specs.declared.tables.EntryTables.{EntryTables}
 use Rattle.cam6_machine.specs.Rules.{Rule}
 use Rattle.cam6_machine.specs.Cycles.{EntryRules}
+use Rattle.cam6_machine.specs.Undoing.{reading_of, IsUndoable}
 
--- a rule's table, where there is a rule
-abbrev pub IsTableFor : Option Rule → List ℕ → Type 0
-IsTableFor None entries = ⊤
-IsTableFor (Some rule) entries = IsTableOf rule.wiring rule.text entries
+-- a rule's table: forward, that of its words; backward, the one that undoes its blocks, if it can
+-- be undone
+abbrev pub IsTable : Direction → Rule → List ℕ → Type 0
+IsTable Forward rule entries = IsTableOf rule.wiring rule.text entries
+IsTable Backward rule entries =
+    IsUndoable (Some rule) →
+    IsInverted (reading_of rule) rule.wiring.hood rule.wiring.minor entries
+
+-- the same, where there is a rule
+abbrev pub IsTableFor : Direction → Option Rule → List ℕ → Type 0
+IsTableFor direction None entries = ⊤
+IsTableFor direction (Some rule) entries = IsTable direction rule entries
 
 -- a half has its rule's table, with the wiring that the rule is written for, or no rule and none
-abbrev pub HasTableFor : Option Rule → Option HalfTable → Type 0
-HasTableFor None None = ⊤
-HasTableFor None (Some half) = ⊥
-HasTableFor (Some rule) None = ⊥
-HasTableFor (Some rule) (Some half) =
+abbrev pub HasTableFor : Direction → Option Rule → Option HalfTable → Type 0
+HasTableFor direction None None = ⊤
+HasTableFor direction None (Some half) = ⊥
+HasTableFor direction (Some rule) None = ⊥
+HasTableFor direction (Some rule) (Some half) =
     (half.hood ≡ rule.wiring.hood) × (half.minor ≡ rule.wiring.minor)
-    × IsTableOf rule.wiring rule.text half.table.now
+    × IsTable direction rule half.table.now
 
 -- these are the tables of an entry's rules
-pub record AreTablesFor (entry : EntryRules) (tables : EntryTables) : Type 0 where
-  pub a : HasTableFor entry.a tables.a
-  pub b : HasTableFor entry.b tables.b
+pub record AreTablesFor (direction : Direction) (entry : EntryRules) (tables : EntryTables) :
+    Type 0 where
+  pub a : HasTableFor direction entry.a tables.a
+  pub b : HasTableFor direction entry.b tables.b
   pub grid : tables.grid ≡ entry.grid
   pub phase : tables.phase ≡ entry.phase

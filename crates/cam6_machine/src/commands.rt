@@ -47,6 +47,10 @@ pub enum Command {
     Run {
         n: u64,
     },
+    /// Undoes so many steps, backward along the cycle.
+    Back {
+        n: u64,
+    },
     /// Asks for a row of a plane.
     Row {
         plane: u64,

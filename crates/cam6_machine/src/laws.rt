@@ -3,6 +3,8 @@
 ghost use Rattle.cam6_machine.specs.Laws.{TrueTablesStep, KeepsItsPlanes, StepsAddUp};
 ghost use Rattle.cam6_machine.specs.Laws.{OnlyPlanesAndPosition, PositionGoesRound};
 ghost use Rattle.cam6_machine.specs.Laws.{BlankIsMachine, StaysMachine, RulesRun, LimitStays};
+ghost use Rattle.cam6_machine.specs.Laws.{StepChangesBlocks, InvertedTablesUndo};
+ghost use Rattle.cam6_machine.specs.Laws.{UndoingUndoes, DoingRedoes, BackGivesTheMachineBack};
 
 /// By the tables of an entry's rules, a step makes of planes what the rules' words make of them.
 pub fn true_tables_step_as_words_do()
@@ -47,4 +49,31 @@ pub fn the_rules_of_a_cycle_run()
 /// No command changes a machine's limit.
 pub fn the_limit_stays()
     ensures law { LimitStays }
+{}
+
+/// A step by rules that see their blocks alone changes each block as a whole.
+pub fn a_step_changes_blocks()
+    ensures law { StepChangesBlocks }
+{}
+
+/// By the tables that undo an entry's rules, a step is the entry's step undone.
+pub fn inverted_tables_undo_a_step()
+    ensures law { InvertedTablesUndo }
+{}
+
+/// Steps that are done and then undone give the machine back, where every rule of the cycle can be
+/// undone.
+pub fn undoing_gives_the_machine_back()
+    ensures law { UndoingUndoes }
+{}
+
+/// And so do steps that are undone and then done.
+pub fn doing_again_gives_the_machine_back()
+    ensures law { DoingRedoes }
+{}
+
+/// A machine that may go back gives, run and then taken back as far, the machine that it was; and
+/// so it does taken back and then run.
+pub fn a_back_that_is_accepted_undoes_a_run()
+    ensures law { BackGivesTheMachineBack }
 {}

@@ -44,12 +44,14 @@ mod runs;
 mod steps;
 mod tables;
 mod texts;
+mod undoing;
 
 pub use alone::replies_alone;
+pub use cam6_cycle::Direction;
 pub use commands::{Command, MAX_COLOUR, MAX_MASK, MAX_STEPS, NamedEntries, NamedEntry};
 pub use faults::Fault;
 pub use machines::Machine;
-pub use replies::{Direction, Now, Reply};
+pub use replies::{Now, Reply};
 pub use rows::{Bits, PlaneRows, RowColours, RowText};
 pub use rules::MAX_RULES;
 pub use texts::{Names, Text};

@@ -12,14 +12,15 @@ use crate::refusals::{
     colours_refusal, colours_within, count_refusal, cycle_refusal, droppable, plane_refusal,
     row_refusal, rule_refusal, run_refusal, set_refusal, side_within,
 };
-use crate::replies::{Direction, Now, Reply};
+use crate::replies::{Now, Reply};
 use crate::rows::{Bits, PlaneRows, RowColours, RowText};
 use crate::rules::{KeptRule, RuleRefusal, names_of, put, remove, tried_rule};
-use crate::runs::run_along;
+use crate::runs::go_along;
 use crate::tables::fill_tables;
 use crate::texts::{Names, Text};
+use crate::undoing::first_cause;
 use cam6_band::AtRest;
-use cam6_cycle::{Cycle, MAX_TABLES};
+use cam6_cycle::{Cycle, Direction, MAX_TABLES};
 use cam6_planes::{NoMemory, Planes, Side};
 use cam6_table::Table;
 use cam6_view::count;
@@ -43,6 +44,8 @@ pub struct Machine {
     tables: Vec<Table>,
     /// Where a new rule is tried at every address.
     trial: Table,
+    /// Where the table that undoes a rule is tried.
+    inverse: Table,
 }
 
 impl Model for Machine {
@@ -98,6 +101,7 @@ impl Machine {
             colours: [0, 1, 2, 3, 4, 5, 6, 7, 8, 9, 10, 11, 12, 13, 14, 15],
             tables,
             trial: Table::blank(alloc)?,
+            inverse: Table::blank(alloc)?,
         })
     }
 
@@ -132,6 +136,7 @@ impl Machine {
             Command::Rules => Ok(Now::Reply(self.list_rules()?)),
             Command::Cycle { entries } => Ok(Now::Reply(self.set_cycle(&entries))),
             Command::Run { n } => Ok(self.work_of_run(n)),
+            Command::Back { n } => Ok(self.work_of_back(n)),
             Command::Row { plane, row } => Ok(Now::Reply(self.show_row(plane, row))),
             Command::Plane { plane } => Ok(Now::Reply(self.show(plane)?)),
             Command::Side { side } => Ok(Now::Reply(self.set_side(side))),
@@ -298,6 +303,30 @@ impl Machine {
         Now::Work(n as u16, Direction::Forward)
     }
 
+    /// The steps that have to be undone, or the reply where there are none.
+    fn work_of_back(&mut self, n: u64) -> Now
+        ensures work { work_left result ≡ work_of (machine_of self.old) (Command.Back n) }
+        ensures reply { IsReplyTo result (machine_of self.old) (Command.Back n) }
+        ensures machine { machine_of self.new
+            ≡ machine_after result (machine_of self.old) (Command.Back n) }
+        ensures left { Leaves result self.old self.new }
+        ensures ready { CanWork result (machine_of self.new) }
+    {
+        let cycle = entries_of(&self.cycle);
+        if let Some(fault) = run_refusal(cycle, n) {
+            return Now::Reply(Reply::Fault(fault));
+        }
+        if let Some(refused) = first_cause(&self.rules, cycle, &mut self.trial, &mut self.inverse) {
+            return Now::Reply(refused);
+        }
+        if n == 0 {
+            return Now::Reply(Reply::Back {
+                position: self.position,
+            });
+        }
+        Now::Work(n as u16, Direction::Backward)
+    }
+
     fn show_row(&self, plane: u64, row: u64) -> Reply
         ensures reply { result ≡ reply (machine_of self.now) (Command.Row plane row) }
         ensures machine { machine_of self.now
@@ -374,18 +403,21 @@ impl Machine {
         ensures others { self.new
             ≡ record self.old { planes = self.new.planes; position = self.new.position } }
     {
-        let Direction::Forward = direction;
         let Some(cycle) = &self.cycle else {
             unreachable!()
         };
         let Some(image) = self.image.take() else {
             unreachable!()
         };
-        fill_tables(&self.rules, cycle, &mut self.tables);
-        let (image, position) = run_along(image, cycle, &self.tables, self.position, n);
+        fill_tables(&self.rules, cycle, direction, &mut self.trial, &mut self.tables);
+        let (image, position) =
+            go_along(image, cycle, direction, &self.tables, self.position, n);
         self.image = Some(image);
         self.position = position;
-        Reply::Run { position }
+        match direction {
+            Direction::Forward => Reply::Run { position },
+            Direction::Backward => Reply::Back { position },
+        }
     }
 
     /// Answers a command and does its steps.

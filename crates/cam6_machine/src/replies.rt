@@ -3,8 +3,11 @@
 use crate::faults::Fault;
 use crate::rows::{PlaneRows, RowColours, RowText};
 use crate::texts::Names;
+use cam6_block::NotReversible;
+use cam6_cycle::Direction;
 use cam6_forth::TextFault;
 use cam6_table::RuleFault;
+use cam6_wiring::Half;
 
 /// A reply. Each command has a form of its own, and each refusal has one.
 #[derive(Debug, Drop)]
@@ -20,6 +23,8 @@ pub enum Reply {
     Map,
     /// The position after the run.
     Run { position: usize },
+    /// The position after going back.
+    Back { position: usize },
     Row { bits: RowText },
     Plane { rows: PlaneRows },
     Colours { colours: RowColours },
@@ -29,6 +34,13 @@ pub enum Reply {
     RuleText(TextFault),
     /// The least address at which a rule stops, and why it stops there.
     RuleStops { address: u16, fault: RuleFault },
+    /// The first entry of the cycle, counted from 0, that has a rule which can't be undone, the
+    /// half for which it has it, half A before half B, and why it can't be undone.
+    NotReversible {
+        entry: usize,
+        half: Half,
+        cause: NotReversible,
+    },
 }
 
 /// What a command comes to at once: a reply, or so many steps to do.
@@ -36,10 +48,4 @@ pub enum Reply {
 pub enum Now {
     Reply(Reply),
     Work(u16, Direction),
-}
-
-/// Which way a run goes along the cycle.
-#[derive(Clone, Copy, Debug, PartialEq, Eq)]
-pub enum Direction {
-    Forward,
 }

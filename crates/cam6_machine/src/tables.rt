@@ -1,34 +1,44 @@
-//! The tables by which a run steps, in room that a machine has from the beginning. They lie as the
+//! The tables by which a machine steps, in room that a machine has from the beginning. They lie as the
 //! cycle needs them: a table for each use of a rule.
 ghost use Rattle.std.specs.Prelude.{◌≡◌, ◌<◌, ◌≤◌, ◌+◌, [], List, length, IfSome, Some};
 ghost use Rattle.std.specs.Prelude.{slice_index_or};
 ghost use Rattle.std.specs.List.{slice_get};
+ghost use Rattle.cam6_block.specs.BlockMaps.{IsReversible};
+ghost use Rattle.cam6_block.specs.Inverted.{IsInverted};
 ghost use Rattle.cam6_cycle.specs.Tables.{tables_needed};
 ghost use Rattle.cam6_cycle.specs.declared.entries.Entry.{Entry};
-ghost use Rattle.cam6_cycle.specs.declared.tables.Direction.TheVariants.{Forward};
+ghost use Rattle.cam6_cycle.specs.declared.tables.Direction.{Direction};
 ghost use Rattle.cam6_cycle.specs.declared.tables.TheConstants.{MAX_TABLES};
 ghost use Rattle.cam6_machine.specs.Rules.{Rule};
 ghost use Rattle.cam6_machine.specs.Internal.Places.{rules_of, rule_at, rules_at, place_in};
-ghost use Rattle.cam6_machine.specs.Internal.Places.{IsPlaced, ArePlaced};
+ghost use Rattle.cam6_machine.specs.Internal.Places.{IsPlaced, ArePlaced, kept_reading};
 ghost use Rattle.cam6_machine.specs.Internal.Uses.{AreTables, IsUse};
 ghost use Rattle.cam6_machine.specs.TrueTables.{IsTableFor, HasTableFor, AreTablesFor};
 
 use crate::rules::KeptRule;
+use crate::undoing::invert_rule;
 use cam6_band::{EntryTables, HalfTable};
 use cam6_cycle::{Cycle, Direction, Entry, HalfRule, MAX_TABLES, NeededTable};
 use cam6_table::Table;
 use indexmap::IndexMap;
 
-/// Fills the tables that a cycle needs.
-pub(crate) fn fill_tables(rules: &IndexMap<String, KeptRule>, cycle: &Cycle, tables: &mut [Table])
+/// Fills the tables that a cycle needs to go one way along it. The straight table is room for
+/// those on which an inverse is made.
+pub(crate) fn fill_tables(
+    rules: &IndexMap<String, KeptRule>,
+    cycle: &Cycle,
+    direction: Direction,
+    straight: &mut Table,
+    tables: &mut [Table],
+)
     requires room { length tables.old ≡ MAX_TABLES }
-    ensures tables { let needed = tables_needed Forward cycle.now in
-        AreTables (length needed) (rules_of rules.now.entries) needed tables.new }
+    ensures tables { let needed = tables_needed direction cycle.now in
+        AreTables direction (length needed) (rules_of rules.now.entries) needed tables.new }
     ensures room { length tables.new ≡ length tables.old }
 {
-    let needed = cycle.tables_needed(Direction::Forward);
+    let needed = cycle.tables_needed(direction);
     for index in 0..needed.len() {
-        fill_use(rules, &needed, index, tables);
+        fill_use(rules, &needed, index, direction, straight, tables);
     }
 }
 
@@ -38,19 +48,23 @@ fn fill_use(
     rules: &IndexMap<String, KeptRule>,
     needed: &[NeededTable],
     index: usize,
+    direction: Direction,
+    straight: &mut Table,
     tables: &mut [Table],
 )
     requires index { index < length needed.now }
     requires room { length needed.now ≤ length tables.old }
-    requires before { AreTables index (rules_of rules.now.entries) needed.now tables.old }
-    ensures tables { AreTables (index + 1) (rules_of rules.now.entries) needed.now tables.new }
+    requires before {
+        AreTables direction index (rules_of rules.now.entries) needed.now tables.old }
+    ensures tables {
+        AreTables direction (index + 1) (rules_of rules.now.entries) needed.now tables.new }
     ensures room { length tables.new ≡ length tables.old }
 {
     let place = needed[index].rule.number;
     let (before, rest) = tables.split_at_mut(index);
     match first_use(&needed[..index], place) {
         Some(first) => rest[0].copy_from(&before[first]),
-        None => fill_table(rules, place, &mut rest[0]),
+        None => fill_table(rules, place, direction, straight, &mut rest[0]),
     }
 }
 
@@ -61,23 +75,45 @@ fn first_use(needed: &[NeededTable], place: usize) -> Option<usize>
     needed.iter().position(|table| table.rule.number == place)
 }
 
-/// Fills the table of the rule at this place, if there is one.
-fn fill_table(rules: &IndexMap<String, KeptRule>, place: usize, table: &mut Table)
-    ensures { IsTableFor (rule_at (rules_of rules.now.entries) (Some place)) table.new }
+/// Fills the table of the rule at this place, if there is one, and if it can be undone where it is
+/// to be undone.
+fn fill_table(
+    rules: &IndexMap<String, KeptRule>,
+    place: usize,
+    direction: Direction,
+    straight: &mut Table,
+    table: &mut Table,
+)
+    ensures {
+        IsTableFor direction (rule_at (rules_of rules.now.entries) (Some place)) table.new }
 {
     if let Some((_, rule)) = rules.get_index(place) {
-        rule.fill(table);
+        match direction {
+            Direction::Forward => rule.fill(table),
+            Direction::Backward => fill_inverse(rule, straight, table),
+        }
     }
+}
+
+/// Fills the table that undoes a rule, if it can be undone.
+fn fill_inverse(rule: &KeptRule, straight: &mut Table, table: &mut Table)
+    ensures { let wiring = rule.now.wiring in
+        IsReversible (kept_reading rule.now) wiring.hood wiring.minor →
+        IsInverted (kept_reading rule.now) wiring.hood wiring.minor table.new }
+{
+    let _cause = invert_rule(rule, straight, table);
 }
 
 /// The tables of the entry at a position.
 pub(crate) fn tables_at<'a>(cycle: &Cycle, position: usize, tables: &'a [Table]) -> EntryTables<'a>
     requires position { position < length cycle.now }
     requires room { length tables.now ≡ MAX_TABLES }
-    ensures { (rules : List Rule) (entry : Entry) → ArePlaced rules cycle.now →
-        (let needed = tables_needed Forward cycle.now in
-        AreTables (length needed) rules needed tables.now) →
-        slice_get cycle.now position ≡ Some entry → AreTablesFor (rules_at rules entry) result }
+    ensures { (direction : Direction) (rules : List Rule) (entry : Entry) →
+        ArePlaced rules cycle.now →
+        (let needed = tables_needed direction cycle.now in
+        AreTables direction (length needed) rules needed tables.now) →
+        slice_get cycle.now position ≡ Some entry →
+        AreTablesFor direction (rules_at rules entry) result }
 {
     let (Entry { a, b, grid, phase }, _) = cycle.forward(position);
     let first = cycle.tables_before(position);
@@ -97,9 +133,10 @@ fn half_table<'a>(
     index: usize,
 ) -> Option<HalfTable<'a>>
     requires { index < length tables.now }
-    ensures { (rules : List Rule) → IsPlaced rules rule →
-        IsTableFor (rule_at rules (place_in rule)) (slice_index_or tables.now index []) →
-        HasTableFor (rule_at rules (place_in rule)) result }
+    ensures { (direction : Direction) (rules : List Rule) → IsPlaced rules rule →
+        IsTableFor direction (rule_at rules (place_in rule))
+        (slice_index_or tables.now index []) →
+        HasTableFor direction (rule_at rules (place_in rule)) result }
 {
     let rule = rule?;
     Some(HalfTable {

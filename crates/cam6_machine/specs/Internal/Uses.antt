@@ -1,6 +1,7 @@
 -- How the tables of a run lie: each at the index of its use among those that the cycle needs.
 use Rattle.std.specs.Prelude.{◌≡◌, ◌<◌, ℕ, List, [], slice_index_or, Option, Some, None}
 use Rattle.std.specs.List.{slice_get}
+use Rattle.cam6_cycle.specs.declared.tables.Direction.{Direction}
 use Rattle.cam6_cycle.specs.declared.tables.NeededTable.{NeededTable}
 use Rattle.cam6_machine.specs.Rules.{Rule}
 use Rattle.cam6_machine.specs.TrueTables.{IsTableFor}
@@ -12,7 +13,9 @@ IsUse place None = ⊥
 IsUse place (Some table) = table.rule.number ≡ place
 
 -- at the indices of the first n of the needed tables stand the tables of their rules
-abbrev pub AreTables : ℕ → List Rule → List NeededTable → List (List ℕ) → Type 0
-AreTables n rules needed tables =
+abbrev pub AreTables :
+    Direction → ℕ → List Rule → List NeededTable → List (List ℕ) → Type 0
+AreTables direction n rules needed tables =
     (index : ℕ) (table : NeededTable) → index < n → slice_get needed index ≡ Some table →
-    IsTableFor (rule_at rules (Some table.rule.number)) (slice_index_or tables index [])
+    IsTableFor direction (rule_at rules (Some table.rule.number))
+    (slice_index_or tables index [])

@@ -1,0 +1,77 @@
+//! Whether the rules of a cycle can be undone, and the table that undoes a rule.
+ghost use Rattle.std.specs.Prelude.{◌≡◌, Some, None, IfOk, IfErr};
+ghost use Rattle.cam6_block.specs.Inverted.{IsInverted};
+ghost use Rattle.cam6_block.specs.Refusals.{cause_of};
+ghost use Rattle.cam6_machine.specs.Refusals.{rule_cause, first_cause};
+ghost use Rattle.cam6_machine.specs.Always.{HaveOwnNames};
+ghost use Rattle.cam6_machine.specs.Internal.Places.{rules_of, rule_at, place_in};
+ghost use Rattle.cam6_machine.specs.Internal.Places.{named_entries, kept_reading};
+
+use crate::replies::Reply;
+use crate::rules::KeptRule;
+use cam6_block::{NotReversible, invert};
+use cam6_cycle::{Entry, HalfRule};
+use cam6_table::Table;
+use cam6_wiring::Half;
+use indexmap::IndexMap;
+
+/// The reply for the first entry, and of it half A before half B, that has a rule which can't be
+/// undone. The tables are room for the trial.
+pub(crate) fn first_cause(
+    rules: &IndexMap<String, KeptRule>,
+    cycle: &[Entry],
+    straight: &mut Table,
+    inverse: &mut Table,
+) -> Option<Reply>
+    requires names { HaveOwnNames (rules_of rules.now.entries) }
+    ensures { let rules = rules_of rules.now.entries in
+        result ≡ first_cause rules 0 (named_entries rules cycle.now) }
+{
+    for number in 0..cycle.len() {
+        let Entry { a, b, .. } = cycle[number];
+        if let Some(cause) = rule_cause(rules, a, straight, inverse) {
+            return Some(not_reversible(number, Half::A, cause));
+        }
+        if let Some(cause) = rule_cause(rules, b, straight, inverse) {
+            return Some(not_reversible(number, Half::B, cause));
+        }
+    }
+    None
+}
+
+fn not_reversible(entry: usize, half: Half, cause: NotReversible) -> Reply
+    ensures { result ≡ Reply.NotReversible entry half cause }
+{
+    Reply::NotReversible { entry, half, cause }
+}
+
+/// Why the rule at a half's place can't be undone, if there is one there and it can't.
+fn rule_cause(
+    rules: &IndexMap<String, KeptRule>,
+    rule: Option<HalfRule>,
+    straight: &mut Table,
+    inverse: &mut Table,
+) -> Option<NotReversible>
+    ensures { result ≡ rule_cause (rule_at (rules_of rules.now.entries) (place_in rule)) }
+{
+    let (_, rule) = rules.get_index(rule?.number)?;
+    invert_rule(rule, straight, inverse).err()
+}
+
+/// Fills the table that undoes a rule, by way of the straight one, or says why there is none.
+pub(crate) fn invert_rule(
+    rule: &KeptRule,
+    straight: &mut Table,
+    inverse: &mut Table,
+) -> Result<(), NotReversible>
+    ensures ok { IfOk result (λ _. let wiring = rule.now.wiring in
+        cause_of (kept_reading rule.now) wiring.hood wiring.minor ≡ None) }
+    ensures inverted { IfOk result (λ _. let wiring = rule.now.wiring in
+        IsInverted (kept_reading rule.now) wiring.hood wiring.minor inverse.new) }
+    ensures err { IfErr result (λ cause. let wiring = rule.now.wiring in
+        cause_of (kept_reading rule.now) wiring.hood wiring.minor ≡ Some cause) }
+{
+    let wiring = rule.wiring();
+    rule.fill(straight);
+    invert(straight, wiring.hood, wiring.minor, inverse)
+}
