@@ -10,7 +10,7 @@ use Rattle.cam6_wiring.specs.declared.names.Half.TheVariants.{A, B}
 use Rattle.cam6_cycle.specs.Tables.{needed_for, tables_needed}
 use Rattle.cam6_cycle.specs.declared.entries.Entry.{Entry}
 use Rattle.cam6_cycle.specs.declared.entries.HalfRule.{HalfRule}
-use Rattle.cam6_cycle.specs.declared.tables.Direction.TheVariants.{Forward}
+use Rattle.cam6_cycle.specs.declared.tables.Direction.{Direction}
 use Rattle.cam6_cycle.specs.declared.tables.NeededTable.{NeededTable}
 use Rattle.cam6_cycle.proofs.Needed as needed
 use Rattle.cam6_machine.specs.Rules.{Rule}
@@ -42,22 +42,22 @@ used_before n first place uses is = by_table (slice_get (take n uses) first) ref
         let found = within_first n uses first table e in (table, found.0, found.1, is)
 
 -- one more use has its rule's table, where the tables before it stay
-pub one_more : (n : ℕ) (rules : List Rule) (uses : List NeededTable)
+pub one_more : (way : Direction) (n : ℕ) (rules : List Rule) (uses : List NeededTable)
     (before rest : List (List ℕ)) (new : List ℕ) → length before ≡ n → 0 < length rest →
-    AreTables n rules uses (before ++ rest) →
+    AreTables way n rules uses (before ++ rest) →
     ((table : NeededTable) → slice_get uses n ≡ Some table →
-    IsTableFor (rule_at rules (Some table.rule.number)) new) →
-    AreTables (n + 1) rules uses (before ++ set rest 0 new)
-one_more n rules uses before [] new long some are here index table h found =
+    IsTableFor way (rule_at rules (Some table.rule.number)) new) →
+    AreTables way (n + 1) rules uses (before ++ set rest 0 new)
+one_more way n rules uses before [] new long some are here index table h found =
     absurd (omega (arith, some))
-one_more n rules uses before (old ∷ rest) new long some are here index table h found =
+one_more way n rules uses before (old ∷ rest) new long some are here index table h found =
     elim (dec_lt index n) [
       | Prim.yes lt ↦
           let kept : get_or (before ++ (new ∷ rest)) index []
           ≡ get_or (before ++ (old ∷ rest)) index [] =
           get_or_append_left before (new ∷ rest) [] index (omega (arith, lt, long)) ∙
           sym (get_or_append_left before (old ∷ rest) [] index (omega (arith, lt, long))) in
-          subst (IsTableFor (rule_at rules (Some table.rule.number))) (sym kept)
+          subst (IsTableFor way (rule_at rules (Some table.rule.number))) (sym kept)
           (are index table lt found)
       | Prim.no ge ↦
           let last : index ≡ n = omega (arith, ge, h) in
@@ -65,46 +65,46 @@ one_more n rules uses before (old ∷ rest) new long some are here index table h
           let there : get_or (before ++ (new ∷ rest)) index [] ≡ new =
           ap (λ i. get_or (before ++ (new ∷ rest)) i []) end ∙
           get_or-append_seam before new rest [] in
-          subst (IsTableFor (rule_at rules (Some table.rule.number))) (sym there)
+          subst (IsTableFor way (rule_at rules (Some table.rule.number))) (sym there)
           (here table (ap (slice_get uses) (sym last) ∙ found))
     ]
 
 -- no use has its table at first
-pub none_yet : (rules : List Rule) (uses : List NeededTable) (tables : List (List ℕ)) →
-    AreTables 0 rules uses tables
-none_yet rules uses tables index table h = absurd (omega (arith, h))
+pub none_yet : (way : Direction) (rules : List Rule) (uses : List NeededTable) (tables : List (List ℕ)) →
+    AreTables way 0 rules uses tables
+none_yet way rules uses tables index table h = absurd (omega (arith, h))
 
 -- fewer uses have theirs too
-pub fewer : (n m : ℕ) (rules : List Rule) (uses : List NeededTable) (tables : List (List ℕ)) →
-    m ≤ n → AreTables n rules uses tables → AreTables m rules uses tables
-fewer n m rules uses tables le are index table h = are index table (omega (arith, le, h))
+pub fewer : (way : Direction) (n m : ℕ) (rules : List Rule) (uses : List NeededTable) (tables : List (List ℕ)) →
+    m ≤ n → AreTables way n rules uses tables → AreTables way m rules uses tables
+fewer way n m rules uses tables le are index table h = are index table (omega (arith, le, h))
 
-module _ (rules : List Rule) (tables : List (List ℕ)) (k : ℕ) (cycle : List Entry) (past : Entry)
+module _ (way : Direction) (rules : List Rule) (tables : List (List ℕ)) (k : ℕ) (cycle : List Entry) (past : Entry)
     (within : k < length cycle)
-    (are : AreTables (length (tables_needed Forward cycle)) rules (tables_needed Forward cycle)
+    (are : AreTables way (length (tables_needed way cycle)) rules (tables_needed way cycle)
     tables) where
   -- half A's table, and half B's, of the entry at a position
   pub first_table : (o : Option HalfRule) → (get_or cycle k past).a ≡ o →
-      IsTableFor (rule_at rules (place_in o))
-      (get_or tables (length (tables_needed Forward (take k cycle))) [])
+      IsTableFor way (rule_at rules (place_in o))
+      (get_or tables (length (tables_needed way (take k cycle))) [])
   first_table None is = tt
   first_table (Some rule) is =
-      let index = length (tables_needed Forward (take k cycle)) in
-      let found = needed.first_table Forward cycle k past within rule is in
-      are index (record { half = A; rule = rule; direction = Forward })
-      (slice_get_within (tables_needed Forward cycle) index _ found) found
+      let index = length (tables_needed way (take k cycle)) in
+      let found = needed.first_table way cycle k past within rule is in
+      are index (record { half = A; rule = rule; direction = way })
+      (slice_get_within (tables_needed way cycle) index _ found) found
 
   pub second_table : (o : Option HalfRule) → (get_or cycle k past).b ≡ o →
-      IsTableFor (rule_at rules (place_in o))
-      (get_or tables (length (tables_needed Forward (take k cycle))
-      + length (needed_for Forward A (get_or cycle k past).a)) [])
+      IsTableFor way (rule_at rules (place_in o))
+      (get_or tables (length (tables_needed way (take k cycle))
+      + length (needed_for way A (get_or cycle k past).a)) [])
   second_table None is = tt
   second_table (Some rule) is =
-      let index = length (tables_needed Forward (take k cycle))
-      + length (needed_for Forward A (get_or cycle k past).a) in
-      let found = needed.second_table Forward cycle k past within rule is in
-      are index (record { half = B; rule = rule; direction = Forward })
-      (slice_get_within (tables_needed Forward cycle) index _ found) found
+      let index = length (tables_needed way (take k cycle))
+      + length (needed_for way A (get_or cycle k past).a) in
+      let found = needed.second_table way cycle k past within rule is in
+      are index (record { half = B; rule = rule; direction = way })
+      (slice_get_within (tables_needed way cycle) index _ found) found
 
 -- an entry's rules stand at their places
 pub placed_at : (rules : List Rule) (cycle : List Entry) (position : ℕ) (entry : Entry) →

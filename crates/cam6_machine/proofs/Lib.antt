@@ -10,6 +10,8 @@ pub mod KeptNames
 pub mod Dropped
 -- Tables that are filled use by use.
 pub mod FilledTables
+pub mod Inverses
+pub mod FirstCauses
 -- The rules of a map, looked up by name.
 pub mod KeptRules
 -- The texts of a plane's rows, row by row.

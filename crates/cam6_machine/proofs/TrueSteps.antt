@@ -10,6 +10,7 @@ use Rattle.cam6_wiring.specs.declared.names.Half.TheVariants.{A, B}
 use Rattle.cam6_wiring.specs.declared.names.Level.{Level}
 use Rattle.cam6_wiring.specs.declared.neighbours.Setting.{Setting}
 use Rattle.cam6_forth.specs.Trees.{tree_of}
+use Rattle.cam6_cycle.specs.declared.tables.Direction.TheVariants.{Forward}
 use Rattle.cam6_table.specs.NewBits.{bit_for}
 use Rattle.cam6_table.proofs.TrueTables.{true_table}
 use Rattle.cam6_machine.specs.Rules.{Rule}
@@ -23,7 +24,7 @@ use Rattle.cam6_band.specs.declared.tables.EntryTables.{EntryTables}
 
 -- a cell's new bit by a true table is the one by the words of the rule
 new_cell_by_table : (s : ℕ) (f : Cells) (setting : Setting) (rule : Option Rule)
-    (table : Option HalfTable) (level : Level) (x y : ℕ) → HasTableFor rule table →
+    (table : Option HalfTable) (level : Level) (x y : ℕ) → HasTableFor Forward rule table →
     bit_by_table s f setting table level x y ≡ new_cell s f setting rule level x y
 new_cell_by_table s f setting None None level x y has = refl
 new_cell_by_table s f setting None (Some half) level x y has = absurd has
@@ -38,8 +39,8 @@ new_cell_by_table s f setting (Some rule) (Some half) level x y has =
     (true_table rule.wiring (tree_of rule.text) entries (λ name. seen s f setting name x y)
     has.2.rule has.2.holds))
 
-module _ (s : ℕ) (entry : EntryRules) (tables : EntryTables) (are : AreTablesFor entry tables) where
-  half_of : (half : Half) → HasTableFor (rule_for half entry) (table_for half tables)
+module _ (s : ℕ) (entry : EntryRules) (tables : EntryTables) (are : AreTablesFor Forward entry tables) where
+  half_of : (half : Half) → HasTableFor Forward (rule_for half entry) (table_for half tables)
   half_of A = are.a
   half_of B = are.b
 

@@ -1,5 +1,5 @@
 -- Blocks of cells, and one step undone.
-use Rattle.std.specs.Prelude.{ℕ, ◌+◌, ◌%◌, ◌×◌, Bool, Option, Some, None, ⊤}
+use Rattle.std.specs.Prelude.{ℕ, ◌+◌, ◌%◌, Bool, Option, Some, None, ⊤}
 use Rattle.std.specs.Option.{option_map}
 use Rattle.cam6_planes.specs.Cells.{Cells, torus}
 use Rattle.cam6_planes.specs.Row.{bit_number}

@@ -7,6 +7,7 @@ use Rattle.cam6_planes.proofs.SideNumbers.{side_least}
 use Rattle.cam6_wiring.specs.declared.blocks.Grid.TheVariants.{Even}
 use Rattle.cam6_wiring.specs.declared.names.Phase.TheVariants.{P0}
 use Rattle.cam6_cycle.specs.declared.entries.Entry.{Entry}
+use Rattle.cam6_cycle.specs.declared.tables.Direction.TheVariants.{Forward}
 use Rattle.cam6_machine.specs.Machine.{steps, stepped, machine_of}
 use Rattle.cam6_machine.specs.Internal.Places.{rules_at, stored}
 use Rattle.cam6_machine.proofs.Along.{one_step}
@@ -24,7 +25,7 @@ loop-step-preserved c =
     record {
       position = c.forward-position.ensures.within;
       steps = λ rules colours own placed are.
-          let true_tables = c.tables_at.ensures rules entry placed are
+          let true_tables = c.tables_at.ensures Forward rules entry placed are
           (slice_get-get_or cycle now.position past now.invariant.position) in
           let made = c.step-image.ensures.planes ∙
           true_step s (rules_at rules entry) c.tables_at.result true_tables

@@ -13,7 +13,7 @@ invariant-loop-step l = record {
   position : l.position < length l.cycle;
   steps : (rules : List Rule) (colours : List ℕ) → HaveOwnNames rules → ArePlaced rules l.cycle →
       (let needed = tables_needed Forward l.cycle in
-      AreTables (length needed) rules needed l.tables) →
+      AreTables Forward (length needed) rules needed l.tables) →
       machine_of (stored l.image.planes rules l.cycle l.position colours)
       ≡ steps l._step (machine_of (stored l.fn.image.planes rules l.cycle l.fn.position colours));
 }

@@ -36,14 +36,14 @@ returns-in-Some-clause-tables c =
     ap (λ l. get_or l first []) parts.ensures.value ∙
     get_or_append_left before parts.result.1.now [] first within ∙
     sym (c.copy_from.ensures ∙ get_or_default before first _ [] within) in
-    one_more a.index rules a.needed.now before parts.result.1.now new parts.ensures.front_len
+    one_more a.direction a.index rules a.needed.now before parts.result.1.now new parts.ensures.front_len
     (omega (arith, parts.ensures.back_len, c.requires.index, c.requires.room))
-    (subst (AreTables a.index rules a.needed.now) parts.ensures.value c.requires.before)
+    (subst (AreTables a.direction a.index rules a.needed.now) parts.ensures.value c.requires.before)
     (λ table found.
-    subst (λ (t : NeededTable). IsTableFor (rule_at rules (Some t.rule.number)) new)
+    subst (λ (t : NeededTable). IsTableFor a.direction (rule_at rules (Some t.rule.number)) new)
     (get_or_from_slice_get a.needed.now a.index table default found)
-    (subst (λ p. IsTableFor (rule_at rules (Some p)) new) of_place
-    (subst (IsTableFor (rule_at rules (Some earlier.rule.number))) copied
+    (subst (λ p. IsTableFor a.direction (rule_at rules (Some p)) new) of_place
+    (subst (IsTableFor a.direction (rule_at rules (Some earlier.rule.number))) copied
     (c.requires.before first earlier sooner here))))
 
 pub returns-in-None-clause-tables : goal.returns-in-None-clause-tables
@@ -52,10 +52,10 @@ returns-in-None-clause-tables c =
     let rules = rules_of a.rules.now.entries in
     let parts = c.split_at_mut-before in
     let new = c.fill_table.new.table in
-    one_more a.index rules a.needed.now parts.result.0.now parts.result.1.now new
+    one_more a.direction a.index rules a.needed.now parts.result.0.now parts.result.1.now new
     parts.ensures.front_len
     (omega (arith, parts.ensures.back_len, c.requires.index, c.requires.room))
-    (subst (AreTables a.index rules a.needed.now) parts.ensures.value c.requires.before)
+    (subst (AreTables a.direction a.index rules a.needed.now) parts.ensures.value c.requires.before)
     (λ table found.
-    subst (λ (t : NeededTable). IsTableFor (rule_at rules (Some t.rule.number)) new)
+    subst (λ (t : NeededTable). IsTableFor a.direction (rule_at rules (Some t.rule.number)) new)
     (get_or_from_slice_get a.needed.now a.index table default found) c.fill_table.ensures)

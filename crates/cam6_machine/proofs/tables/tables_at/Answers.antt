@@ -37,7 +37,7 @@ half_table-requires-2 c =
     )
 
 pub returns : goal.returns
-returns c = λ rules entry placed are found.
+returns c = λ way rules entry placed are found.
     let cycle = c.args.cycle.now in
     let tables = c.args.tables.now in
     let position = c.args.position in
@@ -47,26 +47,26 @@ returns c = λ rules entry placed are found.
     let is : own ≡ entry =
     sym same ∙ get_or_from_slice_get cycle position entry own found in
     let here = placed_at rules cycle position own c.forward.ensures.entry placed in
-    let first = c.tables_before-first.ensures.before Forward in
-    let of_a : c.from.result ≡ length (needed_for Forward A at.a) =
-    c.from.ensures ∙ ap bool_byte c.is_some.ensures ∙ sym (some-length Forward A own.a) ∙
-    ap (λ (e : Entry). length (needed_for Forward A e.a)) (sym same) in
-    subst (λ e. AreTablesFor (rules_at rules e) (record {
+    let first = c.tables_before-first.ensures.before way in
+    let of_a : c.from.result ≡ length (needed_for way A at.a) =
+    c.from.ensures ∙ ap bool_byte c.is_some.ensures ∙ sym (some-length way A own.a) ∙
+    ap (λ (e : Entry). length (needed_for way A e.a)) (sym same) in
+    subst (λ e. AreTablesFor way (rules_at rules e) (record {
       a = c.half_table.result;
       b = c.half_table-2.result;
       grid = own.grid;
       phase = own.phase;
     })) is
     (record {
-      a = c.half_table.ensures rules here.0
-          (subst (λ n. IsTableFor (rule_at rules (place_in own.a)) (get_or tables n [])) (sym first)
-          (first_table rules tables position cycle own c.requires.position are own.a
+      a = c.half_table.ensures way rules here.0
+          (subst (λ n. IsTableFor way (rule_at rules (place_in own.a)) (get_or tables n [])) (sym first)
+          (first_table way rules tables position cycle own c.requires.position are own.a
           (ap (λ e. e.a) same)));
-      b = c.half_table-2.ensures rules here.1
-          (subst (λ n. IsTableFor (rule_at rules (place_in own.b)) (get_or tables n []))
+      b = c.half_table-2.ensures way rules here.1
+          (subst (λ n. IsTableFor way (rule_at rules (place_in own.b)) (get_or tables n []))
           (sym (ap (λ n. n + c.from.result) first ∙
-          ap (λ n. length (tables_needed Forward (take position cycle)) + n) of_a))
-          (second_table rules tables position cycle own c.requires.position are own.b
+          ap (λ n. length (tables_needed way (take position cycle)) + n) of_a))
+          (second_table way rules tables position cycle own c.requires.position are own.b
           (ap (λ e. e.b) same)));
       grid = refl;
       phase = refl;

@@ -1,0 +1,40 @@
+use Rattle.std.proofs.Common.{◌≡◌, ◌∙◌, ◌+◌, suc, None, Some, ap, sym, arith}
+use Rattle.cam6_wiring.specs.declared.blocks.Grid.TheVariants.{Even}
+use Rattle.cam6_wiring.specs.declared.names.Phase.TheVariants.{P0}
+use Rattle.cam6_cycle.specs.declared.entries.Entry.{Entry}
+use Rattle.cam6_machine.specs.Internal.Places.{rules_of}
+use Rattle.cam6_machine.proofs.FirstCauses.{of_half_a, of_half_b, of_neither, causes_from}
+use Rattle.cam6_machine.proofs.undoing.first_cause.Goals as goal
+
+abbrev past : Entry
+past = record { a = None; b = None; grid = Even; phase = P0 }
+
+pub returns-in-Some : goal.returns-in-Some
+returns-in-Some c =
+    let rules = rules_of c.args.rules.now.entries in
+    ap Some c.not_reversible.ensures ∙
+    sym (of_half_a rules c.args.cycle.now c.loop-number.number past c.requires.names
+    c.loop-number-test.true c.in-Some.cause (sym c.rule_cause.ensures ∙ c.in-Some.is)) ∙
+    c.loop-number.invariant
+
+pub returns-in-Some-rule_cause : goal.returns-in-Some-rule_cause
+returns-in-Some-rule_cause c =
+    let rules = rules_of c.args.rules.now.entries in
+    ap Some c.not_reversible-in-Some-rule_cause.ensures ∙
+    sym (of_half_b rules c.args.cycle.now c.loop-number.number past c.requires.names
+    c.loop-number-test.true c.in-Some-rule_cause.cause
+    (sym c.rule_cause.ensures ∙ c.in_default.is)
+    (sym c.rule_cause-in-loop-number.ensures ∙ c.in-Some-rule_cause.is)) ∙
+    c.loop-number.invariant
+
+pub loop-number-preserved : goal.loop-number-preserved
+loop-number-preserved c =
+    let rules = rules_of c.args.rules.now.entries in
+    let n = c.loop-number.number in
+    let one : n + 1 ≡ suc n = omega arith in
+    ap (causes_from rules c.args.cycle.now) one ∙
+    sym (of_neither rules c.args.cycle.now n past c.requires.names
+    c.loop-number-test.true
+    (sym c.rule_cause.ensures ∙ c.in_default.is)
+    (sym c.rule_cause-in-loop-number.ensures ∙ c.in_default-rule_cause.is)) ∙
+    c.loop-number.invariant
