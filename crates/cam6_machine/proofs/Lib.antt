@@ -28,3 +28,7 @@ pub mod TrueSteps
 pub mod StepLaws
 -- A machine stays a machine, whatever it is commanded, and its rules run.
 pub mod Staying
+-- What a step makes of planes, or a step undone, is a torus.
+pub mod StepsOfATorus
+-- A machine that may go back has a cycle of which every rule can be undone.
+pub mod Undoable
