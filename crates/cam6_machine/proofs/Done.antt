@@ -9,7 +9,7 @@ use Rattle.cam6_planes.specs.Cells.{Cells, cells, with_row, without_plane}
 use Rattle.cam6_wiring.specs.declared.wirings.Wiring.{Wiring}
 use Rattle.cam6_machine.specs.Rules as rule
 use Rattle.cam6_machine.specs.Stored.{StoredMachine}
-use Rattle.cam6_machine.specs.Machine.{Machine, machine_of, steps}
+use Rattle.cam6_machine.specs.Machine.{Machine, machine_of}
 use Rattle.cam6_machine.specs.Refusals.{or_then, set_refusal, rule_refusal, cycle_refusal}
 use Rattle.cam6_machine.specs.Refusals.{words_refusal, fault_reply, refusal, plane_refusal, drop_refusal}
 use Rattle.cam6_machine.specs.Effects.{accepted_reply, effect, with_rule, without_rule}
@@ -17,13 +17,14 @@ use Rattle.cam6_machine.specs.Always.{IsEntry}
 use Rattle.cam6_machine.specs.Alone.{if_refused, reply, after, some_steps, work_of, command_of}
 use Rattle.cam6_machine.specs.Internal.Places.{placed_entry, named_entries, ArePlaced, stored}
 use Rattle.cam6_machine.specs.Internal.Places.{place_of, uses_place, closed_entry}
+use Rattle.cam6_machine.specs.Internal.Ways.{moved, reply_at}
 use Rattle.cam6_machine.proofs.Dropped.{names_closed}
 use Rattle.cam6_machine.specs.declared.commands.Command.{Command}
-use Rattle.cam6_machine.specs.declared.commands.Command.TheVariants.{Set, Rule, Cycle, Run, Row}
+use Rattle.cam6_machine.specs.declared.commands.Command.TheVariants.{Set, Rule, Cycle, Run, Back, Row}
 use Rattle.cam6_machine.specs.declared.commands.Command.TheVariants.{Plane, Side, Clear, Drop}
 use Rattle.cam6_machine.specs.declared.commands.Command.TheVariants.{Rules, Map, Colours, Count}
-use Rattle.cam6_machine.specs.declared.replies.Direction.{Direction}
-use Rattle.cam6_machine.specs.declared.replies.Direction.TheVariants.{Forward}
+use Rattle.cam6_cycle.specs.declared.tables.Direction.{Direction}
+use Rattle.cam6_cycle.specs.declared.tables.Direction.TheVariants.{Forward, Backward}
 use Rattle.cam6_machine.specs.declared.commands.NamedEntry.{NamedEntry}
 use Rattle.cam6_cycle.specs.declared.entries.Entry.{Entry}
 use Rattle.cam6_machine.specs.declared.replies.Reply.{Reply}
@@ -46,7 +47,16 @@ pub after-accepted : (m : Machine) (c : Command) → refusal m c ≡ None →
     after m c ≡ effect m c
 after-accepted m c e = ap (λ o. if_refused o (λ r. m) (effect m c)) e
 
--- where it is not refused, a run of steps is answered, and done, by them
+-- so many steps in a direction, if any, are the work of their command
+some_work : (k n : ℕ) (way direction : Direction) (o : Option Reply) →
+    if_refused o (λ r. None) (some_steps k way) ≡ Some (n, direction) →
+    command_of n direction ≡ command_of k way
+some_work zero n way direction None e = cc e
+some_work (suc k) n way direction None e =
+    let same = same_Some (suc k, way) (n, direction) e in
+    sym (ap (λ (w : ℕ × Direction). command_of w.0 w.1) same)
+some_work k n way direction (Some r) e = cc e
+
 pub command_is : (m : Machine) (c : Command) (n : ℕ) (direction : Direction) →
     work_of m c ≡ Some (n, direction) → command_of n direction ≡ c
 command_is m (Set plane row bits) n direction e = cc e
@@ -61,19 +71,10 @@ command_is m (Cycle entries) n direction e = cc e
 command_is m (Row plane row) n direction e = cc e
 command_is m (Plane plane) n direction e = cc e
 command_is m (Side side) n direction e = cc e
-command_is m (Run steps) n direction e = by_refusal (refusal m (Run steps)) e
-  where
-    by_steps : (k : ℕ) → some_steps k ≡ Some (n, direction) → command_of n direction ≡ Run k
-    by_steps zero e = cc e
-    by_steps (suc k) e =
-        let same = same_Some (suc k, Forward) (n, direction) e in
-        sym (ap (λ (w : ℕ × Direction). command_of w.0 w.1) same)
-
-    by_refusal : (o : Option Reply) →
-        if_refused o (λ r. None) (some_steps steps) ≡ Some (n, direction) →
-        command_of n direction ≡ Run steps
-    by_refusal None e = by_steps steps e
-    by_refusal (Some r) e = cc e
+command_is m (Run steps) n direction e =
+    some_work steps n Forward direction (refusal m (Run steps)) e
+command_is m (Back steps) n direction e =
+    some_work steps n Backward direction (refusal m (Back steps)) e
 
 -- a rule that was put, with what was said of it
 pub put_as : (rules new : List rule.Rule) (name text said_text : List ℕ)
@@ -187,15 +188,24 @@ module _ (planes : Stored) (rules : List rule.Rule) (cycle : List Entry) (positi
         cycle = l;
       }) (ap (λ l. named_entries l cycle) put ∙ entries_with new_rule rules cycle placed)
 
-  -- the reply to steps that were done, and the machine after them
-  pub after-run : (new : Stored) (last n : ℕ) (direction : Direction) →
-      machine_of (stored new rules cycle last colours) ≡ steps n before →
+  -- the machine after steps that were done
+  pub after-moves : (new : Stored) (last n : ℕ) (direction : Direction) →
+      machine_of (stored new rules cycle last colours) ≡ moved direction n before →
       refusal before (command_of n direction) ≡ None →
-      (replies.Run last ≡ reply before (command_of n direction))
-      × (machine_of (stored new rules cycle last colours)
-      ≡ after before (command_of n direction))
-  after-run new last n Forward made accepted = (
-    ap (λ (m : Machine). replies.Run m.position) made ∙
-        sym (reply-accepted before (Run n) accepted),
-    made ∙ sym (after-accepted before (Run n) accepted),
-  )
+      machine_of (stored new rules cycle last colours) ≡ after before (command_of n direction)
+  after-moves new last n Forward made accepted =
+      made ∙ sym (after-accepted before (Run n) accepted)
+  after-moves new last n Backward made accepted =
+      made ∙ sym (after-accepted before (Back n) accepted)
+
+  -- the reply to them
+  pub reply-moves : (new : Stored) (last n : ℕ) (direction : Direction) →
+      machine_of (stored new rules cycle last colours) ≡ moved direction n before →
+      refusal before (command_of n direction) ≡ None →
+      reply_at direction last ≡ reply before (command_of n direction)
+  reply-moves new last n Forward made accepted =
+      ap (λ (m : Machine). replies.Run m.position) made ∙
+      sym (reply-accepted before (Run n) accepted)
+  reply-moves new last n Backward made accepted =
+      ap (λ (m : Machine). replies.Back m.position) made ∙
+      sym (reply-accepted before (Back n) accepted)

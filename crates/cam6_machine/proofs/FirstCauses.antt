@@ -1,13 +1,17 @@
 -- The first entry with a rule that can't be undone, entry by entry.
 use Rattle.std.proofs.Common.{◌≡◌, ◌∙◌, ℕ, zero, suc, ◌<◌, List, [], ◌∷◌, length, Option, Some, None}
-use Rattle.std.proofs.Common.{ap, arith, drop, get_or, refl}
+use Rattle.std.proofs.Common.{ap, arith, drop, get_or, refl, subst}
+use Rattle.std.proofs.lemmas.Option.{same_Some}
 use Rattle.cam6_block.specs.declared.refusals.NotReversible.{NotReversible}
 use Rattle.cam6_cycle.specs.declared.entries.Entry.{Entry}
 use Rattle.cam6_wiring.specs.declared.names.Half.TheVariants.{A, B}
 use Rattle.cam6_machine.specs.Rules.{Rule}
-use Rattle.cam6_machine.specs.Cycles.{EntryRules}
+use Rattle.cam6_machine.specs.Cycles.{EntryRules, entry_rules}
 use Rattle.cam6_machine.specs.Refusals.{or_then, rule_cause, cause_reply, entry_cause, first_cause}
+use Rattle.cam6_machine.specs.Stored.{StoredMachine}
 use Rattle.cam6_machine.specs.Always.{HaveOwnNames}
+use Rattle.cam6_machine.specs.AtOnce.{IsLeftBy}
+use Rattle.cam6_machine.specs.declared.commands.NamedEntry.{NamedEntry}
 use Rattle.cam6_machine.specs.Internal.Places.{named_entries, rules_at}
 use Rattle.cam6_machine.specs.declared.replies.Reply.{Reply}
 use Rattle.cam6_machine.specs.declared.replies.Reply.TheVariants as reply
@@ -59,3 +63,21 @@ module _ (rules : List Rule) (entries : List Entry) (n : ℕ) (past : Entry)
       causes_from rules entries n ≡ causes_from rules entries (suc n)
   of_neither none neither =
       one_entry ∙ ap (λ a. by_causes a cause_b) none ∙ ap (λ b. by_causes None b) neither
+
+-- the reply for a cause leaves all that is stored
+a_cause_leaves : (n : ℕ) (a b : Option NotReversible) (later : Option Reply) (r : Reply)
+    (m : StoredMachine) → (later ≡ Some r → IsLeftBy r m m) →
+    or_then (or_then (cause_reply n A a) (cause_reply n B b)) later ≡ Some r → IsLeftBy r m m
+a_cause_leaves n (Some cause) b later r m rest e =
+    subst (λ k. IsLeftBy k m m) (same_Some (reply.NotReversible n A cause) r e) refl
+a_cause_leaves n None (Some cause) later r m rest e =
+    subst (λ k. IsLeftBy k m m) (same_Some (reply.NotReversible n B cause) r e) refl
+a_cause_leaves n None None later r m rest e = rest e
+
+pub causes_leave : (rules : List Rule) (n : ℕ) (cycle : List NamedEntry) (r : Reply)
+    (m : StoredMachine) → first_cause rules n cycle ≡ Some r → IsLeftBy r m m
+causes_leave rules n [] r m e = cc e
+causes_leave rules n (entry ∷ cycle) r m e =
+    let here = entry_rules rules entry in
+    a_cause_leaves n (rule_cause here.a) (rule_cause here.b) (first_cause rules (suc n) cycle) r m
+    (causes_leave rules (suc n) cycle r m) e

@@ -9,11 +9,8 @@ use Rattle.cam6_table.specs.RuleTexts.{IsTableOf}
 use Rattle.cam6_table.proofs.TrueTables.{true_table}
 use Rattle.cam6_block.specs.BlockMaps.{Reading, by_table, by_words, made, IsReversible}
 use Rattle.cam6_block.specs.Refusals.{IsRefused, cause_of}
-use Rattle.cam6_block.specs.Laws.{CauseIsFound}
+use Rattle.cam6_machine.proofs.CausesStub.{cause_is_found}
 use Rattle.cam6_block.specs.declared.refusals.NotReversible.{NotReversible}
-
-found : CauseIsFound
-found = ?
 
 -- a table that is true reads as its rule
 pub same_reading : (wiring : Wiring) (text entries : List ℕ) → IsTableOf wiring text entries →
@@ -34,7 +31,7 @@ module _ (wiring : Wiring) (text entries : List ℕ) (is : IsTableOf wiring text
       wiring.minor) →
       IfOk r (λ _. cause_of (by_words wiring (tree_of text)) wiring.hood wiring.minor ≡ None)
   no_cause (Ok done) reversible =
-      (found (by_words wiring (tree_of text)) wiring.hood wiring.minor).1
+      (cause_is_found (by_words wiring (tree_of text)) wiring.hood wiring.minor).1
       (of_words (λ read. IsReversible read wiring.hood wiring.minor) reversible)
   no_cause (Err cause) reversible = tt
 
@@ -46,7 +43,7 @@ module _ (wiring : Wiring) (text entries : List ℕ) (is : IsTableOf wiring text
       ≡ Some cause)
   its_cause (Ok done) refused = tt
   its_cause (Err cause) refused =
-      (found (by_words wiring (tree_of text)) wiring.hood wiring.minor).0 cause
+      (cause_is_found (by_words wiring (tree_of text)) wiring.hood wiring.minor).0 cause
       (of_words (λ read. IsRefused read wiring.hood wiring.minor cause) refused)
 
 -- what is told of a try is the cause
@@ -62,6 +59,6 @@ pub so_if_undoable : (wiring : Wiring) (text : List ℕ) (r : Result (Unit {0}) 
     IsReversible (by_words wiring (tree_of text)) wiring.hood wiring.minor → P
 so_if_undoable wiring text (Ok done) P so refused reversible = so
 so_if_undoable wiring text (Err e) P so refused reversible =
-    let none = (found (by_words wiring (tree_of text)) wiring.hood wiring.minor).1 reversible in
+    let none = (cause_is_found (by_words wiring (tree_of text)) wiring.hood wiring.minor).1 reversible in
     let contrary : None ≡ Some e = sym none ∙ refused in
     cc contrary

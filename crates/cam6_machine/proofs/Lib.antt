@@ -11,6 +11,8 @@ pub mod Dropped
 -- Tables that are filled use by use.
 pub mod FilledTables
 pub mod Inverses
+pub mod CausesStub
+pub mod AlongBackward
 pub mod FirstCauses
 -- The rules of a map, looked up by name.
 pub mod KeptRules

@@ -1,6 +1,8 @@
 -- A machine stays a machine, whatever it is commanded, and its rules run.
 use Rattle.std.proofs.Common.{◌≡◌, ◌≤◌, ◌<◌, ◌+◌, ◌%◌, ℕ, Bool, true, false, ◌&&◌, ◌||◌, List, []}
 use Rattle.std.proofs.Common.{◌∷◌, ◌==◌, length, Option, Some, None, cond, refl, sym, ap, ◌∙◌, subst}
+use Rattle.std.proofs.Common.{zero, suc, if◌then◌else◌}
+use Rattle.std.proofs.Math.Path.{fun_ext}
 use Rattle.std.proofs.Common.{arith, lit≤, nat_lt, nat_le, IsOk, slice_get, ◌⊎◌, inl, inr, Result, Ok, Err}
 use Rattle.std.specs.List.{AllByRecursion, list_any, list_all}
 use Rattle.std.specs.Str.{bytes_eq}
@@ -12,7 +14,13 @@ use Rattle.std.proofs.Math.Nat.{mod-lt}
 use Rattle.cam6_planes.specs.Side.{side_number, side_of}
 use Rattle.cam6_planes.specs.declared.sides.Side.{Side}
 use Rattle.cam6_planes.specs.declared.sides.Side.TheVariants.{S128, S256, S512}
-use Rattle.cam6_planes.specs.Cells.{Cells}
+use Rattle.cam6_planes.specs.Cells.{Cells, torus, no_cells, stored_bit}
+use Rattle.cam6_planes.specs.Row.{byte_column}
+use Rattle.cam6_planes.proofs.CellsAt.{torus_again}
+use Rattle.cam6_machine.proofs.CausesStub.{cause_is_found}
+use Rattle.cam6_cycle.specs.Turns.{previous}
+use Rattle.cam6_cycle.specs.declared.tables.Direction.{Direction}
+use Rattle.cam6_cycle.specs.declared.tables.Direction.TheVariants.{Forward, Backward}
 use Rattle.cam6_wiring.specs.Name.{is_same_half}
 use Rattle.cam6_wiring.specs.Seen.{Sees}
 use Rattle.cam6_wiring.specs.declared.names.Half.{Half}
@@ -31,7 +39,11 @@ use Rattle.cam6_table.proofs.TrueTables.{runs_everywhere}
 use Rattle.cam6_machine.specs.Limits.{max_rules, max_entries, max_colour, max_steps, states}
 use Rattle.cam6_machine.specs.Rules.{Rule, rule_named, rule_if_named, wiring_for, is_rule_name}
 use Rattle.cam6_machine.specs.Steps.{words_mean}
+use Rattle.cam6_machine.specs.Cycles.{entry_rules}
+use Rattle.cam6_machine.specs.Undoing.{unstep}
 use Rattle.cam6_machine.specs.Machine.{Machine, own_colours, first_side, steps, machine_of}
+use Rattle.cam6_machine.specs.Machine.{unstepped_by, unstepped, unsteps}
+use Rattle.cam6_machine.specs.Internal.Ways.{moved, CanMove}
 use Rattle.cam6_machine.specs.Internal.Places.{IsPlaced, ArePlaced, stored, rule_at, name_of}
 use Rattle.cam6_machine.specs.Internal.Places.{place_in, named_entry, named_entries}
 use Rattle.cam6_cycle.specs.declared.entries.Entry.{Entry}
@@ -49,8 +61,6 @@ use Rattle.cam6_machine.specs.declared.faults.Fault.{Fault}
 use Rattle.cam6_machine.specs.declared.faults.Fault.TheVariants.{WrongHalf, OutOfRange}
 use Rattle.cam6_machine.specs.declared.faults.Fault.TheVariants.{TooManyRules, RuleInUse}
 use Rattle.cam6_machine.specs.declared.faults.Fault.TheVariants.{AboveLimit, NoCycle}
-use Rattle.cam6_machine.specs.declared.replies.Direction.{Direction}
-use Rattle.cam6_machine.specs.declared.replies.Direction.TheVariants.{Forward}
 use Rattle.cam6_machine.specs.declared.replies.Reply.{Reply}
 use Rattle.cam6_machine.proofs.Done.{after-refused, after-accepted}
 use Rattle.cam6_machine.proofs.KeptNames.{length_at_most, length_same, all_with}
@@ -58,6 +68,8 @@ use Rattle.cam6_machine.proofs.KeptNames.{own_with, other_named}
 use Rattle.cam6_machine.proofs.Dropped.{length_without, all_without, own_without}
 use Rattle.cam6_machine.proofs.Dropped.{entries_without}
 use Rattle.cam6_machine.proofs.Naming.{same_bytes, rule_of_name, name_with}
+use Rattle.cam6_machine.proofs.StepsOfATorus.{AreWhole, side_some, steps_whole, unstep_whole}
+use Rattle.cam6_machine.proofs.Undoable.{back_runs, undoable}
 use Rattle.cam6_machine.proofs.StepLaws.{only_planes_and_position, position_goes_round}
 
 pub none_own : HaveOwnNames []
@@ -88,10 +100,11 @@ neither false b e = (refl, e)
 
 -- other planes, and another position
 pub moved_is : (m : Machine) (planes : Cells) (position : ℕ) → IsMachine m →
-    IsPosition m.cycle position →
+    torus (side_number m.side) planes ≡ planes → IsPosition m.cycle position →
     IsMachine (record m { planes = planes; position = position })
-moved_is m planes position is at = record {
+moved_is m planes position is whole at = record {
   within = is.within;
+  planes = whole;
   few = is.few;
   names = is.names;
   own = is.own;
@@ -126,8 +139,18 @@ pub run_begins : (cycle : List NamedEntry) (position n : ℕ) → IsPosition cyc
 run_begins [] position n is accepted = absurd (no_cycle_refused (nat_le n max_steps) accepted)
 run_begins (entry ∷ cycle) position n is accepted = is
 
-pub work_is_run : (n : ℕ) (direction : Direction) → command_of n direction ≡ command.Run n
-work_is_run n Forward = refl
+-- and so has a command of steps in whatever direction
+pub moves_begin : (m : Machine) (n : ℕ) (direction : Direction) → IsMachine m →
+    refuse.refusal m (command_of n direction) ≡ None → m.position < length m.cycle
+moves_begin m n Forward is accepted = run_begins m.cycle m.position n is.position accepted
+moves_begin m n Backward is accepted =
+    run_begins m.cycle m.position n is.position (back_runs m n accepted)
+
+-- and it can be done
+pub can_move : (m : Machine) (n : ℕ) (direction : Direction) →
+    refuse.refusal m (command_of n direction) ≡ None → CanMove direction m
+can_move m n Forward accepted = tt
+can_move m n Backward accepted = undoable cause_is_found m n accepted
 
 below_is : (cycle : List NamedEntry) (position : ℕ) → position < length cycle →
     IsPosition cycle position
@@ -141,7 +164,35 @@ steps_is m n is some =
     mod-lt (m.position + n) some in
     subst IsMachine (sym (only_planes_and_position m n))
     (moved_is m (steps n m).planes (steps n m).position is
+    (subst AreWhole (only_planes_and_position m n) (steps_whole n m is.planes))
     (below_is m.cycle (steps n m).position (omega (arith, at, inside))))
+
+-- a step undone leaves a machine, and so do many
+unstepped_is : (m : Machine) → IsMachine m → IsMachine (unstepped m)
+unstepped_is m is = by_entry (slice_get m.cycle before) refl
+  where
+    before : ℕ
+    before = previous (length m.cycle) m.position
+
+    by_entry : (o : Option NamedEntry) → slice_get m.cycle before ≡ o →
+        IsMachine (unstepped_by before o m)
+    by_entry None found = is
+    by_entry (Some entry) found =
+        let s = side_number m.side in
+        let rules = entry_rules m.rules entry in
+        moved_is m (unstep s rules m.planes) before is
+        (unstep_whole s rules m.planes (side_some m.side))
+        (below_is m.cycle before (slice_get_within m.cycle before entry found))
+
+pub unsteps_is : (m : Machine) (n : ℕ) → IsMachine m → IsMachine (unsteps n m)
+unsteps_is m zero is = is
+unsteps_is m (suc n) is = unstepped_is (unsteps n m) (unsteps_is m n is)
+
+-- steps of a command that isn't refused leave one
+pub moves_are : (m : Machine) (n : ℕ) (direction : Direction) → IsMachine m →
+    0 < length m.cycle → IsMachine (moved direction n m)
+moves_are m n Forward is some = steps_is m n is some
+moves_are m n Backward is some = unsteps_is m n is
 
 same_half : (first second : Half) → is_same_half first second ≡ true → first ≡ second
 same_half half.A half.A same = refl
@@ -375,6 +426,7 @@ rule_is m new is none words = by_name (is_rule_name new.name) refl none
         has_room m.rules m.cycle new (rule_named new.name m.rules) refl none is.few in
         record {
           within = is.within;
+          planes = is.planes;
           few = few;
           names = all_with (λ rule. is_rule_name rule.name ≡ true) new m.rules named
               (λ old same holds. holds) is.names;
@@ -411,6 +463,7 @@ dropped_is : (m : Machine) (name : List ℕ) → IsMachine m →
     IsMachine (record m { rules = without_rule name m.rules })
 dropped_is m name is none = record {
   within = is.within;
+  planes = is.planes;
   few = omega (arith, is.few, length_without name m.rules);
   names = all_without (λ rule. is_rule_name rule.name ≡ true) name m.rules is.names;
   own = own_without name m.rules is.own;
@@ -434,23 +487,38 @@ dropped_is m name is none = record {
     by_rule None none = cc none
     by_rule (Some rule) none = by_use (refuse.is_used m.cycle name) refl none
 
+-- no cell is set on whatever torus
+none_whole : (s : ℕ) → torus s no_cells ≡ no_cells
+none_whole s = fun_ext (λ p. fun_ext (λ x. fun_ext (λ y. never (nat_lt p 4))))
+  where
+    never : (b : Bool) → (b && false) ≡ false
+    never true = refl
+    never false = refl
+
 -- what a command that isn't refused makes of a machine
 effect_is : (m : Machine) (c : Command) → IsMachine m → refuse.refusal m c ≡ None →
     IsMachine (effect m c)
 effect_is m (command.Set plane row bits) is none =
-    moved_is m (effect m (command.Set plane row bits)).planes m.position is is.position
+    let s = side_number m.side in
+    moved_is m (effect m (command.Set plane row bits)).planes m.position is
+    (torus_again s (λ q u v. if (q == plane) && (v == row) then byte_column bits u
+    else m.planes q u v) (side_some m.side)) is.position
 effect_is m (command.Rule name wiring text) is none =
     let new : Rule = record { name = name; wiring = wiring; text = text } in
     let (place, words) = first_none _ (refuse.words_refusal wiring text) none in
     rule_is m new is (no_fault _ place) words
 effect_is m (command.Clear plane) is none =
-    moved_is m (effect m (command.Clear plane)).planes m.position is is.position
+    let s = side_number m.side in
+    moved_is m (effect m (command.Clear plane)).planes m.position is
+    (torus_again s (λ q x y. if q == plane then false else m.planes q x y) (side_some m.side))
+    is.position
 effect_is m (command.Drop name) is none = dropped_is m name is (no_fault _ none)
 effect_is m command.Rules is none = is
 effect_is m (command.Map colours) is none =
     let (coloured, small) = allowed_colours colours (no_fault _ none) in
     record {
       within = is.within;
+      planes = is.planes;
       few = is.few;
       names = is.names;
       own = is.own;
@@ -467,6 +535,7 @@ effect_is m (command.Cycle entries) is none =
     let (short, are) = accepted_cycle m.rules entries (no_fault _ none) in
     record {
       within = is.within;
+      planes = is.planes;
       few = is.few;
       names = is.names;
       own = is.own;
@@ -478,6 +547,7 @@ effect_is m (command.Cycle entries) is none =
       colours = is.colours;
     }
 effect_is m (command.Run n) is none = steps_is m n is (some_cycle m.cycle n none)
+effect_is m (command.Back n) is none = unsteps_is m n is
 effect_is m (command.Row plane row) is none = is
 effect_is m (command.Plane plane) is none = is
 effect_is m (command.Side n) is none = by_side (side_of n) (no_fault _ none)
@@ -487,6 +557,7 @@ effect_is m (command.Side n) is none = by_side (side_of n) (no_fault _ none)
     by_side None none = cc none
     by_side (Some side) none = record {
       within = leb-true _ _ (allowed _ AboveLimit none);
+      planes = none_whole (side_number side);
       few = is.few;
       names = is.names;
       own = is.own;
@@ -505,6 +576,21 @@ stays_machine m c is = by_refusal (refuse.refusal m c) refl
     by_refusal None none = subst IsMachine (sym (after-accepted m c none)) (effect_is m c is none)
     by_refusal (Some r) refused = subst IsMachine (sym (after-refused m c r refused)) is
 
+-- steps undone leave the limit
+unsteps_limit : (n : ℕ) (m : Machine) → (unsteps n m).limit ≡ m.limit
+unsteps_limit zero m = refl
+unsteps_limit (suc n) m = by_entry (unsteps n m) ∙ unsteps_limit n m
+  where
+    by_option : (position : ℕ) (o : Option NamedEntry) (k : Machine) →
+        (unstepped_by position o k).limit ≡ k.limit
+    by_option position None k = refl
+    by_option position (Some entry) k = refl
+
+    by_entry : (k : Machine) → (unstepped k).limit ≡ k.limit
+    by_entry k =
+        let before = previous (length k.cycle) k.position in
+        by_option before (slice_get k.cycle before) k
+
 -- what a command that isn't refused leaves of the limit
 effect_limit : (m : Machine) (c : Command) → (effect m c).limit ≡ m.limit
 effect_limit m (command.Set plane row bits) = refl
@@ -517,6 +603,7 @@ effect_limit m (command.Colours row) = refl
 effect_limit m (command.Count mask) = refl
 effect_limit m (command.Cycle entries) = refl
 effect_limit m (command.Run n) = ap (λ (k : Machine). k.limit) (only_planes_and_position m n)
+effect_limit m (command.Back n) = unsteps_limit n m
 effect_limit m (command.Row plane row) = refl
 effect_limit m (command.Plane plane) = refl
 effect_limit m (command.Side n) = by_side (side_of n)
@@ -540,6 +627,7 @@ first_within S512 = lit≤ tt
 pub blank_is_machine : BlankIsMachine
 blank_is_machine limit = record {
   within = first_within limit;
+  planes = none_whole (side_number (first_side limit));
   few = omega arith;
   names = tt;
   own = none_own;
@@ -560,6 +648,8 @@ blank_stored planes rules entries limit side whole no_rules no_entries =
     let first = first_within limit in
     let blank : IsMachine (machine_of (stored planes [] [] 0 own_colours)) = record {
       within = omega (arith, first, ap side_number side, ap side_number whole);
+      planes = torus_again (side_number planes.side) (stored_bit planes.rows)
+          (side_some planes.side);
       few = is.few;
       names = is.names;
       own = is.own;

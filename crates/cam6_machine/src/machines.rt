@@ -5,6 +5,7 @@ ghost use Rattle.cam6_planes.specs.Side.{side_number};
 ghost use Rattle.cam6_planes.specs.Stored.{width};
 ghost use Rattle.cam6_machine.specs.Machine.{first_side};
 ghost use Rattle.cam6_machine.specs.Effects.{plane_rows};
+ghost use Rattle.cam6_machine.specs.Internal.Ways.{reply_at};
 
 use crate::commands::{Command, NamedEntries};
 use crate::cycles::{closed_cycle, entries_of, placed_cycle};
@@ -414,10 +415,7 @@ impl Machine {
             go_along(image, cycle, direction, &self.tables, self.position, n);
         self.image = Some(image);
         self.position = position;
-        match direction {
-            Direction::Forward => Reply::Run { position },
-            Direction::Backward => Reply::Back { position },
-        }
+        reply_at(direction, position)
     }
 
     /// Answers a command and does its steps.
@@ -439,6 +437,16 @@ impl Machine {
             Now::Reply(reply) => Ok(reply),
             Now::Work(n, direction) => Ok(self.work(n, direction)),
         }
+    }
+}
+
+/// The reply once a machine has come to a position.
+fn reply_at(direction: Direction, position: usize) -> Reply
+    ensures { result ≡ reply_at direction position }
+{
+    match direction {
+        Direction::Forward => Reply::Run { position },
+        Direction::Backward => Reply::Back { position },
     }
 }
 

@@ -3,6 +3,8 @@ use Rattle.std.specs.Prelude.{ℕ, ⊤}
 use Rattle.cam6_cycle.specs.declared.tables.Direction.{Direction}
 use Rattle.cam6_cycle.specs.declared.tables.Direction.TheVariants.{Forward, Backward}
 use Rattle.cam6_machine.specs.Machine.{Machine, steps, unsteps, IsUndoableCycle}
+use Rattle.cam6_machine.specs.declared.replies.Reply.{Reply}
+use Rattle.cam6_machine.specs.declared.replies.Reply.TheVariants as reply
 
 -- so many steps this way
 abbrev pub moved : Direction → ℕ → Machine → Machine
@@ -13,3 +15,8 @@ moved Backward n m = unsteps n m
 abbrev pub CanMove : Direction → Machine → Type 0
 CanMove Forward m = ⊤
 CanMove Backward m = IsUndoableCycle m
+
+-- the reply once a position is come to
+abbrev pub reply_at : Direction → ℕ → Reply
+reply_at Forward position = reply.Run position
+reply_at Backward position = reply.Back position

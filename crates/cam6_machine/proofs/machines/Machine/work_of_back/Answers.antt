@@ -1,0 +1,16 @@
+use Rattle.std.proofs.Common.{◌∙◌, sym, subst}
+use Rattle.cam6_machine.specs.AtOnce.{IsLeftBy}
+use Rattle.cam6_machine.specs.Internal.Images.{planes_of}
+use Rattle.cam6_machine.specs.Internal.Places.{rules_of, entries_of, named_entries, stored}
+use Rattle.cam6_machine.proofs.FirstCauses.{causes_leave}
+use Rattle.cam6_machine.proofs.machines.Machine.work_of_back.Goals as goal
+
+pub returns-in-Some-first_cause-clause-left : goal.returns-in-Some-first_cause-clause-left
+returns-in-Some-first_cause-clause-left c =
+    let m = c.self.inside in
+    let rules = rules_of m.rules.entries in
+    let refused = c.in-Some-first_cause.refused in
+    let old = stored (planes_of m.image) rules (entries_of m.cycle) m.position m.colours in
+    subst (λ k. IsLeftBy refused k old) c.self.view_is
+    (causes_leave rules 0 (named_entries rules c.entries_of-cycle.result.now) refused old
+    (sym c.first_cause.ensures ∙ c.in-Some-first_cause.is))
