@@ -34,3 +34,7 @@ pub mod Staying
 pub mod StepsOfATorus
 -- A machine that may go back has a cycle of which every rule can be undone.
 pub mod Undoable
+-- Where the cells of a block lie, and the bits of a block's state.
+pub mod BlocksOfCells
+-- Planes whose blocks are changed, and what undoes a change of blocks.
+pub mod ChangedBlocks
