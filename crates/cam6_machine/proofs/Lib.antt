@@ -38,3 +38,7 @@ pub mod Undoable
 pub mod BlocksOfCells
 -- Planes whose blocks are changed, and what undoes a change of blocks.
 pub mod ChangedBlocks
+-- Two ways of seeing that agree on the names of a block show one address.
+pub mod AddressesOfBlocks
+-- What a cell sees in its block is what its place sees in the block's state.
+pub mod SeenInBlocks
