@@ -42,3 +42,5 @@ pub mod ChangedBlocks
 pub mod AddressesOfBlocks
 -- What a cell sees in its block is what its place sees in the block's state.
 pub mod SeenInBlocks
+-- A step by rules of blocks changes each block as a whole.
+pub mod StepsByBlocks
