@@ -44,3 +44,5 @@ pub mod AddressesOfBlocks
 pub mod SeenInBlocks
 -- A step by rules of blocks changes each block as a whole.
 pub mod StepsByBlocks
+-- A step and the step undone, and a step by inverted tables.
+pub mod StepsUndone
