@@ -5,12 +5,9 @@ use Rattle.std.specs.List.{AllByRecursion}
 use Rattle.std.proofs.lemmas.List.{length-map}
 use Rattle.std.proofs.lemmas.Option.{slice_get-map, slice_get-get_or}
 use Rattle.cam6_planes.specs.Side.{side_number}
-use Rattle.cam6_planes.specs.declared.sides.Side.{Side}
-use Rattle.cam6_planes.specs.declared.sides.Side.TheVariants.{S128, S256, S512}
 use Rattle.cam6_planes.specs.Stored.{Stored, AreAlike}
 use Rattle.cam6_planes.specs.Cells.{Cells, cells, stored_bit}
 use Rattle.cam6_planes.proofs.CellsAt.{torus_again}
-use Rattle.cam6_planes.proofs.SideNumbers.{side_least}
 use Rattle.cam6_band.specs.ByTables.{step_by}
 use Rattle.cam6_band.specs.declared.tables.EntryTables.{EntryTables}
 use Rattle.cam6_cycle.specs.Turns.{previous}
@@ -21,14 +18,12 @@ use Rattle.cam6_machine.specs.Cycles.{EntryRules, entry_rules}
 use Rattle.cam6_machine.specs.Undoing.{unstep, IsUndoableEntry}
 use Rattle.cam6_machine.specs.TrueTables.{AreTablesFor}
 use Rattle.cam6_machine.specs.Always.{HaveOwnNames}
-use Rattle.cam6_machine.specs.Laws.{InvertedTablesUndo}
 use Rattle.cam6_machine.specs.Machine.{Machine, machine_of, unstepped, unstepped_by}
 use Rattle.cam6_machine.specs.Internal.Places.{named_entry, named_entries, rules_at, stored}
 use Rattle.cam6_machine.specs.declared.commands.NamedEntry.{NamedEntry}
 use Rattle.cam6_machine.proofs.Naming.{same_rules}
-
-inverted_tables_undo : InvertedTablesUndo
-inverted_tables_undo = ?
+use Rattle.cam6_machine.proofs.StepsOfATorus.{side_some, side_even}
+use Rattle.cam6_machine.proofs.StepsUndone.{inverted_tables_undo}
 
 -- what is so of all is so of each
 all_at : {X : Type 0} (P : X → Type 0) (xs : List X) (i : ℕ) (x : X) → AllByRecursion P xs →
@@ -51,18 +46,13 @@ undoable_at rules cycle position past own within all =
     (slice_get-map (named_entry rules) cycle position ∙
     ap (option_map (named_entry rules)) (slice_get-get_or cycle position past within)))
 
-side_even : (side : Side) → side_number side % 2 ≡ 0
-side_even S128 = refl
-side_even S256 = refl
-side_even S512 = refl
-
 -- on the cells of stored planes, a step by the tables that undo an entry is the entry's step undone
 pub undone_step : (old : Stored) (entry : EntryRules) (tables : EntryTables) →
     IsUndoableEntry entry → AreTablesFor Backward entry tables →
     step_by (side_number old.side) tables (cells old)
     ≡ unstep (side_number old.side) entry (cells old)
 undone_step old entry tables undoable are =
-    let some : 0 < side_number old.side = omega (arith, side_least old.side) in
+    let some = side_some old.side in
     inverted_tables_undo (side_number old.side) entry tables (cells old) some
     (side_even old.side) undoable are
     (torus_again (side_number old.side) (stored_bit old.rows) some)

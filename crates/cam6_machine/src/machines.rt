@@ -313,11 +313,16 @@ impl Machine {
         ensures left { Leaves result self.old self.new }
         ensures ready { CanWork result (machine_of self.new) }
     {
-        let cycle = entries_of(&self.cycle);
-        if let Some(fault) = run_refusal(cycle, n) {
+        let entries = entries_of(&self.cycle);
+        if let Some(fault) = run_refusal(entries, n) {
             return Now::Reply(Reply::Fault(fault));
         }
-        if let Some(refused) = first_cause(&self.rules, cycle, &mut self.trial, &mut self.inverse) {
+        if let Some(refused) = first_cause(
+            &self.rules,
+            entries,
+            &mut self.trial,
+            &mut self.inverse,
+        ) {
             return Now::Reply(refused);
         }
         if n == 0 {
@@ -410,9 +415,14 @@ impl Machine {
         let Some(image) = self.image.take() else {
             unreachable!()
         };
-        fill_tables(&self.rules, cycle, direction, &mut self.trial, &mut self.tables);
-        let (image, position) =
-            go_along(image, cycle, direction, &self.tables, self.position, n);
+        fill_tables(
+            &self.rules,
+            cycle,
+            direction,
+            &mut self.trial,
+            &mut self.tables,
+        );
+        let (image, position) = go_along(image, cycle, direction, &self.tables, self.position, n);
         self.image = Some(image);
         self.position = position;
         reply_at(direction, position)

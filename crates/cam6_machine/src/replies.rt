@@ -17,23 +17,40 @@ pub enum Reply {
     Rule,
     Drop,
     /// The names of the rules, in their order.
-    Rules { names: Names },
+    Rules {
+        names: Names,
+    },
     Cycle,
     Side,
     Map,
     /// The position after the run.
-    Run { position: usize },
+    Run {
+        position: usize,
+    },
     /// The position after going back.
-    Back { position: usize },
-    Row { bits: RowText },
-    Plane { rows: PlaneRows },
-    Colours { colours: RowColours },
-    Count { count: u32 },
+    Back {
+        position: usize,
+    },
+    Row {
+        bits: RowText,
+    },
+    Plane {
+        rows: PlaneRows,
+    },
+    Colours {
+        colours: RowColours,
+    },
+    Count {
+        count: u32,
+    },
     Fault(Fault),
     /// The first fault of a rule's text.
     RuleText(TextFault),
     /// The least address at which a rule stops, and why it stops there.
-    RuleStops { address: u16, fault: RuleFault },
+    RuleStops {
+        address: u16,
+        fault: RuleFault,
+    },
     /// The first entry of the cycle, counted from 0, that has a rule which can't be undone, the
     /// half for which it has it, half A before half B, and why it can't be undone.
     NotReversible {

@@ -96,9 +96,10 @@ fn back_along(
 {
     let mut image = image;
     let mut position = position;
-    for _step in 0..n {
+    for _undone in 0..n {
         position = cycle.backward(position).1;
-        image = step(image, &tables_at(cycle, position, tables));
+        let inverses = tables_at(cycle, position, tables);
+        image = step(image, &inverses);
     }
     (image, position)
 }

@@ -54,10 +54,8 @@ fn fill_use(
 )
     requires index { index < length needed.now }
     requires room { length needed.now ≤ length tables.old }
-    requires before {
-        AreTables direction index (rules_of rules.now.entries) needed.now tables.old }
-    ensures tables {
-        AreTables direction (index + 1) (rules_of rules.now.entries) needed.now tables.new }
+    requires before { AreTables direction index (rules_of rules.now.entries) needed.now tables.old }
+    ensures tables { AreTables direction (index + 1) (rules_of rules.now.entries) needed.now tables.new }
     ensures room { length tables.new ≡ length tables.old }
 {
     let place = needed[index].rule.number;
@@ -84,8 +82,7 @@ fn fill_table(
     straight: &mut Table,
     table: &mut Table,
 )
-    ensures {
-        IsTableFor direction (rule_at (rules_of rules.now.entries) (Some place)) table.new }
+    ensures { IsTableFor direction (rule_at (rules_of rules.now.entries) (Some place)) table.new }
 {
     if let Some((_, rule)) = rules.get_index(place) {
         match direction {

@@ -13,11 +13,11 @@ use Rattle.cam6_machine.specs.Internal.Places.{rules_at, stored}
 use Rattle.cam6_machine.proofs.AlongBackward.{one_step_back, undoable_at, undone_step}
 use Rattle.cam6_machine.proofs.runs.back_along.Goals as goal
 
-pub loop-step-preserved : goal.loop-step-preserved
-loop-step-preserved c =
+pub loop-undone-preserved : goal.loop-undone-preserved
+loop-undone-preserved c =
     let cycle = c.args.cycle.now in
-    let now = c.loop-step in
-    let one : suc now._step ≡ now._step + 1 = omega arith in
+    let now = c.loop-undone in
+    let one : suc now._undone ≡ now._undone + 1 = omega arith in
     let past : Entry = record { a = None; b = None; grid = Even; phase = P0 } in
     let before = c.backward-position.result.1 in
     let within = c.backward-position.ensures.within in
@@ -27,10 +27,10 @@ loop-step-preserved c =
     record {
       position = within;
       steps = λ rules colours own placed are undoable.
-          let tables = c.tables_at.ensures Backward rules entry placed are
+          let tables = c.tables_at-inverses.ensures Backward rules entry placed are
           (slice_get-get_or cycle before past within) in
           let made = c.step-image.ensures.planes ∙
-          undone_step old (rules_at rules entry) c.tables_at.result
+          undone_step old (rules_at rules entry) c.tables_at-inverses.result
           (undoable_at rules cycle before past own within undoable) tables in
           one_step_back old c.step-image.result.planes rules cycle now.position before colours
           past own c.backward-position.ensures.previous within c.step-image.ensures.alike made ∙
@@ -43,8 +43,8 @@ loop-step-preserved c =
 pub returns-clause-steps : goal.returns-clause-steps
 returns-clause-steps c = λ rules colours own placed are undoable.
     let cycle = c.args.cycle.now in
-    let all : c.loop-step._step ≡ c.args.n =
-    omega (arith, c.loop-step-test.false, c.loop-step.auto._step-end) in
-    c.loop-step.invariant.steps rules colours own placed are undoable ∙
+    let all : c.loop-undone._undone ≡ c.args.n =
+    omega (arith, c.loop-undone-test.false, c.loop-undone.auto._undone-end) in
+    c.loop-undone.invariant.steps rules colours own placed are undoable ∙
     ap (λ n. unsteps n
     (machine_of (stored c.args.image.planes rules cycle c.args.position colours))) all

@@ -8,13 +8,13 @@ use Rattle.cam6_machine.specs.Internal.Uses.{AreTables}
 use Rattle.cam6_machine.specs.Machine.{unsteps, machine_of, IsUndoableCycle}
 use Rattle.cam6_machine.proofs.runs.back_along.Given as goal
 
-abbrev pub invariant-loop-step : goal.invariant-loop-step
-invariant-loop-step l = record {
+abbrev pub invariant-loop-undone : goal.invariant-loop-undone
+invariant-loop-undone l = record {
   position : l.position < length l.cycle;
   steps : (rules : List Rule) (colours : List ℕ) → HaveOwnNames rules → ArePlaced rules l.cycle →
       (let needed = tables_needed Backward l.cycle in
       AreTables Backward (length needed) rules needed l.tables) →
       let m = machine_of (stored l.fn.image.planes rules l.cycle l.fn.position colours) in
       IsUndoableCycle m →
-      machine_of (stored l.image.planes rules l.cycle l.position colours) ≡ unsteps l._step m;
+      machine_of (stored l.image.planes rules l.cycle l.position colours) ≡ unsteps l._undone m;
 }

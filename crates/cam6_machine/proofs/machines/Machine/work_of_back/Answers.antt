@@ -12,5 +12,5 @@ returns-in-Some-first_cause-clause-left c =
     let refused = c.in-Some-first_cause.refused in
     let old = stored (planes_of m.image) rules (entries_of m.cycle) m.position m.colours in
     subst (λ k. IsLeftBy refused k old) c.self.view_is
-    (causes_leave rules 0 (named_entries rules c.entries_of-cycle.result.now) refused old
+    (causes_leave rules 0 (named_entries rules c.entries_of-entries.result.now) refused old
     (sym c.first_cause.ensures ∙ c.in-Some-first_cause.is))
