@@ -46,3 +46,7 @@ pub mod SeenInBlocks
 pub mod StepsByBlocks
 -- A step and the step undone, and a step by inverted tables.
 pub mod StepsUndone
+-- The entry at a place of the cycle, and what its rules are.
+pub mod RulesOfEntries
+-- Steps along a cycle and steps back along it undo each other.
+pub mod RoundAndBack
