@@ -48,5 +48,9 @@ pub mod StepsByBlocks
 pub mod StepsUndone
 -- The entry at a place of the cycle, and what its rules are.
 pub mod RulesOfEntries
+-- Steps that are undone change planes and position alone, and leave a machine.
+pub mod StepsBack
 -- Steps along a cycle and steps back along it undo each other.
 pub mod RoundAndBack
+-- A machine that may go back is, run and then taken back as far, the machine that it was.
+pub mod BackUndoes

@@ -18,6 +18,7 @@ use Rattle.cam6_machine.proofs.RulesOfEntries.{entry_or_none, entry_at, is_posit
 use Rattle.cam6_machine.proofs.RulesOfEntries.{AreSound, sound_if_named, is_of_blocks}
 use Rattle.cam6_machine.proofs.StepsOfATorus.{AreWhole, step_whole, unstep_whole, side_some}
 use Rattle.cam6_machine.proofs.StepsOfATorus.{side_even}
+use Rattle.cam6_machine.proofs.StepsBack.{previous-lt}
 use Rattle.cam6_machine.proofs.StepsUndone.{unstep-step, step-unstep}
 
 -- what steps and steps back along a cycle keep, and what lets them undo each other
@@ -48,10 +49,6 @@ goes_back : (m : Machine) (place : ℕ) (entry : NamedEntry) →
 goes_back m place entry before found =
     ap (λ q. unstepped_by q (slice_get m.cycle q) m) before ∙
     ap (λ o. unstepped_by place o m) found
-
-previous-lt : (n position : ℕ) → position < n → previous n position < n
-previous-lt n zero within = omega (arith, within)
-previous-lt n (suc position) within = omega (arith, within)
 
 -- an entry's rules are rules of blocks
 entry_of_blocks : (m : Machine) (place : ℕ) (entry : NamedEntry) → IsReady m →
