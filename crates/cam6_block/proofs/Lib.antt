@@ -18,5 +18,7 @@ pub mod OtherLines
 pub mod Turned
 -- What inverted tables do, and that there is one.
 pub mod Undoing
+-- What is refused is refused for its cause, and what has no cause is reversible.
+pub mod Causes
 -- A table that is filled place by place.
 pub mod Filled

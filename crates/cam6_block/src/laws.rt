@@ -2,6 +2,7 @@
 //! nothing.
 ghost use Rattle.cam6_block.specs.Laws.{TrueTableHasTheBlockMap, TakesEach, PlacesAgree};
 ghost use Rattle.cam6_block.specs.Laws.{IsTheOnlyOne, InvertedTakesPreimages, InvertedUndoes};
+ghost use Rattle.cam6_block.specs.Laws.{CauseIsFound};
 
 /// The true table of a rule makes of a block what the rule's words make of it.
 pub fn a_true_table_has_the_block_map()
@@ -31,4 +32,9 @@ pub fn the_inverse_takes_preimages()
 /// The inverted table gives each block back.
 pub fn the_inverse_gives_blocks_back()
     ensures law { InvertedUndoes }
+{}
+
+/// What is refused has the cause for which it is refused, and what has no cause is reversible.
+pub fn a_refusal_has_its_cause()
+    ensures law { CauseIsFound }
 {}

@@ -9,7 +9,7 @@ use Rattle.cam6_table.specs.RuleTexts.{IsTableOf}
 use Rattle.cam6_table.proofs.TrueTables.{true_table}
 use Rattle.cam6_block.specs.BlockMaps.{Reading, by_table, by_words, made, IsReversible}
 use Rattle.cam6_block.specs.Refusals.{IsRefused, cause_of}
-use Rattle.cam6_machine.proofs.CausesStub.{cause_is_found}
+use Rattle.cam6_block.proofs.Causes.{cause_is_found}
 use Rattle.cam6_block.specs.declared.refusals.NotReversible.{NotReversible}
 
 -- a table that is true reads as its rule

@@ -10,9 +10,11 @@ pub mod KeptNames
 pub mod Dropped
 -- Tables that are filled use by use.
 pub mod FilledTables
+-- What is said of a rule's true table is said of the rule's words.
 pub mod Inverses
-pub mod CausesStub
+-- A step undone along the cycle, with places and with names.
 pub mod AlongBackward
+-- The first entry with a rule that can't be undone, entry by entry.
 pub mod FirstCauses
 -- The rules of a map, looked up by name.
 pub mod KeptRules

@@ -17,7 +17,7 @@ use Rattle.cam6_planes.specs.declared.sides.Side.TheVariants.{S128, S256, S512}
 use Rattle.cam6_planes.specs.Cells.{Cells, torus, no_cells, stored_bit}
 use Rattle.cam6_planes.specs.Row.{byte_column}
 use Rattle.cam6_planes.proofs.CellsAt.{torus_again}
-use Rattle.cam6_machine.proofs.CausesStub.{cause_is_found}
+use Rattle.cam6_block.proofs.Causes.{cause_is_found}
 use Rattle.cam6_cycle.specs.Turns.{previous}
 use Rattle.cam6_cycle.specs.declared.tables.Direction.{Direction}
 use Rattle.cam6_cycle.specs.declared.tables.Direction.TheVariants.{Forward, Backward}
