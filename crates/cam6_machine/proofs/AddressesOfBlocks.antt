@@ -9,7 +9,8 @@ use Rattle.cam6_wiring.specs.declared.names.Level.{Level}
 use Rattle.cam6_wiring.specs.declared.names.Level.TheVariants.{Lower, Upper}
 use Rattle.cam6_wiring.specs.declared.names.Name.TheVariants as name
 use Rattle.cam6_wiring.specs.declared.names.Turn.{Turn}
-use Rattle.cam6_wiring.specs.declared.names.Turn.TheVariants.{Clockwise, Opposite, CounterClockwise}
+use Rattle.cam6_wiring.specs.declared.names.Turn.TheVariants.{Clockwise, Opposite}
+use Rattle.cam6_wiring.specs.declared.names.Turn.TheVariants.{CounterClockwise}
 use Rattle.cam6_wiring.specs.declared.wirings.Hood.{Hood}
 use Rattle.cam6_wiring.specs.declared.wirings.Hood.TheVariants.{Moore, VonNeumann, Margolus}
 use Rattle.cam6_wiring.specs.declared.wirings.Hood.TheVariants.{MargolusPhase, MargolusHorzVert}
@@ -20,7 +21,8 @@ use Rattle.cam6_block.specs.BlockMaps.{is_margolus}
 -- two ways of seeing agree on the names of a block
 pub record Agrees (a b : Sees) : Type 0 where
   pub centre : (level : Level) → a (name.Beside Center level) ≡ b (name.Beside Center level)
-  pub inside : (turn : Turn) (level : Level) → a (name.InBlock turn level) ≡ b (name.InBlock turn level)
+  pub inside : (turn : Turn) (level : Level) →
+      a (name.InBlock turn level) ≡ b (name.InBlock turn level)
   pub phase : (level : Level) → a (name.Phase level) ≡ b (name.Phase level)
   pub horz : a name.Horz ≡ b name.Horz
   pub vert : a name.Vert ≡ b name.Vert
@@ -28,7 +30,8 @@ pub record Agrees (a b : Sees) : Type 0 where
   pub minor_horz : a name.MinorHorz ≡ b name.MinorHorz
   pub minor_vert : a name.MinorVert ≡ b name.MinorVert
 
-same_twelve : {a0 a1 a2 a3 a4 a5 a6 a7 a8 a9 a10 a11 b0 b1 b2 b3 b4 b5 b6 b7 b8 b9 b10 b11 : Bool} →
+same_twelve : {a0 a1 a2 a3 a4 a5 a6 a7 a8 a9 a10 a11 : Bool}
+    {b0 b1 b2 b3 b4 b5 b6 b7 b8 b9 b10 b11 : Bool} →
     a0 ≡ b0 → a1 ≡ b1 → a2 ≡ b2 → a3 ≡ b3 → a4 ≡ b4 → a5 ≡ b5 → a6 ≡ b6 → a7 ≡ b7 → a8 ≡ b8 →
     a9 ≡ b9 → a10 ≡ b10 → a11 ≡ b11 →
     Path (List Bool)

@@ -1,5 +1,5 @@
--- A machine that may go back is, run and then taken back as far, the machine that it was, and so it
--- is taken back and then run.
+-- A machine that may go back is, run and then taken back as far, the machine that it was, and so
+-- it is taken back and then run.
 use Rattle.std.proofs.Common.{◌≡◌, ℕ, Option, Some, None, sym, ◌∙◌, ap}
 use Rattle.cam6_block.specs.Laws.{CauseIsFound}
 use Rattle.cam6_machine.specs.Machine.{Machine, steps, unsteps, IsUndoableCycle}
@@ -24,7 +24,8 @@ pub refused_after_steps : (m : Machine) (n k : ℕ) →
     refusal (steps n m) (Back k) ≡ refusal m (Back k)
 refused_after_steps m n k = ap (λ m. refusal m (Back k)) (only_planes_and_position m n)
 
-pub refused_after_back : (m : Machine) (n k : ℕ) → refusal (unsteps n m) (Run k) ≡ refusal m (Run k)
+pub refused_after_back : (m : Machine) (n k : ℕ) →
+    refusal (unsteps n m) (Run k) ≡ refusal m (Run k)
 refused_after_back m n k = ap (λ m. refusal m (Run k)) (only_these_back m n)
 
 pub back_gives_back : CauseIsFound → BackGivesTheMachineBack

@@ -14,7 +14,8 @@ use Rattle.cam6_wiring.specs.declared.names.Half.{Half}
 use Rattle.cam6_wiring.specs.declared.names.Level.{Level}
 use Rattle.cam6_block.specs.Blocks.{state_of, place_bit, is_right, is_low}
 use Rattle.cam6_block.proofs.States.{four, place_bit-state_of, state_of-lt}
-use Rattle.cam6_machine.specs.Undoing.{column_at, row_at, state_at, place_of_corner, place_in_block}
+use Rattle.cam6_machine.specs.Undoing.{column_at, row_at, state_at, place_of_corner}
+use Rattle.cam6_machine.specs.Undoing.{place_in_block}
 
 -- a number is as even as it is modulo an even side
 even_mod : (s n : ℕ) → s % 2 ≡ 0 → n % s % 2 ≡ n % 2
@@ -34,7 +35,8 @@ module _ (s : ℕ) (some : 0 < s) (even : s % 2 ≡ 0) (grid : Grid) where
       (even_mod s (x + (s - side_in_block grid x)) even) (even_mod s (b + a) even)
 
   -- and in that block
-  pub block_on : (x a : ℕ) → a < 2 → block_of s grid ((block_of s grid x + a) % s) ≡ block_of s grid x
+  pub block_on : (x a : ℕ) → a < 2 →
+      block_of s grid ((block_of s grid x + a) % s) ≡ block_of s grid x
   block_on x a h =
       let b = block_of s grid x in
       let within : a ≤ s = omega (arith, h, some, even) in
@@ -119,7 +121,8 @@ module _ (s : ℕ) (f : Cells) (half : Half) (grid : Grid) where
       f (plane_of half level) ((b + bit_number (is_right place)) % s) (row_at s grid v place)))
       column ∙
       ap (λ b. state_of (λ level place.
-      f (plane_of half level) (column_at s grid x place) ((b + bit_number (is_low place)) % s))) row
+      f (plane_of half level) (column_at s grid x place) ((b + bit_number (is_low place)) % s)))
+      row
 
   -- a cell's bit is that of its place
   pub own_bit : 0 < s → s % 2 ≡ 0 → (x y : ℕ) (level : Level) → x < s → y < s →

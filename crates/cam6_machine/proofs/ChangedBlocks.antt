@@ -1,11 +1,11 @@
 -- Planes whose blocks are changed, and what undoes a change of blocks.
-use Rattle.std.proofs.Common.{◌≡◌, ◌<◌, ℕ, zero, suc, ◌%◌, Bool, Option, Some, None, refl, ◌∙◌, ap}
-use Rattle.std.proofs.Common.{arith, option_map}
+use Rattle.std.proofs.Common.{◌≡◌, ◌<◌, ℕ, ◌%◌, Bool, Option, Some, None, refl, ◌∙◌, ap}
+use Rattle.std.proofs.Common.{arith}
 use Rattle.std.proofs.Math.Nat.{mod-lt}
 use Rattle.cam6_planes.specs.Cells.{Cells, torus}
 use Rattle.cam6_planes.specs.Row.{bit_number}
 use Rattle.cam6_planes.proofs.CellsAt.{torus_at, torus_same}
-use Rattle.cam6_wiring.specs.Block.{side_in_block, corner_at, corner_of}
+use Rattle.cam6_wiring.specs.Block.{side_in_block, corner_at}
 use Rattle.cam6_wiring.specs.Name.{plane_of, on_plane}
 use Rattle.cam6_wiring.specs.declared.blocks.Grid.{Grid}
 use Rattle.cam6_wiring.specs.declared.names.Half.{Half}
@@ -14,10 +14,11 @@ use Rattle.cam6_wiring.specs.declared.names.Level.{Level}
 use Rattle.cam6_wiring.specs.declared.names.Level.TheVariants.{Lower, Upper}
 use Rattle.cam6_block.specs.Blocks.{place_bit, is_right, is_low}
 use Rattle.cam6_block.proofs.States.{four, same_state}
-use Rattle.cam6_machine.specs.Undoing.{column_at, row_at, state_at, place_of_corner, place_in_block}
-use Rattle.cam6_machine.specs.Undoing.{changed_cell, blockwise}
-use Rattle.cam6_machine.proofs.BlocksOfCells.{side_on, block_on, place_of_sides, right_side, low_side}
-use Rattle.cam6_machine.proofs.BlocksOfCells.{state_at-lt, state_bit, state_same, own_bit}
+use Rattle.cam6_machine.specs.Undoing.{column_at, row_at, state_at, place_of_corner}
+use Rattle.cam6_machine.specs.Undoing.{place_in_block, changed_cell, blockwise}
+use Rattle.cam6_machine.proofs.BlocksOfCells.{side_on, block_on, place_of_sides, right_side}
+use Rattle.cam6_machine.proofs.BlocksOfCells.{low_side, state_at-lt, state_bit, state_same}
+use Rattle.cam6_machine.proofs.BlocksOfCells.{own_bit}
 
 pub plane_of-lt : (half : Half) (level : Level) → plane_of half level < 4
 plane_of-lt A Lower = omega arith

@@ -1,14 +1,13 @@
 -- Steps along a cycle and steps back along it undo each other.
-use Rattle.std.proofs.Common.{◌≡◌, ◌<◌, ℕ, zero, suc, ◌+◌, ◌%◌, List, [], length, Option, Some, None}
-use Rattle.std.proofs.Common.{refl, sym, subst, ◌∙◌, ap, arith, slice_get, inl, inr, ◌⊎◌}
+use Rattle.std.proofs.Common.{◌≡◌, ℕ, zero, suc, ◌+◌, [], length, Some}
+use Rattle.std.proofs.Common.{refl, sym, subst, ◌∙◌, ap, arith, slice_get, inl, inr}
 use Rattle.std.proofs.Math.Nat.{mod-lt}
 use Rattle.cam6_planes.specs.Cells.{Cells}
 use Rattle.cam6_planes.specs.Side.{side_number}
 use Rattle.cam6_cycle.specs.Turns.{next, previous}
 use Rattle.cam6_cycle.proofs.RoundTheCycle.{undo_each_other}
-use Rattle.cam6_machine.specs.Cycles.{EntryRules, entry_rules}
-use Rattle.cam6_machine.specs.Steps.{step}
-use Rattle.cam6_machine.specs.Undoing.{unstep, IsUndoableEntry}
+use Rattle.cam6_machine.specs.Cycles.{entry_rules}
+use Rattle.cam6_machine.specs.Undoing.{IsUndoableEntry}
 use Rattle.cam6_machine.specs.Machine.{Machine, stepped_by, stepped, steps}
 use Rattle.cam6_machine.specs.Machine.{unstepped_by, unstepped, unsteps, IsUndoableCycle}
 use Rattle.cam6_machine.specs.Always.{IsPosition, IsMachine}
@@ -57,7 +56,8 @@ entry_of_blocks : (m : Machine) (place : ℕ) (entry : NamedEntry) → IsReady m
     IsUndoableEntry rules × IsOfBlocks rules.a × IsOfBlocks rules.b
 entry_of_blocks m place entry is found =
     let can : IsUndoableEntry (entry_rules m.rules entry) =
-    of_entry (λ e. IsUndoableEntry (entry_rules m.rules e)) m.cycle place entry is.undoable found in
+    of_entry (λ e. IsUndoableEntry (entry_rules m.rules e)) m.cycle place entry is.undoable
+    found in
     let rules = entry_rules m.rules entry in (
       can,
       is_of_blocks rules.a (sound_if_named m.rules entry.a is.sound) can.0,

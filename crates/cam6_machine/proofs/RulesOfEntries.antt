@@ -1,6 +1,7 @@
 -- The entry at a place of the cycle, and what its rules are.
-use Rattle.std.proofs.Common.{◌≡◌, ◌<◌, ℕ, zero, suc, Bool, true, false, List, [], ◌∷◌, length, cond}
-use Rattle.std.proofs.Common.{Option, Some, None, refl, subst, arith, slice_get, ◌⊎◌, inl, inr}
+use Rattle.std.proofs.Common.{◌≡◌, ◌<◌, ℕ, zero, suc, Bool, true, false, List, [], ◌∷◌, length}
+use Rattle.std.proofs.Common.{cond, Option, Some, None, refl, subst, arith}
+use Rattle.std.proofs.Common.{slice_get, ◌⊎◌, inl, inr}
 use Rattle.std.specs.List.{AllByRecursion}
 use Rattle.std.specs.Str.{bytes_eq}
 use Rattle.cam6_machine.specs.Rules.{Rule, rule_named, rule_if_named}
@@ -45,7 +46,8 @@ abbrev pub IsSound : Option Rule → Type 0
 IsSound None = Unit {0}
 IsSound (Some rule) = words_refusal rule.wiring rule.text ≡ None
 
-named_sound : (rules : List Rule) (name : List ℕ) → AreSound rules → IsSound (rule_named name rules)
+named_sound : (rules : List Rule) (name : List ℕ) → AreSound rules →
+    IsSound (rule_named name rules)
 named_sound [] name sound = tt
 named_sound (rule ∷ rules) name sound =
     by_test (bytes_eq name rule.name) (named_sound rules name sound.1)

@@ -3,9 +3,10 @@ use Rattle.std.proofs.Common.{◌≡◌, ◌<◌, ℕ, zero, suc, ◌+◌, ◌*�
 use Rattle.std.proofs.Common.{◌∙◌, ap, arith}
 use Rattle.std.proofs.Math.Nat.{mod-lt}
 use Rattle.cam6_planes.specs.Cells.{Cells}
-use Rattle.cam6_wiring.specs.Block.{side_in_block, block_of, corner_at, corner_of, in_block, turned}
+use Rattle.cam6_wiring.specs.Block.{side_in_block, block_of, corner_at, corner_of, in_block}
+use Rattle.cam6_wiring.specs.Block.{turned}
 use Rattle.cam6_wiring.specs.Name.{plane_of}
-use Rattle.cam6_wiring.specs.Seen.{Sees, seen, column_beside, row_beside}
+use Rattle.cam6_wiring.specs.Seen.{seen, column_beside, row_beside}
 use Rattle.cam6_wiring.specs.declared.blocks.Corner.{Corner}
 use Rattle.cam6_wiring.specs.declared.blocks.Corner.TheVariants.{UpperLeft, UpperRight}
 use Rattle.cam6_wiring.specs.declared.blocks.Corner.TheVariants.{LowerRight, LowerLeft}
@@ -17,7 +18,8 @@ use Rattle.cam6_wiring.specs.declared.names.Compass.TheVariants.{SouthWest, Sout
 use Rattle.cam6_wiring.specs.declared.names.Half.{Half}
 use Rattle.cam6_wiring.specs.declared.names.Level.{Level}
 use Rattle.cam6_wiring.specs.declared.names.Turn.{Turn}
-use Rattle.cam6_wiring.specs.declared.names.Turn.TheVariants.{Clockwise, Opposite, CounterClockwise}
+use Rattle.cam6_wiring.specs.declared.names.Turn.TheVariants.{Clockwise, Opposite}
+use Rattle.cam6_wiring.specs.declared.names.Turn.TheVariants.{CounterClockwise}
 use Rattle.cam6_wiring.specs.declared.neighbours.Setting.{Setting}
 use Rattle.cam6_wiring.proofs.Turning.{turns}
 use Rattle.cam6_block.specs.Blocks.{place_bit, places_on, place_sees, is_right, is_low}

@@ -1,6 +1,6 @@
 -- A step by rules of blocks changes each block as a whole.
-use Rattle.std.proofs.Common.{◌≡◌, ◌<◌, ℕ, zero, suc, ◌%◌, Bool, List, Option, Some, None, Result, Ok}
-use Rattle.std.proofs.Common.{Err, refl, sym, subst, ◌∙◌, ap}
+use Rattle.std.proofs.Common.{◌≡◌, ◌<◌, ℕ, zero, suc, ◌%◌, Bool, List, Option, Some, None}
+use Rattle.std.proofs.Common.{Result, Ok, Err, refl, sym, subst, ◌∙◌, ap}
 use Rattle.cam6_planes.specs.Cells.{Cells}
 use Rattle.cam6_planes.proofs.CellsAt.{torus_same}
 use Rattle.cam6_wiring.specs.Block.{corner_of}
@@ -27,10 +27,10 @@ use Rattle.cam6_block.specs.Blocks.{place_sees}
 use Rattle.cam6_block.specs.BlockMaps.{made}
 use Rattle.cam6_block.proofs.States.{place_bit-block_map}
 use Rattle.cam6_machine.specs.Rules.{Rule}
-use Rattle.cam6_machine.specs.Cycles.{EntryRules, rule_for, setting_for}
+use Rattle.cam6_machine.specs.Cycles.{rule_for, setting_for}
 use Rattle.cam6_machine.specs.Steps.{new_bit, new_cell}
-use Rattle.cam6_machine.specs.Undoing.{state_at, place_in_block, changed_cell, blockwise, reading_of}
-use Rattle.cam6_machine.specs.Undoing.{done_by}
+use Rattle.cam6_machine.specs.Undoing.{state_at, place_in_block, changed_cell, blockwise}
+use Rattle.cam6_machine.specs.Undoing.{reading_of, done_by}
 use Rattle.cam6_machine.specs.Refusals.{text_refusal, stop_refusal, words_refusal}
 use Rattle.cam6_machine.specs.Laws.{IsOfBlocks, StepChangesBlocks}
 use Rattle.cam6_machine.proofs.Undoable.{neither_comes}

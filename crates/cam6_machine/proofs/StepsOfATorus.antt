@@ -1,12 +1,11 @@
 -- What a step makes of planes, or a step undone, is a torus.
-use Rattle.std.proofs.Common.{◌≡◌, ◌<◌, ℕ, zero, suc, Option, Some, None, slice_get}
-use Rattle.std.proofs.Common.{length}
+use Rattle.std.proofs.Common.{◌≡◌, ◌<◌, ℕ, zero, suc, ◌%◌, length, Option, Some, None, slice_get}
+use Rattle.std.proofs.Common.{lit≤, refl}
 use Rattle.cam6_planes.specs.Cells.{Cells, torus}
 use Rattle.cam6_planes.specs.Side.{side_number}
 use Rattle.cam6_planes.specs.declared.sides.Side.{Side}
 use Rattle.cam6_planes.specs.declared.sides.Side.TheVariants.{S128, S256, S512}
 use Rattle.cam6_planes.proofs.CellsAt.{torus_again}
-use Rattle.std.proofs.Common.{lit≤, ◌%◌, refl}
 use Rattle.cam6_wiring.specs.Name.{on_plane}
 use Rattle.cam6_wiring.specs.declared.blocks.Grid.{Grid}
 use Rattle.cam6_wiring.specs.declared.names.Half.{Half}

@@ -1,6 +1,6 @@
 -- A step and the step undone give the planes back, and by inverted tables a step is one undone.
 use Rattle.std.proofs.Common.{◌≡◌, ◌<◌, ℕ, ◌%◌, slice_index, Bool, Option, Some, None, refl, sym}
-use Rattle.std.proofs.Common.{subst, ◌∙◌, ap}
+use Rattle.std.proofs.Common.{◌∙◌, ap}
 use Rattle.cam6_planes.specs.Cells.{Cells, torus}
 use Rattle.cam6_planes.proofs.CellsAt.{torus_same}
 use Rattle.cam6_wiring.specs.Block.{corner_of}
@@ -24,8 +24,9 @@ use Rattle.cam6_band.specs.declared.tables.HalfTable.{HalfTable}
 use Rattle.cam6_machine.specs.Rules.{Rule}
 use Rattle.cam6_machine.specs.Cycles.{EntryRules, rule_for, setting_for}
 use Rattle.cam6_machine.specs.Steps.{step}
-use Rattle.cam6_machine.specs.Undoing.{state_at, place_in_block, changed_cell, blockwise, reading_of}
-use Rattle.cam6_machine.specs.Undoing.{done_by, undone_by, unstep, IsUndoable, IsUndoableEntry}
+use Rattle.cam6_machine.specs.Undoing.{state_at, place_in_block, changed_cell, blockwise}
+use Rattle.cam6_machine.specs.Undoing.{reading_of, done_by, undone_by, unstep}
+use Rattle.cam6_machine.specs.Undoing.{IsUndoable, IsUndoableEntry}
 use Rattle.cam6_machine.specs.TrueTables.{HasTableFor, AreTablesFor}
 use Rattle.cam6_machine.specs.Laws.{IsOfBlocks, InvertedTablesUndo}
 use Rattle.cam6_machine.proofs.BlocksOfCells.{place_of_corner-lt, state_at-lt}
