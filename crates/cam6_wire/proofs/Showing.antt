@@ -10,10 +10,11 @@ use Rattle.serde_json.specs.Read.{read}
 use Rattle.cam6_wiring.specs.Wiring.{wired}
 use Rattle.cam6_wiring.specs.declared.wirings.Wiring.{Wiring}
 use Rattle.cam6_machine.specs.declared.commands.Command.{Command}
-use Rattle.cam6_machine.specs.declared.commands.Command.TheVariants.{Set, Rule, Cycle, Run, Row}
-use Rattle.cam6_machine.specs.declared.commands.Command.TheVariants.{Plane, Side as SetSide, Clear}
+use Rattle.cam6_machine.specs.declared.commands.Command.TheVariants.{Set, Rule, Cycle, Run, Back}
+use Rattle.cam6_machine.specs.declared.commands.Command.TheVariants.{Row, Plane, Clear}
 use Rattle.cam6_machine.specs.declared.commands.Command.TheVariants.{Drop as DropRule, Rules, Map}
-use Rattle.cam6_machine.specs.declared.commands.Command.TheVariants.{Colours, Count}
+use Rattle.cam6_machine.specs.declared.commands.Command.TheVariants.{Side as SetSide, Colours}
+use Rattle.cam6_machine.specs.declared.commands.Command.TheVariants.{Count}
 use Rattle.cam6_wire.specs.declared.faults.LineFault.{LineFault}
 use Rattle.cam6_wire.specs.declared.faults.LineFault.TheVariants.{NoCommand, TooLong}
 use Rattle.cam6_wire.specs.Fields.{count, number_at, text_at, bits_at, colours_at}
@@ -24,6 +25,7 @@ use Rattle.cam6_wire.specs.Wirings.{half_named, hood_named, minor_named, wiring_
 use Rattle.cam6_wire.specs.Entries.{entries_at}
 use Rattle.cam6_wire.specs.Limits.{max_line}
 use Rattle.cam6_wire.specs.Commands.{set_fields, set_of, rule_fields, rule_of, cycle_of, run_of}
+use Rattle.cam6_wire.specs.Commands.{back_of}
 use Rattle.cam6_wire.specs.Commands.{row_fields, row_of, plane_of, side_of, by_word, shown_in}
 use Rattle.cam6_wire.specs.Commands.{from_value, value_of, command, clear_of, drop_of}
 use Rattle.cam6_wire.specs.Commands.{rules_of, map_of, colours_of, count_of}
@@ -84,6 +86,22 @@ unfolding run_of
 run_shown d given =
     of_object 2 (λ x. option_map Run (number_at (codes "n") x)) (HasWord (codes "run")) Shows
     run_held d given
+
+back_held : (held : Members) → count held ≡ 2 → HasWord (codes "back") (object held) →
+    IfSome (option_map Back (number_at (codes "n") (object held))) (Shows (object held))
+back_held held same given =
+    of_map (λ n. get (codes "n") (object held) ≡ Some (natural n)) (Shows (object held)) Back
+    (λ n at_n.
+    these
+    (member (codes "do") (string (codes "back")) (member (codes "n") (natural n) no_members))
+    held ((refl, tt), (tt, tt)) same given.0 (given.1, (at_n, tt)))
+    (number_at (codes "n") (object held)) (number_found (codes "n") (object held))
+
+back_shown : (d : Data) → HasWord (codes "back") d → IfSome (back_of d) (Shows d)
+unfolding back_of
+back_shown d given =
+    of_object 2 (λ x. option_map Back (number_at (codes "n") x)) (HasWord (codes "back")) Shows
+    back_held d given
 
 row_held : (held : Members) → count held ≡ 3 → HasWord (codes "row") (object held) →
     IfSome (row_fields (object held)) (Shows (object held))
@@ -324,12 +342,13 @@ word_shown word d ordered at =
     (of_word word (codes "rules") d (rules_of d) _ ordered at (rules_shown d)
     (of_word word (codes "cycle") d (cycle_of d) _ ordered at (cycle_shown d)
     (of_word word (codes "run") d (run_of d) _ ordered at (run_shown d)
+    (of_word word (codes "back") d (back_of d) _ ordered at (back_shown d)
     (of_word word (codes "row") d (row_of d) _ ordered at (row_shown d)
     (of_word word (codes "plane") d (plane_of d) _ ordered at (plane_shown d)
     (of_word word (codes "side") d (side_of d) _ ordered at (side_shown d)
     (of_word word (codes "map") d (map_of d) _ ordered at (map_shown d)
     (of_word word (codes "colours") d (colours_of d) _ ordered at (colours_shown d)
-    (of_word word (codes "count") d (count_of d) _ ordered at (count_shown d) tt))))))))))))
+    (of_word word (codes "count") d (count_of d) _ ordered at (count_shown d) tt)))))))))))))
 
 pub command_shown : (d : Data) → IsOrdered d → IfSome (shown_in d) (Shows d)
 command_shown d ordered =

@@ -21,10 +21,11 @@ use Rattle.cam6_wiring.specs.Wiring.{wired}
 use Rattle.cam6_wiring.specs.declared.blocks.Grid.{Grid}
 use Rattle.cam6_wiring.specs.declared.blocks.Grid.TheVariants.{Even, Odd}
 use Rattle.cam6_machine.specs.declared.commands.Command.{Command}
-use Rattle.cam6_machine.specs.declared.commands.Command.TheVariants.{Set, Rule, Cycle, Run, Row}
-use Rattle.cam6_machine.specs.declared.commands.Command.TheVariants.{Plane, Side as SetSide, Clear}
+use Rattle.cam6_machine.specs.declared.commands.Command.TheVariants.{Set, Rule, Cycle, Run, Back}
+use Rattle.cam6_machine.specs.declared.commands.Command.TheVariants.{Row, Plane, Clear}
 use Rattle.cam6_machine.specs.declared.commands.Command.TheVariants.{Drop as DropRule, Rules, Map}
-use Rattle.cam6_machine.specs.declared.commands.Command.TheVariants.{Colours, Count}
+use Rattle.cam6_machine.specs.declared.commands.Command.TheVariants.{Side as SetSide, Colours}
+use Rattle.cam6_machine.specs.declared.commands.Command.TheVariants.{Count}
 use Rattle.cam6_machine.specs.Limits.{states}
 use Rattle.cam6_machine.specs.declared.commands.NamedEntry.{NamedEntry}
 use Rattle.cam6_wire.specs.declared.faults.LineFault.TheVariants.{NoCommand}
@@ -33,7 +34,8 @@ use Rattle.cam6_wire.specs.Replies.{natural, naturals}
 use Rattle.cam6_wire.specs.Wirings.{half_text, hood_text, minor_text, grid_text}
 use Rattle.cam6_wire.specs.Wirings.{half_named, hood_named, minor_named, grid_named, wiring_in}
 use Rattle.cam6_wire.specs.Entries.{rule_named, entry_of, entries_of}
-use Rattle.cam6_wire.specs.Commands.{set_of, rule_of, cycle_of, run_of, plane_of, side_of}
+use Rattle.cam6_wire.specs.Commands.{set_of, rule_of, cycle_of, run_of, back_of, plane_of}
+use Rattle.cam6_wire.specs.Commands.{side_of}
 use Rattle.cam6_wire.specs.Commands.{row_of, by_word, shown_in, from_value, clear_of}
 use Rattle.cam6_wire.specs.Commands.{drop_of, rules_of, map_of, colours_of, count_of}
 use Rattle.cam6_wire.specs.Shown.{ShowsEntries, Shows}
@@ -182,6 +184,14 @@ run_said : (n : ℕ) →
 unfolding run_of
 run_said n = refl
 
+back_said : (n : ℕ) →
+    back_of
+    (object
+    (member (codes "do") (string (codes "back")) (member (codes "n") (natural n) no_members)))
+    ≡ Some (Back n)
+unfolding back_of
+back_said n = refl
+
 plane_said : (n : ℕ) →
     plane_of
     (object
@@ -296,6 +306,8 @@ says_shown d (Cycle entries) shows =
     (by_its_word _ (codes "cycle") (Cycle entries) refl (cycle_said shows.0 entries shows.1))
 says_shown d (Run n) shows =
     of_same d _ (Run n) shows (by_its_word _ (codes "run") (Run n) refl (run_said n))
+says_shown d (Back n) shows =
+    of_same d _ (Back n) shows (by_its_word _ (codes "back") (Back n) refl (back_said n))
 says_shown d (Row plane row) shows =
     of_same d _ (Row plane row) shows
     (by_its_word _ (codes "row") (Row plane row) refl (row_said plane row))

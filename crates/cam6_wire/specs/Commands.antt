@@ -6,10 +6,11 @@ use Rattle.std.specs.Str.{bytes_eq, is_utf8}
 use Rattle.serde_json.specs.Data.{Data}
 use Rattle.serde_json.specs.Read.{read}
 use Rattle.cam6_machine.specs.declared.commands.Command.{Command}
-use Rattle.cam6_machine.specs.declared.commands.Command.TheVariants.{Set, Rule, Cycle, Run, Row}
-use Rattle.cam6_machine.specs.declared.commands.Command.TheVariants.{Plane, Side as SetSide, Clear}
+use Rattle.cam6_machine.specs.declared.commands.Command.TheVariants.{Set, Rule, Cycle, Run, Back}
+use Rattle.cam6_machine.specs.declared.commands.Command.TheVariants.{Row, Plane, Clear}
 use Rattle.cam6_machine.specs.declared.commands.Command.TheVariants.{Drop as DropRule, Rules, Map}
-use Rattle.cam6_machine.specs.declared.commands.Command.TheVariants.{Colours, Count}
+use Rattle.cam6_machine.specs.declared.commands.Command.TheVariants.{Side as SetSide, Colours}
+use Rattle.cam6_machine.specs.declared.commands.Command.TheVariants.{Count}
 use Rattle.cam6_wire.specs.declared.faults.LineFault.{LineFault}
 use Rattle.cam6_wire.specs.declared.faults.LineFault.TheVariants.{NoMemory, TooLong}
 use Rattle.cam6_wire.specs.declared.faults.LineFault.TheVariants.{NoJson, NoCommand}
@@ -63,6 +64,10 @@ cycle_of d = if has_size 2 d then option_map Cycle (entries_at (codes "entries")
 unfoldable pub run_of : Data → Option Command
 run_of d = if has_size 2 d then option_map Run (number_at (codes "n") d) else None
 
+-- {"do":"back","n":k}
+unfoldable pub back_of : Data → Option Command
+back_of d = if has_size 2 d then option_map Back (number_at (codes "n") d) else None
+
 -- the command of the keys plane and row
 abbrev pub row_fields : Data → Option Command
 row_fields d = do
@@ -104,6 +109,7 @@ by_word word d =
     else if bytes_eq word (codes "rules") then rules_of d
     else if bytes_eq word (codes "cycle") then cycle_of d
     else if bytes_eq word (codes "run") then run_of d
+    else if bytes_eq word (codes "back") then back_of d
     else if bytes_eq word (codes "row") then row_of d
     else if bytes_eq word (codes "plane") then plane_of d
     else if bytes_eq word (codes "side") then side_of d

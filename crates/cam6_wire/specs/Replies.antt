@@ -1,18 +1,24 @@
 -- The JSON values that replies and the faults of lines are, and their texts.
-use Rattle.std.specs.Prelude.{ℕ, List, map, codes, slice_index}
+use Rattle.std.specs.Prelude.{ℕ, List, [], ◌∷◌, map, codes, slice_index}
 use Rattle.serde_json.specs.Data.{Data, string, number, unsigned, array, object}
 use Rattle.serde_json.specs.Data.{Items, Members, no_members, member}
 use Rattle.serde_json.specs.View.{items_of}
 use Rattle.serde_json.specs.Written.{compact_text}
+use Rattle.cam6_wiring.specs.Name.{phase_number}
+use Rattle.cam6_wiring.specs.declared.names.Half.{Half}
 use Rattle.cam6_table.specs.Faults as rule
+use Rattle.cam6_block.specs.declared.refusals.NotReversible.{NotReversible as Cause}
+use Rattle.cam6_block.specs.declared.refusals.NotReversible.TheVariants as cause
 use Rattle.cam6_machine.specs.Faults as machine
 use Rattle.cam6_machine.specs.declared.replies.Reply.{Reply}
-use Rattle.cam6_machine.specs.declared.replies.Reply.TheVariants.{Set, Rule, Cycle, Side, Run, Row}
-use Rattle.cam6_machine.specs.declared.replies.Reply.TheVariants.{Plane, Clear}
+use Rattle.cam6_machine.specs.declared.replies.Reply.TheVariants.{Set, Rule, Cycle, Side, Run}
+use Rattle.cam6_machine.specs.declared.replies.Reply.TheVariants.{Back, Row, Plane, Clear}
 use Rattle.cam6_machine.specs.declared.replies.Reply.TheVariants.{Drop, Rules, Map, Colours, Count}
 use Rattle.cam6_machine.specs.declared.replies.Reply.TheVariants.{Fault, RuleText, RuleStops}
+use Rattle.cam6_machine.specs.declared.replies.Reply.TheVariants.{NotReversible}
 use Rattle.cam6_wire.specs.declared.faults.LineFault.{LineFault}
 use Rattle.cam6_wire.specs.Faults.{fault_number}
+use Rattle.cam6_wire.specs.Wirings.{half_text}
 
 -- a whole number
 abbrev pub natural : ℕ → Data
@@ -38,6 +44,23 @@ done word members = object (member (codes "ok") (string word) members)
 abbrev pub fault_then : ℕ → Members → Members
 fault_then n members = member (codes "fault") (natural n) members
 
+-- {"cause":word,"entry":entry,"fault":64,"half":half} with the members that come after it
+abbrev pub caused : List ℕ → ℕ → Half → Members → Data
+caused word entry half members =
+    object
+    (member (codes "cause") (string word)
+    (member (codes "entry") (natural entry)
+    (fault_then 64 (member (codes "half") (string (half_text half)) members))))
+
+-- why the blocks of a half's rule can't be undone; its keys in byte order
+abbrev pub cause_data : ℕ → Half → Cause → Data
+cause_data entry half cause.Hood = caused (codes "hood") entry half no_members
+cause_data entry half cause.Centres = caused (codes "centres") entry half no_members
+cause_data entry half (cause.Meeting phase a b) =
+    caused (codes "meeting") entry half
+    (member (codes "phase") (natural (phase_number phase))
+    (member (codes "states") (array (naturals (a ∷ b ∷ []))) no_members))
+
 -- the JSON value of a reply, its keys in byte order
 abbrev pub reply_data : Reply → Data
 reply_data Set = done (codes "set") no_members
@@ -53,6 +76,8 @@ reply_data Side = done (codes "side") no_members
 reply_data Map = done (codes "map") no_members
 reply_data (Run position) =
     done (codes "run") (member (codes "position") (natural position) no_members)
+reply_data (Back position) =
+    done (codes "back") (member (codes "position") (natural position) no_members)
 reply_data (Row bits) =
     object
     (member (codes "bits") (string bits) (member (codes "ok") (string (codes "row")) no_members))
@@ -71,6 +96,7 @@ reply_data (RuleText fault) =
 reply_data (RuleStops address fault) =
     object
     (member (codes "address") (natural address) (fault_then (rule.fault_number fault) no_members))
+reply_data (NotReversible entry half cause) = cause_data entry half cause
 
 -- the compact text of a reply
 unfoldable pub reply_bytes : Reply → List ℕ

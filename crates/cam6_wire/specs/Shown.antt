@@ -6,10 +6,11 @@ use Rattle.cam6_planes.specs.Side.{side_number}
 use Rattle.cam6_planes.specs.declared.sides.Side.{Side}
 use Rattle.serde_json.specs.Data.{Items, no_items, item, no_members, member}
 use Rattle.cam6_machine.specs.declared.commands.Command.{Command}
-use Rattle.cam6_machine.specs.declared.commands.Command.TheVariants.{Set, Rule, Cycle, Run, Row}
-use Rattle.cam6_machine.specs.declared.commands.Command.TheVariants.{Plane, Side as SetSide, Clear}
+use Rattle.cam6_machine.specs.declared.commands.Command.TheVariants.{Set, Rule, Cycle, Run, Back}
+use Rattle.cam6_machine.specs.declared.commands.Command.TheVariants.{Row, Plane, Clear}
 use Rattle.cam6_machine.specs.declared.commands.Command.TheVariants.{Drop as DropRule, Rules, Map}
-use Rattle.cam6_machine.specs.declared.commands.Command.TheVariants.{Colours, Count}
+use Rattle.cam6_machine.specs.declared.commands.Command.TheVariants.{Side as SetSide, Colours}
+use Rattle.cam6_machine.specs.declared.commands.Command.TheVariants.{Count}
 use Rattle.cam6_machine.specs.Limits.{states}
 use Rattle.cam6_machine.specs.declared.commands.NamedEntry.{NamedEntry}
 use Rattle.cam6_wire.specs.Replies.{natural, naturals}
@@ -88,6 +89,13 @@ Shows d (Run n) =
     d
     ≡ object
     (member (codes "do") (string (codes "run"))
+    (member (codes "n") (natural n)
+    no_members))
+-- {"do":"back","n":k}
+Shows d (Back n) =
+    d
+    ≡ object
+    (member (codes "do") (string (codes "back"))
     (member (codes "n") (natural n)
     no_members))
 -- {"do":"row","plane":p,"row":y}

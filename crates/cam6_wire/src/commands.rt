@@ -2,7 +2,7 @@
 ghost use Rattle.std.specs.Prelude.{◌≡◌, ◌<◌, ◌≤◌, length, Err, IfOk, IsOk, false};
 ghost use Rattle.cam6_wire.specs.declared.faults.LineFault.TheVariants.{NoMemory};
 ghost use Rattle.serde_json.specs.View.{view};
-ghost use Rattle.cam6_wire.specs.Commands.{set_of, rule_of, cycle_of, run_of, row_of};
+ghost use Rattle.cam6_wire.specs.Commands.{set_of, rule_of, cycle_of, run_of, back_of, row_of};
 ghost use Rattle.cam6_wire.specs.Commands.{plane_of, side_of, by_word, clear_of, drop_of};
 ghost use Rattle.cam6_wire.specs.Commands.{rules_of, map_of, colours_of, count_of};
 ghost use Rattle.cam6_wire.specs.Commands.{shown_in, command, IsSaid};
@@ -65,6 +65,7 @@ fn by_word(alloc: Global, word: &str, value: &Value) -> Result<Option<Command>, 
         "rules" => Ok(rules_of(value)),
         "cycle" => cycle_of(alloc, value),
         "run" => Ok(run_of(value)),
+        "back" => Ok(back_of(value)),
         "row" => Ok(row_of(value)),
         "plane" => Ok(plane_of(value)),
         "side" => Ok(side_of(value)),
@@ -169,6 +170,17 @@ fn run_of(value: &Value) -> Option<Command>
     }
     let n = number_at(value, "n")?;
     Some(Command::Run { n })
+}
+
+#[tactic(auto, unfolding(crate::specs::Commands::back_of))]
+fn back_of(value: &Value) -> Option<Command>
+    ensures { result ≡ back_of (view value.now) }
+{
+    if !has_size(value, 2) {
+        return None;
+    }
+    let n = number_at(value, "n")?;
+    Some(Command::Back { n })
 }
 
 #[tactic(auto, unfolding(crate::specs::Commands::row_of))]

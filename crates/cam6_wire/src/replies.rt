@@ -1,19 +1,23 @@
 //! Replies and the faults of lines as lines of JSON.
 ghost use Rattle.std.specs.Prelude.{◌≡◌, ◌≢◌, ◌≤◌, Some, IfOk, string_bytes, length, map, take};
+ghost use Rattle.std.specs.Prelude.{codes};
 ghost use Rattle.std.specs.List.{AllByRecursion};
 ghost use Rattle.std.specs.Str.{IsAscii};
-ghost use Rattle.serde_json.specs.Data.{array, string, no_members};
+ghost use Rattle.serde_json.specs.Data.{array, string, no_members, member};
 ghost use Rattle.serde_json.specs.Read.{read};
 ghost use Rattle.serde_json.specs.View.{view};
 ghost use Rattle.cam6_wire.specs.Replies.{texts, colour_digit, done, reply_data, reply_bytes};
-ghost use Rattle.cam6_wire.specs.Replies.{fault_bytes};
+ghost use Rattle.cam6_wire.specs.Replies.{fault_bytes, natural, cause_data};
 ghost use Rattle.cam6_machine.specs.Limits.{max_colour};
 ghost use Rattle.cam6_view.specs.declared.colours.TheConstants.{COLOURS};
 
 use crate::faults::LineFault;
+use crate::wirings::half_text;
+use cam6_block::NotReversible;
 use cam6_machine::{Names, PlaneRows, Reply, RowColours};
 use cam6_planes::NoMemory;
 use cam6_view::COLOURS;
+use cam6_wiring::Half;
 use serde_json::{Value, json};
 use std::alloc::{AllocError, Global};
 
@@ -55,7 +59,8 @@ fn reply_value(alloc: Global, reply: &Reply) -> Result<Value, AllocError>
         Reply::Cycle => done(alloc, "cycle"),
         Reply::Side => done(alloc, "side"),
         Reply::Map => done(alloc, "map"),
-        Reply::Run { position } => json!(in alloc; {"ok": "run", "position": *position}),
+        Reply::Run { position } => moved(alloc, "run", *position),
+        Reply::Back { position } => moved(alloc, "back", *position),
         Reply::Row { bits } => {
             let bits = Value::try_from_str(alloc, digits(bits.as_slice()))?;
             json!(in alloc; {"bits": bits, "ok": "row"})
@@ -73,6 +78,45 @@ fn reply_value(alloc: Global, reply: &Reply) -> Result<Value, AllocError>
         Reply::RuleText(fault) => { json!(in alloc; {"fault": fault.number, "token": fault.token}) }
         Reply::RuleStops { address, fault } => {
             json!(in alloc; {"address": *address, "fault": fault.number()})
+        }
+        Reply::NotReversible { entry, half, cause } => cause_value(alloc, *entry, *half, *cause),
+    }
+}
+
+/// The reply to a command of steps.
+fn moved(alloc: Global, word: &str, position: usize) -> Result<Value, AllocError>
+    ensures { IfOk result (λ value.
+        view value ≡ done word.now (member (codes "position") (natural position) no_members)) }
+{
+    json!(in alloc; {"ok": word, "position": position})
+}
+
+/// Why the blocks of a half's rule can't be undone.
+fn cause_value(
+    alloc: Global,
+    entry: usize,
+    half: Half,
+    cause: NotReversible,
+) -> Result<Value, AllocError>
+    ensures { IfOk result (λ value. view value ≡ cause_data entry half cause) }
+{
+    let half = half_text(half);
+    match cause {
+        NotReversible::Hood => {
+            json!(in alloc; {"cause": "hood", "entry": entry, "fault": 64, "half": half})
+        }
+        NotReversible::Centres => {
+            json!(in alloc; {"cause": "centres", "entry": entry, "fault": 64, "half": half})
+        }
+        NotReversible::Meeting { phase, a, b } => {
+            json!(in alloc; {
+                "cause": "meeting",
+                "entry": entry,
+                "fault": 64,
+                "half": half,
+                "phase": phase.number(),
+                "states": [a, b],
+            })
         }
     }
 }

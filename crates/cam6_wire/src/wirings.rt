@@ -2,7 +2,7 @@
 ghost use Rattle.std.specs.Prelude.{◌≡◌};
 ghost use Rattle.serde_json.specs.View.{view};
 ghost use Rattle.cam6_wire.specs.Wirings.{half_named, hood_named, minor_named, grid_named};
-ghost use Rattle.cam6_wire.specs.Wirings.{wiring_in};
+ghost use Rattle.cam6_wire.specs.Wirings.{wiring_in, half_text};
 
 use crate::fields::text_at;
 use cam6_wiring::{Grid, Half, Hood, Minor, Wiring};
@@ -15,6 +15,16 @@ pub(crate) fn half_named(text: &str) -> Option<Half>
         "A" => Some(Half::A),
         "B" => Some(Half::B),
         _ => None,
+    }
+}
+
+/// The text of a half.
+pub(crate) fn half_text(half: Half) -> &'static str
+    ensures { result.now ≡ half_text half }
+{
+    match half {
+        Half::A => "A",
+        Half::B => "B",
     }
 }
 
