@@ -1,6 +1,8 @@
 -- The first entry with a rule that can't be undone, entry by entry.
 use Rattle.std.proofs.Common.{◌≡◌, ◌∙◌, ℕ, zero, suc, ◌<◌, List, [], ◌∷◌, length, Option, Some, None}
-use Rattle.std.proofs.Common.{ap, arith, drop, get_or, refl, subst}
+use Rattle.std.proofs.Common.{ap, arith, drop, take, get_or, refl, subst, Bool, true, false, ◌||◌}
+use Rattle.std.specs.List.{AllByRecursion, list_any}
+use Rattle.std.proofs.lemmas.Bool.{eqb-true}
 use Rattle.std.proofs.lemmas.Option.{same_Some}
 use Rattle.cam6_block.specs.declared.refusals.NotReversible.{NotReversible}
 use Rattle.cam6_cycle.specs.declared.entries.Entry.{Entry}
@@ -12,7 +14,9 @@ use Rattle.cam6_machine.specs.Stored.{StoredMachine}
 use Rattle.cam6_machine.specs.Always.{HaveOwnNames}
 use Rattle.cam6_machine.specs.AtOnce.{IsLeftBy}
 use Rattle.cam6_machine.specs.declared.commands.NamedEntry.{NamedEntry}
-use Rattle.cam6_machine.specs.Internal.Places.{named_entries, rules_at}
+use Rattle.cam6_machine.specs.Internal.Places.{named_entries, rules_at, rule_at, place_in}
+use Rattle.cam6_machine.specs.Internal.Places.{is_place, uses_place}
+use Rattle.cam6_machine.specs.Internal.Uses.{HasNoCause}
 use Rattle.cam6_machine.specs.declared.replies.Reply.{Reply}
 use Rattle.cam6_machine.specs.declared.replies.Reply.TheVariants as reply
 use Rattle.cam6_machine.proofs.Naming.{same_rules}
@@ -23,6 +27,39 @@ split_at : {X : Type 0} (xs : List X) (n : ℕ) (past : X) → n < length xs →
 split_at [] n past h = absurd (omega (arith, h))
 split_at (x ∷ xs) zero past h = refl
 split_at (x ∷ xs) (suc n) past h = split_at xs n past (omega (arith, h))
+
+-- what is so of the first items and of the next one is so of one more
+pub all_more : {X : Type 0} (P : X → Type 0) (xs : List X) (n : ℕ) (past : X) → n < length xs →
+    AllByRecursion P (take n xs) → P (get_or xs n past) → AllByRecursion P (take (suc n) xs)
+all_more P [] n past h all next = absurd (omega (arith, h))
+all_more P (x ∷ xs) zero past h all next = (next, tt)
+all_more P (x ∷ xs) (suc n) past h all next =
+    (all.0, all_more P xs n past (omega (arith, h)) all.1 next)
+
+-- a rule that one of these entries has can be undone, where all that they have can
+pub used_has_none : (rules : List Rule) (place : ℕ) (entries : List Entry) →
+    AllByRecursion (HasNoCause rules) entries → list_any (uses_place place) entries ≡ true →
+    rule_cause (rule_at rules (Some place)) ≡ None
+used_has_none rules place [] all used = cc used
+used_has_none rules place (entry ∷ entries) all used =
+    by_half (is_place place (place_in entry.a)) (is_place place (place_in entry.b)) refl refl
+    (λ e. used_has_none rules place entries all.1 e) used
+  where
+    at_place : (o : Option ℕ) → is_place place o ≡ true → rule_cause (rule_at rules o) ≡ None →
+        rule_cause (rule_at rules (Some place)) ≡ None
+    at_place None e none = cc e
+    at_place (Some other) e none =
+        subst (λ k. rule_cause (rule_at rules (Some k)) ≡ None) (eqb-true other place e) none
+
+    by_half : (a b : Bool) → is_place place (place_in entry.a) ≡ a →
+        is_place place (place_in entry.b) ≡ b →
+        (list_any (uses_place place) entries ≡ true →
+        rule_cause (rule_at rules (Some place)) ≡ None) →
+        ((a || b) || list_any (uses_place place) entries) ≡ true →
+        rule_cause (rule_at rules (Some place)) ≡ None
+    by_half true b is_a is_b rest e = at_place (place_in entry.a) is_a all.0.0
+    by_half false true is_a is_b rest e = at_place (place_in entry.b) is_b all.0.1
+    by_half false false is_a is_b rest e = rest e
 
 -- the causes from an entry on
 abbrev pub causes_from : List Rule → List Entry → ℕ → Option Reply

@@ -18,7 +18,6 @@ use Rattle.cam6_planes.specs.Cells.{Cells, torus, no_cells, stored_bit}
 use Rattle.cam6_planes.specs.Row.{byte_column}
 use Rattle.cam6_planes.proofs.CellsAt.{torus_again}
 use Rattle.cam6_block.proofs.Causes.{cause_is_found}
-use Rattle.cam6_cycle.specs.Turns.{previous}
 use Rattle.cam6_cycle.specs.declared.tables.Direction.{Direction}
 use Rattle.cam6_cycle.specs.declared.tables.Direction.TheVariants.{Forward, Backward}
 use Rattle.cam6_wiring.specs.Name.{is_same_half}
@@ -39,10 +38,7 @@ use Rattle.cam6_table.proofs.TrueTables.{runs_everywhere}
 use Rattle.cam6_machine.specs.Limits.{max_rules, max_entries, max_colour, max_steps, states}
 use Rattle.cam6_machine.specs.Rules.{Rule, rule_named, rule_if_named, wiring_for, is_rule_name}
 use Rattle.cam6_machine.specs.Steps.{words_mean}
-use Rattle.cam6_machine.specs.Cycles.{entry_rules}
-use Rattle.cam6_machine.specs.Undoing.{unstep}
 use Rattle.cam6_machine.specs.Machine.{Machine, own_colours, first_side, steps, machine_of}
-use Rattle.cam6_machine.specs.Machine.{unstepped_by, unstepped, unsteps}
 use Rattle.cam6_machine.specs.Internal.Ways.{moved, CanMove}
 use Rattle.cam6_machine.specs.Internal.Places.{IsPlaced, ArePlaced, stored, rule_at, name_of}
 use Rattle.cam6_machine.specs.Internal.Places.{place_in, named_entry, named_entries}
@@ -68,7 +64,8 @@ use Rattle.cam6_machine.proofs.KeptNames.{own_with, other_named}
 use Rattle.cam6_machine.proofs.Dropped.{length_without, all_without, own_without}
 use Rattle.cam6_machine.proofs.Dropped.{entries_without}
 use Rattle.cam6_machine.proofs.Naming.{same_bytes, rule_of_name, name_with}
-use Rattle.cam6_machine.proofs.StepsOfATorus.{AreWhole, side_some, steps_whole, unstep_whole}
+use Rattle.cam6_machine.proofs.StepsOfATorus.{AreWhole, side_some, steps_whole}
+use Rattle.cam6_machine.proofs.StepsBack.{only_these_back, unsteps_is}
 use Rattle.cam6_machine.proofs.Undoable.{back_runs, undoable}
 use Rattle.cam6_machine.proofs.StepLaws.{only_planes_and_position, position_goes_round}
 
@@ -166,27 +163,6 @@ steps_is m n is some =
     (moved_is m (steps n m).planes (steps n m).position is
     (subst AreWhole (only_planes_and_position m n) (steps_whole n m is.planes))
     (below_is m.cycle (steps n m).position (omega (arith, at, inside))))
-
--- a step undone leaves a machine, and so do many
-unstepped_is : (m : Machine) → IsMachine m → IsMachine (unstepped m)
-unstepped_is m is = by_entry (slice_get m.cycle before) refl
-  where
-    before : ℕ
-    before = previous (length m.cycle) m.position
-
-    by_entry : (o : Option NamedEntry) → slice_get m.cycle before ≡ o →
-        IsMachine (unstepped_by before o m)
-    by_entry None found = is
-    by_entry (Some entry) found =
-        let s = side_number m.side in
-        let rules = entry_rules m.rules entry in
-        moved_is m (unstep s rules m.planes) before is
-        (unstep_whole s rules m.planes (side_some m.side))
-        (below_is m.cycle before (slice_get_within m.cycle before entry found))
-
-pub unsteps_is : (m : Machine) (n : ℕ) → IsMachine m → IsMachine (unsteps n m)
-unsteps_is m zero is = is
-unsteps_is m (suc n) is = unstepped_is (unsteps n m) (unsteps_is m n is)
 
 -- steps of a command that isn't refused leave one
 pub moves_are : (m : Machine) (n : ℕ) (direction : Direction) → IsMachine m →
@@ -576,21 +552,6 @@ stays_machine m c is = by_refusal (refuse.refusal m c) refl
     by_refusal None none = subst IsMachine (sym (after-accepted m c none)) (effect_is m c is none)
     by_refusal (Some r) refused = subst IsMachine (sym (after-refused m c r refused)) is
 
--- steps undone leave the limit
-unsteps_limit : (n : ℕ) (m : Machine) → (unsteps n m).limit ≡ m.limit
-unsteps_limit zero m = refl
-unsteps_limit (suc n) m = by_entry (unsteps n m) ∙ unsteps_limit n m
-  where
-    by_option : (position : ℕ) (o : Option NamedEntry) (k : Machine) →
-        (unstepped_by position o k).limit ≡ k.limit
-    by_option position None k = refl
-    by_option position (Some entry) k = refl
-
-    by_entry : (k : Machine) → (unstepped k).limit ≡ k.limit
-    by_entry k =
-        let before = previous (length k.cycle) k.position in
-        by_option before (slice_get k.cycle before) k
-
 -- what a command that isn't refused leaves of the limit
 effect_limit : (m : Machine) (c : Command) → (effect m c).limit ≡ m.limit
 effect_limit m (command.Set plane row bits) = refl
@@ -603,7 +564,7 @@ effect_limit m (command.Colours row) = refl
 effect_limit m (command.Count mask) = refl
 effect_limit m (command.Cycle entries) = refl
 effect_limit m (command.Run n) = ap (λ (k : Machine). k.limit) (only_planes_and_position m n)
-effect_limit m (command.Back n) = unsteps_limit n m
+effect_limit m (command.Back n) = ap (λ (k : Machine). k.limit) (only_these_back m n)
 effect_limit m (command.Row plane row) = refl
 effect_limit m (command.Plane plane) = refl
 effect_limit m (command.Side n) = by_side (side_of n)

@@ -174,7 +174,7 @@ pub(crate) fn colours_within(colours: &[u64; 16]) -> Result<[u8; 16], Fault>
 }
 
 /// Whether an entry of the cycle has the rule at this place.
-fn is_used(cycle: &[Entry], place: usize) -> bool
+pub(crate) fn is_used(cycle: &[Entry], place: usize) -> bool
     ensures { result ≡ list_any (uses_place place) cycle.now }
 {
     cycle.iter().any(|entry| uses_place(*entry, place))

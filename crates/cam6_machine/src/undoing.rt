@@ -1,12 +1,15 @@
 //! Whether the rules of a cycle can be undone, and the table that undoes a rule.
 ghost use Rattle.std.specs.Prelude.{◌≡◌, Some, None, IfOk, IfErr};
+ghost use Rattle.std.specs.List.{AllByRecursion};
 ghost use Rattle.cam6_block.specs.Inverted.{IsInverted};
 ghost use Rattle.cam6_block.specs.Refusals.{cause_of};
 ghost use Rattle.cam6_machine.specs.Refusals.{rule_cause, first_cause};
 ghost use Rattle.cam6_machine.specs.Always.{HaveOwnNames};
 ghost use Rattle.cam6_machine.specs.Internal.Places.{rules_of, rule_at, place_in};
 ghost use Rattle.cam6_machine.specs.Internal.Places.{named_entries, kept_reading};
+ghost use Rattle.cam6_machine.specs.Internal.Uses.{HasNoCause};
 
+use crate::refusals::is_used;
 use crate::replies::Reply;
 use crate::rules::KeptRule;
 use cam6_block::{NotReversible, invert};
@@ -29,10 +32,11 @@ pub(crate) fn first_cause(
 {
     for number in 0..cycle.len() {
         let Entry { a, b, .. } = cycle[number];
-        if let Some(cause) = rule_cause(rules, a, straight, inverse) {
+        let before = &cycle[..number];
+        if let Some(cause) = new_cause(rules, before, a, straight, inverse) {
             return Some(not_reversible(number, Half::A, cause));
         }
-        if let Some(cause) = rule_cause(rules, b, straight, inverse) {
+        if let Some(cause) = new_cause(rules, before, b, straight, inverse) {
             return Some(not_reversible(number, Half::B, cause));
         }
     }
@@ -43,6 +47,24 @@ fn not_reversible(entry: usize, half: Half, cause: NotReversible) -> Reply
     ensures { result ≡ Reply.NotReversible entry half cause }
 {
     Reply::NotReversible { entry, half, cause }
+}
+
+/// Why a half's rule can't be undone, if it can't, where the entries before have no rule that can't
+/// be undone: a rule of theirs isn't tried again.
+fn new_cause(
+    rules: &IndexMap<String, KeptRule>,
+    before: &[Entry],
+    rule: Option<HalfRule>,
+    straight: &mut Table,
+    inverse: &mut Table,
+) -> Option<NotReversible>
+    requires before { AllByRecursion (HasNoCause (rules_of rules.now.entries)) before.now }
+    ensures { result ≡ rule_cause (rule_at (rules_of rules.now.entries) (place_in rule)) }
+{
+    if is_used(before, rule?.number) {
+        return None;
+    }
+    rule_cause(rules, rule, straight, inverse)
 }
 
 /// Why the rule at a half's place can't be undone, if there is one there and it can't.

@@ -1,10 +1,15 @@
-use Rattle.std.proofs.Common.{◌≡◌, drop}
+use Rattle.std.proofs.Common.{◌≡◌, drop, take}
+use Rattle.std.specs.List.{AllByRecursion}
 use Rattle.cam6_machine.specs.Internal.Places.{rules_of, named_entries}
+use Rattle.cam6_machine.specs.Internal.Uses.{HasNoCause}
 use Rattle.cam6_machine.specs.Refusals.{first_cause}
 use Rattle.cam6_machine.proofs.undoing.first_cause.Given as goal
 
 abbrev pub invariant-loop-number : goal.invariant-loop-number
-invariant-loop-number l =
-    let rules = rules_of l.rules.entries in
-    first_cause rules l.number (named_entries rules (drop l.number l.cycle))
-    ≡ first_cause rules 0 (named_entries rules l.cycle)
+invariant-loop-number l = record {
+  causes : first_cause (rules_of l.rules.entries) l.number
+      (named_entries (rules_of l.rules.entries) (drop l.number l.cycle))
+      ≡ first_cause (rules_of l.rules.entries) 0
+      (named_entries (rules_of l.rules.entries) l.cycle);
+  before : AllByRecursion (HasNoCause (rules_of l.rules.entries)) (take l.number l.cycle);
+}
