@@ -1,6 +1,6 @@
 -- A step undone along the cycle, with places and with names.
-use Rattle.std.proofs.Common.{◌≡◌, ◌∙◌, ℕ, ◌%◌, ◌<◌, List, [], ◌∷◌, length, Some, sym, ap, subst}
-use Rattle.std.proofs.Common.{option_map, slice_get, get_or, zero, suc, arith, refl}
+use Rattle.std.proofs.Common.{◌≡◌, ◌∙◌, ℕ, ◌<◌, List, [], ◌∷◌, length, Some, sym, ap, subst}
+use Rattle.std.proofs.Common.{option_map, slice_get, get_or, zero, suc}
 use Rattle.std.specs.List.{AllByRecursion}
 use Rattle.std.proofs.lemmas.List.{length-map}
 use Rattle.std.proofs.lemmas.Option.{slice_get-map, slice_get-get_or}

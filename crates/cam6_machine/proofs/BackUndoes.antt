@@ -1,11 +1,10 @@
 -- A machine that may go back is, run and then taken back as far, the machine that it was, and so
 -- it is taken back and then run.
-use Rattle.std.proofs.Common.{◌≡◌, ℕ, Option, Some, None, sym, ◌∙◌, ap}
+use Rattle.std.proofs.Common.{◌≡◌, ℕ, None, ◌∙◌, ap}
 use Rattle.cam6_block.specs.Laws.{CauseIsFound}
 use Rattle.cam6_machine.specs.Machine.{Machine, steps, unsteps, IsUndoableCycle}
 use Rattle.cam6_machine.specs.Refusals.{refusal}
 use Rattle.cam6_machine.specs.Effects.{effect}
-use Rattle.cam6_machine.specs.Always.{IsMachine}
 use Rattle.cam6_machine.specs.Alone.{if_refused, after}
 use Rattle.cam6_machine.specs.Laws.{BackGivesTheMachineBack}
 use Rattle.cam6_machine.specs.declared.commands.Command.{Command}

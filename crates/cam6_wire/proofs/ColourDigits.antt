@@ -1,5 +1,5 @@
 -- The digits of colours are ASCII.
-use Rattle.std.proofs.Common.{ℕ, List, [], ◌∷◌, map, zero, suc, ◌<◌, arith}
+use Rattle.std.proofs.Common.{ℕ, List, [], ◌∷◌, map, zero, suc, arith}
 use Rattle.std.specs.Str.{IsAscii}
 use Rattle.cam6_planes.proofs.AsciiTexts.{digits-ascii}
 use Rattle.cam6_wire.specs.Replies.{colour_digit}

@@ -1,5 +1,5 @@
 -- Colours as a list of numbers: what is read of one, and what one says.
-use Rattle.std.proofs.Common.{◌≡◌, ℕ, List, [], ◌∷◌, length, Bool, true, cond, ◌==◌, Option, Some}
+use Rattle.std.proofs.Common.{◌≡◌, ℕ, List, [], ◌∷◌, length, cond, ◌==◌, Option, Some}
 use Rattle.std.proofs.Common.{None, IfSome, refl, ap, ◌∙◌}
 use Rattle.std.proofs.lemmas.Bool.{eq-eqb, eqb-true}
 use Rattle.serde_json.specs.Data.{Data, null, boolean, number, string, array, object}

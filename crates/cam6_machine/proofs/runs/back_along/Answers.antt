@@ -1,9 +1,6 @@
 use Rattle.std.proofs.Common.{◌≡◌, ◌∙◌, ◌+◌, ap, arith, suc, None, get_or}
 use Rattle.std.proofs.lemmas.Option.{slice_get-get_or}
-use Rattle.cam6_planes.specs.Cells.{cells, stored_bit}
 use Rattle.cam6_planes.specs.Stored.{width}
-use Rattle.cam6_planes.proofs.CellsAt.{torus_again}
-use Rattle.cam6_planes.proofs.SideNumbers.{side_least}
 use Rattle.cam6_wiring.specs.declared.blocks.Grid.TheVariants.{Even}
 use Rattle.cam6_wiring.specs.declared.names.Phase.TheVariants.{P0}
 use Rattle.cam6_cycle.specs.declared.entries.Entry.{Entry}

@@ -1,5 +1,4 @@
-use Rattle.std.proofs.Common.{◌∙◌, sym, arith}
-use Rattle.serde_json.specs.View.{items_view}
+use Rattle.std.proofs.Common.{sym, arith}
 use Rattle.cam6_wire.proofs.ColourCount.{no_colours}
 use Rattle.cam6_wire.proofs.fields.colours_of.Goals as goal
 

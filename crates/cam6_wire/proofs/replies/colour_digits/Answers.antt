@@ -1,6 +1,5 @@
-use Rattle.std.proofs.Common.{◌≡◌, ◌∙◌, ℕ, List, map, take, length, sym, ap, subst, arith}
+use Rattle.std.proofs.Common.{◌≡◌, ◌∙◌, ℕ, take, length, sym, ap, subst, arith}
 use Rattle.std.specs.Str.{IsAscii}
-use Rattle.cam6_wire.specs.Replies.{colour_digit}
 use Rattle.cam6_wire.proofs.ColourDigits.{colour_digits-ascii}
 use Rattle.cam6_wire.proofs.replies.colour_digits.Goals as goal
 
