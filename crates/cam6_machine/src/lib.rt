@@ -12,22 +12,29 @@
 //! 5, `now(Run { n: 1 })` says `Work(1, Forward)`, `work(1, Forward)` replies `Run { position: 0
 //! }`, and the cell stands at row 6: each cell took what its northern neighbour was.
 //!
-//! `Machine::now` leaves steps to do exactly for a run that is accepted and has at least one;
-//! memory is wanted neither for a row, set or asked for, a cycle, a run or a side, nor where a
+//! Steps can be undone where every rule of the cycle is one of blocks of which no two states become
+//! one: then `Back { n }` gives back what was there before n steps, whatever the picture. Where a
+//! rule can't be undone the reply is `NotReversible`, with the entry, the half and the cause.
+//!
+//! `Machine::now` leaves steps to do exactly for a run, or for going back, that is accepted and has
+//! at least one; memory is wanted for a rule and for lists of rows or names alone, neither where a
 //! number or a name is refused, nor for a text of which nothing is kept. `Machine::work` takes
-//! none; its tables are proved to be the rules' words. The laws: a step by tables is the step by
+//! none; its tables are proved to be the rules' words, or what undoes them. The laws: steps that
+//! are done and undone, or undone and done, give the machine back; a step by rules of blocks
+//! changes blocks as a whole, and one by inverted tables is one undone; a step by tables is the step by
 //! the rules' words where the tables are theirs (`specs/TrueTables.antt`); what a machine always is
 //! (`specs/Always.antt`) the blank one is, and stays whatever it is commanded; no command changes
 //! its limit; the rules that its cycle names run, whatever is seen; a half without a rule keeps its
 //! planes; some steps and then more are all of them together; steps change planes and position
 //! alone; the position goes round the cycle.
 //!
-//! Stands on: `cam6_planes`, `cam6_wiring`, `cam6_forth`, `cam6_table`, `cam6_band`, `cam6_cycle`,
-//! and on `arrayvec` and `indexmap`.
+//! Stands on: `cam6_planes`, `cam6_wiring`, `cam6_forth`, `cam6_table`, `cam6_block`, `cam6_band`,
+//! `cam6_view`, `cam6_cycle`, and on `arrayvec` and `indexmap`.
 //!
 //! Read next: `commands`, `rows`, `replies` and `faults`; `rules` and `cycles`, what a machine
-//! keeps; `tables`, by which a run steps, `steps`, one step, and `runs`, steps along a cycle;
-//! `refusals`, when a command is refused; then `machines` and `alone`; and `laws`.
+//! keeps; `tables`, by which it steps, `steps`, one step, and `runs`, steps along a cycle, forward
+//! and backward; `refusals`, when a command is refused, and `undoing`, whether rules can be undone;
+//! then `machines` and `alone`; and `laws`.
 #![tactic(auto)]
 
 mod alone;
