@@ -1,7 +1,8 @@
 -- Two places that show one address were two places with the same bits: a block that is turned
 -- becomes what the block becomes, turned, wherever lines 8 to 11 can't tell of the turn.
 use Rattle.std.proofs.Common.{◌≡◌, ℕ, ◌+◌, ◌-◌, ◌*◌, ◌%◌, ◌<◌, ◌==◌, ◌||◌, Bool, true, false, List}
-use Rattle.std.proofs.Common.{[], ◌∷◌, ◌++◌, length, get_or, take, drop, map, Option, Some, None, refl}
+use Rattle.std.proofs.Common.{[], ◌∷◌, ◌++◌, length, get_or, take, drop, map, Option, Some, None}
+use Rattle.std.proofs.Common.{refl}
 use Rattle.std.proofs.Common.{sym, ◌∙◌, ap, arith, slice_index}
 use Rattle.std.proofs.lemmas.List.{length-map}
 use mathlib.Core.Path.{Path}

@@ -1,6 +1,7 @@
 -- The tables of some entries more, and how many they are.
 use Rattle.std.proofs.Common.{◌≡◌, ℕ, zero, suc, ◌+◌, ◌*◌, ◌<◌, ◌≤◌, List, [], ◌∷◌, ◌++◌, length}
-use Rattle.std.proofs.Common.{Option, Some, None, get_or, take, drop, slice_get, arith, refl, sym, ap, ◌∙◌}
+use Rattle.std.proofs.Common.{Option, Some, None, get_or, take, drop, slice_get, arith, refl, sym}
+use Rattle.std.proofs.Common.{ap, ◌∙◌}
 use mir.Val.{bool_byte}
 use Rattle.std.specs.Option.{is_some}
 use Rattle.std.proofs.lemmas.List.{append_assoc, append-nil, length-append}

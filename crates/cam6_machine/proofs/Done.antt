@@ -11,7 +11,8 @@ use Rattle.cam6_machine.specs.Rules as rule
 use Rattle.cam6_machine.specs.Stored.{StoredMachine}
 use Rattle.cam6_machine.specs.Machine.{Machine, machine_of}
 use Rattle.cam6_machine.specs.Refusals.{or_then, set_refusal, rule_refusal, cycle_refusal}
-use Rattle.cam6_machine.specs.Refusals.{words_refusal, fault_reply, refusal, plane_refusal, drop_refusal}
+use Rattle.cam6_machine.specs.Refusals.{words_refusal, fault_reply, refusal, plane_refusal}
+use Rattle.cam6_machine.specs.Refusals.{drop_refusal}
 use Rattle.cam6_machine.specs.Effects.{accepted_reply, effect, with_rule, without_rule}
 use Rattle.cam6_machine.specs.Always.{IsEntry}
 use Rattle.cam6_machine.specs.Alone.{if_refused, reply, after, some_steps, work_of, command_of}
@@ -20,7 +21,8 @@ use Rattle.cam6_machine.specs.Internal.Places.{place_of, uses_place, closed_entr
 use Rattle.cam6_machine.specs.Internal.Ways.{moved, reply_at}
 use Rattle.cam6_machine.proofs.Dropped.{names_closed}
 use Rattle.cam6_machine.specs.declared.commands.Command.{Command}
-use Rattle.cam6_machine.specs.declared.commands.Command.TheVariants.{Set, Rule, Cycle, Run, Back, Row}
+use Rattle.cam6_machine.specs.declared.commands.Command.TheVariants.{Set, Rule, Cycle, Run, Back}
+use Rattle.cam6_machine.specs.declared.commands.Command.TheVariants.{Row}
 use Rattle.cam6_machine.specs.declared.commands.Command.TheVariants.{Plane, Side, Clear, Drop}
 use Rattle.cam6_machine.specs.declared.commands.Command.TheVariants.{Rules, Map, Colours, Count}
 use Rattle.cam6_cycle.specs.declared.tables.Direction.{Direction}

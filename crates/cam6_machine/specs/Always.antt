@@ -32,9 +32,9 @@ abbrev pub IsPosition : List NamedEntry → ℕ → Type 0
 IsPosition [] position = position ≡ 0
 IsPosition (entry ∷ cycle) position = position < length (entry ∷ cycle)
 
--- a side within the limit, and planes of it; a few rules with rule names of their own, the texts of which have no
--- fault and stop nowhere; a few entries, and a position among them; and a colour for each state of
--- a cell
+-- a side within the limit, and planes of it; a few rules with rule names of their own, the texts of
+-- which have no fault and stop nowhere; a few entries, and a position among them; and a colour for
+-- each state of a cell
 pub record IsMachine (m : Machine) : Type 0 where
   pub within : side_number m.side ≤ side_number m.limit
   pub planes : torus (side_number m.side) m.planes ≡ m.planes

@@ -70,8 +70,9 @@ side_refusal limit n = within_refusal limit (side_of n)
 -- a colour for each state
 abbrev pub map_refusal : List ℕ → Option Fault
 map_refusal colours =
-    unless ((length colours == limits.states) && list_all (λ colour. nat_le colour limits.max_colour) colours)
-    OutOfRange
+    unless
+    ((length colours == limits.states)
+    && list_all (λ colour. nat_le colour limits.max_colour) colours) OutOfRange
 
 -- a row whose colours are asked for
 abbrev pub colours_refusal : Side → ℕ → Option Fault
@@ -194,8 +195,8 @@ first_cause rules number [] = None
 first_cause rules number (entry ∷ entries) =
     or_then (entry_cause number (entry_rules rules entry)) (first_cause rules (suc number) entries)
 
--- a run can be refused as well, and then each rule of the cycle must be one that can be undone; also
--- where no step is to be undone
+-- as a run can be refused, and then each rule of the cycle must be one that can be undone, also where
+-- no step is to be undone
 abbrev pub back_refusal : List Rule → List NamedEntry → ℕ → Option Reply
 back_refusal rules cycle n =
     or_then (fault_reply (run_refusal cycle n)) (first_cause rules 0 cycle)

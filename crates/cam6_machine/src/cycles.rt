@@ -3,7 +3,8 @@ ghost use Rattle.std.specs.Prelude.{◌≡◌, ◌≤◌, length, map};
 ghost use Rattle.cam6_cycle.specs.declared.cycles.TheConstants.{MAX_ENTRIES};
 ghost use Rattle.cam6_machine.specs.Cycles.{phase_of};
 ghost use Rattle.cam6_machine.specs.Internal.Places.{rules_of, place_if_named, placed_entry};
-ghost use Rattle.cam6_machine.specs.Internal.Places.{half_rule_at, entries_of, closed_half, closed_entry};
+ghost use Rattle.cam6_machine.specs.Internal.Places.{half_rule_at, entries_of, closed_half};
+ghost use Rattle.cam6_machine.specs.Internal.Places.{closed_entry};
 
 use crate::commands::NamedEntry;
 use crate::rules::{KeptRule, place_of, wiring_at};

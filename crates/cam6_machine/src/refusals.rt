@@ -1,5 +1,6 @@
 //! Which fault a command is refused for, before anything is done.
-ghost use Rattle.std.specs.Prelude.{◌≡◌, ◌<◌, ◌≤◌, ◌*◌, false, List, length, IfNone, Some, None, IfOk};
+ghost use Rattle.std.specs.Prelude.{◌≡◌, ◌<◌, ◌≤◌, ◌*◌, false, List, length, IfNone, Some, None};
+ghost use Rattle.std.specs.Prelude.{IfOk};
 ghost use Rattle.std.specs.Prelude.{IfErr};
 ghost use Rattle.std.specs.List.{list_any};
 ghost use Rattle.std.specs.Bool.{OnTrue};
@@ -13,7 +14,8 @@ ghost use Rattle.cam6_machine.specs.Refusals.{set_refusal, row_refusal, plane_re
 ghost use Rattle.cam6_machine.specs.Refusals.{run_refusal, side_refusal};
 ghost use Rattle.cam6_machine.specs.Refusals.{rule_refusal, cycle_refusal, is_cycle, have_phases};
 ghost use Rattle.cam6_machine.specs.Refusals.{first_refusal, entry_refusal, half_refusal};
-ghost use Rattle.cam6_machine.specs.Refusals.{drop_refusal, map_refusal, colours_refusal, count_refusal};
+ghost use Rattle.cam6_machine.specs.Refusals.{drop_refusal, map_refusal, colours_refusal};
+ghost use Rattle.cam6_machine.specs.Refusals.{count_refusal};
 ghost use Rattle.cam6_machine.specs.Always.{HaveOwnNames};
 
 use crate::commands::{MAX_COLOUR, MAX_MASK, MAX_STEPS, NamedEntries, NamedEntry};

@@ -103,7 +103,8 @@ impl Model for RowColours {
     ghost view = { λ r. take r.count r.colours };
 
     ghost invariant = { λ r.
-        (r.count ≤ COLOURS) × AllByRecursion (λ colour. colour ≤ max_colour) (take r.count r.colours) };
+        (r.count ≤ COLOURS)
+        × AllByRecursion (λ colour. colour ≤ max_colour) (take r.count r.colours) };
 }
 
 impl RowColours {

@@ -1,4 +1,4 @@
-//! The tables by which a machine steps, in room that a machine has from the beginning. They lie as the
+//! The tables by which a machine steps, in room that it has from the beginning. They lie as the
 //! cycle needs them: a table for each use of a rule.
 ghost use Rattle.std.specs.Prelude.{◌≡◌, ◌<◌, ◌≤◌, ◌+◌, [], List, length, IfSome, Some};
 ghost use Rattle.std.specs.Prelude.{slice_index_or};

@@ -1,6 +1,7 @@
 -- Words that are 0 show no cell.
 use Rattle.std.proofs.Common.{◌≡◌, ℕ, ◌-◌, ◌/◌, ◌%◌, ◌<◌, ◌∙◌, [], false, nat_eq, nat_lt}
-use Rattle.std.proofs.Common.{get_or, set, length, ap, arith, replicate, ◌&&◌, Bool, true, refl, List}
+use Rattle.std.proofs.Common.{get_or, set, length, ap, arith, replicate, ◌&&◌, Bool, true, refl}
+use Rattle.std.proofs.Common.{List}
 use Rattle.std.proofs.Common.{◌==◌, if◌then◌else◌}
 use Rattle.std.proofs.lemmas.Grind.{common_steps}
 use Rattle.std.proofs.lemmas.List.{get_or-replicate, get_or_past, length-replicate}

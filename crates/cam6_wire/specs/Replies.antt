@@ -89,7 +89,8 @@ reply_data (Colours colours) =
     (member (codes "ok") (string (codes "colours")) no_members))
 reply_data (Count count) =
     object
-    (member (codes "count") (natural count) (member (codes "ok") (string (codes "count")) no_members))
+    (member (codes "count") (natural count)
+    (member (codes "ok") (string (codes "count")) no_members))
 reply_data (Fault fault) = object (fault_then (machine.fault_number fault) no_members)
 reply_data (RuleText fault) =
     object (fault_then fault.number (member (codes "token") (natural fault.token) no_members))

@@ -1,6 +1,7 @@
 -- How the code keeps rules and a cycle: rules in a map by name, each with its code, and entries
 -- with the places of their rules instead of the names.
-use Rattle.std.specs.Prelude.{◌≡◌, ℕ, suc, ◌-◌, ◌<◌, nat_lt, Bool, false, ◌||◌, ◌==◌, List, [], ◌∷◌, map, length}
+use Rattle.std.specs.Prelude.{◌≡◌, ℕ, suc, ◌-◌, ◌<◌, nat_lt, Bool, false, ◌||◌, ◌==◌, List, []}
+use Rattle.std.specs.Prelude.{◌∷◌, map, length}
 use Rattle.std.specs.Prelude.{Option, Some, None, ⊤, String, string_bytes, if◌then◌else◌}
 use Rattle.std.specs.List.{slice_get, AllByRecursion}
 use Rattle.std.specs.Option.{option_map}

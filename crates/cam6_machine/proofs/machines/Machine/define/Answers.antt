@@ -6,7 +6,8 @@ use Rattle.cam6_machine.specs.Alone.{after}
 use Rattle.cam6_machine.specs.Always.{IsMachine}
 use Rattle.cam6_machine.specs.Refusals.{rule_refusal}
 use Rattle.cam6_machine.specs.Internal.Images.{planes_of}
-use Rattle.cam6_machine.specs.Internal.Places.{rules_of, entries_of, named_entries, stored, ArePlaced}
+use Rattle.cam6_machine.specs.Internal.Places.{rules_of, entries_of, named_entries, stored}
+use Rattle.cam6_machine.specs.Internal.Places.{ArePlaced}
 use Rattle.cam6_machine.specs.Internal.Verdicts.{IsVerdict}
 use Rattle.cam6_machine.specs.declared.commands.Command.TheVariants.{Rule}
 use Rattle.cam6_machine.proofs.Done as done
