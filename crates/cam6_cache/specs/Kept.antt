@@ -1,0 +1,42 @@
+-- What a cache keeps: tables by their keys, the one that was used last first.
+use Rattle.std.specs.Prelude.{ℕ, ◌-◌, ◌==◌, ◌||◌, Bool, false, List, [], ◌∷◌, take, length}
+use Rattle.std.specs.Prelude.{if◌then◌else◌}
+use Rattle.std.specs.List.{AllByRecursion}
+use Rattle.cam6_cache.specs.Keys.{TableKey, IsTrueFor, is_same_key}
+
+-- tables by their keys, and how many there may be
+pub record Kept : Type 0 where
+  pub tables : List (TableKey × List ℕ)
+  pub capacity : ℕ
+
+-- each table is its key's true one
+abbrev pub AreTrue : List (TableKey × List ℕ) → Type 0
+AreTrue tables = AllByRecursion (λ t. IsTrueFor t.0 t.1) tables
+
+-- whether there is a table of this key
+abbrev pub is_kept : TableKey → List (TableKey × List ℕ) → Bool
+is_kept key [] = false
+is_kept key (table ∷ tables) = is_same_key key table.0 || is_kept key tables
+
+-- the tables but for the one of this key
+abbrev pub without : TableKey → List (TableKey × List ℕ) → List (TableKey × List ℕ)
+without key [] = []
+without key (table ∷ tables) =
+    if is_same_key key table.0 then tables else table ∷ without key tables
+
+-- a key's table goes first: one that was kept leaves its place, and before a new one the last
+-- leaves a full cache
+abbrev pub with_first : TableKey → List ℕ → Kept → Kept
+with_first key table kept =
+    record kept {
+      tables = (key, table)
+          ∷ (if is_kept key kept.tables then without key kept.tables
+          else take (kept.capacity - 1) kept.tables);
+    }
+
+-- the table that was used longest ago leaves
+abbrev pub without_last : Kept → Kept
+without_last kept = record kept { tables = take (length kept.tables - 1) kept.tables }
+
+abbrev pub is_empty : List (TableKey × List ℕ) → Bool
+is_empty tables = length tables == 0

@@ -1,0 +1,69 @@
+-- What a table is asked for by, and its true table.
+use Rattle.std.specs.Prelude.{ℕ, Bool, true, false, not, ◌&&◌, List}
+use Rattle.std.specs.Str.{bytes_eq}
+use Rattle.cam6_wiring.specs.Name.{is_same_half}
+use Rattle.cam6_wiring.specs.declared.wirings.Hood.{Hood}
+use Rattle.cam6_wiring.specs.declared.wirings.Hood.TheVariants.{Moore, VonNeumann, Margolus}
+use Rattle.cam6_wiring.specs.declared.wirings.Hood.TheVariants.{MargolusPhase, MargolusHorzVert}
+use Rattle.cam6_wiring.specs.declared.wirings.Minor.{Minor}
+use Rattle.cam6_wiring.specs.declared.wirings.Minor.TheVariants.{Centers, Phases, HorzVert}
+use Rattle.cam6_wiring.specs.declared.wirings.Wiring.{Wiring}
+use Rattle.cam6_forth.specs.Trees.{tree_of}
+use Rattle.cam6_table.specs.RuleTexts.{IsTableOf}
+use Rattle.cam6_block.specs.BlockMaps.{Reading, by_words, IsReversible}
+use Rattle.cam6_block.specs.Inverted.{IsInverted}
+
+-- what a rule is written for, its whole text, and whether the table is to undo it. The name under
+-- which a user keeps the rule is no part of it
+pub record TableKey : Type 0 where
+  pub wiring : Wiring
+  pub text : List ℕ
+  pub inverted : Bool
+
+-- what the rule's words make of what is seen
+abbrev pub reading_of : TableKey → Reading
+reading_of key = by_words key.wiring (tree_of key.text)
+
+-- a table that undoes a rule is asked for only where the rule can be undone
+abbrev pub IsReversibleKey : TableKey → Type 0
+IsReversibleKey key = IsReversible (reading_of key) key.wiring.hood key.wiring.minor
+
+-- a table is the key's true one: that of the rule's words, or the one that undoes what they make of
+-- blocks
+abbrev pub IsTrueBy : Bool → TableKey → List ℕ → Type 0
+IsTrueBy false key entries = IsTableOf key.wiring key.text entries
+IsTrueBy true key entries =
+    IsReversibleKey key
+    × IsInverted (reading_of key) key.wiring.hood key.wiring.minor entries
+
+abbrev pub IsTrueFor : TableKey → List ℕ → Type 0
+IsTrueFor key entries = IsTrueBy key.inverted key entries
+
+abbrev pub is_same_hood : Hood → Hood → Bool
+is_same_hood Moore Moore = true
+is_same_hood VonNeumann VonNeumann = true
+is_same_hood Margolus Margolus = true
+is_same_hood MargolusPhase MargolusPhase = true
+is_same_hood MargolusHorzVert MargolusHorzVert = true
+is_same_hood _ _ = false
+
+abbrev pub is_same_minor : Minor → Minor → Bool
+is_same_minor Centers Centers = true
+is_same_minor Phases Phases = true
+is_same_minor HorzVert HorzVert = true
+is_same_minor _ _ = false
+
+abbrev pub is_same_wiring : Wiring → Wiring → Bool
+is_same_wiring first second =
+    is_same_half first.half second.half && is_same_hood first.hood second.hood
+    && is_same_minor first.minor second.minor
+
+abbrev pub is_same_way : Bool → Bool → Bool
+is_same_way false second = not second
+is_same_way true second = second
+
+-- whether two keys are one: in every part
+abbrev pub is_same_key : TableKey → TableKey → Bool
+is_same_key first second =
+    is_same_wiring first.wiring second.wiring && bytes_eq first.text second.text
+    && is_same_way first.inverted second.inverted

@@ -1,0 +1,17 @@
+-- What follows of keys and of what a cache keeps.
+use Rattle.std.specs.Prelude.{◌≡◌, ℕ, true, List, length}
+use Rattle.cam6_table.specs.Limits.{addresses}
+use Rattle.cam6_cache.specs.Keys.{TableKey, IsTrueFor, is_same_key}
+
+-- a key is the same as itself, and as no other
+abbrev pub KeysAreThemselves : Type 0
+KeysAreThemselves =
+    (first second : TableKey) →
+    (is_same_key first second ≡ true → first ≡ second) ×
+    (first ≡ second → is_same_key first second ≡ true)
+
+-- a key has one true table
+abbrev pub IsTheOnlyTable : Type 0
+IsTheOnlyTable =
+    (key : TableKey) (first second : List ℕ) → length first ≡ addresses →
+    length second ≡ addresses → IsTrueFor key first → IsTrueFor key second → first ≡ second

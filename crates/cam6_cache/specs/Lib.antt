@@ -1,0 +1,6 @@
+-- In the order of reading: what a table is asked for by, and its true table; what a cache keeps.
+-- Last, what follows. How the code keeps keys stands apart: no public contract says it.
+pub mod Keys
+pub mod Kept
+pub mod Laws
+pub mod Internal

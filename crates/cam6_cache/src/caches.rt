@@ -1,0 +1,149 @@
+//! Tables that were made, each its key's true one.
+ghost use Rattle.std.specs.Prelude.{◌≡◌, ◌⊎◌, true, false};
+ghost use Rattle.cam6_block.specs.Inverted.{IsInverted};
+ghost use Rattle.cam6_table.specs.RuleTexts.{IsCodeFor, IsTableOf};
+ghost use Rattle.cam6_cache.specs.Keys.{IsReversibleKey, IsTrueFor, reading_of};
+ghost use Rattle.cam6_cache.specs.Kept.{is_kept, with_first};
+ghost use Rattle.cam6_cache.specs.Internal.Entries.{key_of, tables_of, kept_of};
+
+use crate::keys::{Key, NamedKey};
+use cam6_block::invert;
+use cam6_planes::NoMemory;
+use cam6_table::{Code, Table, fill};
+use lru::LruCache;
+use std::alloc::Global;
+use std::marker::Model;
+use std::num::NonZeroUsize;
+
+/// Tables that a cache can keep at most.
+pub const MAX_CAPACITY: usize = 64;
+
+/// Tables that several users share, each beside its key, the one that was used last first.
+#[derive(Drop)]
+pub struct TableCache {
+    alloc: Global,
+    tables: LruCache<NamedKey, Table>,
+    // Room for the table of a rule that is to be undone.
+    straight: Table,
+}
+
+impl Model for TableCache {
+    ghost use Rattle.cam6_cache.specs.Kept.{Kept, AreTrue};
+    ghost use Rattle.cam6_cache.specs.Internal.Entries.{tables_of, kept_of};
+
+    ghost Value = { Kept };
+
+    ghost view = { λ c. kept_of c.tables };
+
+    ghost invariant = { λ c. AreTrue (tables_of c.tables.entries) };
+}
+
+impl TableCache {
+    ghost use Rattle.std.specs.Prelude.{◌<◌, ◌≤◌, [], ◌⊎◌, true, not, IfOk, MatchBool};
+    ghost use Rattle.cam6_table.specs.RuleTexts.{IsCodeFor};
+    ghost use Rattle.cam6_cache.specs.Keys.{IsReversibleKey, IsTrueFor};
+    ghost use Rattle.cam6_cache.specs.Kept.{is_kept, is_empty, with_first, without_last};
+
+    /// An empty cache of 1 to 64 tables. It takes the memory of a table and of places for so many;
+    /// each table that is kept takes its own.
+    pub fn new(alloc: Global, capacity: usize) -> Result<TableCache, NoMemory>
+        requires least { 0 < capacity }
+        requires most { capacity ≤ MAX_CAPACITY }
+        ensures { IfOk result (λ cache. cache ≡ record { tables = []; capacity = capacity }) }
+    {
+        let Some(capacity) = NonZeroUsize::new(capacity) else {
+            unreachable!()
+        };
+        let straight = Table::blank(alloc)?;
+        let tables = LruCache::new(alloc, capacity)?;
+        Ok(TableCache {
+            alloc,
+            tables,
+            straight,
+        })
+    }
+
+    /// Makes `out` the key's true table, and says whether it was kept. The code is that of the
+    /// key's text. Memory is taken for what is newly kept alone; where it is refused nothing is
+    /// kept, and nobody sees it.
+    pub fn load(&mut self, key: &Key, code: &Code, out: &mut Table) -> bool
+        requires code { IsCodeFor key.now.wiring key.now.text code.now }
+        requires reversible { key.now.inverted ≡ true → IsReversibleKey key.now }
+        ensures table { IsTrueFor key.now out.new }
+        ensures hit { result ≡ is_kept key.now self.old.tables }
+        // A hit goes first; so does what was not there, or there was no memory for it and nothing
+        // changes.
+        ensures kept { MatchBool result (self.new ≡ with_first key.now out.new self.old)
+            ((self.new ≡ with_first key.now out.new self.old) ⊎ (self.new ≡ self.old)) }
+    {
+        let named = key.named();
+        if let Some(table) = self.tables.peek(named) {
+            out.copy_from(table);
+            return self.tables.promote(named);
+        }
+        fill_true(named, code, &mut self.straight, out);
+        keep(self.alloc, &mut self.tables, named, out);
+        false
+    }
+
+    /// Drops the table that was used longest ago, and says whether there was one.
+    pub fn evict_oldest(&mut self) -> bool
+        ensures some { result ≡ not (is_empty self.old.tables) }
+        ensures rest { self.new ≡ without_last self.old }
+    {
+        self.tables.pop_lru().is_some()
+    }
+}
+
+/// Makes a table the key's true one; the table that it undoes, if it undoes one, is made beside it.
+fn fill_true(key: &NamedKey, code: &Code, straight: &mut Table, out: &mut Table)
+    requires code { IsCodeFor (key_of key.now).wiring (key_of key.now).text code.now }
+    requires reversible { key.now.inverted ≡ true → IsReversibleKey (key_of key.now) }
+    ensures { IsTrueFor (key_of key.now) out.new }
+{
+    if key.inverted {
+        fill_straight(key, code, straight);
+        undo(key, straight, out);
+    } else {
+        fill_straight(key, code, out);
+    }
+}
+
+/// Fills the table of the rule's words. It meets no fault: the rule stops nowhere.
+fn fill_straight(key: &NamedKey, code: &Code, table: &mut Table)
+    requires { IsCodeFor (key_of key.now).wiring (key_of key.now).text code.now }
+    ensures { IsTableOf (key_of key.now).wiring (key_of key.now).text table.new }
+{
+    match fill(code, table) {
+        Ok(()) => {}
+        Err(_) => unreachable!(),
+    }
+}
+
+/// Writes the table that undoes a rule's. It isn't refused: the rule can be undone.
+fn undo(key: &NamedKey, straight: &Table, out: &mut Table)
+    requires straight { IsTableOf (key_of key.now).wiring (key_of key.now).text straight.now }
+    requires reversible { IsReversibleKey (key_of key.now) }
+    ensures { IsInverted (reading_of (key_of key.now)) key.now.hood key.now.minor out.new }
+{
+    match invert(straight, key.hood, key.minor, out) {
+        Ok(()) => {}
+        Err(_) => unreachable!(),
+    }
+}
+
+/// Keeps a copy of a table that wasn't kept, if there is memory.
+fn keep(alloc: Global, tables: &mut LruCache<NamedKey, Table>, key: &NamedKey, table: &Table)
+    requires absent { is_kept (key_of key.now) (tables_of tables.old.entries) ≡ false }
+    ensures { (kept_of tables.new ≡ with_first (key_of key.now) table.now (kept_of tables.old))
+        ⊎ (kept_of tables.new ≡ kept_of tables.old) }
+{
+    let Ok(mut copy) = Table::blank(alloc) else {
+        return;
+    };
+    copy.copy_from(table);
+    let Ok(own) = key.clone() else {
+        return;
+    };
+    let _ = tables.put(own, copy);
+}

@@ -1,0 +1,100 @@
+//! What a table is asked for by.
+ghost use Rattle.std.specs.Prelude.{◌≡◌};
+
+use cam6_planes::NoMemory;
+use cam6_wiring::{Half, Hood, Minor};
+use std::alloc::Global;
+use std::hash::{Hash, Hasher};
+use std::marker::Model;
+
+/// Bytes that the text of a rule can have.
+pub const MAX_TEXT: usize = 8_192;
+
+/// A key as a cache keeps it beside its table.
+#[derive(Clone, Debug, Drop, PartialEq, Eq)]
+pub(crate) struct NamedKey {
+    pub(crate) half: Half,
+    pub(crate) hood: Hood,
+    pub(crate) minor: Minor,
+    pub(crate) text: String,
+    pub(crate) inverted: bool,
+}
+
+/// By the text alone: few keys of a cache differ in something else.
+impl Hash for NamedKey {
+    ghost use Rattle.std.specs.Prelude.{string_bytes};
+    ghost use Rattle.std.specs.Hash as fed;
+    ghost use Rattle.std.specs.Cmp.Rules.{hashing};
+    ghost use Rattle.std.proofs.Common.{rules};
+
+    ghost hash_input = { λ key. fed.str (string_bytes key.text) };
+
+    ghost respects_eq = { Prim.search (hashing, rules) };
+
+    fn hash<H: Hasher>(&self, state: &mut H) {
+        self.text.hash(state);
+    }
+}
+
+/// What a table is asked for by, in room that is kept: what a rule is written for, its whole text,
+/// and whether the table is to undo it. The rule's name is no part of it.
+#[derive(Debug, Drop)]
+pub struct Key {
+    named: NamedKey,
+}
+
+impl Model for Key {
+    ghost use Rattle.std.specs.Prelude.{◌≤◌, string_capacity};
+    ghost use Rattle.cam6_cache.specs.Keys.{TableKey};
+    ghost use Rattle.cam6_cache.specs.Internal.Entries.{key_of};
+    ghost use Rattle.cam6_cache.specs.declared.keys.TheConstants.{MAX_TEXT};
+
+    ghost Value = { TableKey };
+
+    ghost view = { λ k. key_of k.named };
+
+    ghost invariant = { λ k. MAX_TEXT ≤ string_capacity k.named.text };
+}
+
+impl Key {
+    ghost use Rattle.std.specs.Prelude.{◌≤◌, [], length, IfOk};
+    ghost use Rattle.cam6_cache.specs.Internal.Entries.{key_of};
+
+    /// A key of the empty text, with room for any text.
+    pub fn scratch(alloc: Global) -> Result<Key, NoMemory>
+        ensures key { IfOk result (λ key. key.text ≡ []) }
+    {
+        let named = NamedKey {
+            half: Half::A,
+            hood: Hood::Moore,
+            minor: Minor::Centers,
+            text: String::with_capacity(alloc, MAX_TEXT)?,
+            inverted: false,
+        };
+        Ok(Key { named })
+    }
+
+    /// Makes the key that of a text, at most `MAX_TEXT` bytes long. It takes no memory.
+    pub fn set(&mut self, half: Half, hood: Hood, minor: Minor, text: &str, inverted: bool)
+        requires { length text.now ≤ MAX_TEXT }
+        ensures { self.new ≡ record {
+          wiring = record { half = half; hood = hood; minor = minor };
+          text = text.now;
+          inverted = inverted;
+        } }
+    {
+        let named = &mut self.named;
+        named.half = half;
+        named.hood = hood;
+        named.minor = minor;
+        named.text.clear();
+        named.text.push_str(text).unwrap();
+        named.inverted = inverted;
+    }
+
+    pub(crate) fn named(&self) -> &NamedKey
+        ensures { key_of result.now ≡ self.now }
+    {
+        &self.named
+    }
+}

@@ -1,0 +1,12 @@
+//! Laws of keys and their tables. Each is the contract of a function that does nothing.
+ghost use Rattle.cam6_cache.specs.Laws.{KeysAreThemselves, IsTheOnlyTable};
+
+/// A key is the same as itself, and as no other.
+pub fn keys_are_themselves()
+    ensures law { KeysAreThemselves }
+{}
+
+/// A key has one true table.
+pub fn a_key_has_one_true_table()
+    ensures law { IsTheOnlyTable }
+{}

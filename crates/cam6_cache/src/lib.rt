@@ -1,0 +1,23 @@
+//! Tables that several users share, so that a rule's text is compiled into a table once.
+//!
+//! Contract: `TableCache::load` makes a table the key's true one, the one of the rule's words or
+//! the one that undoes them (`specs/Keys.antt`), whether or not it was kept, and says which. What
+//! is kept is a list, the table that was used last first (`specs/Kept.antt`): a hit goes to its
+//! front, and a miss too, before which the last leaves a full cache. Where there is no memory for
+//! it nothing is kept, and nobody sees that. The laws: a key is the same as itself and as no other,
+//! and has one true table.
+//!
+//! So, of a cache of two: loads of the keys K, L, K, M, K and L miss, miss, hit, miss, hit and
+//! miss, for M comes in place of L. What is kept then is of L and K.
+//!
+//! Stands on: `cam6_planes`, `cam6_wiring`, `cam6_forth`, `cam6_table` and `cam6_block`.
+//!
+//! Read next: `keys`, what a table is asked for by; `caches`; then `laws`.
+#![tactic(auto)]
+
+mod caches;
+mod keys;
+pub mod laws;
+
+pub use caches::{MAX_CAPACITY, TableCache};
+pub use keys::{Key, MAX_TEXT};
