@@ -36,7 +36,7 @@ module _ (k : NamedKey) where
       here true h = refl
       here false h = h
 
-  pub entry_where_kept : (es : Entries) →
+  entry_where_kept : (es : Entries) →
       is_some (lookup_entry (impl.eq-value.it k) es) ≡ is_kept (key_of k) (tables_of es)
   entry_where_kept [] = refl
   entry_where_kept (e ∷ es) =
@@ -51,7 +51,7 @@ module _ (k : NamedKey) where
       here false h = h
 
   -- the others stay as they were
-  pub without_where_removed : (es : Entries) →
+  without_where_removed : (es : Entries) →
       tables_of (remove_entry (impl.eq-value.it k) es) ≡ without (key_of k) (tables_of es)
   without_where_removed [] = refl
   without_where_removed (e ∷ es) =
@@ -67,13 +67,13 @@ module _ (k : NamedKey) where
       here false h = ap (λ l. (key_of e.0, e.1) ∷ l) h
 
   -- an entry that is found has the key, and the table that is found
-  pub record IsEntryOf (es : Entries) (table : List ℕ) : Type 0 where
+  record IsEntryOf (es : Entries) (table : List ℕ) : Type 0 where
     pub entry : NamedKey × List ℕ
     pub found : lookup_entry (impl.eq-value.it k) es ≡ Some entry
     pub same : ◌≡◌ {A = TableKey × List ℕ} (key_of entry.0, entry.1) (key_of k, table)
     pub is_true : AreTrue (tables_of es) → IsTrueFor (key_of k) table
 
-  pub entry_of : (es : Entries) (table : List ℕ) →
+  entry_of : (es : Entries) (table : List ℕ) →
       lookup (impl.eq-value.it k) es ≡ Some table → IsEntryOf es table
   entry_of [] table h = cc
   entry_of (e ∷ es) table h = here (entry_of es table) (impl.eq-value.it k e.0) refl h
@@ -104,6 +104,11 @@ module _ (k : NamedKey) where
             same = its.same;
             is_true = λ are. its.is_true are.1;
           }
+
+  -- what is found is true
+  pub true_where_found : (es : Entries) (table : List ℕ) → AreTrue (tables_of es) →
+      lookup (impl.eq-value.it k) es ≡ Some table → IsTrueFor (key_of k) table
+  true_where_found es table are h = let its = entry_of es table h in its.is_true are
 
   promoted_tables : (es : Entries) (table : List ℕ) →
       lookup (impl.eq-value.it k) es ≡ Some table →
