@@ -29,15 +29,9 @@ fn value_of(alloc: Global, command: &Command) -> Result<Value, AllocError> {
         }
         Command::Drop { name } => json!(in alloc; {"do": "drop", "name": name.as_str()}),
         Command::Rules => json!(in alloc; {"do": "rules"}),
-        Command::Cycle { entries } => {
-            let mut values = Vec::new(alloc);
-            for entry in entries.as_slice() {
-                values.push(entry_value(alloc, entry)?)?;
-            }
-            let entries = Value::Array(values);
-            json!(in alloc; {"do": "cycle", "entries": entries})
-        }
+        Command::Cycle { entries } => cycle_value(alloc, entries.as_slice()),
         Command::Run { n } => json!(in alloc; {"do": "run", "n": *n}),
+        Command::Back { n } => json!(in alloc; {"do": "back", "n": *n}),
         Command::Row { plane, row } => {
             json!(in alloc; {"do": "row", "plane": *plane, "row": *row})
         }
@@ -47,6 +41,15 @@ fn value_of(alloc: Global, command: &Command) -> Result<Value, AllocError> {
         Command::Colours { row } => json!(in alloc; {"do": "colours", "row": *row}),
         Command::Count { mask } => json!(in alloc; {"do": "count", "mask": *mask}),
     }
+}
+
+fn cycle_value(alloc: Global, entries: &[NamedEntry]) -> Result<Value, AllocError> {
+    let mut values = Vec::new(alloc);
+    for entry in entries {
+        values.push(entry_value(alloc, entry)?)?;
+    }
+    let entries = Value::Array(values);
+    json!(in alloc; {"do": "cycle", "entries": entries})
 }
 
 fn map_value(alloc: Global, colours: &[u64; 16]) -> Result<Value, AllocError> {
