@@ -335,7 +335,8 @@ def print_refused():
         print(f"< meeting at phase {phase} of {a} and {b}")
 
 
-if sys.argv[1:] == ["refused"]:
-    print_refused()
-else:
-    print_inverses()
+if __name__ == "__main__":
+    if sys.argv[1:] == ["refused"]:
+        print_refused()
+    else:
+        print_inverses()

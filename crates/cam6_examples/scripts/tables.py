@@ -83,4 +83,5 @@ def main():
             print("< " + "".join(map(str, entries[first : first + 64])))
 
 
-main()
+if __name__ == "__main__":
+    main()

@@ -68,7 +68,7 @@ fn inverse_of(
     }
 }
 
-fn cause_text(alloc: Global, cause: NotReversible) -> io::Result<String> {
+pub fn cause_text(alloc: Global, cause: NotReversible) -> io::Result<String> {
     match cause {
         NotReversible::Hood => Ok(String::from_str(alloc, "hood")?),
         NotReversible::Centres => Ok(String::from_str(alloc, "centres")?),

@@ -5,12 +5,13 @@
 //! with `wrong_` has one answer that is wrong on purpose: what is printed of it shows that answers
 //! are compared. The program makes no claim of its own beyond being safe.
 //!
-//! Stands on: `cam6_session` and all below it, and `cam6_block`.
+//! Stands on: `cam6_session` and all below it, `cam6_block` and `cam6_cache`.
 //!
 //! Read next: `data/`, the examples; `examples`, how their files are read; `ways`, how they are
-//! played; then `sessions`, `rules`, `inverses` and `stacks`.
+//! played; then `sessions`, `rules`, `inverses`, `caches` and `stacks`.
 #![tactic(auto)]
 
+mod caches;
 mod command_lines;
 mod examples;
 mod faults;
@@ -89,6 +90,7 @@ fn played(alloc: Global, part: &Part) -> io::Result<Vec<Vec<u8>>> {
         Way::Tables(wiring) => rules::tables(alloc, *wiring, sent)?,
         Way::Inverses(wiring) => inverses::inverses(alloc, *wiring, sent)?,
         Way::InversesTwice(wiring) => inverses::inverses_twice(alloc, *wiring, sent)?,
+        Way::Cache(capacity) => caches::loads(alloc, *capacity, sent)?,
         Way::Stacks => stacks::stacks(alloc, sent)?,
     };
     let mut all = Vec::new(alloc);

@@ -1,4 +1,6 @@
 //! Texts of rules: their first faults, what is kept of them, their entries and tables.
+ghost use Rattle.std.specs.Prelude.{IfOk, OnOk};
+ghost use Rattle.cam6_table.specs.RuleTexts.{IsCodeFor, IsTableOf};
 
 use crate::examples::Sent;
 use crate::sessions::{add_line, no_memory};
@@ -18,12 +20,15 @@ pub fn read_rule(
     wiring: Wiring,
     text: &[u8],
 ) -> io::Result<Result<Rule, TextFault>> {
-    let text = str::from_utf8(text).map_err(|_| io::Error::from(io::ErrorKind::InvalidData))?;
-    match parse_under(alloc, text, wiring) {
+    match parse_under(alloc, text_of(text)?, wiring) {
         Ok(rule) => Ok(Ok(rule)),
         Err(ParseFault::Text(fault)) => Ok(Err(fault)),
         Err(ParseFault::NoMemory) => Err(no_memory()),
     }
+}
+
+pub fn text_of(bytes: &[u8]) -> io::Result<&str> {
+    str::from_utf8(bytes).map_err(|_| io::Error::from(io::ErrorKind::InvalidData))
 }
 
 fn text_fault(alloc: Global, fault: TextFault) -> io::Result<String> {
@@ -153,13 +158,33 @@ pub fn fill_by_text(
     text: &Sent,
     table: &mut Table,
 ) -> io::Result<Result<(), String>> {
-    let rule = match read_rule(alloc, wiring, text.bytes.as_slice())? {
+    match code_of(alloc, wiring, text_of(text.bytes.as_slice())?, table)? {
+        Ok(_) => Ok(Ok(())),
+        Err(fault) => Ok(Err(fault)),
+    }
+}
+
+/// The code of a rule's text, which makes the table the rule's; or the text's fault, or the least
+/// address at which the rule stops.
+pub fn code_of(
+    alloc: Global,
+    wiring: Wiring,
+    text: &str,
+    table: &mut Table,
+) -> io::Result<Result<Code, String>>
+    ensures code { IfOk result (λ read. IfOk read (λ code. IsCodeFor wiring text.now code)) }
+    ensures table { IfOk result (λ read. OnOk read (IsTableOf wiring text.now table.new)) }
+{
+    let rule = match parse_under(alloc, text, wiring) {
         Ok(rule) => rule,
-        Err(fault) => return Ok(Err(text_fault(alloc, fault)?)),
+        Err(ParseFault::Text(fault)) => return Ok(Err(text_fault(alloc, fault)?)),
+        Err(ParseFault::NoMemory) => return Err(no_memory()),
     };
-    let code = Code::of(alloc, &rule).map_err(|_| no_memory())?;
+    let Ok(code) = Code::of(alloc, &rule) else {
+        return Err(no_memory());
+    };
     match fill(&code, table) {
-        Ok(()) => Ok(Ok(())),
+        Ok(()) => Ok(Ok(code)),
         Err((address, fault)) => {
             let number = fault.number();
             let stop = format!(in alloc; r#"{{"address":{address},"fault":{number}}}"#)?;

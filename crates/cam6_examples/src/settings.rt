@@ -33,13 +33,23 @@ fn text_of<T: Copy + PartialEq>(table: &[(&'static str, T)], setting: T) -> &'st
 
 /// `HALF HOOD MINOR`, as `A N/VONN &/CENTERS`.
 pub fn wiring_named(text: &str) -> Option<Wiring> {
+    match wiring_before(text)? {
+        (wiring, "") => Some(wiring),
+        _ => None,
+    }
+}
+
+/// `HALF HOOD MINOR`, and the text behind it and a space.
+pub fn wiring_before(text: &str) -> Option<(Wiring, &str)> {
     let (half, rest) = text.split_once(' ')?;
-    let (hood, minor) = rest.split_once(' ')?;
-    Some(Wiring {
+    let (hood, rest) = rest.split_once(' ')?;
+    let (minor, rest) = rest.split_once(' ').unwrap_or((rest, ""));
+    let wiring = Wiring {
         half: named(&HALVES, half)?,
         hood: named(&HOODS, hood)?,
         minor: named(&MINORS, minor)?,
-    })
+    };
+    Some((wiring, rest))
 }
 
 pub fn half_text(half: Half) -> &'static str {

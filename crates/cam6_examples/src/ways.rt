@@ -2,6 +2,7 @@
 
 use crate::faults::Unplayable;
 use crate::settings::wiring_named;
+use cam6_cache::MAX_CAPACITY;
 use cam6_planes::Side;
 use cam6_wiring::Wiring;
 use std::alloc::Global;
@@ -26,6 +27,8 @@ pub enum Way {
     Inverses(Wiring),
     /// The table that undoes the one which undoes each rule's.
     InversesTwice(Wiring),
+    /// Loads from a cache of so many tables.
+    Cache(usize),
     /// Words of a body: what they leave on the stack, the top value last.
     Stacks,
 }
@@ -38,6 +41,7 @@ impl Way {
             ("session", limit) => Ok(Way::Session(limit_of(limit)?)),
             ("readings", "") => Ok(Way::Readings),
             ("stacks", "") => Ok(Way::Stacks),
+            ("cache", capacity) => Ok(Way::Cache(capacity_of(capacity)?)),
             ("texts", wiring) => Ok(Way::Texts(wiring_of(wiring)?)),
             ("rules", wiring) => Ok(Way::Rules(wiring_of(wiring)?)),
             ("tables", wiring) => Ok(Way::Tables(wiring_of(wiring)?)),
@@ -63,6 +67,16 @@ fn limit_of(text: &str) -> Result<Side, Unplayable> {
     let number = text.strip_prefix("within ").ok_or(Unplayable::Unread)?;
     let number = number.parse().map_err(|_| Unplayable::Unread)?;
     Side::of(number).ok_or(Unplayable::Unread)
+}
+
+/// How many tables a cache keeps, 1 to 64.
+fn capacity_of(text: &str) -> Result<usize, Unplayable> {
+    let capacity = text.parse().map_err(|_| Unplayable::Unread)?;
+    if (1..=MAX_CAPACITY).contains(&capacity) {
+        Ok(capacity)
+    } else {
+        Err(Unplayable::Unread)
+    }
 }
 
 fn wiring_of(text: &str) -> Result<Wiring, Unplayable> {
