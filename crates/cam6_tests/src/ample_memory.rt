@@ -1,13 +1,17 @@
 //! Each public call that takes memory, once, where there is enough: no contract can say that a call
 //! doesn't give up for want of memory, where memory is taken.
 
-use cam6_forth::{ParseFault, Rule, parse};
+ghost use Rattle.std.specs.Prelude.{IfSome};
+ghost use Rattle.cam6_table.specs.RuleTexts.{IsCodeFor};
+
+use cam6_cache::{Key, TableCache};
+use cam6_forth::{ParseFault, Rule, parse, parse_under};
 use cam6_machine::{Command, Machine, Now, Reply, replies_alone};
-use cam6_planes::{Planes, Side};
+use cam6_planes::{NoMemory, Planes, Side};
 use cam6_session::{Ask, End, Line, LineBuf, next_line, serve, serve_alone};
-use cam6_table::{Code, Table};
+use cam6_table::{Code, Table, fill};
 use cam6_wire::{command_shown, read_command, reply_text};
-use cam6_wiring::{Half, Hood, Minor};
+use cam6_wiring::{Half, Hood, Minor, Wiring};
 use serde_json::Value;
 use std::alloc::Global;
 use std::test::Fail;
@@ -37,6 +41,42 @@ fn rules_become_code(rt: HostRuntime) -> Result<(), Fail> {
 fn tables_are_blank(rt: HostRuntime) -> Result<(), Fail> {
     let table = Table::blank(rt.alloc())?;
     assert_eq!(rt; table.at(4), 0);
+    Ok(())
+}
+
+/// The code of a text, if it is a rule that stops nowhere.
+fn code_for(alloc: Global, wiring: Wiring, text: &str) -> Option<Code>
+    ensures { IfSome result (λ code. IsCodeFor wiring text.now code) }
+{
+    let mut trial = Table::blank(alloc).ok()?;
+    let Ok(rule) = parse_under(alloc, text, wiring) else {
+        return None;
+    };
+    let Ok(code) = Code::of(alloc, &rule) else {
+        return None;
+    };
+    match fill(&code, &mut trial) {
+        Ok(()) => Some(code),
+        Err(_) => None,
+    }
+}
+
+#[test]
+fn tables_are_kept(rt: HostRuntime) -> Result<(), Fail> {
+    let alloc = rt.alloc();
+    let mut cache = TableCache::new(alloc, 1)?;
+    let mut key = Key::scratch(alloc)?;
+    let mut table = Table::blank(alloc)?;
+    let wiring = Wiring {
+        half: Half::A,
+        hood: Hood::VonNeumann,
+        minor: Minor::Centers,
+    };
+    let text = ": R CENTER >PLN0 ;";
+    let code = code_for(alloc, wiring, text).ok_or(NoMemory)?;
+    key.set(wiring.half, wiring.hood, wiring.minor, text, false);
+    assert!(rt; !cache.load(&key, &code, &mut table));
+    assert!(rt; cache.load(&key, &code, &mut table));
     Ok(())
 }
 
