@@ -1,5 +1,5 @@
 //! Loads two tables from a cache, and prints which were kept, for runs in which an allocation is
-//! refused: `./scarce` at the top of the repository refuses one after another.
+//! refused: `./scarce` at the top of the repository refuses two of a put, each by itself.
 //!
 //! The program makes no claim of its own beyond being safe. With ample memory it prints `all kept`.
 //!
