@@ -11,10 +11,9 @@ use Rattle.cam6_wiring.specs.declared.names.Level.{Level}
 use Rattle.cam6_wiring.specs.declared.names.Level.TheVariants.{Lower, Upper}
 use Rattle.cam6_wiring.specs.declared.neighbours.Setting.{Setting}
 use Rattle.cam6_table.specs.NewBits.{bit_for}
-use Rattle.cam6_band.specs.ByTables.{bit_by_table, table_for, setting_by, step_by}
+use Rattle.cam6_band.specs.ByTables.{HalfEntries, StepTables, bit_by_table, table_for, setting_by}
+use Rattle.cam6_band.specs.ByTables.{step_by}
 use Rattle.cam6_band.specs.Internal.ByLines.{ShowAddresses, bit_by_lines}
-use Rattle.cam6_band.specs.declared.tables.HalfTable.{HalfTable}
-use Rattle.cam6_band.specs.declared.tables.EntryTables.{EntryTables}
 
 pub plane-lt : (half : Half) (level : Level) → plane_of half level < 4
 plane-lt A Lower = omega arith
@@ -24,7 +23,7 @@ plane-lt B Upper = omega arith
 
 -- the new bit by lines that show the addresses of f's cells is the one by the table, where the old
 -- planes g have the bits of f
-pub by_lines : (s : ℕ) (f g : Cells) (setting : Setting) (table : Option HalfTable) (y : ℕ)
+pub by_lines : (s : ℕ) (f g : Cells) (setting : Setting) (table : Option HalfEntries) (y : ℕ)
     (lines : List (List ℕ)) (level : Level) (x : ℕ) → x < s → y < s →
     ShowAddresses s f setting table y lines →
     g (plane_of setting.half level) x y ≡ f (plane_of setting.half level) x y →
@@ -34,9 +33,9 @@ by_lines s f g setting None y lines level x h k show old =
     old ∙
     sym (torus_at s f (plane_of setting.half level) x y (plane-lt setting.half level) h k)
 by_lines s f g setting (Some half) y lines level x h k show old =
-    ap (λ a. bit_for level (slice_index half.table.now a)) (show x h)
+    ap (λ a. bit_for level (slice_index half.entries a)) (show x h)
 
-module _ (s : ℕ) (tables : EntryTables) (f : Cells) where
+module _ (s : ℕ) (tables : StepTables) (f : Cells) where
   -- the new bit of a half's plane
   abbrev pub new_bit_of : Half → Level → ℕ → ℕ → Bool
   new_bit_of half level x y =

@@ -6,3 +6,5 @@ pub mod HalfPlanes
 pub mod TwoRows
 -- The row to the south of a row; and a step that is one row further, or is done, or is moved.
 pub mod Further
+-- Where the tables of an entry lie, whichever way the cycle is gone along.
+pub mod Uses

@@ -2,8 +2,8 @@
 use Rattle.std.specs.Prelude.{ℕ, ◌≡◌, ◌<◌, ◌+◌}
 use Rattle.cam6_planes.specs.Cells.{Cells, cells}
 use Rattle.cam6_planes.specs.Stored.{Stored, width}
+use Rattle.cam6_band.specs.Limits.{band}
 use Rattle.cam6_band.specs.Partway.{Partway}
-use Rattle.cam6_band.specs.declared.bands.TheConstants.{BAND}
 use Rattle.cam6_band.specs.declared.bands.Next.{Next}
 use Rattle.cam6_band.specs.declared.bands.Next.TheVariants.{More, Whole}
 
@@ -16,7 +16,7 @@ IsNext o p (Whole rest) = cells rest.planes ≡ p
 abbrev pub GoesOn : Stored → ℕ → Next → Type 0
 GoesOn planes done (More mid) =
     (mid.planes.side ≡ planes.side) × (mid.planes.limit ≡ planes.limit)
-    × (mid.done ≡ done + BAND) × (done + BAND < width planes)
+    × (mid.done ≡ done + band) × (done + band < width planes)
 GoesOn planes done (Whole rest) =
     (rest.planes.side ≡ planes.side) × (rest.planes.limit ≡ planes.limit)
-    × (done + BAND ≡ width planes)
+    × (done + band ≡ width planes)

@@ -3,15 +3,15 @@ ghost use Rattle.std.specs.Prelude.{◌≡◌, ◌<◌, ◌≤◌, ◌%◌};
 ghost use Rattle.cam6_planes.specs.Cells.{Cells, cells};
 ghost use Rattle.cam6_planes.specs.Side.{side_number};
 ghost use Rattle.cam6_planes.specs.Stored.{width};
-ghost use Rattle.cam6_band.specs.ByTables.{step_by};
+ghost use Rattle.cam6_band.specs.Limits.{band};
+ghost use Rattle.cam6_band.specs.ByTables.{step_by, values_of};
 ghost use Rattle.cam6_band.specs.Partway.{Partway};
 ghost use Rattle.cam6_band.specs.Next.{GoesOn, IsNext};
-ghost use Rattle.cam6_band.specs.declared.bands.TheConstants.{BAND};
 
 use crate::images::{AtRest, Spare};
 use crate::new_rows::{LinesOfHalves, put_new_row};
 use crate::tables::EntryTables;
-use cam6_planes::{CellRow, Planes};
+use cam6_planes::{CellRow, Planes, Side};
 use std::marker::Model;
 
 /// Rows of a band.
@@ -32,15 +32,15 @@ pub struct MidStep {
 impl Model for MidStep {
     ghost use Rattle.std.specs.Prelude.{◌≡◌, ◌<◌, ◌%◌};
     ghost use Rattle.cam6_planes.specs.Stored.{width};
+    ghost use Rattle.cam6_band.specs.Limits.{band};
     ghost use Rattle.cam6_band.specs.Partway.{Mid};
     ghost use Rattle.cam6_band.specs.Internal.KeptRows.{mid_of};
-    ghost use Rattle.cam6_band.specs.declared.bands.TheConstants.{BAND};
 
     ghost Value = { Mid };
 
     ghost view = { λ m. mid_of m.image m.first m.last m.done };
 
-    ghost invariant = { λ m. (m.done < width m.image) × (m.done % BAND ≡ 0) };
+    ghost invariant = { λ m. (m.done < width m.image) × (m.done % band ≡ 0) };
 }
 
 /// What a band leaves: a step that goes on, or the planes after it.
@@ -54,15 +54,29 @@ impl MidStep {
     pub fn rows(&self) -> u16
         ensures rows { result ≡ self.now.done }
         ensures within { result < width self.now.planes }
-        ensures bands { result % BAND ≡ 0 }
+        ensures bands { result % band ≡ 0 }
     {
         self.done as u16
+    }
+
+    pub fn side(&self) -> Side
+        ensures side { result ≡ self.now.planes.side }
+        ensures within { width self.now.planes ≤ side_number self.now.planes.limit }
+    {
+        self.image.side()
+    }
+
+    pub fn limit(&self) -> Side
+        ensures { result ≡ self.now.planes.limit }
+    {
+        self.image.limit()
     }
 
     /// Makes the next sixteen rows, by the tables that the step goes by.
     pub fn band(self, tables: &EntryTables) -> Next
         ensures next { let s = width self.planes in (o : Cells) →
-            Partway o (step_by s tables.now o) self → IsNext o (step_by s tables.now o) result }
+            Partway o (step_by s (values_of tables.now) o) self →
+            IsNext o (step_by s (values_of tables.now) o) result }
         ensures goes_on { GoesOn self.planes self.done result }
     {
         let MidStep {

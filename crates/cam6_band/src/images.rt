@@ -6,7 +6,7 @@ ghost use Rattle.cam6_band.specs.Partway.{Partway};
 
 use crate::bands::{MidStep, begun};
 use crate::tables::EntryTables;
-use cam6_planes::Planes;
+use cam6_planes::{Planes, Side};
 
 /// An image that shows whole planes.
 #[derive(Drop)]
@@ -33,7 +33,8 @@ impl AtRest {
     pub fn into_planes(self) -> Planes
         ensures { result ≡ self.planes }
     {
-        self.planes
+        let AtRest { planes } = self;
+        planes
     }
 
     pub fn planes(&self) -> &Planes
@@ -68,9 +69,16 @@ impl Spare {
         Spare { planes }
     }
 
+    pub fn limit(&self) -> Side
+        ensures { result ≡ self.now.planes.limit }
+    {
+        self.planes.limit()
+    }
+
     pub fn into_planes(self) -> Planes
         ensures { result ≡ self.planes }
     {
-        self.planes
+        let Spare { planes } = self;
+        planes
     }
 }

@@ -6,7 +6,9 @@
 //! promises it promises for all old planes of which the image is partway (`specs/Partway.antt`)
 //! towards their step by the tables at hand (`specs/ByTables.antt`). The band after which no row is
 //! left answers `Next::Whole`, with the planes after the step. `move_into` takes a step with all
-//! that is kept of it to another image, and `abandon` gives it up. No call takes memory.
+//! that is kept of it to another image, and `abandon` gives it up. `tables_at` finds, among tables
+//! that lie as a cycle needs them, those of the entry at a position (`specs/AtPosition.antt`); the
+//! law: each half goes by the table of its use. No call takes memory.
 //!
 //! So, with a table of half A by which a cell becomes what its northern neighbour was: of planes of
 //! side 256, after one band the rows 0 to 15 are new, row 0 what row 255 was, and the others old;
@@ -14,16 +16,20 @@
 //!
 //! Nothing reads a cell of a `MidStep`, and none can be let go: it goes on, or it is abandoned.
 //!
-//! Stands on: `cam6_planes`, `cam6_wiring` and `cam6_table`.
+//! Stands on: `cam6_planes`, `cam6_wiring`, `cam6_table` and `cam6_cycle`.
 //!
-//! Read next: `tables`, what a step goes by; `images`; `bands`; then `new_rows`, one row of a step.
+//! Read next: `tables`, what a step goes by, and `positions`, where it lies; `images`; `bands`;
+//! then `new_rows`, one row of a step; and `laws`.
 #![tactic(auto)]
 
 mod bands;
 mod images;
+pub mod laws;
 mod new_rows;
+mod positions;
 mod tables;
 
 pub use bands::{BAND, MidStep, Next};
 pub use images::{AtRest, Spare};
+pub use positions::tables_at;
 pub use tables::{EntryTables, HalfTable};

@@ -1,5 +1,6 @@
 //! One row of a step, written over the old one. All that bands know of a rule stands here.
 ghost use Rattle.std.specs.Prelude.{◌≡◌, ◌≢◌, ◌<◌, ◌≤◌, ◌+◌, ℕ};
+ghost use Rattle.std.specs.Option.{option_map};
 ghost use Rattle.cam6_planes.specs.Cells.{Cells, cells, IsRow};
 ghost use Rattle.cam6_planes.specs.Row.{west_of};
 ghost use Rattle.cam6_planes.specs.Side.{side_number};
@@ -7,7 +8,7 @@ ghost use Rattle.cam6_planes.specs.Stored.{width};
 ghost use Rattle.cam6_wiring.specs.Lines.{AreRowsAround};
 ghost use Rattle.cam6_wiring.specs.Name.{plane_of, other_half};
 ghost use Rattle.cam6_wiring.specs.declared.names.Level.{Level};
-ghost use Rattle.cam6_band.specs.ByTables.{step_by};
+ghost use Rattle.cam6_band.specs.ByTables.{step_by, values_of, entries_of};
 ghost use Rattle.cam6_band.specs.Internal.ByLines.{ShowAddresses, bit_by_lines};
 
 use crate::tables::{EntryTables, HalfTable};
@@ -44,7 +45,8 @@ pub(crate) fn put_new_row(
     ensures new { let s = width image.old in (f : Cells) →
         IsRow s f (west_of s y) last.old → IsRow s f 0 first.now →
         ((p x v : ℕ) → p < 4 → x < s → y ≤ v → v < s → cells image.old p x v ≡ f p x v) →
-        (p x : ℕ) → p < 4 → x < s → cells image.new p x y ≡ step_by s tables.now f p x y }
+        (p x : ℕ) → p < 4 → x < s →
+        cells image.new p x y ≡ step_by s (values_of tables.now) f p x y }
     ensures others { (p x v : ℕ) → p < 4 → x < width image.old → v < width image.old → v ≢ y →
         cells image.new p x v ≡ cells image.old p x v }
     ensures kept { IsRow (width image.old) (cells image.old) y last.new }
@@ -90,7 +92,8 @@ fn put_half_lines(
 )
     requires { y < side_number rows.now.side }
     ensures { (f : Cells) → AreRowsAround f y rows.now →
-        ShowAddresses (side_number rows.now.side) f setting table.now y lines.new }
+        ShowAddresses (side_number rows.now.side) f setting (option_map entries_of table.now) y
+        lines.new }
 {
     if let Some(HalfTable { hood, minor, .. }) = *table {
         put_lines(lines, setting, hood, minor, y, rows);
@@ -102,7 +105,8 @@ fn put_half_row(image: &mut Planes, half: Half, table: &Option<HalfTable>, y: us
     requires { y < width image.old }
     ensures half { (level : Level) (x : ℕ) → x < width image.old →
         cells image.new (plane_of half level) x y
-        ≡ bit_by_lines (cells image.old) half table.now lines.now level x y }
+        ≡ bit_by_lines (cells image.old) half (option_map entries_of table.now) lines.now
+        level x y }
     ensures other_half { (level : Level) (x v : ℕ) → x < width image.old → v < width image.old →
         cells image.new (plane_of (other_half half) level) x v
         ≡ cells image.old (plane_of (other_half half) level) x v }

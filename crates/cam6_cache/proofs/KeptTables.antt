@@ -1,16 +1,17 @@
 -- What is kept, as the map of tables has it.
 use Rattle.std.proofs.Common.{◌≡◌, ℕ, zero, suc, ◌-◌, List, [], ◌∷◌, take, Bool, true, false}
 use Rattle.std.proofs.Common.{true≢false, cond, Option, Some, None, is_some, refl, sym, ◌∙◌, ap}
-use Rattle.std.proofs.Common.{subst, ◌||◌, ◌<◌, ◌==◌, length, not, arith}
+use Rattle.std.proofs.Common.{subst, ◌||◌, ◌<◌, ◌≤◌, ◌==◌, length, map, not, arith}
 use Rattle.std.proofs.Common.{◌⊎◌, inl, inr, Result, Ok, Err, OnOk, OnErr}
 use Rattle.std.proofs.lemmas.List.{take-map, length-map}
-use Rattle.std.specs.Map.{lookup, lookup_entry, remove_entry}
-use Rattle.std.specs.List.{slice_get}
+use Rattle.std.specs.Map.{keys_of, lookup, lookup_entry, remove_entry}
+use Rattle.std.specs.List.{AllByRecursion, IsDistinct, slice_get}
 use Rattle.std.specs.Option.{option_map_or}
 use Rattle.lru.specs.LruCache.{LruCache, promoted, put_entries, lru_cache, last_entry}
 use Rattle.cam6_cache.specs.Keys.{TableKey, IsTrueFor, is_same_key}
-use Rattle.cam6_cache.specs.Kept.{Kept, AreTrue, is_kept, without, with_first, without_last}
-use Rattle.cam6_cache.specs.Kept.{is_empty}
+use Rattle.cam6_cache.specs.Kept.{Kept, AreTrue, AreApart, is_kept, without, with_first}
+use Rattle.cam6_cache.specs.Kept.{without_last, is_empty}
+use Rattle.cam6_cache.specs.Limits.{max_capacity}
 use Rattle.cam6_cache.specs.Internal.Entries.{key_of, tables_of, kept_of}
 use Rattle.cam6_cache.specs.declared.keys.NamedKey.{NamedKey}
 use Rattle.cam6_cache.specs.contracts.keys.NamedKeyPartialEq.TheImpl as impl
@@ -241,14 +242,35 @@ are_true_with_first key table kept is are = here (is_kept key kept.tables)
     here true = (is, are_true_without key kept.tables are)
     here false = (is, are_true_take (kept.capacity - 1) kept.tables are)
 
--- whether or not there was memory, what is kept is true
-pub are_true_or_not : (key : TableKey) (table : List ℕ) (old new : Kept) → IsTrueFor key table →
-    AreTrue old.tables → (new ≡ with_first key table old) ⊎ (new ≡ old) → AreTrue new.tables
-are_true_or_not key table old new is are (inl same) =
-    subst (λ (kept : Kept). AreTrue kept.tables) (sym same)
-    (are_true_with_first key table old is are)
-are_true_or_not key table old new is are (inr same) =
-    subst (λ (kept : Kept). AreTrue kept.tables) (sym same) are
+-- what holds of every cache: its tables are true, and it may keep only so many
+abbrev pub IsInOrder : Kept → Type 0
+IsInOrder kept = AreTrue kept.tables × (kept.capacity ≤ max_capacity)
+
+pub in_order_with_first : (key : TableKey) (table : List ℕ) (old new : Kept) →
+    IsTrueFor key table → IsInOrder old → new ≡ with_first key table old → IsInOrder new
+in_order_with_first key table old new is are same =
+    subst IsInOrder (sym same) (are_true_with_first key table old is are.0, are.1)
+
+-- whether or not there was memory
+pub in_order_or_not : (key : TableKey) (table : List ℕ) (old new : Kept) →
+    IsTrueFor key table → IsInOrder old → (new ≡ with_first key table old) ⊎ (new ≡ old) →
+    IsInOrder new
+in_order_or_not key table old new is are (inl same) =
+    in_order_with_first key table old new is are same
+in_order_or_not key table old new is are (inr same) = subst IsInOrder (sym same) are
+
+apart_from : (k : NamedKey) (es : Entries) →
+    AllByRecursion (λ l. impl.eq-value.it k l ≡ false) (keys_of es) →
+    AllByRecursion (λ key. is_same_key (key_of k) key ≡ false) (map (λ t. t.0) (tables_of es))
+apart_from k [] are = tt
+apart_from k (e ∷ es) are = (sym (key-eq k e.0) ∙ are.0, apart_from k es are.1)
+
+-- keys that are apart in memory are apart
+pub are_apart : (es : Entries) → IsDistinct impl.eq-value.it (keys_of es) →
+    AreApart (tables_of es)
+unfolding IsDistinct
+are_apart [] are = tt
+are_apart (e ∷ es) are = (apart_from e.0 es are.0, are_apart es are.1)
 
 there_is_one : (e : NamedKey × List ℕ) (es : Entries) (i : ℕ) → i < suc (length es) →
     is_some (slice_get (e ∷ es) i) ≡ true

@@ -18,7 +18,7 @@ use Rattle.cam6_block.specs.declared.refusals.NotReversible.{NotReversible}
 use Rattle.cam6_block.specs.declared.refusals.NotReversible.TheVariants as not_reversible
 use Rattle.cam6_block.proofs.Undoing.{true_table_map, only_one}
 use Rattle.cam6_cache.specs.Keys.{TableKey, IsTrueBy, reading_of}
-use Rattle.cam6_cache.specs.Laws.{IsTheOnlyTable}
+use Rattle.cam6_cache.specs.Laws.{IsTheOnlyTable, TableMakesReversible}
 
 -- two readings make the same of blocks
 abbrev pub MakeTheSame : Reading → Reading → Type 0
@@ -64,6 +64,12 @@ pub makes_the_same : (key : TableKey) (entries : List ℕ) →
     MakeTheSame (by_table key.wiring.hood key.wiring.minor entries) (reading_of key)
 makes_the_same key entries is phase state =
     true_table_map key.wiring (tree_of key.text) entries phase state is.rule is.holds
+
+-- what its straight table makes of blocks says whether a key can be undone
+pub makes_reversible : TableMakesReversible
+makes_reversible key entries is =
+    reversible_too (by_table key.wiring.hood key.wiring.minor entries) (reading_of key)
+    key.wiring.hood key.wiring.minor (makes_the_same key entries is)
 
 only_by : (inverted : Bool) (key : TableKey) (first second : List ℕ) →
     length first ≡ addresses → length second ≡ addresses → IsTrueBy inverted key first →

@@ -1,7 +1,7 @@
 -- What a cache keeps: tables by their keys, the one that was used last first.
 use Rattle.std.specs.Prelude.{ℕ, ◌-◌, ◌==◌, ◌||◌, Bool, false, List, [], ◌∷◌, take, length}
-use Rattle.std.specs.Prelude.{if◌then◌else◌}
-use Rattle.std.specs.List.{AllByRecursion}
+use Rattle.std.specs.Prelude.{map, if◌then◌else◌}
+use Rattle.std.specs.List.{AllByRecursion, IsDistinct}
 use Rattle.cam6_cache.specs.Keys.{TableKey, IsTrueFor, is_same_key}
 
 -- tables by their keys, and how many there may be
@@ -12,6 +12,10 @@ pub record Kept : Type 0 where
 -- each table is its key's true one
 abbrev pub AreTrue : List (TableKey × List ℕ) → Type 0
 AreTrue tables = AllByRecursion (λ t. IsTrueFor t.0 t.1) tables
+
+-- no two tables have one key
+abbrev pub AreApart : List (TableKey × List ℕ) → Type 0
+AreApart tables = IsDistinct is_same_key (map (λ t. t.0) tables)
 
 -- whether there is a table of this key
 abbrev pub is_kept : TableKey → List (TableKey × List ℕ) → Bool

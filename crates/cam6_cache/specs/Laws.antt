@@ -1,7 +1,9 @@
 -- What follows of keys and of what a cache keeps.
 use Rattle.std.specs.Prelude.{◌≡◌, ℕ, true, List, length}
 use Rattle.cam6_table.specs.Limits.{addresses}
-use Rattle.cam6_cache.specs.Keys.{TableKey, IsTrueFor, is_same_key}
+use Rattle.cam6_table.specs.RuleTexts.{IsTableOf}
+use Rattle.cam6_block.specs.BlockMaps.{by_table, IsReversible}
+use Rattle.cam6_cache.specs.Keys.{TableKey, IsReversibleKey, IsTrueFor, is_same_key}
 
 -- a key is the same as itself, and as no other
 abbrev pub KeysAreThemselves : Type 0
@@ -15,3 +17,10 @@ abbrev pub IsTheOnlyTable : Type 0
 IsTheOnlyTable =
     (key : TableKey) (first second : List ℕ) → length first ≡ addresses →
     length second ≡ addresses → IsTrueFor key first → IsTrueFor key second → first ≡ second
+
+-- a key whose straight table has a reversible block map is a reversible key
+abbrev pub TableMakesReversible : Type 0
+TableMakesReversible =
+    (key : TableKey) (entries : List ℕ) → IsTableOf key.wiring key.text entries →
+    IsReversible (by_table key.wiring.hood key.wiring.minor entries) key.wiring.hood
+    key.wiring.minor → IsReversibleKey key

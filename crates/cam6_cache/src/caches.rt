@@ -9,7 +9,7 @@ ghost use Rattle.cam6_cache.specs.Internal.Entries.{key_of, tables_of, kept_of};
 use crate::keys::{Key, NamedKey};
 use cam6_block::invert;
 use cam6_planes::NoMemory;
-use cam6_table::{Code, Table, fill};
+use cam6_table::{Code, ENTRIES, Table, fill};
 use lru::LruCache;
 use std::alloc::Global;
 use std::marker::Model;
@@ -28,28 +28,36 @@ pub struct TableCache {
 }
 
 impl Model for TableCache {
+    ghost use Rattle.std.specs.Prelude.{◌≤◌};
     ghost use Rattle.cam6_cache.specs.Kept.{Kept, AreTrue};
+    ghost use Rattle.cam6_cache.specs.Limits.{max_capacity};
     ghost use Rattle.cam6_cache.specs.Internal.Entries.{tables_of, kept_of};
 
     ghost Value = { Kept };
 
     ghost view = { λ c. kept_of c.tables };
 
-    ghost invariant = { λ c. AreTrue (tables_of c.tables.entries) };
+    ghost invariant = { λ c. AreTrue (tables_of c.tables.entries)
+        × (c.tables.cap ≤ max_capacity) };
 }
 
 impl TableCache {
-    ghost use Rattle.std.specs.Prelude.{◌<◌, ◌≤◌, [], ◌⊎◌, true, not, IfOk, MatchBool};
+    ghost use Rattle.std.specs.Prelude.{◌<◌, ◌≤◌, [], ◌⊎◌, true, not, length, IfOk, MatchBool};
+    ghost use Rattle.cam6_table.specs.Limits.{addresses};
     ghost use Rattle.cam6_table.specs.RuleTexts.{IsCodeFor};
     ghost use Rattle.cam6_cache.specs.Keys.{IsReversibleKey, IsTrueFor};
-    ghost use Rattle.cam6_cache.specs.Kept.{is_kept, is_empty, with_first, without_last};
+    ghost use Rattle.cam6_cache.specs.Kept.{AreTrue, AreApart, is_kept, is_empty};
+    ghost use Rattle.cam6_cache.specs.Kept.{with_first, without_last};
+    ghost use Rattle.cam6_cache.specs.Limits.{max_capacity};
 
     /// An empty cache of 1 to 64 tables. It takes the memory of a table and of places for so many;
     /// each table that is kept takes its own.
     pub fn new(alloc: Global, capacity: usize) -> Result<TableCache, NoMemory>
         requires least { 0 < capacity }
-        requires most { capacity ≤ MAX_CAPACITY }
-        ensures { IfOk result (λ cache. cache ≡ record { tables = []; capacity = capacity }) }
+        requires most { capacity ≤ max_capacity }
+        ensures empty { IfOk result (λ cache. cache ≡ record { tables = []; capacity = capacity }) }
+        // The constant is the limit that contracts speak of.
+        ensures limit { MAX_CAPACITY ≡ max_capacity }
     {
         let Some(capacity) = NonZeroUsize::new(capacity) else {
             unreachable!()
@@ -63,6 +71,19 @@ impl TableCache {
         })
     }
 
+    /// How many tables are kept. Who takes a cache out of a lock learns here what holds of it.
+    pub fn len(&self) -> usize
+        ensures number { result ≡ length self.now.tables }
+        ensures few { result ≤ self.now.capacity }
+        ensures limit { result ≤ max_capacity }
+        ensures least { 0 < self.now.capacity }
+        ensures most { self.now.capacity ≤ max_capacity }
+        ensures tables { AreTrue self.now.tables }
+        ensures apart { AreApart self.now.tables }
+    {
+        self.tables.len()
+    }
+
     /// Makes `out` the key's true table, and says whether it was kept. The code is that of the
     /// key's text. Memory is taken for what is newly kept alone; where it is refused nothing is
     /// kept, and nobody sees it.
@@ -70,6 +91,7 @@ impl TableCache {
         requires code { IsCodeFor key.now.wiring key.now.text code.now }
         requires reversible { key.now.inverted ≡ true → IsReversibleKey key.now }
         ensures table { IsTrueFor key.now out.new }
+        ensures whole { length out.new ≡ addresses }
         ensures hit { result ≡ is_kept key.now self.old.tables }
         // A hit goes first; so does what was not there, or there was no memory for it and nothing
         // changes.
@@ -79,9 +101,11 @@ impl TableCache {
         let named = key.named();
         if let Some(table) = self.tables.peek(named) {
             out.copy_from(table);
+            prove!(out.len() == ENTRIES);
             return self.tables.promote(named);
         }
         fill_true(named, code, &mut self.straight, out);
+        prove!(out.len() == ENTRIES);
         keep(self.alloc, &mut self.tables, named, out);
         false
     }

@@ -47,22 +47,25 @@ impl Model for Key {
     ghost use Rattle.std.specs.Prelude.{◌≤◌, string_capacity};
     ghost use Rattle.cam6_cache.specs.Keys.{TableKey};
     ghost use Rattle.cam6_cache.specs.Internal.Entries.{key_of};
-    ghost use Rattle.cam6_cache.specs.declared.keys.TheConstants.{MAX_TEXT};
+    ghost use Rattle.cam6_cache.specs.Limits.{max_text};
 
     ghost Value = { TableKey };
 
     ghost view = { λ k. key_of k.named };
 
-    ghost invariant = { λ k. MAX_TEXT ≤ string_capacity k.named.text };
+    ghost invariant = { λ k. max_text ≤ string_capacity k.named.text };
 }
 
 impl Key {
     ghost use Rattle.std.specs.Prelude.{◌≤◌, [], length, IfOk};
+    ghost use Rattle.cam6_cache.specs.Limits.{max_text};
     ghost use Rattle.cam6_cache.specs.Internal.Entries.{key_of};
 
     /// A key of the empty text, with room for any text.
     pub fn scratch(alloc: Global) -> Result<Key, NoMemory>
         ensures key { IfOk result (λ key. key.text ≡ []) }
+        // The constant is the limit that contracts speak of.
+        ensures room { MAX_TEXT ≡ max_text }
     {
         let named = NamedKey {
             half: Half::A,
@@ -76,7 +79,7 @@ impl Key {
 
     /// Makes the key that of a text, at most `MAX_TEXT` bytes long. It takes no memory.
     pub fn set(&mut self, half: Half, hood: Hood, minor: Minor, text: &str, inverted: bool)
-        requires { length text.now ≤ MAX_TEXT }
+        requires { length text.now ≤ max_text }
         ensures { self.new ≡ record {
           wiring = record { half = half; hood = hood; minor = minor };
           text = text.now;

@@ -1,5 +1,5 @@
 //! Laws of keys and their tables. Each is the contract of a function that does nothing.
-ghost use Rattle.cam6_cache.specs.Laws.{KeysAreThemselves, IsTheOnlyTable};
+ghost use Rattle.cam6_cache.specs.Laws.{KeysAreThemselves, IsTheOnlyTable, TableMakesReversible};
 
 /// A key is the same as itself, and as no other.
 pub fn keys_are_themselves()
@@ -9,4 +9,9 @@ pub fn keys_are_themselves()
 /// A key has one true table.
 pub fn a_key_has_one_true_table()
     ensures law { IsTheOnlyTable }
+{}
+
+/// A key whose straight table has a reversible block map is a reversible key.
+pub fn a_table_that_can_be_inverted_makes_its_key_reversible()
+    ensures law { TableMakesReversible }
 {}

@@ -1,8 +1,8 @@
 -- What follows of cycles.
-use Rattle.std.specs.Prelude.{◌≡◌, ◌<◌, ◌≤◌, ◌+◌, ◌*◌, ℕ, List, length, take, Some}
+use Rattle.std.specs.Prelude.{◌≡◌, ◌<◌, ◌≤◌, ◌+◌, ℕ, List, length, take, Some}
 use Rattle.std.specs.List.{slice_get}
 use Rattle.cam6_wiring.specs.declared.names.Half.TheVariants.{A, B}
-use Rattle.cam6_cycle.specs.Limits.{max_entries}
+use Rattle.cam6_cycle.specs.Limits.{max_entries, max_tables}
 use Rattle.cam6_cycle.specs.Turns.{next, previous}
 use Rattle.cam6_cycle.specs.Tables.{needed_for, tables_needed}
 use Rattle.cam6_cycle.specs.declared.entries.Entry.{Entry}
@@ -21,7 +21,7 @@ UndoEachOther =
 abbrev pub AreFew : Type 0
 AreFew =
     (direction : Direction) (entries : List Entry) → length entries ≤ max_entries →
-    length (tables_needed direction entries) ≤ 2 * max_entries
+    length (tables_needed direction entries) ≤ max_tables
 
 -- behind the tables of the entries before it stand an entry's own, half A's first
 abbrev pub HaveTheirTables : Type 0

@@ -1,8 +1,9 @@
 //! A cycle of entries, and the ways along it.
 ghost use Rattle.std.specs.Prelude.{◌≡◌, ◌<◌, ◌≤◌, ◌+◌, Some, length, take};
 ghost use Rattle.std.specs.List.{slice_get};
+ghost use Rattle.cam6_cycle.specs.Limits.{max_tables};
 ghost use Rattle.cam6_cycle.specs.Turns.{cycle_of, next, previous};
-ghost use Rattle.cam6_cycle.specs.Tables.{tables_needed};
+ghost use Rattle.cam6_cycle.specs.Tables.{tables_needed, count_before};
 ghost use Rattle.cam6_cycle.specs.declared.cycles.TheConstants.{MAX_ENTRIES};
 ghost use Rattle.cam6_cycle.specs.declared.tables.Direction.{Direction};
 ghost use Rattle.cam6_cycle.specs.declared.tables.TheConstants.{MAX_TABLES};
@@ -54,6 +55,15 @@ impl Cycle {
         }
     }
 
+    /// The same entries, as a cycle of their own.
+    pub fn copy(&self) -> Cycle
+        ensures { result ≡ self.now }
+    {
+        let mut entries = ArrayVec::new();
+        let _room = entries.try_extend_from_slice(self.entries.as_slice());
+        Cycle { entries }
+    }
+
     pub fn entries(&self) -> &[Entry]
         ensures entries { result.now ≡ self.now }
         ensures some { 0 < length result.now }
@@ -92,7 +102,9 @@ impl Cycle {
     /// The tables by which the cycle is gone along, one for each use of a rule: entry by entry,
     /// half A's before half B's.
     pub fn tables_needed(&self, direction: Direction) -> ArrayVec<NeededTable, MAX_TABLES>
-        ensures { result.items ≡ tables_needed direction self.now }
+        ensures tables { result.items ≡ tables_needed direction self.now }
+        // There is room for those of the longest cycle.
+        ensures room { MAX_TABLES ≡ max_tables }
     {
         let mut tables = ArrayVec::new();
         for entry in self.entries.as_slice() {
@@ -107,8 +119,9 @@ impl Cycle {
         requires { position < length self.now }
         ensures before { (direction : Direction) →
             result ≡ length (tables_needed direction (take position self.now)) }
+        ensures count { result ≡ count_before self.now position }
         // Behind them there is room for both of the entry's own.
-        ensures few { result + 2 ≤ MAX_TABLES }
+        ensures few { result + 2 ≤ max_tables }
     {
         let mut before = 0;
         for entry in &self.entries.as_slice()[..position] {

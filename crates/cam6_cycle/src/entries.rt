@@ -1,4 +1,6 @@
 //! The entries of a cycle.
+ghost use Rattle.std.specs.Prelude.{◌≡◌};
+ghost use Rattle.cam6_cycle.specs.Unused.{idle_entry};
 
 use cam6_wiring::{Grid, Hood, Minor, Phase};
 
@@ -21,6 +23,8 @@ pub struct Entry {
 }
 
 impl Default for Entry {
+    ghost is_default = { λ entry. entry ≡ idle_entry };
+
     /// An entry by which every plane stays.
     fn default() -> Entry {
         Entry {

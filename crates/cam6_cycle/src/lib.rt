@@ -4,12 +4,13 @@
 //! position and goes on to the next, `backward` goes back by one and takes the entry there, both
 //! round the cycle (`specs/Turns.antt`); the law: they undo each other. `tables_needed` lists a
 //! table for each use of a rule, entry by entry, half A's before half B's (`specs/Tables.antt`),
-//! and `tables_before` says where those of an entry begin. No call takes memory.
+//! and `tables_before` says where those of an entry begin. `copy` has the same entries. No call
+//! takes memory.
 //!
-//! So, of a cycle of two entries, the first with the rules 0 and 1, the second with rule 0 for half
-//! B alone: `forward(1)` takes the second and goes on to 0, `backward(0)` takes the second and
-//! stands at 1. Three tables are needed, of the rules 0, 1 and 0, and those of the second entry
-//! begin after two.
+//! So, of a cycle of two entries, the first with rule 0 for half A and rule 1 for half B, the second
+//! with rule 1 for half B alone: `forward(1)` takes the second and goes on to 0, `backward(0)` takes
+//! the second and stands at 1. Three tables are needed, of the rules 0, 1 and 1, and those of the
+//! second entry begin after two.
 //!
 //! Stands on: `cam6_wiring`, and on `arrayvec`.
 //!

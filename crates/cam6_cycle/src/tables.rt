@@ -2,6 +2,7 @@
 ghost use Rattle.std.specs.Prelude.{◌≡◌, ◌<◌, ◌++◌};
 ghost use Rattle.arrayvec.specs.ArrayVec.{array_vec_len};
 ghost use Rattle.cam6_cycle.specs.Tables.{needed_for};
+ghost use Rattle.cam6_cycle.specs.Unused.{unused_table};
 ghost use Rattle.cam6_cycle.specs.declared.tables.TheConstants.{MAX_TABLES};
 
 use crate::cycles::MAX_ENTRIES;
@@ -28,6 +29,8 @@ pub struct NeededTable {
 }
 
 impl Default for NeededTable {
+    ghost is_default = { λ table. table ≡ unused_table };
+
     /// What stands in a place that isn't used.
     fn default() -> NeededTable {
         NeededTable {

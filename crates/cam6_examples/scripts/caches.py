@@ -139,6 +139,33 @@ def print_many():
     print_evictions(*["true"] * 64, "false")
 
 
+def print_long():
+    def padded(text, size):
+        """The text with as many spaces behind it as make it so long."""
+        return f"{text}«{size - len(text)}* »"
+
+    wiring, text = "A N/VONN &/CENTERS", ": R CENTER >PLN0 ;"
+    keeps = f"{wiring} {padded(text, 8192)}"
+    with_tab = f"{wiring} {padded(text, 8191)}«x 09»"
+    clears = f"{wiring} {padded(': R 0 >PLN0 ;', 8192)}"
+    undone = f"A N/MARG &/PHASES {padded(': R CW >PLN0 ;', 8192)}"
+    print_part(
+        4,
+        "Texts of 8,192 bytes are kept like any others, two that differ in the last byte alone apart; 8,193 bytes are",
+        "no rule's.",
+    )
+    print_load("load", keeps, "false", entries(same))
+    print_load("load", clears, "false")
+    print_load("load", keeps, "true", entries(same))
+    print_load("load", with_tab, "false")
+    print_load("undo", undone, "false")
+    print_load("load", f"{wiring} {padded(text, 8193)}", '{"fault":28,"token":0}')
+    for key in [keeps, clears, with_tab]:
+        print_load("load", key, "true")
+    print_load("undo", undone, "true")
+    print_evictions(*["true"] * 4, "false")
+
+
 def main():
     print("# A cache of tables: `load` asks for the table of a rule's text, `undo` for the one that undoes it, and `true`")
     print("# comes back where it was kept. `table` shows the one that was asked for last, 64 entries in a line. `evict`")
@@ -148,6 +175,7 @@ def main():
     print_parts_of_keys()
     print_undone()
     print_many()
+    print_long()
 
 
 if __name__ == "__main__":

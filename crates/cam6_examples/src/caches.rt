@@ -17,6 +17,7 @@ use crate::rules::{add_table, code_of, text_of};
 use crate::sessions::{add_line, no_memory};
 use crate::settings::wiring_before;
 use cam6_block::{NotReversible, invert};
+use cam6_cache::laws::a_table_that_can_be_inverted_makes_its_key_reversible;
 use cam6_cache::{Key, MAX_CAPACITY, TableCache};
 use cam6_table::Table;
 use cam6_wiring::Wiring;
@@ -121,7 +122,10 @@ fn why_refused(
         return None;
     }
     match invert(table, wiring.hood, wiring.minor, room) {
-        Ok(()) => None,
+        Ok(()) => {
+            a_table_that_can_be_inverted_makes_its_key_reversible();
+            None
+        }
         Err(cause) => Some(cause),
     }
 }

@@ -3,7 +3,9 @@
 //! The words name files, as `parity.example`. Of each the program plays the lines in the ways that
 //! the file says (`ways`), and prints whether all came back byte for byte. A file whose name begins
 //! with `wrong_` has one answer that is wrong on purpose: what is printed of it shows that answers
-//! are compared. The program makes no claim of its own beyond being safe.
+//! are compared. After the word `lines` comes one file, and the number of one of its sessions, or
+//! none for the first: its lines are printed as they are sent, for the program `cam6` to take. The
+//! program makes no claim of its own beyond being safe.
 //!
 //! Stands on: `cam6_session` and all below it, `cam6_block` and `cam6_cache`.
 //!
@@ -27,30 +29,76 @@ mod ways;
 use examples::{Part, read_example};
 use faults::Unplayable;
 use std::alloc::Global;
+use std::fs::Files;
+use std::io::Write;
 use std::process::ExitCode;
 use std::{fs, io};
 use ways::Way;
 
 fn main(rt: HostRuntime) -> io::Result<ExitCode> {
-    let mut is_well = true;
-    for name in std::env::args(&rt)?.skip(1) {
-        let text = fs::read_to_string(&rt, &name)?;
-        let is_right = match read_example(rt.alloc(), &text) {
-            Ok(parts) => show(&rt, &name, parts.as_slice())?,
-            Err((_, Unplayable::NoMemory)) => return Err(sessions::no_memory()),
-            Err((line, Unplayable::Unread)) => {
-                println!(rt; "{name}: line {line} can't be played")?;
-                is_well = false;
-                continue;
-            }
-        };
-        is_well &= is_right != name.starts_with("wrong_");
-    }
+    let words = std::env::args(&rt)?
+        .skip(1)
+        .collect::<Vec<String>>(rt.alloc())?;
+    let is_well = match words.as_slice() {
+        [first, name] if first.as_str() == "lines" => send(&rt, name.as_str(), "1")?,
+        [first, name, number] if first.as_str() == "lines" => {
+            send(&rt, name.as_str(), number.as_str())?
+        }
+        names => play(&rt, names)?,
+    };
     if is_well {
         Ok(ExitCode::SUCCESS)
     } else {
         Ok(ExitCode::FAILURE)
     }
+}
+
+/// The parts of an example. None, which is printed, where a line can't be played.
+fn parts_of<R: Files + Print + AllocGlobal>(rt: &R, name: &str) -> io::Result<Option<Vec<Part>>> {
+    let text = fs::read_to_string(rt, name)?;
+    match read_example(rt.alloc(), text.as_str()) {
+        Ok(parts) => Ok(Some(parts)),
+        Err((_, Unplayable::NoMemory)) => Err(sessions::no_memory()),
+        Err((line, Unplayable::Unread)) => {
+            println!(rt; "{name}: line {line} can't be played")?;
+            Ok(None)
+        }
+    }
+}
+
+/// Plays examples. Whether all came back, but for those that are wrong on purpose.
+fn play<R: Files + Print + AllocGlobal>(rt: &R, names: &[String]) -> io::Result<bool> {
+    let mut is_well = true;
+    for name in names {
+        let name = name.as_str();
+        is_well &= match parts_of(rt, name)? {
+            Some(parts) => show(rt, name, parts.as_slice())? != name.starts_with("wrong_"),
+            None => false,
+        };
+    }
+    Ok(is_well)
+}
+
+/// Prints the lines that an example sends in its session of this number, counted from 1, as they
+/// are sent. Whether there is one.
+fn send<R: Files + Print + AllocGlobal>(rt: &R, name: &str, number: &str) -> io::Result<bool> {
+    let Some(parts) = parts_of(rt, name)? else {
+        return Ok(false);
+    };
+    let number: usize = number.parse().unwrap_or(0);
+    let mut sessions: usize = 0;
+    for part in parts.as_slice() {
+        if matches!(part.way, Way::Session(_)) && !part.sent.is_empty() {
+            sessions = sessions.saturating_add(1);
+            if sessions == number {
+                let bytes = sessions::bytes_of(rt.alloc(), part.sent.as_slice())?;
+                io::writer(rt).write_all(bytes.as_slice())?;
+                return Ok(true);
+            }
+        }
+    }
+    println!(rt; "{name}: it has sessions 1 to {sessions}")?;
+    Ok(false)
 }
 
 /// Plays an example and prints whether all its lines came back.

@@ -6,6 +6,7 @@ use crate::examples::Sent;
 use crate::sessions::{add_line, no_memory};
 use crate::settings::{half_text, hood_text, minor_text};
 use cam6_forth::{Definition, ParseFault, Rule, TextFault, Word, parse_under};
+use cam6_table::laws::code_that_filled_a_table_is_its_texts;
 use cam6_table::{Code, ENTRIES, MAX_TURNS, RuleFault, Table, eval, fill};
 use cam6_wiring::Wiring;
 use std::alloc::Global;
@@ -184,7 +185,10 @@ pub fn code_of(
         return Err(no_memory());
     };
     match fill(&code, table) {
-        Ok(()) => Ok(Ok(code)),
+        Ok(()) => {
+            code_that_filled_a_table_is_its_texts();
+            Ok(Ok(code))
+        }
         Err((address, fault)) => {
             let number = fault.number();
             let stop = format!(in alloc; r#"{{"address":{address},"fault":{number}}}"#)?;

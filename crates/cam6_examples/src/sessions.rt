@@ -14,7 +14,7 @@ use std::io::{BufRead, Read};
 const TURNS: u64 = 1_000_000;
 
 /// All bytes that are sent.
-fn bytes_of(alloc: Global, sent: &[Sent]) -> io::Result<Vec<u8>> {
+pub fn bytes_of(alloc: Global, sent: &[Sent]) -> io::Result<Vec<u8>> {
     let mut bytes = Vec::new(alloc);
     for line in sent {
         bytes.extend_from_slice(line.bytes.as_slice())?;

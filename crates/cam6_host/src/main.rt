@@ -1,44 +1,49 @@
 //! The program `cam6`: command lines on standard input, one reply line for each on standard output.
 //!
 //! Contract: `options` reads the words as `clap` takes them (`specs/CommandLine.antt`), and
-//! `failure_of` is each end's exit status (`specs/Statuses.antt`). What is written for what is read
-//! is the contract of `serve_alone` in `cam6_session`.
+//! `failure_of` is each end's exit status (`specs/Statuses.antt`), with which `ended` ends. What is
+//! written for what is read, and that turns run out only where as many bytes were read, is the
+//! contract of `serve_streams`: that of `serve_alone` in `cam6_session`, with the program's turns
+//! (`specs/Turns.antt`).
 //!
 //! Stands on: `cam6_planes`, for the sides; `cam6_session`, `clap`, `thiserror`.
 //!
-//! Read next: `modes` and `words`, the command line; then `statuses`.
+//! Read next: `modes` and `words`, the command line; then `streams` and `statuses`.
 #![tactic(auto)]
 
-ghost use Rattle.std.specs.Prelude.{◌≡◌};
+ghost use Rattle.std.specs.Prelude.{◌≡◌, MatchOption};
 ghost use Rattle.std.specs.Process.{exit_status};
+ghost use Rattle.cam6_host.specs.Statuses.{failure};
 ghost use Rattle.cam6_host.specs.Unreadable.{IsUnreadable};
 
 mod modes;
 #[cfg(test)]
 mod run_tests;
 mod statuses;
+mod streams;
 mod words;
 #[cfg(test)]
 mod words_tests;
 
 use cam6_planes::Side;
-use cam6_session::serve_alone;
+use cam6_session::End;
 use modes::{Options, Refused};
-use statuses::{NO_MEMORY, WRITE_FAILED, failure_of, refusal_of, turns};
+use statuses::{NO_MEMORY, WRITE_FAILED, failure_of, refusal_of};
 use std::alloc::Global;
 use std::env::Env;
 use std::io;
 use std::io::{BufReader, ErrorKind};
 use std::process::ExitCode;
+use streams::serve_streams;
 
 fn main(rt: HostRuntime) -> ExitCode {
-    run(&rt, turns())
+    run(&rt)
 }
 
-/// Reads the words, and does what they ask for, with so many looks at standard input.
-fn run<R: Env + Input + Print + Eprint + AllocGlobal>(rt: &R, turns: u64) -> ExitCode {
+/// Reads the words, and does what they ask for.
+fn run<R: Env + Input + Print + Eprint + AllocGlobal>(rt: &R) -> ExitCode {
     let refused = match options_given(rt) {
-        Ok(Options::Alone { limit }) => return over_standard_streams(rt, limit, turns),
+        Ok(Options::Alone { limit }) => return over_standard_streams(rt, limit),
         Err(refused) => refused,
     };
     let (status, text) = refusal_of(&refused);
@@ -77,17 +82,21 @@ fn unreadable(alloc: Global, kind: ErrorKind) -> Refused
 }
 
 /// Serves one machine over standard input and output.
-fn over_standard_streams<R: Input + Print + Eprint + AllocGlobal>(
-    rt: &R,
-    limit: Side,
-    turns: u64,
-) -> ExitCode {
+fn over_standard_streams<R: Input + Print + Eprint + AllocGlobal>(rt: &R, limit: Side) -> ExitCode {
     let alloc = rt.alloc();
     let Ok(mut reader) = BufReader::new(alloc, rt.reader()) else {
         return failed(rt, NO_MEMORY, "cam6: no memory\n");
     };
     let mut writer = io::writer(rt);
-    match failure_of(serve_alone(alloc, limit, &mut reader, &mut writer, turns)) {
+    ended(rt, serve_streams(alloc, limit, &mut reader, &mut writer))
+}
+
+/// Ends as a session ended.
+fn ended(rt: &impl Eprint, end: End) -> ExitCode
+    ensures { MatchOption (failure end) (exit_status result ≡ 0)
+        (λ told. exit_status result ≡ told.0) }
+{
+    match failure_of(end) {
         Some((status, text)) => failed(rt, status, text),
         None => ExitCode::SUCCESS,
     }

@@ -1,6 +1,7 @@
 //! The program over streams of its own: what it writes to each, and the status it ends with.
 
-use crate::run;
+use crate::{ended, run};
+use cam6_session::End;
 use std::alloc::{Allocator, Global};
 use std::cell::RefCell;
 use std::env::{Env, FillError};
@@ -137,8 +138,14 @@ const LINES: &[u8] = b"nope\n{\"do\":\"run\",\"n\":1}\n{\"do\":\"side\",\"side\"
 
 const ANSWERS: &[u8] = b"{\"fault\":2}\n{\"fault\":63}\n{\"fault\":67}\n";
 
-/// Those of a machine whose limit is 512.
-const ANSWERS_OF_512: &[u8] = b"{\"fault\":2}\n{\"fault\":63}\n{\"ok\":\"side\"}\n";
+const SIDES: &[u8] =
+    b"{\"do\":\"side\",\"side\":512}\n{\"do\":\"side\",\"side\":256}\n{\"do\":\"side\",\"side\":128}\n";
+
+const UP_TO_128: &[u8] = b"{\"fault\":67}\n{\"fault\":67}\n{\"ok\":\"side\"}\n";
+
+const UP_TO_256: &[u8] = b"{\"fault\":67}\n{\"ok\":\"side\"}\n{\"ok\":\"side\"}\n";
+
+const UP_TO_512: &[u8] = b"{\"ok\":\"side\"}\n{\"ok\":\"side\"}\n{\"ok\":\"side\"}\n";
 
 const TURNS_ARE_UP: &[u8] = b"cam6: turn bound reached\n";
 
@@ -150,30 +157,47 @@ enum Fault {
     None,
     Read,
     Write,
-    /// There is one look at the input.
-    Turns,
 }
 
-/// A run over these words and the lines above: its status, its output and its errors.
-fn run_with(alloc: Global, words: &[&'static [u8]], fault: Fault) -> (ExitCode, Vec<u8>, Vec<u8>) {
-    let turns = if fault == Fault::Turns { 1 } else { 1_000 };
-    let streams = Streams {
+/// Streams with these words and lines.
+fn streams_of<'a>(
+    alloc: Global,
+    words: &'a [&'static [u8]],
+    lines: &'static [u8],
+    fault: Fault,
+) -> Streams<'a> {
+    Streams {
         alloc,
         words,
         input: Given {
-            bytes: LINES,
+            bytes: lines,
             fails: fault == Fault::Read,
         },
         output: RefCell::new(Vec::new(alloc)),
         output_fails: fault == Fault::Write,
         errors: RefCell::new(Vec::new(alloc)),
-    };
-    let status = run(&streams, turns);
+    }
+}
+
+/// A run over these words and lines: its status, its output and its errors.
+fn run_over(
+    alloc: Global,
+    words: &[&'static [u8]],
+    lines: &'static [u8],
+    fault: Fault,
+) -> (ExitCode, Vec<u8>, Vec<u8>) {
+    let streams = streams_of(alloc, words, lines, fault);
+    let status = run(&streams);
     (
         status,
         streams.output.into_inner(),
         streams.errors.into_inner(),
     )
+}
+
+/// The same over the lines above.
+fn run_with(alloc: Global, words: &[&'static [u8]], fault: Fault) -> (ExitCode, Vec<u8>, Vec<u8>) {
+    run_over(alloc, words, LINES, fault)
 }
 
 // From the profile's list of statuses: answers on standard output, one line on standard error.
@@ -185,7 +209,6 @@ fn ends_have_their_status(rt: HostRuntime) {
         (alone, Fault::None, 0, ANSWERS, b"".as_slice()),
         (alone, Fault::Read, 3, part, b"cam6: read failed\n"),
         (alone, Fault::Write, 4, b"", b"cam6: write failed\n"),
-        (alone, Fault::Turns, 6, &ANSWERS[..12], TURNS_ARE_UP),
         (
             [cam6, b"--help"],
             Fault::Write,
@@ -203,9 +226,33 @@ fn ends_have_their_status(rt: HostRuntime) {
     let got = run_with(rt.alloc(), &[cam6], Fault::None);
     assert_eq!(rt; got.0, ExitCode::SUCCESS);
     assert_eq!(rt; got.1.as_slice(), ANSWERS);
-    let got = run_with(rt.alloc(), &[cam6, b"alone", b"--side=512"], Fault::None);
-    assert_eq!(rt; got.0, ExitCode::SUCCESS);
-    assert_eq!(rt; got.1.as_slice(), ANSWERS_OF_512);
+}
+
+// A machine takes on the sides up to the limit that the words say.
+#[test]
+fn words_limit_the_side(rt: HostRuntime) {
+    let (cam6, alone) = (b"cam6".as_slice(), b"alone".as_slice());
+    for (words, answers) in [
+        ([cam6, alone, b"--side=128"].as_slice(), UP_TO_128),
+        (&[cam6, alone, b"--side", b"256"], UP_TO_256),
+        (&[cam6, alone, b"--side=512"], UP_TO_512),
+        (&[cam6, alone, b"--side", b"512"], UP_TO_512),
+        (&[cam6, alone], UP_TO_256),
+    ] {
+        let got = run_over(rt.alloc(), words, SIDES, Fault::None);
+        assert_eq!(rt; got.0, ExitCode::SUCCESS, "{words:?}");
+        assert_eq!(rt; got.1.as_slice(), answers, "{words:?}");
+    }
+}
+
+// No test has so many bytes that the turns of a run are up, so what then follows is tried alone.
+#[test]
+fn turns_that_are_up_have_their_status(rt: HostRuntime) {
+    let streams = streams_of(rt.alloc(), &[], b"", Fault::None);
+    let status = ended(&streams, End::TurnBound);
+    assert_eq!(rt; status, ExitCode::from(6));
+    assert!(rt; streams.output.into_inner().is_empty());
+    assert_eq!(rt; streams.errors.into_inner().as_slice(), TURNS_ARE_UP);
 }
 
 // Help goes to standard output with status 0, and refused words to standard error with 2. Their

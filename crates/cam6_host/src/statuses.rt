@@ -40,10 +40,3 @@ pub fn refusal_of(refused: &Refused) -> (u8, &str)
         Refused::NoMemory => (NO_MEMORY, "cam6: no memory\n"),
     }
 }
-
-/// How often one run looks at standard input at most.
-pub fn turns() -> u64
-    ensures { result ≡ 1099511627776 }
-{
-    1_099_511_627_776
-}

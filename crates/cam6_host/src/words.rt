@@ -1,6 +1,6 @@
 //! The words of the command line.
 ghost use Rattle.std.specs.Prelude.{◌≡◌, [], IfOk, IsSome, MatchResult, Some, false, map};
-ghost use Rattle.std.specs.Prelude.{string_bytes};
+ghost use Rattle.std.specs.Prelude.{◌⊎◌, IsErr, string_bytes};
 ghost use Rattle.clap.specs.Words.{App, app_of, fault_of, kind_of, rule_of, subcommand_of};
 ghost use Rattle.clap.specs.Words.{subcommand_rows_of};
 ghost use Rattle.cam6_host.specs.CommandLine.{AreSides, HasMode, IsOfKind, IsProgram, Refuses};
@@ -95,7 +95,16 @@ fn refusal(alloc: Global, error: clap::Error) -> Refused
     ensures { IsOfKind result (kind_of error) }
 {
     let kind = error.kind();
-    let Ok(text) = error.to_string(alloc) else {
+    refused(kind, error.to_string(alloc))
+}
+
+/// What an error of this kind means for the program, with its text, or none for want of memory.
+fn refused(kind: ErrorKind, text: Result<String, AllocError>) -> Refused
+    ensures kind { IsOfKind result kind }
+    // Memory is told to be wanted only where it is.
+    ensures memory { result ≡ Refused.NoMemory → (kind ≡ ErrorKind.OutOfMemory) ⊎ IsErr text }
+{
+    let Ok(text) = text else {
         return Refused::NoMemory;
     };
     match kind {

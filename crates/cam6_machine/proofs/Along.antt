@@ -11,7 +11,8 @@ use Rattle.cam6_machine.specs.Cycles.{entry_rules}
 use Rattle.cam6_machine.specs.Steps.{step}
 use Rattle.cam6_machine.specs.Always.{HaveOwnNames}
 use Rattle.cam6_machine.specs.Machine.{Machine, machine_of, stepped, stepped_by}
-use Rattle.cam6_machine.specs.Internal.Places.{named_entry, named_entries, rules_at, stored}
+use Rattle.cam6_machine.specs.Numbers.{named_entry, named_entries, rules_at}
+use Rattle.cam6_machine.specs.Internal.Places.{stored}
 use Rattle.cam6_cycle.specs.declared.entries.Entry.{Entry}
 use Rattle.cam6_machine.proofs.Naming.{same_rules}
 

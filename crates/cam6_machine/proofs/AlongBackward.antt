@@ -8,8 +8,7 @@ use Rattle.cam6_planes.specs.Side.{side_number}
 use Rattle.cam6_planes.specs.Stored.{Stored, AreAlike}
 use Rattle.cam6_planes.specs.Cells.{Cells, cells, stored_bit}
 use Rattle.cam6_planes.proofs.CellsAt.{torus_again}
-use Rattle.cam6_band.specs.ByTables.{step_by}
-use Rattle.cam6_band.specs.declared.tables.EntryTables.{EntryTables}
+use Rattle.cam6_band.specs.ByTables.{StepTables, step_by}
 use Rattle.cam6_cycle.specs.Turns.{previous}
 use Rattle.cam6_cycle.specs.declared.entries.Entry.{Entry}
 use Rattle.cam6_cycle.specs.declared.tables.Direction.TheVariants.{Backward}
@@ -19,7 +18,8 @@ use Rattle.cam6_machine.specs.Undoing.{unstep, IsUndoableEntry}
 use Rattle.cam6_machine.specs.TrueTables.{AreTablesFor}
 use Rattle.cam6_machine.specs.Always.{HaveOwnNames}
 use Rattle.cam6_machine.specs.Machine.{Machine, machine_of, unstepped, unstepped_by}
-use Rattle.cam6_machine.specs.Internal.Places.{named_entry, named_entries, rules_at, stored}
+use Rattle.cam6_machine.specs.Numbers.{named_entry, named_entries, rules_at}
+use Rattle.cam6_machine.specs.Internal.Places.{stored}
 use Rattle.cam6_machine.specs.declared.commands.NamedEntry.{NamedEntry}
 use Rattle.cam6_machine.proofs.Naming.{same_rules}
 use Rattle.cam6_machine.proofs.StepsOfATorus.{side_some, side_even}
@@ -47,7 +47,7 @@ undoable_at rules cycle position past own within all =
     ap (option_map (named_entry rules)) (slice_get-get_or cycle position past within)))
 
 -- on the cells of stored planes, a step by the tables that undo an entry is the entry's step undone
-pub undone_step : (old : Stored) (entry : EntryRules) (tables : EntryTables) →
+pub undone_step : (old : Stored) (entry : EntryRules) (tables : StepTables) →
     IsUndoableEntry entry → AreTablesFor Backward entry tables →
     step_by (side_number old.side) tables (cells old)
     ≡ unstep (side_number old.side) entry (cells old)

@@ -16,8 +16,9 @@ use Rattle.cam6_machine.specs.Refusals.{drop_refusal}
 use Rattle.cam6_machine.specs.Effects.{accepted_reply, effect, with_rule, without_rule}
 use Rattle.cam6_machine.specs.Always.{IsEntry}
 use Rattle.cam6_machine.specs.Alone.{if_refused, reply, after, some_steps, work_of, command_of}
-use Rattle.cam6_machine.specs.Internal.Places.{placed_entry, named_entries, ArePlaced, stored}
-use Rattle.cam6_machine.specs.Internal.Places.{place_of, uses_place, closed_entry}
+use Rattle.cam6_machine.specs.Numbers.{named_entries, ArePlaced}
+use Rattle.cam6_machine.specs.Internal.Places.{placed_entry, stored, place_of, uses_place}
+use Rattle.cam6_machine.specs.Internal.Places.{closed_entry}
 use Rattle.cam6_machine.specs.Internal.Ways.{moved, reply_at}
 use Rattle.cam6_machine.proofs.Dropped.{names_closed}
 use Rattle.cam6_machine.specs.declared.commands.Command.{Command}

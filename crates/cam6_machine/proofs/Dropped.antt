@@ -14,9 +14,10 @@ use Rattle.cam6_machine.specs.Rules.{Rule, rule_named}
 use Rattle.cam6_machine.specs.Effects.{without_rule}
 use Rattle.cam6_machine.specs.Always.{HaveOwnNames, IsNamed, IsEntry}
 use Rattle.cam6_machine.specs.Refusals.{is_name, uses}
-use Rattle.cam6_machine.specs.Internal.Places.{place_of, rule_at, name_of, place_in, is_place}
-use Rattle.cam6_machine.specs.Internal.Places.{uses_place, named_entry, named_entries, IsPlaced}
-use Rattle.cam6_machine.specs.Internal.Places.{ArePlaced, closed_up, closed_half, closed_entry}
+use Rattle.cam6_machine.specs.Numbers.{rule_at, name_of, place_in, named_entry, named_entries}
+use Rattle.cam6_machine.specs.Numbers.{IsPlaced, ArePlaced}
+use Rattle.cam6_machine.specs.Internal.Places.{place_of, is_place, uses_place, closed_up}
+use Rattle.cam6_machine.specs.Internal.Places.{closed_half, closed_entry}
 use Rattle.cam6_machine.specs.declared.commands.NamedEntry.{NamedEntry}
 use Rattle.cam6_machine.proofs.Naming.{names_of, same_bytes}
 

@@ -15,8 +15,8 @@ use Rattle.cam6_cycle.specs.declared.tables.NeededTable.{NeededTable}
 use Rattle.cam6_cycle.proofs.Needed as needed
 use Rattle.cam6_machine.specs.Rules.{Rule}
 use Rattle.cam6_machine.specs.TrueTables.{IsTableFor}
-use Rattle.cam6_machine.specs.Internal.Places.{rule_at, place_in, IsPlaced, ArePlaced}
-use Rattle.cam6_machine.specs.Internal.Uses.{AreTables, IsUse}
+use Rattle.cam6_machine.specs.Numbers.{rule_at, place_in, IsPlaced, ArePlaced, AreTables}
+use Rattle.cam6_machine.specs.Internal.Uses.{IsUse}
 
 -- an item of the first items is one of all
 pub within_first : {X : Type 0} (n : ℕ) (xs : List X) (i : ℕ) (x : X) →

@@ -15,7 +15,7 @@ use Rattle.cam6_machine.specs.Stored.{StoredMachine}
 use Rattle.cam6_machine.specs.Always.{HaveOwnNames}
 use Rattle.cam6_machine.specs.AtOnce.{IsLeftBy}
 use Rattle.cam6_machine.specs.declared.commands.NamedEntry.{NamedEntry}
-use Rattle.cam6_machine.specs.Internal.Places.{named_entries, rules_at, rule_at, place_in}
+use Rattle.cam6_machine.specs.Numbers.{named_entries, rules_at, rule_at, place_in}
 use Rattle.cam6_machine.specs.Internal.Places.{is_place, uses_place}
 use Rattle.cam6_machine.specs.Internal.Uses.{HasNoCause}
 use Rattle.cam6_machine.specs.declared.replies.Reply.{Reply}

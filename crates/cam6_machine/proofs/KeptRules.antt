@@ -11,7 +11,8 @@ use Rattle.std.proofs.lemmas.Option.{slice_get-map}
 use Rattle.indexmap.specs.IndexMap.{insert_entry}
 use Rattle.cam6_machine.specs.Effects.{with_rule, without_rule}
 use Rattle.cam6_machine.specs.Rules.{Rule, rule_named, wiring_for, wiring_of}
-use Rattle.cam6_machine.specs.Internal.Places.{rules_of, place_of, rule_at}
+use Rattle.cam6_machine.specs.Numbers.{rule_at}
+use Rattle.cam6_machine.specs.Internal.Places.{rules_of, place_of}
 use Rattle.cam6_machine.specs.declared.rules.KeptRule.{KeptRule}
 
 -- whether a key of the map is this name

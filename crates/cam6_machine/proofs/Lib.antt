@@ -10,6 +10,8 @@ pub mod KeptNames
 pub mod Dropped
 -- Tables that are filled use by use.
 pub mod FilledTables
+-- The tables of a position are those of its entry's rules.
+pub mod TablesOfPositions
 -- What is said of a rule's true table is said of the rule's words.
 pub mod Inverses
 -- A step undone along the cycle, with places and with names.

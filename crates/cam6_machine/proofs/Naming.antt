@@ -22,11 +22,10 @@ use Rattle.cam6_machine.specs.Effects.{with_rule}
 use Rattle.cam6_machine.specs.Always.{HaveOwnNames, IsNamed, IsEntry}
 use Rattle.cam6_machine.specs.Refusals.{is_name, is_used, room_refusal, rule_refusal}
 use Rattle.cam6_machine.specs.Refusals.{gone_refusal, drop_refusal}
-use Rattle.cam6_machine.specs.Internal.Places.{place_of, rule_at, name_of, place_if_named}
-use Rattle.cam6_machine.specs.Internal.Places.{placed_entry, named_entry}
-use Rattle.cam6_machine.specs.Internal.Places.{named_entries, rules_at, IsPlace, ArePlaced}
-use Rattle.cam6_machine.specs.Internal.Places.{is_place, uses_place, place_in, half_rule}
-use Rattle.cam6_machine.specs.Internal.Places.{half_rule_at, IsPlaced}
+use Rattle.cam6_machine.specs.Numbers.{rule_at, name_of, named_entry, named_entries, rules_at}
+use Rattle.cam6_machine.specs.Numbers.{ArePlaced, place_in, IsPlaced}
+use Rattle.cam6_machine.specs.Internal.Places.{place_of, place_if_named, placed_entry, IsPlace}
+use Rattle.cam6_machine.specs.Internal.Places.{is_place, uses_place, half_rule, half_rule_at}
 use Rattle.cam6_machine.specs.declared.commands.NamedEntry.{NamedEntry}
 use Rattle.cam6_machine.specs.declared.faults.Fault.TheVariants.{RuleInUse, TooManyRules}
 use Rattle.cam6_machine.specs.declared.faults.Fault.TheVariants.{OutOfRange, NoRule}

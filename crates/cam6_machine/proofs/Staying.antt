@@ -7,7 +7,7 @@ use Rattle.std.proofs.Math.Path.{fun_ext}
 use Rattle.std.proofs.Common.{arith, lit≤, nat_lt, nat_le, IsOk, slice_get, ◌⊎◌, inl, inr, Result}
 use Rattle.std.proofs.Common.{Ok, Err}
 use Rattle.std.specs.List.{AllByRecursion, list_any, list_all}
-use Rattle.std.specs.Str.{bytes_eq}
+use Rattle.std.specs.Str.{bytes_eq, IsUtf8}
 use Rattle.std.proofs.lemmas.Bool.{leb-true, leb-false, ltb-true, eqb-true}
 use Rattle.std.proofs.lemmas.Map.Made.{IsDistinct-from_AllPairs}
 use Rattle.std.proofs.lemmas.Option.{slice_get_within}
@@ -42,8 +42,9 @@ use Rattle.cam6_machine.specs.Rules.{Rule, rule_named, rule_if_named, wiring_for
 use Rattle.cam6_machine.specs.Steps.{words_mean}
 use Rattle.cam6_machine.specs.Machine.{Machine, own_colours, first_side, steps, machine_of}
 use Rattle.cam6_machine.specs.Internal.Ways.{moved, CanMove}
-use Rattle.cam6_machine.specs.Internal.Places.{IsPlaced, ArePlaced, stored, rule_at, name_of}
-use Rattle.cam6_machine.specs.Internal.Places.{place_in, named_entry, named_entries}
+use Rattle.cam6_machine.specs.Numbers.{IsPlaced, ArePlaced, rule_at, name_of, place_in, named_entry}
+use Rattle.cam6_machine.specs.Numbers.{named_entries}
+use Rattle.cam6_machine.specs.Internal.Places.{stored}
 use Rattle.cam6_cycle.specs.declared.entries.Entry.{Entry}
 use Rattle.cam6_cycle.specs.declared.entries.HalfRule.{HalfRule}
 use Rattle.cam6_planes.specs.Stored.{Stored}
@@ -51,6 +52,7 @@ use Rattle.cam6_machine.specs.Refusals as refuse
 use Rattle.cam6_machine.specs.Effects.{effect, with_rule, without_rule, with_side}
 use Rattle.cam6_machine.specs.Alone.{if_refused, after, command_of}
 use Rattle.cam6_machine.specs.Always.{HaveOwnNames, IsNamed, IsEntry, IsPosition, IsMachine}
+use Rattle.cam6_machine.specs.Always.{HasText}
 use Rattle.cam6_machine.specs.Laws.{BlankIsMachine, StaysMachine, LimitStays, IsRuled, RulesRun}
 use Rattle.cam6_machine.specs.declared.commands.Command.{Command}
 use Rattle.cam6_machine.specs.declared.commands.Command.TheVariants as command
@@ -108,6 +110,7 @@ moved_is m planes position is whole at = record {
   names = is.names;
   own = is.own;
   sound = is.sound;
+  texts = is.texts;
   short = is.short;
   entries = is.entries;
   position = at;
@@ -390,9 +393,9 @@ placed_with new rules cycle own none placed =
 -- a rule that isn't refused is put under its name
 rule_is : (m : Machine) (new : Rule) → IsMachine m →
     refuse.rule_refusal m.rules m.cycle new.name ≡ None →
-    refuse.words_refusal new.wiring new.text ≡ None →
+    refuse.words_refusal new.wiring new.text ≡ None → IsUtf8 new.text →
     IsMachine (record m { rules = with_rule new m.rules })
-rule_is m new is none words = by_name (is_rule_name new.name) refl none
+rule_is m new is none words text = by_name (is_rule_name new.name) refl none
   where
     by_name : (b : Bool) → is_rule_name new.name ≡ b →
         cond b (refuse.room_refusal m.rules m.cycle new.name (rule_named new.name m.rules))
@@ -411,6 +414,8 @@ rule_is m new is none words = by_name (is_rule_name new.name) refl none
           own = own_with new m.rules none_own is.own;
           sound = all_with (λ rule. refuse.words_refusal rule.wiring rule.text ≡ None) new m.rules
               words (λ old same holds. words) is.sound;
+          texts = all_with (λ rule. IsUtf8 rule.text) new m.rules text (λ old same holds. text)
+              is.texts;
           short = is.short;
           entries = entries_with new m.rules m.cycle apart is.entries;
           position = is.position;
@@ -447,6 +452,7 @@ dropped_is m name is none = record {
   own = own_without name m.rules is.own;
   sound = all_without (λ rule. refuse.words_refusal rule.wiring rule.text ≡ None) name m.rules
       is.sound;
+  texts = all_without (λ rule. IsUtf8 rule.text) name m.rules is.texts;
   short = is.short;
   entries = entries_without name m.rules m.cycle (by_rule (rule_named name m.rules) none)
       is.entries;
@@ -474,25 +480,25 @@ none_whole s = fun_ext (λ p. fun_ext (λ x. fun_ext (λ y. never (nat_lt p 4)))
     never false = refl
 
 -- what a command that isn't refused makes of a machine
-effect_is : (m : Machine) (c : Command) → IsMachine m → refuse.refusal m c ≡ None →
+effect_is : (m : Machine) (c : Command) → IsMachine m → HasText c → refuse.refusal m c ≡ None →
     IsMachine (effect m c)
-effect_is m (command.Set plane row bits) is none =
+effect_is m (command.Set plane row bits) is text none =
     let s = side_number m.side in
     moved_is m (effect m (command.Set plane row bits)).planes m.position is
     (torus_again s (λ q u v. if (q == plane) && (v == row) then byte_column bits u
     else m.planes q u v) (side_some m.side)) is.position
-effect_is m (command.Rule name wiring text) is none =
+effect_is m (command.Rule name wiring text) is utf8 none =
     let new : Rule = record { name = name; wiring = wiring; text = text } in
     let (place, words) = first_none _ (refuse.words_refusal wiring text) none in
-    rule_is m new is (no_fault _ place) words
-effect_is m (command.Clear plane) is none =
+    rule_is m new is (no_fault _ place) words utf8
+effect_is m (command.Clear plane) is text none =
     let s = side_number m.side in
     moved_is m (effect m (command.Clear plane)).planes m.position is
     (torus_again s (λ q x y. if q == plane then false else m.planes q x y) (side_some m.side))
     is.position
-effect_is m (command.Drop name) is none = dropped_is m name is (no_fault _ none)
-effect_is m command.Rules is none = is
-effect_is m (command.Map colours) is none =
+effect_is m (command.Drop name) is text none = dropped_is m name is (no_fault _ none)
+effect_is m command.Rules is text none = is
+effect_is m (command.Map colours) is text none =
     let (coloured, small) = allowed_colours colours (no_fault _ none) in
     record {
       within = is.within;
@@ -501,15 +507,16 @@ effect_is m (command.Map colours) is none =
       names = is.names;
       own = is.own;
       sound = is.sound;
+      texts = is.texts;
       short = is.short;
       entries = is.entries;
       position = is.position;
       coloured = coloured;
       colours = small;
     }
-effect_is m (command.Colours row) is none = is
-effect_is m (command.Count mask) is none = is
-effect_is m (command.Cycle entries) is none =
+effect_is m (command.Colours row) is text none = is
+effect_is m (command.Count mask) is text none = is
+effect_is m (command.Cycle entries) is text none =
     let (short, are) = accepted_cycle m.rules entries (no_fault _ none) in
     record {
       within = is.within;
@@ -518,17 +525,18 @@ effect_is m (command.Cycle entries) is none =
       names = is.names;
       own = is.own;
       sound = is.sound;
+      texts = is.texts;
       short = short;
       entries = are;
       position = from_0 entries;
       coloured = is.coloured;
       colours = is.colours;
     }
-effect_is m (command.Run n) is none = steps_is m n is (some_cycle m.cycle n none)
-effect_is m (command.Back n) is none = unsteps_is m n is
-effect_is m (command.Row plane row) is none = is
-effect_is m (command.Plane plane) is none = is
-effect_is m (command.Side n) is none = by_side (side_of n) (no_fault _ none)
+effect_is m (command.Run n) is text none = steps_is m n is (some_cycle m.cycle n none)
+effect_is m (command.Back n) is text none = unsteps_is m n is
+effect_is m (command.Row plane row) is text none = is
+effect_is m (command.Plane plane) is text none = is
+effect_is m (command.Side n) is text none = by_side (side_of n) (no_fault _ none)
   where
     by_side : (asked : Option Side) → refuse.within_refusal m.limit asked ≡ None →
         IsMachine (with_side asked m)
@@ -540,6 +548,7 @@ effect_is m (command.Side n) is none = by_side (side_of n) (no_fault _ none)
       names = is.names;
       own = is.own;
       sound = is.sound;
+      texts = is.texts;
       short = is.short;
       entries = is.entries;
       position = from_0 m.cycle;
@@ -548,10 +557,10 @@ effect_is m (command.Side n) is none = by_side (side_of n) (no_fault _ none)
     }
 
 pub stays_machine : StaysMachine
-stays_machine m c is = by_refusal (refuse.refusal m c) refl
+stays_machine m c is text = by_refusal (refuse.refusal m c) refl
   where
     by_refusal : (o : Option Reply) → refuse.refusal m c ≡ o → IsMachine (after m c)
-    by_refusal None none = subst IsMachine (sym (after-accepted m c none)) (effect_is m c is none)
+    by_refusal None none = subst IsMachine (sym (after-accepted m c none)) (effect_is m c is text none)
     by_refusal (Some r) refused = subst IsMachine (sym (after-refused m c r refused)) is
 
 -- what a command that isn't refused leaves of the limit
@@ -595,6 +604,7 @@ blank_is_machine limit = record {
   names = tt;
   own = none_own;
   sound = tt;
+  texts = tt;
   short = omega arith;
   entries = tt;
   position = refl;
@@ -617,6 +627,7 @@ blank_stored planes rules entries limit side whole no_rules no_entries =
       names = is.names;
       own = is.own;
       sound = is.sound;
+      texts = is.texts;
       short = is.short;
       entries = is.entries;
       position = is.position;

@@ -65,6 +65,7 @@ unsteps_is m n is =
       names = is.names;
       own = is.own;
       sound = is.sound;
+      texts = is.texts;
       short = is.short;
       entries = is.entries;
       position = unsteps_position n m is.position;

@@ -19,8 +19,7 @@ use Rattle.cam6_block.proofs.Pigeonhole.{takes_each}
 use Rattle.cam6_block.proofs.Preimages.{preimage_is, preimage-lt}
 use Rattle.cam6_cycle.specs.declared.tables.Direction.TheVariants.{Backward}
 use Rattle.cam6_band.specs.ByTables.{bit_by_table, table_for, setting_by, step_by}
-use Rattle.cam6_band.specs.declared.tables.EntryTables.{EntryTables}
-use Rattle.cam6_band.specs.declared.tables.HalfTable.{HalfTable}
+use Rattle.cam6_band.specs.ByTables.{HalfEntries, StepTables}
 use Rattle.cam6_machine.specs.Rules.{Rule}
 use Rattle.cam6_machine.specs.Cycles.{EntryRules, rule_for, setting_for}
 use Rattle.cam6_machine.specs.Steps.{step}
@@ -38,7 +37,7 @@ use Rattle.cam6_machine.proofs.StepsByBlocks.{same_on_planes, step_changes_block
 -- a cell's new bit by an inverted table is that of its place in the least state that becomes its
 -- block's
 cell_by_inverted : (s : ℕ) (f : Cells) (setting : Setting) (rule : Option Rule)
-    (table : Option HalfTable) (level : Level) (x y : ℕ) → 0 < s → s % 2 ≡ 0 → x < s → y < s →
+    (table : Option HalfEntries) (level : Level) (x y : ℕ) → 0 < s → s % 2 ≡ 0 → x < s → y < s →
     IsUndoable rule → HasTableFor Backward rule table →
     bit_by_table s f setting table level x y
     ≡ changed_cell s f setting.grid setting.half (undone_by setting.phase rule) level x y
@@ -47,7 +46,7 @@ cell_by_inverted s f setting None None level x y some even h k can has = refl
 cell_by_inverted s f setting None (Some half) level x y some even h k can has = absurd has
 cell_by_inverted s f setting (Some rule) None level x y some even h k can has = absurd has
 cell_by_inverted s f setting (Some rule) (Some half) level x y some even h k can has =
-    let entries = half.table.now in
+    let entries = half.entries in
     let wiring = rule.wiring in
     let state = state_at s f setting.half setting.grid x y in
     let place = place_in_block setting.grid x y in
@@ -71,7 +70,7 @@ module _ (s : ℕ) (entry : EntryRules) (some : 0 < s) (even : s % 2 ≡ 0)
   can_be A = can.0
   can_be B = can.1
 
-  module _ (tables : EntryTables) (are : AreTablesFor Backward entry tables) where
+  module _ (tables : StepTables) (are : AreTablesFor Backward entry tables) where
     half_has : (half : Half) → HasTableFor Backward (rule_for half entry) (table_for half tables)
     half_has A = are.a
     half_has B = are.b

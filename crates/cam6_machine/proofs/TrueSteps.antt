@@ -17,20 +17,18 @@ use Rattle.cam6_machine.specs.Rules.{Rule}
 use Rattle.cam6_machine.specs.Cycles.{EntryRules, rule_for, setting_for}
 use Rattle.cam6_machine.specs.Steps.{new_bit, new_cell, step}
 use Rattle.cam6_machine.specs.TrueTables.{HasTableFor, AreTablesFor}
-use Rattle.cam6_band.specs.ByTables.{bit_by_table}
-use Rattle.cam6_band.specs.ByTables.{table_for, setting_by, step_by}
-use Rattle.cam6_band.specs.declared.tables.HalfTable.{HalfTable}
-use Rattle.cam6_band.specs.declared.tables.EntryTables.{EntryTables}
+use Rattle.cam6_band.specs.ByTables.{HalfEntries, StepTables, bit_by_table, table_for, setting_by}
+use Rattle.cam6_band.specs.ByTables.{step_by}
 
 -- a cell's new bit by a true table is the one by the words of the rule
 new_cell_by_table : (s : ℕ) (f : Cells) (setting : Setting) (rule : Option Rule)
-    (table : Option HalfTable) (level : Level) (x y : ℕ) → HasTableFor Forward rule table →
+    (table : Option HalfEntries) (level : Level) (x y : ℕ) → HasTableFor Forward rule table →
     bit_by_table s f setting table level x y ≡ new_cell s f setting rule level x y
 new_cell_by_table s f setting None None level x y has = refl
 new_cell_by_table s f setting None (Some half) level x y has = absurd has
 new_cell_by_table s f setting (Some rule) None level x y has = absurd has
 new_cell_by_table s f setting (Some rule) (Some half) level x y has =
-    let entries = half.table.now in
+    let entries = half.entries in
     ap (λ hood. bit_for level (slice_index entries (address s f setting hood half.minor x y)))
     has.0 ∙
     ap (λ minor. bit_for level
@@ -39,7 +37,7 @@ new_cell_by_table s f setting (Some rule) (Some half) level x y has =
     (true_table rule.wiring (tree_of rule.text) entries (λ name. seen s f setting name x y)
     has.2.rule has.2.holds))
 
-module _ (s : ℕ) (entry : EntryRules) (tables : EntryTables) (are : AreTablesFor Forward entry tables) where
+module _ (s : ℕ) (entry : EntryRules) (tables : StepTables) (are : AreTablesFor Forward entry tables) where
   half_of : (half : Half) → HasTableFor Forward (rule_for half entry) (table_for half tables)
   half_of A = are.a
   half_of B = are.b

@@ -1,19 +1,18 @@
 -- What the reading of a text and the trial of its rule's code say of the verdict.
-use Rattle.std.proofs.Common.{◌≡◌, ℕ, List, slice_index, Some, None, Option, Result, Ok}
-use Rattle.std.proofs.Common.{IsOk, refl, sym, ap, subst, ◌∙◌}
+use Rattle.std.proofs.Common.{◌≡◌, ℕ, List, Some, None, Option, Result, Ok}
+use Rattle.std.proofs.Common.{IsOk, sym, ap, subst, ◌∙◌}
 use Rattle.cam6_wiring.specs.declared.wirings.Wiring.{Wiring}
 use Rattle.cam6_forth.specs.Defined.{RuleWords}
 use Rattle.cam6_forth.specs.Outcome.{IsReadAs, IsAccepted}
 use Rattle.cam6_forth.specs.Reading.{read_text}
-use Rattle.cam6_forth.specs.Texts.{IsTextOf}
-use Rattle.cam6_forth.specs.Tree.{rule_of}
 use Rattle.cam6_forth.specs.Trees.{tree_of}
-use Rattle.cam6_forth.proofs.OneTree.{tree_is_read}
 use Rattle.cam6_table.specs.Codes.{result_at, IsCodeOf}
 use Rattle.cam6_table.specs.Meaning.{at_address}
 use Rattle.cam6_table.specs.Tables.{AreEntries, IsLeastStop, least_stop}
+use Rattle.cam6_table.specs.Laws.{FilledIsOfTheText}
 use Rattle.cam6_table.specs.declared.codes.Instruction.{Instruction}
 use Rattle.cam6_table.specs.declared.faults.RuleFault.{RuleFault}
+use Rattle.cam6_table.proofs.RuleTexts.{of_the_text}
 use Rattle.cam6_table.proofs.Stops.{least_is_found, none_is_found}
 use Rattle.cam6_table.specs.RuleTexts.{IsCodeFor}
 use Rattle.cam6_machine.specs.Refusals.{or_then, text_refusal, stop_refusal, words_refusal}
@@ -22,7 +21,6 @@ use Rattle.cam6_machine.specs.declared.replies.Reply.TheVariants as reply
 
 -- code of the rule that a text spells, which was not tried yet
 pub record IsUntried (wiring : Wiring) (text : List ℕ) (code : List Instruction) : Type 0 where
-  pub spells : IsTextOf wiring (tree_of text) text
   pub means : (address : ℕ) → result_at code address ≡ at_address wiring (tree_of text) address
   pub read : text_refusal (read_text wiring text) ≡ None
 
@@ -32,29 +30,20 @@ pub untried : (wiring : Wiring) (shown text : List ℕ) (rule : RuleWords)
     IsReadAs (read_text wiring shown) wiring (Ok rule) → IsCodeOf code rule →
     IsUntried wiring text code
 untried wiring shown text rule code is_text accepted exact is =
-    let parts = accepted.0 in
-    let same : parts ≡ tree_of shown = sym (tree_is_read wiring parts shown accepted.1) in
-    let of_parts : IsCodeOf code (rule_of wiring parts) = subst (IsCodeOf code) accepted.2 is in
+    let its = of_the_text wiring shown rule code accepted is in
     subst (λ said. IsUntried wiring said code) is_text (record {
-      spells = subst (λ tree. IsTextOf wiring tree shown) same accepted.1;
-      means = λ address.
-          of_parts parts accepted.1.all.rule refl address ∙
-          ap (λ tree. at_address wiring tree address) same;
+      means = its.means;
       read = ap text_refusal exact.0;
     })
 
-is_entry : (said : Result ℕ RuleFault) (entry : ℕ) → said ≡ Ok entry → IsOk said
-is_entry said entry e = subst (λ (r : Result ℕ RuleFault). IsOk r) (sym e) refl
-
--- code that made a table stops nowhere
-pub tried : (wiring : Wiring) (text : List ℕ) (code : List Instruction) (entries : List ℕ) →
-    IsUntried wiring text code → AreEntries (result_at code) entries → IsCodeFor wiring text code
-tried wiring text code entries is are = record {
-  spells = is.spells;
-  means = is.means;
-  runs = λ address within.
-      is_entry (result_at code address) (slice_index entries address) (are address within);
-}
+-- code that made a table is the text's code
+pub tried : FilledIsOfTheText → (wiring : Wiring) (shown text : List ℕ) (rule : RuleWords)
+    (code : List Instruction) (entries : List ℕ) → shown ≡ text →
+    IsAccepted wiring shown (Ok rule) → IsCodeOf code rule →
+    AreEntries (result_at code) entries → IsCodeFor wiring text code
+tried law wiring shown text rule code entries is_text accepted is are =
+    let its = law wiring shown rule code entries accepted is are in
+    subst (λ said. IsCodeFor wiring said code) is_text its.0
 
 -- a text that was read is refused where its code stops
 by_stop : (wiring : Wiring) (text : List ℕ) (code : List Instruction)

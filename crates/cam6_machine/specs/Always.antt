@@ -2,7 +2,7 @@
 use Rattle.std.specs.Prelude.{◌≡◌, ℕ, ◌≤◌, ◌<◌, List, [], ◌∷◌, map, length, true, Option, None}
 use Rattle.std.specs.Prelude.{Some, ⊤}
 use Rattle.std.specs.List.{AllByRecursion, IsDistinct}
-use Rattle.std.specs.Str.{bytes_eq}
+use Rattle.std.specs.Str.{bytes_eq, IsUtf8}
 use Rattle.cam6_wiring.specs.declared.names.Half.{Half}
 use Rattle.cam6_wiring.specs.declared.names.Half.TheVariants.{A, B}
 use Rattle.cam6_planes.specs.Side.{side_number}
@@ -11,6 +11,8 @@ use Rattle.cam6_machine.specs.Limits.{max_rules, max_entries, states, max_colour
 use Rattle.cam6_machine.specs.Rules.{Rule, rule_named, is_rule_name}
 use Rattle.cam6_machine.specs.Refusals.{words_refusal}
 use Rattle.cam6_machine.specs.Machine.{Machine}
+use Rattle.cam6_machine.specs.declared.commands.Command.{Command}
+use Rattle.cam6_machine.specs.declared.commands.Command.TheVariants.{Rule as SetRule}
 use Rattle.cam6_machine.specs.declared.commands.NamedEntry.{NamedEntry}
 
 -- no two rules have one name
@@ -33,8 +35,8 @@ IsPosition [] position = position ≡ 0
 IsPosition (entry ∷ cycle) position = position < length (entry ∷ cycle)
 
 -- a side within the limit, and planes of it; a few rules with rule names of their own, the texts of
--- which have no fault and stop nowhere; a few entries, and a position among them; and a colour for
--- each state of a cell
+-- which are UTF-8, have no fault and stop nowhere; a few entries, and a position among them; and a
+-- colour for each state of a cell
 pub record IsMachine (m : Machine) : Type 0 where
   pub within : side_number m.side ≤ side_number m.limit
   pub planes : torus (side_number m.side) m.planes ≡ m.planes
@@ -42,8 +44,14 @@ pub record IsMachine (m : Machine) : Type 0 where
   pub names : AllByRecursion (λ rule. is_rule_name rule.name ≡ true) m.rules
   pub own : HaveOwnNames m.rules
   pub sound : AllByRecursion (λ rule. words_refusal rule.wiring rule.text ≡ None) m.rules
+  pub texts : AllByRecursion (λ rule. IsUtf8 rule.text) m.rules
   pub short : length m.cycle ≤ max_entries
   pub entries : AllByRecursion (IsEntry m.rules) m.cycle
   pub position : IsPosition m.cycle m.position
   pub coloured : length m.colours ≡ states
   pub colours : AllByRecursion (λ colour. colour ≤ max_colour) m.colours
+
+-- the text of a rule that a command defines, if it defines one, is UTF-8
+abbrev pub HasText : Command → Type 0
+HasText (SetRule name wiring text) = IsUtf8 text
+HasText _ = ⊤

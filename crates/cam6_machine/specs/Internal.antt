@@ -1,5 +1,5 @@
 -- What no public contract says: how the code keeps rules by places, what was said of a text that
--- was tried, how the tables of a cycle lie, both ways along it, and where a machine's planes are.
+-- was tried, the use of a rule, both ways along a cycle, and where a machine's planes are.
 pub mod Places
 pub mod Verdicts
 pub mod Uses

@@ -1,7 +1,7 @@
 -- What follows of steps, and what a machine always is.
 use Rattle.std.specs.Prelude.{◌≡◌, ◌≢◌, ℕ, ◌+◌, ◌<◌, ◌%◌, true, List, length, Option, Some, None}
 use Rattle.std.specs.Prelude.{IsOk, ⊤}
-use Rattle.std.specs.List.{AllByRecursion}
+use Rattle.std.specs.List.{slice_get, AllByRecursion}
 use Rattle.cam6_planes.specs.declared.sides.Side.{Side}
 use Rattle.cam6_planes.specs.Cells.{Cells, torus}
 use Rattle.cam6_wiring.specs.Name.{plane_of}
@@ -10,17 +10,21 @@ use Rattle.cam6_wiring.specs.declared.names.Half.{Half}
 use Rattle.cam6_wiring.specs.declared.names.Level.{Level}
 use Rattle.cam6_wiring.specs.declared.wirings.Minor.TheVariants.{Centers}
 use Rattle.cam6_block.specs.BlockMaps.{is_margolus}
-use Rattle.cam6_band.specs.ByTables.{step_by}
-use Rattle.cam6_band.specs.declared.tables.EntryTables.{EntryTables}
+use Rattle.cam6_band.specs.ByTables.{StepTables, step_by}
+use Rattle.cam6_band.specs.AtPosition.{step_tables_at}
+use Rattle.cam6_cycle.specs.Tables.{tables_needed}
+use Rattle.cam6_cycle.specs.declared.entries.Entry.{Entry}
+use Rattle.cam6_cycle.specs.declared.tables.Direction.{Direction}
 use Rattle.cam6_cycle.specs.declared.tables.Direction.TheVariants.{Forward, Backward}
 use Rattle.cam6_machine.specs.Rules.{Rule}
 use Rattle.cam6_machine.specs.Cycles.{EntryRules, name_for, entry_rules, rule_for}
 use Rattle.cam6_machine.specs.Steps.{words_mean, step}
 use Rattle.cam6_machine.specs.Undoing.{blockwise, done_by, unstep, IsUndoableEntry}
 use Rattle.cam6_machine.specs.TrueTables.{AreTablesFor}
+use Rattle.cam6_machine.specs.Numbers.{rules_at, named_entry, IsPlaced, ArePlaced, AreTables}
 use Rattle.cam6_machine.specs.Machine.{Machine, blank, steps, unsteps, IsUndoableCycle}
 use Rattle.cam6_machine.specs.Refusals.{refusal, words_refusal}
-use Rattle.cam6_machine.specs.Always.{IsMachine}
+use Rattle.cam6_machine.specs.Always.{IsMachine, HaveOwnNames, HasText}
 use Rattle.cam6_machine.specs.Alone.{after}
 use Rattle.cam6_machine.specs.declared.commands.Command.{Command}
 use Rattle.cam6_machine.specs.declared.commands.Command.TheVariants.{Run, Back}
@@ -29,8 +33,26 @@ use Rattle.cam6_machine.specs.declared.commands.NamedEntry.{NamedEntry}
 -- by the tables of its rules, an entry steps any planes of a torus as by its rules' words
 abbrev pub TrueTablesStep : Type 0
 TrueTablesStep =
-    (s : ℕ) (entry : EntryRules) (tables : EntryTables) (f : Cells) →
+    (s : ℕ) (entry : EntryRules) (tables : StepTables) (f : Cells) →
     AreTablesFor Forward entry tables → torus s f ≡ f → step_by s tables f ≡ step s entry f
+
+-- the tables by use give those of each position
+abbrev pub TablesByUse : Type 0
+TablesByUse =
+    (direction : Direction) (rules : List Rule) (entries : List Entry) (tables : List (List ℕ))
+    (position : ℕ) (entry : Entry) (step : StepTables) →
+    ArePlaced rules entries →
+    AreTables direction (length (tables_needed direction entries)) rules
+    (tables_needed direction entries) tables →
+    slice_get entries position ≡ Some entry → step_tables_at entries position tables ≡ Some step →
+    AreTablesFor direction (rules_at rules entry) step
+
+-- an entry's rules by their numbers are its rules by their names
+abbrev pub NumbersAndNames : Type 0
+NumbersAndNames =
+    (rules : List Rule) (entry : Entry) → HaveOwnNames rules →
+    IsPlaced rules entry.a → IsPlaced rules entry.b →
+    entry_rules rules (named_entry rules entry) ≡ rules_at rules entry
 
 -- a half without a rule keeps its planes
 abbrev pub KeepsItsPlanes : Type 0
@@ -65,9 +87,10 @@ BlankIsMachine = (limit : Side) → IsMachine (blank limit)
 abbrev pub LimitStays : Type 0
 LimitStays = (m : Machine) (c : Command) → (after m c).limit ≡ m.limit
 
--- and so is a machine after any command
+-- and so is a machine after any command, of which a rule's text is UTF-8
 abbrev pub StaysMachine : Type 0
-StaysMachine = (m : Machine) (c : Command) → IsMachine m → IsMachine (after m c)
+StaysMachine =
+    (m : Machine) (c : Command) → IsMachine m → HasText c → IsMachine (after m c)
 
 -- a name that an entry has for a half is a rule's, which stops nowhere, whatever is seen
 abbrev pub IsRuled : Machine → NamedEntry → Type 0
@@ -99,7 +122,7 @@ StepChangesBlocks =
 -- by the tables that undo its rules, a step is one undone
 abbrev pub InvertedTablesUndo : Type 0
 InvertedTablesUndo =
-    (s : ℕ) (entry : EntryRules) (tables : EntryTables) (f : Cells) → 0 < s → s % 2 ≡ 0 →
+    (s : ℕ) (entry : EntryRules) (tables : StepTables) (f : Cells) → 0 < s → s % 2 ≡ 0 →
     IsUndoableEntry entry → AreTablesFor Backward entry tables → torus s f ≡ f →
     step_by s tables f ≡ unstep s entry f
 

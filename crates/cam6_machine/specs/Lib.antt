@@ -1,8 +1,8 @@
 -- In the order of reading: limits, the rules that a machine keeps, entries of a cycle, what a cell
--- becomes in a step, a step undone, the tables of rules, all that a machine stores and the machine
--- that it is, when a command is refused, what it does, the machine alone, what is said of a command
--- at once, and what a machine always is. Last, what follows of steps. How the code keeps rules by
--- places and tables by use stands apart: no public contract says it.
+-- becomes in a step, a step undone, the tables of rules, rules by their numbers, all that a machine
+-- stores and the machine that it is, when a command is refused, what it does, the machine alone,
+-- what is said of a command at once, and what a machine always is. Last, what follows of steps. How
+-- the code keeps rules by places stands apart: no public contract says it.
 pub mod Limits
 pub mod Faults
 pub mod Rules
@@ -10,6 +10,7 @@ pub mod Cycles
 pub mod Steps
 pub mod Undoing
 pub mod TrueTables
+pub mod Numbers
 pub mod Stored
 pub mod Machine
 pub mod Refusals

@@ -4,8 +4,7 @@ use Rattle.cam6_table.specs.RuleTexts.{IsTableOf}
 use Rattle.cam6_block.specs.Inverted.{IsInverted}
 use Rattle.cam6_cycle.specs.declared.tables.Direction.{Direction}
 use Rattle.cam6_cycle.specs.declared.tables.Direction.TheVariants.{Forward, Backward}
-use Rattle.cam6_band.specs.declared.tables.HalfTable.{HalfTable}
-use Rattle.cam6_band.specs.declared.tables.EntryTables.{EntryTables}
+use Rattle.cam6_band.specs.ByTables.{HalfEntries, StepTables}
 use Rattle.cam6_machine.specs.Rules.{Rule}
 use Rattle.cam6_machine.specs.Cycles.{EntryRules}
 use Rattle.cam6_machine.specs.Undoing.{reading_of, IsUndoable}
@@ -24,16 +23,16 @@ IsTableFor direction None entries = ⊤
 IsTableFor direction (Some rule) entries = IsTable direction rule entries
 
 -- a half has its rule's table, with the wiring that the rule is written for, or no rule and none
-abbrev pub HasTableFor : Direction → Option Rule → Option HalfTable → Type 0
+abbrev pub HasTableFor : Direction → Option Rule → Option HalfEntries → Type 0
 HasTableFor direction None None = ⊤
 HasTableFor direction None (Some half) = ⊥
 HasTableFor direction (Some rule) None = ⊥
 HasTableFor direction (Some rule) (Some half) =
     (half.hood ≡ rule.wiring.hood) × (half.minor ≡ rule.wiring.minor)
-    × IsTable direction rule half.table.now
+    × IsTable direction rule half.entries
 
 -- these are the tables of an entry's rules
-pub record AreTablesFor (direction : Direction) (entry : EntryRules) (tables : EntryTables) :
+pub record AreTablesFor (direction : Direction) (entry : EntryRules) (tables : StepTables) :
     Type 0 where
   pub a : HasTableFor direction entry.a tables.a
   pub b : HasTableFor direction entry.b tables.b

@@ -1,6 +1,7 @@
 //! What follows of the definition of steps, and what a machine always is. Each law is the contract
 //! of a function that does nothing.
-ghost use Rattle.cam6_machine.specs.Laws.{TrueTablesStep, KeepsItsPlanes, StepsAddUp};
+ghost use Rattle.cam6_machine.specs.Laws.{TrueTablesStep, TablesByUse, NumbersAndNames};
+ghost use Rattle.cam6_machine.specs.Laws.{KeepsItsPlanes, StepsAddUp};
 ghost use Rattle.cam6_machine.specs.Laws.{OnlyPlanesAndPosition, PositionGoesRound};
 ghost use Rattle.cam6_machine.specs.Laws.{BlankIsMachine, StaysMachine, RulesRun, LimitStays};
 ghost use Rattle.cam6_machine.specs.Laws.{StepChangesBlocks, InvertedTablesUndo};
@@ -9,6 +10,16 @@ ghost use Rattle.cam6_machine.specs.Laws.{UndoingUndoes, DoingRedoes, BackGivesT
 /// By the tables of an entry's rules, a step makes of planes what the rules' words make of them.
 pub fn true_tables_step_as_words_do()
     ensures law { TrueTablesStep }
+{}
+
+/// Where tables lie as a cycle needs them, those of a position are the tables of its entry's rules.
+pub fn the_tables_of_a_position_are_its_entrys()
+    ensures law { TablesByUse }
+{}
+
+/// An entry's rules by their numbers are its rules by their names.
+pub fn numbers_and_names_of_rules_agree()
+    ensures law { NumbersAndNames }
 {}
 
 /// A half without a rule keeps its planes.

@@ -18,15 +18,17 @@
 //!
 //! `Machine::now` leaves steps to do exactly for a run, or for going back, that is accepted and has
 //! at least one; memory is wanted for a rule and for lists of rows or names alone, neither where a
-//! number or a name is refused, nor for a text of which nothing is kept. `Machine::work` takes
-//! none; its tables are proved to be the rules' words, or what undoes them. The laws: steps that
+//! number or a name is refused, nor for a text of which nothing is kept, nor to list no rules.
+//! `Machine::work` takes none; its tables are proved to be the rules' words, or what undoes them. The laws: steps that
 //! are done and undone, or undone and done, give the machine back; a step by rules of blocks
 //! changes blocks as a whole, and one by inverted tables is one undone; a step by tables is the
-//! step by the rules' words where the tables are theirs (`specs/TrueTables.antt`); what a machine
-//! always is (`specs/Always.antt`) the blank one is, and stays whatever it is commanded; no command
-//! changes its limit; the rules that its cycle names run, whatever is seen; a half without a rule
-//! keeps its planes; some steps and then more are all of them together; steps change planes and
-//! position alone; the position goes round the cycle.
+//! step by the rules' words where the tables are theirs (`specs/TrueTables.antt`), and so they are
+//! at each position, where they lie as the cycle needs them; an entry's rules by their numbers are
+//! its rules by their names (`specs/Numbers.antt`); what a machine always is
+//! (`specs/Always.antt`), which `Machine::limit` tells of any, the blank one is, and stays whatever
+//! it is commanded in UTF-8; no command changes its limit; the rules that its cycle names run,
+//! whatever is seen; a half without a rule keeps its planes; some steps and then more are all of
+//! them together; steps change planes and position alone; the position goes round the cycle.
 //!
 //! Stands on: `cam6_planes`, `cam6_wiring`, `cam6_forth`, `cam6_table`, `cam6_block`, `cam6_band`,
 //! `cam6_view`, `cam6_cycle`, and on `arrayvec` and `indexmap`.

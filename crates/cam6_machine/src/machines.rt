@@ -56,7 +56,8 @@ impl Model for Machine {
     ghost use Rattle.cam6_machine.specs.Machine.{machine_of};
     ghost use Rattle.cam6_machine.specs.Always.{IsMachine};
     ghost use Rattle.cam6_machine.specs.Internal.Images.{planes_of};
-    ghost use Rattle.cam6_machine.specs.Internal.Places.{rules_of, entries_of, stored, ArePlaced};
+    ghost use Rattle.cam6_machine.specs.Numbers.{ArePlaced};
+    ghost use Rattle.cam6_machine.specs.Internal.Places.{rules_of, entries_of, stored};
 
     ghost Value = { StoredMachine };
 
@@ -74,7 +75,7 @@ impl Model for Machine {
 }
 
 impl Machine {
-    ghost use Rattle.std.specs.Prelude.{ℕ, false, List, Some, None, IsOk, OnErr};
+    ghost use Rattle.std.specs.Prelude.{ℕ, false, List, [], Some, None, IsOk, OnErr};
     ghost use Rattle.cam6_machine.specs.Machine.{blank, machine_of};
     ghost use Rattle.cam6_machine.specs.Refusals.{refusal};
     ghost use Rattle.cam6_machine.specs.declared.faults.Fault.{Fault};
@@ -83,6 +84,7 @@ impl Machine {
     ghost use Rattle.cam6_machine.specs.Alone.{reply, after, work_of, command_of};
     ghost use Rattle.cam6_machine.specs.AtOnce.{work_left, IsReplyTo, machine_after};
     ghost use Rattle.cam6_machine.specs.AtOnce.{IsLeftBy, Leaves, may_want_memory, CanWork};
+    ghost use Rattle.cam6_machine.specs.Always.{IsMachine};
 
     /// A machine with blank planes, no rules and no cycle, whose side is the lesser of 256 and the
     /// limit.
@@ -106,6 +108,18 @@ impl Machine {
         })
     }
 
+    /// The largest side that the machine may take on. Whoever holds a machine learns here what it
+    /// always is.
+    pub fn limit(&self) -> Side
+        ensures limit { result ≡ self.now.planes.limit }
+        ensures machine { IsMachine (machine_of self.now) }
+    {
+        let Some(image) = &self.image else {
+            unreachable!()
+        };
+        image.planes().limit()
+    }
+
     /// Answers a command, or says how many steps are to be done for it. All memory of a command is
     /// taken here.
     pub fn now(&mut self, command: Command) -> Result<Now, NoMemory>
@@ -118,7 +132,8 @@ impl Machine {
         ensures ready { IfOk result (λ now. CanWork now (machine_of self.new)) }
         ensures err { OnErr result (self.new ≡ self.old) }
         // Memory is wanted for what is kept of a rule and for the lists of a reply alone; neither
-        // where a number or a name is refused, nor for a text of which nothing is kept.
+        // where a number or a name is refused, nor for a text of which nothing is kept, nor to
+        // list the rules of a machine that has none.
         ensures memory { may_want_memory command ≡ false → IsOk result }
         ensures refused { (fault : Fault) →
             refusal (machine_of self.old) command ≡ Some (Reply.Fault fault) → IsOk result }
@@ -126,6 +141,8 @@ impl Machine {
             command ≡ Command.Rule name wiring text →
             refusal (machine_of self.old) command ≡ Some (Reply.RuleText fault) →
             keeps wiring text ≡ false → IsOk result }
+        ensures listed { command ≡ Command.Rules →
+            (machine_of self.old).rules ≡ [] → IsOk result }
     {
         match command {
             Command::Set { plane, row, bits } => Ok(Now::Reply(self.set(plane, row, &bits))),
@@ -250,6 +267,7 @@ impl Machine {
         ensures reply { IfOk result (λ r. r ≡ reply (machine_of self.now) Command.Rules) }
         ensures machine { machine_of self.now ≡ after (machine_of self.now) Command.Rules }
         ensures left { IfOk result (λ r. IsLeftBy r self.now self.now) }
+        ensures none { (machine_of self.now).rules ≡ [] → IsOk result }
     {
         let names = Names::new(names_of(self.alloc, &self.rules)?);
         Ok(Reply::Rules { names })
@@ -442,6 +460,8 @@ impl Machine {
             command ≡ Command.Rule name wiring text →
             refusal (machine_of self.old) command ≡ Some (Reply.RuleText fault) →
             keeps wiring text ≡ false → IsOk result }
+        ensures listed { command ≡ Command.Rules →
+            (machine_of self.old).rules ≡ [] → IsOk result }
     {
         match self.now(command)? {
             Now::Reply(reply) => Ok(reply),

@@ -1,5 +1,5 @@
 //! The rules of a machine, by name, in the order in which their names came first.
-ghost use Rattle.std.specs.Prelude.{◌≡◌, ◌≢◌, false, map, Some, Err, IfOk, OnOk, OnErr};
+ghost use Rattle.std.specs.Prelude.{◌≡◌, ◌≢◌, false, [], map, Some, Err, IfOk, IsOk, OnOk, OnErr};
 ghost use Rattle.std.specs.List.{list_all};
 ghost use Rattle.cam6_forth.specs.Reading.{read_text, keeps};
 ghost use Rattle.cam6_forth.specs.declared.faults.TextFault.{TextFault};
@@ -13,6 +13,7 @@ ghost use Rattle.cam6_machine.specs.declared.replies.Reply.{Reply};
 use crate::texts::Text;
 use cam6_forth::{ParseFault, TextFault, parse_under};
 use cam6_planes::NoMemory;
+use cam6_table::laws::code_that_filled_a_table_is_its_texts;
 use cam6_table::{Code, RuleFault, Table, fill};
 use cam6_wiring::Wiring;
 use indexmap::IndexMap;
@@ -114,7 +115,10 @@ pub(crate) fn tried_rule(
     };
     let code = Code::of(alloc, &rule)?;
     match fill(&code, trial) {
-        Ok(()) => Ok(KeptRule::new(wiring, text, code)),
+        Ok(()) => {
+            code_that_filled_a_table_is_its_texts();
+            Ok(KeptRule::new(wiring, text, code))
+        }
         Err((address, fault)) => Err(RuleRefusal::Stops { address, fault }),
     }
 }
@@ -179,8 +183,10 @@ pub(crate) fn names_of(
     alloc: Global,
     rules: &IndexMap<String, KeptRule>,
 ) -> Result<Vec<Text>, NoMemory>
-    ensures { IfOk result (λ names.
+    ensures names { IfOk result (λ names.
         names.items ≡ map (λ rule. rule.name) (rules_of rules.now.entries)) }
+    // No memory is wanted to list no rules.
+    ensures none { rules_of rules.now.entries ≡ [] → IsOk result }
 {
     let mut names = Vec::with_capacity(alloc, rules.len())?;
     for place in 0..rules.len() {

@@ -5,14 +5,13 @@ ghost use Rattle.cam6_cycle.specs.declared.tables.Direction.TheVariants.{Forward
 ghost use Rattle.cam6_cycle.specs.declared.tables.TheConstants.{MAX_TABLES};
 ghost use Rattle.cam6_machine.specs.Rules.{Rule};
 ghost use Rattle.cam6_machine.specs.Machine.{steps, unsteps, machine_of, IsUndoableCycle};
-ghost use Rattle.cam6_machine.specs.Internal.Places.{stored, ArePlaced};
-ghost use Rattle.cam6_machine.specs.Internal.Uses.{AreTables};
+ghost use Rattle.cam6_machine.specs.Numbers.{ArePlaced, AreTables};
+ghost use Rattle.cam6_machine.specs.Internal.Places.{stored};
 ghost use Rattle.cam6_machine.specs.Internal.Ways.{moved, CanMove};
 ghost use Rattle.cam6_machine.specs.Always.{HaveOwnNames};
 
 use crate::steps::step;
-use crate::tables::tables_at;
-use cam6_band::AtRest;
+use cam6_band::{AtRest, tables_at};
 use cam6_cycle::{Cycle, Direction};
 use cam6_table::Table;
 

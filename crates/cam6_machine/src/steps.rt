@@ -2,7 +2,7 @@
 ghost use Rattle.std.specs.Prelude.{◌≡◌};
 ghost use Rattle.cam6_planes.specs.Cells.{cells};
 ghost use Rattle.cam6_planes.specs.Stored.{width, AreAlike};
-ghost use Rattle.cam6_band.specs.ByTables.{step_by};
+ghost use Rattle.cam6_band.specs.ByTables.{step_by, values_of};
 
 use cam6_band::{AtRest, EntryTables, Next};
 
@@ -10,7 +10,7 @@ use cam6_band::{AtRest, EntryTables, Next};
 /// the planes.
 pub(crate) fn step(image: AtRest, tables: &EntryTables) -> AtRest
     ensures planes { cells result.planes
-        ≡ step_by (width image.planes) tables.now (cells image.planes) }
+        ≡ step_by (width image.planes) (values_of tables.now) (cells image.planes) }
     ensures alike { AreAlike image.planes result.planes }
 {
     let mut mid = image.begin(tables);

@@ -1,24 +1,19 @@
 //! The tables by which a machine steps, in room that it has from the beginning. They lie as the
 //! cycle needs them: a table for each use of a rule.
-ghost use Rattle.std.specs.Prelude.{◌≡◌, ◌<◌, ◌≤◌, ◌+◌, [], List, length, IfSome, Some};
-ghost use Rattle.std.specs.Prelude.{slice_index_or};
+ghost use Rattle.std.specs.Prelude.{◌≡◌, ◌<◌, ◌≤◌, ◌+◌, length, IfSome, Some};
 ghost use Rattle.std.specs.List.{slice_get};
 ghost use Rattle.cam6_block.specs.BlockMaps.{IsReversible};
 ghost use Rattle.cam6_block.specs.Inverted.{IsInverted};
 ghost use Rattle.cam6_cycle.specs.Tables.{tables_needed};
-ghost use Rattle.cam6_cycle.specs.declared.entries.Entry.{Entry};
-ghost use Rattle.cam6_cycle.specs.declared.tables.Direction.{Direction};
 ghost use Rattle.cam6_cycle.specs.declared.tables.TheConstants.{MAX_TABLES};
-ghost use Rattle.cam6_machine.specs.Rules.{Rule};
-ghost use Rattle.cam6_machine.specs.Internal.Places.{rules_of, rule_at, rules_at, place_in};
-ghost use Rattle.cam6_machine.specs.Internal.Places.{IsPlaced, ArePlaced, kept_reading};
-ghost use Rattle.cam6_machine.specs.Internal.Uses.{AreTables, IsUse};
-ghost use Rattle.cam6_machine.specs.TrueTables.{IsTableFor, HasTableFor, AreTablesFor};
+ghost use Rattle.cam6_machine.specs.Numbers.{rule_at, AreTables};
+ghost use Rattle.cam6_machine.specs.Internal.Places.{rules_of, kept_reading};
+ghost use Rattle.cam6_machine.specs.Internal.Uses.{IsUse};
+ghost use Rattle.cam6_machine.specs.TrueTables.{IsTableFor};
 
 use crate::rules::KeptRule;
 use crate::undoing::invert_rule;
-use cam6_band::{EntryTables, HalfTable};
-use cam6_cycle::{Cycle, Direction, Entry, HalfRule, MAX_TABLES, NeededTable};
+use cam6_cycle::{Cycle, Direction, MAX_TABLES, NeededTable};
 use cam6_table::Table;
 use indexmap::IndexMap;
 
@@ -99,46 +94,4 @@ fn fill_inverse(rule: &KeptRule, straight: &mut Table, table: &mut Table)
         IsInverted (kept_reading rule.now) wiring.hood wiring.minor table.new }
 {
     let _cause = invert_rule(rule, straight, table);
-}
-
-/// The tables of the entry at a position.
-pub(crate) fn tables_at<'a>(cycle: &Cycle, position: usize, tables: &'a [Table]) -> EntryTables<'a>
-    requires position { position < length cycle.now }
-    requires room { length tables.now ≡ MAX_TABLES }
-    ensures { (direction : Direction) (rules : List Rule) (entry : Entry) →
-        ArePlaced rules cycle.now →
-        (let needed = tables_needed direction cycle.now in
-        AreTables direction (length needed) rules needed tables.now) →
-        slice_get cycle.now position ≡ Some entry →
-        AreTablesFor direction (rules_at rules entry) result }
-{
-    let (Entry { a, b, grid, phase }, _) = cycle.forward(position);
-    let first = cycle.tables_before(position);
-    let second = first + usize::from(a.is_some());
-    EntryTables {
-        a: half_table(a, tables, first),
-        b: half_table(b, tables, second),
-        grid,
-        phase,
-    }
-}
-
-/// The table at an index, for a half with this rule.
-fn half_table<'a>(
-    rule: Option<HalfRule>,
-    tables: &'a [Table],
-    index: usize,
-) -> Option<HalfTable<'a>>
-    requires { index < length tables.now }
-    ensures { (direction : Direction) (rules : List Rule) → IsPlaced rules rule →
-        IsTableFor direction (rule_at rules (place_in rule))
-        (slice_index_or tables.now index []) →
-        HasTableFor direction (rule_at rules (place_in rule)) result }
-{
-    let rule = rule?;
-    Some(HalfTable {
-        table: &tables[index],
-        hood: rule.hood,
-        minor: rule.minor,
-    })
 }

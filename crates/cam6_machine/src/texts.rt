@@ -18,6 +18,7 @@ impl Model for Text {
 
 impl Text {
     ghost use Rattle.std.specs.Prelude.{◌≡◌, string_bytes};
+    ghost use Rattle.std.specs.Str.{IsUtf8};
 
     pub fn new(text: String) -> Text
         ensures { result ≡ string_bytes text }
@@ -26,7 +27,8 @@ impl Text {
     }
 
     pub fn as_str(&self) -> &str
-        ensures { result.now ≡ self.now }
+        ensures text { result.now ≡ self.now }
+        ensures utf8 { IsUtf8 self.now }
     {
         self.text.as_str()
     }

@@ -5,8 +5,8 @@ ghost use Rattle.cam6_block.specs.Inverted.{IsInverted};
 ghost use Rattle.cam6_block.specs.Refusals.{cause_of};
 ghost use Rattle.cam6_machine.specs.Refusals.{rule_cause, first_cause};
 ghost use Rattle.cam6_machine.specs.Always.{HaveOwnNames};
-ghost use Rattle.cam6_machine.specs.Internal.Places.{rules_of, rule_at, place_in};
-ghost use Rattle.cam6_machine.specs.Internal.Places.{named_entries, kept_reading};
+ghost use Rattle.cam6_machine.specs.Numbers.{rule_at, place_in, named_entries};
+ghost use Rattle.cam6_machine.specs.Internal.Places.{rules_of, kept_reading};
 ghost use Rattle.cam6_machine.specs.Internal.Uses.{HasNoCause};
 
 use crate::refusals::is_used;

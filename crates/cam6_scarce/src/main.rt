@@ -3,16 +3,17 @@
 //!
 //! The program makes no claim of its own beyond being safe. With ample memory it prints `all kept`.
 //!
-//! Stands on: `cam6_cache` and what it stands on, and on `cam6_machine` for a lemma.
+//! Stands on: `cam6_cache` and what it stands on.
 #![tactic(auto)]
 
 ghost use Rattle.std.specs.Prelude.{◌<◌, ◌≤◌, length, IfSome};
 ghost use Rattle.cam6_table.specs.RuleTexts.{IsCodeFor};
-ghost use Rattle.cam6_cache.specs.declared.keys.TheConstants.{MAX_TEXT};
+ghost use Rattle.cam6_cache.specs.Limits.{max_text};
 
 use cam6_cache::{Key, TableCache};
 use cam6_forth::parse_under;
 use cam6_planes::NoMemory;
+use cam6_table::laws::code_that_filled_a_table_is_its_texts;
 use cam6_table::{Code, ENTRIES, Table, fill};
 use cam6_wiring::{Half, Hood, Minor, Wiring};
 use std::alloc::Global;
@@ -93,7 +94,7 @@ fn load(
     unit: u16,
     table: &mut Table,
 ) -> Loaded
-    requires text { length text.now ≤ MAX_TEXT }
+    requires text { length text.now ≤ max_text }
     requires code { IsCodeFor WIRING text.now code.now }
     requires unit { 0 < unit }
 {
@@ -120,7 +121,10 @@ fn code_for(alloc: Global, wiring: Wiring, text: &str) -> Option<Code>
         return None;
     };
     match fill(&code, &mut trial) {
-        Ok(()) => Some(code),
+        Ok(()) => {
+            code_that_filled_a_table_is_its_texts();
+            Some(code)
+        }
         Err(_) => None,
     }
 }

@@ -8,6 +8,8 @@ pub mod Answering
 pub mod Taking
 -- A line is read in parts, one a look, until its LF, the input's end or a fault.
 pub mod Parts
+-- Each look at the reader but the last takes a byte at least.
+pub mod Spending
 -- A session so far: the lines that it took, each answered, and how it goes on or ends from there.
 pub mod Runs
 -- The same of a reader and a writer of which it isn't known whether they tell their bytes.

@@ -1,9 +1,10 @@
--- In the order of reading: the lines of a text, what is kept of a line, reading one, writing; ways
--- of answering lines, answering one, how serving ends, and what the machine answers; a session
--- alone, its main theorem, and the laws.
+-- In the order of reading: the lines of a text, what is kept of a line, reading one, the bytes that
+-- turns take, writing; ways of answering lines, answering one, how serving ends, and what the
+-- machine answers; a session alone, its main theorem, and the laws.
 pub mod Lines
 pub mod Held
 pub mod Reading
+pub mod Spending
 pub mod Front
 pub mod Answering
 pub mod Responding

@@ -1,5 +1,6 @@
 -- What reading a line takes from a reader, whose bytes may not be known, and what it keeps.
-use Rattle.std.specs.Prelude.{◌≡◌, ◌≢◌, ◌<◌, ℕ, List, [], ◌∷◌, ◌++◌, Option, Some, IfSome}
+use Rattle.std.specs.Prelude.{◌≡◌, ◌≢◌, ◌<◌, ℕ, List, [], ◌∷◌, ◌++◌, length}
+use Rattle.std.specs.Prelude.{Option, Some, IfSome}
 use Rattle.std.specs.Io.KnownBytes.{Consumes, IsAtEnd}
 use Rattle.cam6_wire.specs.OneLine.{HasNoLf}
 use Rattle.cam6_session.specs.Held.{Held, Holds, Grows}
@@ -22,6 +23,7 @@ pub record TakesPart (result : Part) (old new : Option (List ℕ)) (held kept : 
   pub free : HasNoLf part
   pub grows : Grows held kept part
   pub taken : Consumes old new (part ++ mark result)
+  pub more : result ≡ More → 0 < length part
   pub at_end : result ≡ AtEnd → (part ≡ []) × IsAtEnd old
 
 -- of these bytes a line was taken, or a part of one, and those are left

@@ -1,6 +1,7 @@
 //! A session with a machine that nobody shares.
 ghost use Rattle.cam6_session.specs.Alone.{AnswersReaderAlone};
 ghost use Rattle.cam6_session.specs.Headline.{WritesRepliesAlone};
+ghost use Rattle.cam6_session.specs.Spending.{SpendsItsTurns};
 
 use crate::sessions::{End, serve};
 use cam6_machine::Machine;
@@ -24,6 +25,8 @@ pub fn serve_alone<R: BufRead, W: Write>(
     // where the input's end was met.
     ensures headline { WritesRepliesAlone limit result (R.remaining reader.old)
         (W.contents writer.old) (W.contents writer.new) }
+    ensures turns { SpendsItsTurns result turns
+        (R.remaining reader.old) (R.remaining reader.new) }
 {
     let Ok(mut machine) = Machine::new(alloc, limit) else {
         return End::NoMemory { done: false };

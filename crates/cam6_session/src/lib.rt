@@ -5,9 +5,11 @@
 //! does this for anything that stands at a machine and answers as it does: for each of its five
 //! ends it is exact which lines were taken, what was written, and at which machine the one that was
 //! asked then stands (`specs/Sessions.antt`), so that a session can be taken up again where it
-//! ended. For want of memory it ends only at a line for which memory is taken. `next_line` takes
-//! exactly one line, or says why it stopped, and counts its turns. The premise is that the reader
-//! and the writer tell their bytes, as those over memory do.
+//! ended. For want of memory it ends only at a line for which memory is taken, and for want of
+//! turns only where as many bytes were taken of the reader as there were turns, so not at once
+//! (`specs/Spending.antt`). `next_line` takes exactly one line, or says why it stopped, and counts
+//! its turns. The premise is that the reader and the writer tell their bytes, as those over memory
+//! do.
 //!
 //! So of the two lines `{"do":"run","n":1}` and `{"do":"fly"}` the machine alone makes the two
 //! lines `{"fault":63}` and `{"fault":3}`: no cycle is set, and the second says no command.
@@ -16,7 +18,7 @@
 //! replies to the commands among them, and the faults of the others, in the order of the lines, and
 //! go on from where lines before left the machine.
 //!
-//! Stands on: `cam6_planes`, `cam6_machine`, `cam6_wire`.
+//! Stands on: `cam6_planes`, `cam6_wiring`, `cam6_forth`, `cam6_machine`, `cam6_wire`.
 //!
 //! Read next: `sessions` and `alone`; then their parts, `line_buffer`, `lines`, `desks` and
 //! `writers`; and `laws`.

@@ -3,6 +3,7 @@ ghost use Rattle.std.specs.Prelude.{◌≡◌, ◌<◌, ◌≤◌, if◌then◌e
 ghost use Rattle.cam6_session.specs.Held.{is_empty};
 ghost use Rattle.cam6_wire.specs.OneLine.{HasNoLf};
 ghost use Rattle.cam6_session.specs.Reading.{Reads, TakesPart, Turns};
+ghost use Rattle.cam6_session.specs.Spending.{TakesAByteEach};
 
 use crate::line_buffer::LineBuf;
 use std::io::BufRead;
@@ -35,6 +36,8 @@ enum Part {
 pub fn next_line<R: BufRead>(reader: &mut R, line: &mut LineBuf, turns: &mut u64) -> Line
     ensures line { Reads result (R.remaining reader.old) (R.remaining reader.new) line.new }
     ensures turns { Turns result turns.old turns.new }
+    ensures bytes { TakesAByteEach result turns.old turns.new
+        (R.remaining reader.old) (R.remaining reader.new) }
 {
     line.clear();
     while *turns > 0 {

@@ -7,6 +7,7 @@ ghost use Rattle.cam6_session.specs.Answers.{by_machine};
 ghost use Rattle.cam6_session.specs.Held.{Holds};
 ghost use Rattle.cam6_session.specs.Responding.{Responds, TakesMemory};
 ghost use Rattle.cam6_session.specs.Sessions.{AnswersReader};
+ghost use Rattle.cam6_session.specs.Spending.{SpendsItsTurns};
 
 use crate::desks::Ask;
 use crate::line_buffer::LineBuf;
@@ -85,6 +86,8 @@ pub fn serve<R: BufRead, W: Write, D: Ask>(
         (R.remaining reader.old) (R.remaining reader.new)
         (W.contents writer.old) (W.contents writer.new)
         (D.stands_at desk.old) (D.stands_at desk.new) }
+    ensures turns { SpendsItsTurns result turns
+        (R.remaining reader.old) (R.remaining reader.new) }
 {
     let Ok(mut line) = LineBuf::new(alloc) else {
         return End::NoMemory { done: false };

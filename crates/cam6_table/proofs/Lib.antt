@@ -20,6 +20,8 @@ pub mod Stops
 pub mod TrueTables
 -- Trees of one rule mean the same.
 pub mod OneMeaning
+-- What code of the rule that a text was accepted as is to the text.
+pub mod RuleTexts
 -- Jumps of flat code: instructions passed over are instructions left out.
 pub mod Jumps
 -- How many values a stack word wants.

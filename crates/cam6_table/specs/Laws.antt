@@ -3,14 +3,19 @@ use Rattle.std.specs.Prelude.{◌≡◌, ℕ, ◌<◌, ◌≤◌, List, length, 
 use Rattle.std.specs.Prelude.{Some, None, Ok, Err, IsOk}
 use Rattle.cam6_wiring.specs.Seen.{Sees, address_of}
 use Rattle.cam6_wiring.specs.declared.wirings.Wiring.{Wiring}
+use Rattle.cam6_forth.specs.Defined.{RuleWords}
+use Rattle.cam6_forth.specs.Outcome.{IsAccepted}
 use Rattle.cam6_forth.specs.Tree.{Part, IsRule, rule_of}
 use Rattle.cam6_forth.specs.declared.words.StackWord.{StackWord}
+use Rattle.cam6_table.specs.declared.codes.Instruction.{Instruction}
 use Rattle.cam6_table.specs.declared.faults.RuleFault.{RuleFault}
 use Rattle.cam6_table.specs.declared.faults.RuleFault.TheVariants.{MissingValue}
 use Rattle.cam6_table.specs.Limits.{addresses}
 use Rattle.cam6_table.specs.Words.{Values, wants, on_stack}
 use Rattle.cam6_table.specs.Meaning.{meaning, at_address}
-use Rattle.cam6_table.specs.Tables.{Results, IsLeastStop, IsTrueTable, least_stop}
+use Rattle.cam6_table.specs.Tables.{Results, AreEntries, IsLeastStop, IsTrueTable, least_stop}
+use Rattle.cam6_table.specs.Codes.{result_at, IsCodeOf}
+use Rattle.cam6_table.specs.RuleTexts.{IsCodeFor, IsTableOf}
 
 -- a true table, read at the address of what is seen, is the rule as a function
 abbrev pub TrueTableIsRule : Type 0
@@ -51,3 +56,12 @@ abbrev pub RunsEverywhere : Type 0
 RunsEverywhere =
     (wiring : Wiring) (parts : List Part) (sees : Sees) → IsRule wiring parts →
     least_stop (at_address wiring parts) ≡ None → IsOk (meaning wiring parts sees)
+
+-- code of the rule that a text was accepted as, which filled a table, is the text's code, and the
+-- table the text's table
+abbrev pub FilledIsOfTheText : Type 0
+FilledIsOfTheText =
+    (wiring : Wiring) (text : List ℕ) (rule : RuleWords) (code : List Instruction)
+    (entries : List ℕ) → IsAccepted wiring text (Ok rule) → IsCodeOf code rule →
+    AreEntries (result_at code) entries →
+    IsCodeFor wiring text code × IsTableOf wiring text entries

@@ -7,7 +7,7 @@ use cam6_planes::NoMemory;
 use std::alloc::Global;
 use std::marker::Model;
 
-/// One instruction. A jump says how many instructions it passes.
+/// What code does at one place. Where it goes on further ahead, the place says by how many.
 #[derive(Clone, Copy, Debug, PartialEq, Eq)]
 pub enum Instruction {
     /// Puts a number on the stack.

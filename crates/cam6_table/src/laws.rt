@@ -2,6 +2,7 @@
 //! nothing.
 ghost use Rattle.cam6_table.specs.Laws.{TrueTableIsRule, TreesMeanTheSame, LeastIsFound};
 ghost use Rattle.cam6_table.specs.Laws.{NoneIsFound, WantsValues, RunsEverywhere};
+ghost use Rattle.cam6_table.specs.Laws.{FilledIsOfTheText};
 
 /// A true table, read at the address of what is seen, is the rule as a function of what is seen.
 pub fn a_true_table_is_the_rule()
@@ -31,4 +32,10 @@ pub fn a_word_wants_so_many_values()
 /// A rule that stops at no address stops nowhere, whatever is seen.
 pub fn a_rule_that_stops_at_no_address_runs()
     ensures law { RunsEverywhere }
+{}
+
+/// Code of the rule that a text was accepted as, which filled a table, is the text's code, and the
+/// table the text's table.
+pub fn code_that_filled_a_table_is_its_texts()
+    ensures law { FilledIsOfTheText }
 {}

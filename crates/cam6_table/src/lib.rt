@@ -10,7 +10,8 @@
 //! laws: a true table, read at the address of what is seen, is the rule as a function of what is
 //! seen; a rule that stops at no address stops nowhere, whatever is seen; trees of one rule mean
 //! the same; the least address with a fault is what a search over all addresses finds; a stack word
-//! stops for want of values exactly where there are fewer than it wants.
+//! stops for want of values exactly where there are fewer than it wants; code of the rule that a
+//! text was accepted as, which filled a table, is the text's code, and the table the text's table.
 //!
 //! Stands on: `cam6_planes`, `cam6_wiring`, `cam6_exchange` and `cam6_forth`.
 //!

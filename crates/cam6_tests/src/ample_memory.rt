@@ -6,9 +6,10 @@ ghost use Rattle.cam6_table.specs.RuleTexts.{IsCodeFor};
 
 use cam6_cache::{Key, TableCache};
 use cam6_forth::{ParseFault, Rule, parse, parse_under};
-use cam6_machine::{Command, Machine, Now, Reply, replies_alone};
+use cam6_machine::{Command, Fault, Machine, Now, Reply, replies_alone};
 use cam6_planes::{NoMemory, Planes, Side};
 use cam6_session::{Ask, End, Line, LineBuf, next_line, serve, serve_alone};
+use cam6_table::laws::code_that_filled_a_table_is_its_texts;
 use cam6_table::{Code, Table, fill};
 use cam6_wire::{command_shown, read_command, reply_text};
 use cam6_wiring::{Half, Hood, Minor, Wiring};
@@ -56,7 +57,10 @@ fn code_for(alloc: Global, wiring: Wiring, text: &str) -> Option<Code>
         return None;
     };
     match fill(&code, &mut trial) {
-        Ok(()) => Some(code),
+        Ok(()) => {
+            code_that_filled_a_table_is_its_texts();
+            Some(code)
+        }
         Err(_) => None,
     }
 }
@@ -75,8 +79,11 @@ fn tables_are_kept(rt: HostRuntime) -> Result<(), Fail> {
     let text = ": R CENTER >PLN0 ;";
     let code = code_for(alloc, wiring, text).ok_or(NoMemory)?;
     key.set(wiring.half, wiring.hood, wiring.minor, text, false);
+    assert_eq!(rt; cache.len(), 0);
     assert!(rt; !cache.load(&key, &code, &mut table));
+    assert_eq!(rt; cache.len(), 1);
     assert!(rt; cache.load(&key, &code, &mut table));
+    assert_eq!(rt; cache.len(), 1);
     Ok(())
 }
 
@@ -92,6 +99,7 @@ fn machines_answer_now(rt: HostRuntime) -> Result<(), Fail> {
 #[test]
 fn machines_answer(rt: HostRuntime) -> Result<(), Fail> {
     let mut machine = Machine::new(rt.alloc(), Side::S256)?;
+    assert_eq!(rt; machine.limit(), Side::S256);
     let reply = machine.reply_to(Command::Run { n: 0 })?;
     assert!(rt; matches!(&reply, Reply::Fault(_)));
     let reply = machine.ask(Command::Run { n: 0 })?;
@@ -99,12 +107,44 @@ fn machines_answer(rt: HostRuntime) -> Result<(), Fail> {
     Ok(())
 }
 
+/// Commands of several kinds, by their number; a blank machine of 256 columns is asked all of them.
+fn command(number: usize) -> Command {
+    match number {
+        0 => Command::Clear { plane: 3 },
+        1 => Command::Count { mask: 1 },
+        2 => Command::Run { n: 0 },
+        3 => Command::Side { side: 128 },
+        4 => Command::Count { mask: 1 },
+        5 => Command::Map { colours: [0; 16] },
+        _ => Command::Clear { plane: 4 },
+    }
+}
+
+/// Whether this is the reply to the command of the number: side 256 has 65,536 cells, side 128 has
+/// 16,384.
+fn is_its_reply(number: usize, reply: &Reply) -> bool {
+    match number {
+        0 => matches!(reply, Reply::Clear),
+        1 => matches!(reply, Reply::Count { count: 65_536 }),
+        2 => matches!(reply, Reply::Fault(Fault::NoCycle)),
+        3 => matches!(reply, Reply::Side),
+        4 => matches!(reply, Reply::Count { count: 16_384 }),
+        5 => matches!(reply, Reply::Map),
+        _ => matches!(reply, Reply::Fault(Fault::OutOfRange)),
+    }
+}
+
 #[test]
 fn lists_are_answered(rt: HostRuntime) -> Result<(), Fail> {
     let mut commands = Vec::new(rt.alloc());
-    commands.push(Command::Run { n: 0 })?;
+    for number in 0..7 {
+        commands.push(command(number))?;
+    }
     let (replies, _machine) = replies_alone(rt.alloc(), Side::S256, commands)?;
-    assert!(rt; matches!(replies.as_slice(), [Reply::Fault(_)]));
+    assert_eq!(rt; replies.len(), 7);
+    for (number, reply) in replies.iter().enumerate() {
+        assert!(rt; is_its_reply(number, reply));
+    }
     Ok(())
 }
 

@@ -7,14 +7,17 @@
 //! Stands on: all libraries of the repository.
 //!
 //! Read next: `ample_memory`, each call that takes memory; `planes` and `rows`; `blocks`, `corners`,
-//! `addresses` and `lines`, what a cell sees; `steps`, those of a run and of a rule; then `failing`,
-//! readers, writers and desks that fail, with the sessions over them in `sessions`.
+//! `addresses` and `lines`, what a cell sees; `bands`, a step that is moved or given up; `steps`,
+//! those of a run and of a rule; then `failing`, readers, writers and desks that fail, with the
+//! sessions over them in `sessions`.
 #![tactic(auto)]
 
 #[cfg(test)]
 mod addresses;
 #[cfg(test)]
 mod ample_memory;
+#[cfg(test)]
+mod bands;
 #[cfg(test)]
 mod blocks;
 #[cfg(test)]

@@ -1,13 +1,31 @@
-//! Steps that a run leaves to be done, turns that a rule takes, and the numbers of line faults.
+//! Copies of cycles, steps that a run leaves to be done, turns that a rule takes, and the numbers of
+//! line faults.
 
+use cam6_cycle::{Cycle, Entry};
 use cam6_forth::parse;
 use cam6_machine::{Command, Machine, NamedEntries, NamedEntry, Now, Reply};
 use cam6_planes::{NoMemory, Side};
 use cam6_table::{Code, MAX_TURNS, eval};
 use cam6_wire::LineFault;
-use cam6_wiring::{Grid, Half, Hood, Minor};
+use cam6_wiring::{Grid, Half, Hood, Minor, Phase};
 use std::alloc::{AllocError, Global};
 use std::test::Fail;
+
+// A copy has the same entries.
+#[test]
+fn cycles_are_copied(rt: HostRuntime) {
+    let odd = Entry {
+        a: None,
+        b: None,
+        grid: Grid::Odd,
+        phase: Phase::P3,
+    };
+    let entries = [Entry::default(), odd];
+    match Cycle::new(&entries) {
+        Ok(cycle) => assert_eq!(rt; cycle.copy().entries(), entries.as_slice()),
+        Err(_) => panic!(rt; "two entries are a cycle"),
+    }
+}
 
 /// A cycle of three entries without rules.
 fn cycle(alloc: Global) -> Result<Command, AllocError> {

@@ -30,3 +30,13 @@ pub mod Showing
 pub mod Telling
 -- JSON's compact text has no control character, so it is one line.
 pub mod Plain
+-- What stands between the quotes of a JSON string, unescaped, is UTF-8 where the bytes are.
+pub mod Utf8Contents
+-- So are the keys and strings among the tokens of such bytes,
+pub mod Utf8Tokens
+-- those of the value that the tokens are,
+pub mod Utf8Values
+-- and those of the value that serde_json makes of it.
+pub mod TextsAreUtf8
+-- The text of a rule that a line defines is UTF-8.
+pub mod RuleTexts

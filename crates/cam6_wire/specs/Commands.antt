@@ -1,5 +1,6 @@
 -- What a line says: the JSON value that it is, and the command that the value is.
-use Rattle.std.specs.Prelude.{◌≡◌, ℕ, List, length, codes, nat_lt, Bool, false, ◌||◌, if◌then◌else◌}
+use Rattle.std.specs.Prelude.{◌≡◌, ℕ, List, [], ◌∷◌, length, codes, nat_lt, Bool, true, false}
+use Rattle.std.specs.Prelude.{if◌then◌else◌}
 use Rattle.std.specs.Prelude.{Option, Some, None, option_map, ok_or, Result, Ok, Err, ⊤}
 use Rattle.std.specs.Option.{option_map_or}
 use Rattle.std.specs.Str.{bytes_eq, is_utf8}
@@ -11,6 +12,7 @@ use Rattle.cam6_machine.specs.declared.commands.Command.TheVariants.{Row, Plane,
 use Rattle.cam6_machine.specs.declared.commands.Command.TheVariants.{Drop as DropRule, Rules, Map}
 use Rattle.cam6_machine.specs.declared.commands.Command.TheVariants.{Side as SetSide, Colours}
 use Rattle.cam6_machine.specs.declared.commands.Command.TheVariants.{Count}
+use Rattle.cam6_machine.specs.declared.commands.NamedEntry.{NamedEntry}
 use Rattle.cam6_wire.specs.declared.faults.LineFault.{LineFault}
 use Rattle.cam6_wire.specs.declared.faults.LineFault.TheVariants.{NoMemory, TooLong}
 use Rattle.cam6_wire.specs.declared.faults.LineFault.TheVariants.{NoJson, NoCommand}
@@ -124,14 +126,21 @@ shown_in d = do
   word ← text_at (codes "do") d
   by_word word d
 
--- whether a word is rule, drop or cycle
-abbrev pub is_of_texts : List ℕ → Bool
-is_of_texts word =
-    bytes_eq word (codes "rule") || bytes_eq word (codes "drop") || bytes_eq word (codes "cycle")
+-- whether there are entries
+abbrev pub are_some : List NamedEntry → Bool
+are_some [] = false
+are_some (entry ∷ entries) = true
 
--- whether the word at the key do is one of these, the commands of which texts are kept
+-- a command of which texts are kept: a rule, a name, or entries
+abbrev pub keeps_text : Command → Bool
+keeps_text (Rule name wiring text) = true
+keeps_text (DropRule name) = true
+keeps_text (Cycle entries) = are_some entries
+keeps_text _ = false
+
+-- whether a value shows such a command
 abbrev pub takes_text : Data → Bool
-takes_text d = option_map_or is_of_texts (text_at (codes "do") d) false
+takes_text d = option_map_or keeps_text (shown_in d) false
 
 -- the JSON value that the bytes are, as serde_json reads them
 abbrev pub value_of : List ℕ → Option Data

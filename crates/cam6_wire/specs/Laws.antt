@@ -1,8 +1,11 @@
--- The laws that tie what a line says to the values that commands are shown by, and that answers are
--- lines.
+-- The laws that tie what a line says to the values that commands are shown by, that the text of a
+-- rule is UTF-8, and that answers are lines.
 use Rattle.std.specs.Prelude.{◌≡◌, ◌≤◌, ℕ, List, length, Some, Ok}
+use Rattle.std.specs.Str.{IsUtf8}
 use Rattle.serde_json.specs.Data.{Data}
+use Rattle.cam6_wiring.specs.declared.wirings.Wiring.{Wiring}
 use Rattle.cam6_machine.specs.declared.commands.Command.{Command}
+use Rattle.cam6_machine.specs.declared.commands.Command.TheVariants.{Rule}
 use Rattle.cam6_machine.specs.declared.replies.Reply.{Reply}
 use Rattle.cam6_wire.specs.declared.faults.LineFault.{LineFault}
 use Rattle.cam6_wire.specs.Limits.{max_line}
@@ -22,6 +25,12 @@ abbrev pub SaidIsShown : Type 0
 SaidIsShown =
     (line : List ℕ) (c : Command) → command line ≡ Ok c →
     (length line ≤ max_line) × ((d : Data) × (value_of line ≡ Some d) × Shows d c)
+
+-- the text of a rule that a line defines is UTF-8
+abbrev pub TextIsUtf8 : Type 0
+TextIsUtf8 =
+    (line name text : List ℕ) (wiring : Wiring) → command line ≡ Ok (Rule name wiring text) →
+    IsUtf8 text
 
 -- the text of a reply is one line, whatever stands in it
 abbrev pub ReplyIsLine : Type 0

@@ -1,12 +1,14 @@
 //! A line as a command.
-ghost use Rattle.std.specs.Prelude.{◌≡◌, ◌<◌, ◌≤◌, length, Err, IfOk, IsOk, false};
+ghost use Rattle.std.specs.Prelude.{◌≡◌, ◌<◌, ◌≤◌, length, Err, IfOk, IfSome, IsOk, false};
+ghost use Rattle.std.specs.Option.{option_map_or};
 ghost use Rattle.cam6_wire.specs.declared.faults.LineFault.TheVariants.{NoMemory};
 ghost use Rattle.serde_json.specs.View.{view};
+ghost use Rattle.cam6_machine.specs.Always.{HasText};
 ghost use Rattle.cam6_wire.specs.Commands.{set_of, rule_of, cycle_of, run_of, back_of, row_of};
 ghost use Rattle.cam6_wire.specs.Commands.{plane_of, side_of, by_word, clear_of, drop_of};
 ghost use Rattle.cam6_wire.specs.Commands.{rules_of, map_of, colours_of, count_of};
 ghost use Rattle.cam6_wire.specs.Commands.{shown_in, command, IsSaid};
-ghost use Rattle.cam6_wire.specs.Commands.{is_of_texts, takes_text};
+ghost use Rattle.cam6_wire.specs.Commands.{keeps_text, takes_text};
 ghost use Rattle.cam6_wire.specs.Limits.{max_line};
 
 use crate::entries::entries_at;
@@ -25,6 +27,7 @@ pub fn read_command(alloc: Global, line: &[u8]) -> Result<Command, LineFault>
     ensures said { IsSaid result (command line.now) }
     // No memory is wanted for an empty line, nor for one that is too long.
     ensures memory { result ≡ Err NoMemory → (0 < length line.now) × (length line.now ≤ max_line) }
+    ensures texts { IfOk result (λ command. HasText command) }
 {
     if line.len() > LINE_LIMIT {
         return Err(LineFault::TooLong);
@@ -44,18 +47,48 @@ pub fn read_command(alloc: Global, line: &[u8]) -> Result<Command, LineFault>
 /// The command that a JSON value shows.
 pub fn command_shown(alloc: Global, value: &Value) -> Result<Option<Command>, AllocError>
     ensures command { IfOk result (λ command. command ≡ shown_in (view value.now)) }
-    // Memory is wanted for a rule, a name and a cycle alone.
+    // Memory is wanted for a rule, a name and entries alone, once all of them are looked at.
     ensures memory { takes_text (view value.now) ≡ false → IsOk result }
+    ensures texts { IfOk result (λ command. IfSome command HasText) }
 {
-    match text_at(value, "do") {
-        Some(word) => by_word(alloc, word, value),
-        None => Ok(None),
+    let Some(word) = text_at(value, "do") else {
+        return Ok(None);
+    };
+    let shown = by_word(alloc, word, value)?;
+    if let Some(command) = &shown {
+        has_text(command);
+    }
+    Ok(shown)
+}
+
+/// The text of a rule is UTF-8, as every `Text` is.
+fn has_text(command: &Command)
+    ensures { HasText command.now }
+{
+    match command {
+        Command::Rule { text, .. } => {
+            text.as_str();
+        }
+        Command::Set { .. }
+        | Command::Clear { .. }
+        | Command::Drop { .. }
+        | Command::Rules
+        | Command::Cycle { .. }
+        | Command::Run { .. }
+        | Command::Back { .. }
+        | Command::Row { .. }
+        | Command::Plane { .. }
+        | Command::Side { .. }
+        | Command::Map { .. }
+        | Command::Colours { .. }
+        | Command::Count { .. } => {}
     }
 }
 
 fn by_word(alloc: Global, word: &str, value: &Value) -> Result<Option<Command>, AllocError>
     ensures command { IfOk result (λ command. command ≡ by_word word.now (view value.now)) }
-    ensures memory { is_of_texts word.now ≡ false → IsOk result }
+    ensures memory { option_map_or keeps_text (by_word word.now (view value.now)) false ≡ false
+        → IsOk result }
 {
     match word {
         "set" => Ok(set_of(value)),
@@ -102,7 +135,9 @@ fn clear_of(value: &Value) -> Option<Command>
 
 #[tactic(auto, unfolding(crate::specs::Commands::rule_of))]
 fn rule_of(alloc: Global, value: &Value) -> Result<Option<Command>, AllocError>
-    ensures { IfOk result (λ command. command ≡ rule_of (view value.now)) }
+    ensures command { IfOk result (λ command. command ≡ rule_of (view value.now)) }
+    ensures memory { option_map_or keeps_text (rule_of (view value.now)) false ≡ false
+        → IsOk result }
 {
     if !has_size(value, 6) {
         return Ok(None);
@@ -125,7 +160,9 @@ fn rule_of(alloc: Global, value: &Value) -> Result<Option<Command>, AllocError>
 
 #[tactic(auto, unfolding(crate::specs::Commands::drop_of))]
 fn drop_of(alloc: Global, value: &Value) -> Result<Option<Command>, AllocError>
-    ensures { IfOk result (λ command. command ≡ drop_of (view value.now)) }
+    ensures command { IfOk result (λ command. command ≡ drop_of (view value.now)) }
+    ensures memory { option_map_or keeps_text (drop_of (view value.now)) false ≡ false
+        → IsOk result }
 {
     if !has_size(value, 2) {
         return Ok(None);
@@ -150,7 +187,9 @@ fn rules_of(value: &Value) -> Option<Command>
 
 #[tactic(auto, unfolding(crate::specs::Commands::cycle_of))]
 fn cycle_of(alloc: Global, value: &Value) -> Result<Option<Command>, AllocError>
-    ensures { IfOk result (λ command. command ≡ cycle_of (view value.now)) }
+    ensures command { IfOk result (λ command. command ≡ cycle_of (view value.now)) }
+    ensures memory { option_map_or keeps_text (cycle_of (view value.now)) false ≡ false
+        → IsOk result }
 {
     if !has_size(value, 2) {
         return Ok(None);

@@ -1,6 +1,8 @@
 //! The entries of a cycle.
-ghost use Rattle.std.specs.Prelude.{◌≡◌, IfOk, option_map};
+ghost use Rattle.std.specs.Prelude.{◌≡◌, false, IfOk, IsOk, is_some, option_map};
+ghost use Rattle.std.specs.Option.{option_map_or};
 ghost use Rattle.serde_json.specs.View.{view, items_view};
+ghost use Rattle.cam6_wire.specs.Commands.{are_some};
 ghost use Rattle.cam6_wire.specs.Entries.{rule_named, entry_of, entries_of, entries_at};
 
 use crate::fields::{has_size, number_at, text_at};
@@ -15,7 +17,10 @@ pub(crate) fn entries_at(
     value: &Value,
     key: &str,
 ) -> Result<Option<NamedEntries>, AllocError>
-    ensures { IfOk result (λ entries. entries ≡ entries_at key.now (view value.now)) }
+    ensures entries { IfOk result (λ entries. entries ≡ entries_at key.now (view value.now)) }
+    // Memory is wanted where there are entries alone.
+    ensures memory { option_map_or are_some (entries_at key.now (view value.now)) false ≡ false
+        → IsOk result }
 {
     match value.get(key).and_then(Value::as_array) {
         Some(values) => entries_of(alloc, values),
@@ -24,16 +29,44 @@ pub(crate) fn entries_at(
 }
 
 fn entries_of(alloc: Global, values: &[Value]) -> Result<Option<NamedEntries>, AllocError>
-    ensures { IfOk result (λ entries. entries ≡ entries_of (items_view values.now)) }
+    ensures entries { IfOk result (λ entries. entries ≡ entries_of (items_view values.now)) }
+    ensures memory { option_map_or are_some (entries_of (items_view values.now)) false ≡ false
+        → IsOk result }
 {
+    if !are_entries(values) {
+        return Ok(None);
+    }
     let mut entries = Vec::new(alloc);
     for value in values {
-        match entry_of(alloc, value)? {
-            Some(entry) => entries.push(entry)?,
-            None => return Ok(None),
-        }
+        let Some(entry) = entry_of(alloc, value)? else {
+            unreachable!()
+        };
+        entries.push(entry)?;
     }
     Ok(Some(NamedEntries::new(entries)))
+}
+
+/// Whether each value is an entry.
+fn are_entries(values: &[Value]) -> bool
+    ensures { result ≡ is_some (entries_of (items_view values.now)) }
+{
+    for value in values {
+        if !is_entry(value) {
+            return false;
+        }
+    }
+    true
+}
+
+#[tactic(auto, unfolding(crate::specs::Entries::entry_of))]
+fn is_entry(value: &Value) -> bool
+    ensures { result ≡ is_some (entry_of (view value.now)) }
+{
+    has_size(value, 4)
+        && text_at(value, "a").is_some()
+        && text_at(value, "b").is_some()
+        && text_at(value, "grid").and_then(grid_named).is_some()
+        && number_at(value, "phase").is_some()
 }
 
 #[tactic(auto, unfolding(crate::specs::Entries::entry_of))]

@@ -1,6 +1,7 @@
-//! Laws that tie what a line says to the values that commands are shown by, and that answers are
-//! lines. Each is the contract of a function that does nothing.
-ghost use Rattle.cam6_wire.specs.Laws.{ShownIsSaid, SaidIsShown, ReplyIsLine, FaultIsLine};
+//! Laws that tie what a line says to the values that commands are shown by, that the text of a rule
+//! is UTF-8, and that answers are lines. Each is the contract of a function that does nothing.
+ghost use Rattle.cam6_wire.specs.Laws.{ShownIsSaid, SaidIsShown, TextIsUtf8};
+ghost use Rattle.cam6_wire.specs.Laws.{ReplyIsLine, FaultIsLine};
 
 /// A line whose value shows a command says it.
 pub fn a_shown_command_is_said()
@@ -10,6 +11,11 @@ pub fn a_shown_command_is_said()
 /// A line that says a command has a value that shows it: its keys, and no others.
 pub fn a_said_command_is_shown()
     ensures law { SaidIsShown }
+{}
+
+/// The text of a rule that a line defines is UTF-8.
+pub fn a_rules_text_is_utf8()
+    ensures law { TextIsUtf8 }
 {}
 
 /// The text of a reply is one line, whatever stands in it.

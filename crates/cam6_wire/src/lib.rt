@@ -3,13 +3,14 @@
 //! Contract: `read_command` answers exactly the command that a line says, or fault 1, 2 or 3
 //! (`specs/Commands.antt`), by `serde_json`'s own reading; memory is wanted neither for an empty
 //! line nor for one that is too long. `command_shown` is the command that a JSON value shows, and
-//! wants memory for a rule and a cycle alone. `reply_text` is exactly the compact JSON text of a
+//! wants memory for a rule, a name and entries alone, never for a value that shows no command. The
+//! text of a rule that either answers is UTF-8. `reply_text` is exactly the compact JSON text of a
 //! reply (`specs/Replies.antt`), which reads back as the reply's value; `fault_text` is that of a
 //! line's fault, and takes no memory.
 //!
 //! The laws: a line says a command exactly where it has at most 16,384 bytes and its JSON value
-//! shows the command, with its keys and no others; the text of a reply, and of a line's fault, is
-//! one line.
+//! shows the command, with its keys and no others; the text of a rule that a line defines is UTF-8;
+//! the text of a reply, and of a line's fault, is one line.
 //!
 //! Stands on: `cam6_planes`, `cam6_wiring`, `cam6_forth`, `cam6_table`, `cam6_machine`;
 //! `serde_json` with its grammar in `json`, and `hex`.

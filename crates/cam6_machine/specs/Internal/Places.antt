@@ -1,14 +1,13 @@
 -- How the code keeps rules and a cycle: rules in a map by name, each with its code, and entries
 -- with the places of their rules instead of the names.
-use Rattle.std.specs.Prelude.{◌≡◌, ℕ, suc, ◌-◌, ◌<◌, nat_lt, Bool, false, ◌||◌, ◌==◌, List, []}
+use Rattle.std.specs.Prelude.{ℕ, suc, ◌-◌, ◌<◌, nat_lt, Bool, false, ◌||◌, ◌==◌, List, []}
 use Rattle.std.specs.Prelude.{◌∷◌, map, length}
 use Rattle.std.specs.Prelude.{Option, Some, None, ⊤, String, string_bytes, if◌then◌else◌}
-use Rattle.std.specs.List.{slice_get, AllByRecursion}
+use Rattle.std.specs.List.{slice_get}
 use Rattle.std.specs.Option.{option_map}
 use Rattle.std.specs.Str.{bytes_eq}
 use Rattle.std.specs.declared.alloc.Global.{Global}
 use Rattle.cam6_planes.specs.Stored.{Stored}
-use Rattle.cam6_wiring.specs.Name.{phase_number}
 use Rattle.cam6_wiring.specs.declared.wirings.Wiring.{Wiring}
 use Rattle.cam6_forth.specs.Trees.{tree_of}
 use Rattle.cam6_block.specs.BlockMaps.{Reading, by_words}
@@ -16,7 +15,8 @@ use Rattle.cam6_cycle.specs.declared.entries.Entry.{Entry}
 use Rattle.cam6_cycle.specs.declared.entries.HalfRule.{HalfRule}
 use Rattle.cam6_table.specs.declared.codes.Instruction.{Instruction}
 use Rattle.cam6_machine.specs.Rules.{Rule, wiring_for}
-use Rattle.cam6_machine.specs.Cycles.{EntryRules, phase_of}
+use Rattle.cam6_machine.specs.Cycles.{phase_of}
+use Rattle.cam6_machine.specs.Numbers.{rule_at, place_in, named_entries}
 use Rattle.cam6_machine.specs.Stored.{StoredMachine}
 use Rattle.cam6_machine.specs.declared.commands.NamedEntry.{NamedEntry}
 
@@ -41,19 +41,9 @@ place_of name [] = None
 place_of name (rule ∷ rules) =
     if bytes_eq name rule.name then Some 0 else option_map suc (place_of name rules)
 
--- the rule at a place, if there is a place and a rule at it
-abbrev pub rule_at : List Rule → Option ℕ → Option Rule
-rule_at rules None = None
-rule_at rules (Some place) = slice_get rules place
-
--- what it is written for
+-- what the rule at a place is written for
 abbrev pub wiring_at : List Rule → Option ℕ → Option Wiring
 wiring_at rules place = wiring_for (rule_at rules place)
-
--- its name
-abbrev pub name_of : Option Rule → Option (List ℕ)
-name_of None = None
-name_of (Some rule) = Some rule.name
 
 -- the place of a name's rule, if there is a name and such a rule
 abbrev pub place_if_named : List Rule → Option (List ℕ) → Option ℕ
@@ -76,11 +66,6 @@ abbrev pub half_rule_at : List Rule → Option ℕ → Option HalfRule
 half_rule_at rules None = None
 half_rule_at rules (Some place) = half_rule place (slice_get rules place)
 
--- the place of an entry's rule, if it has one
-abbrev pub place_in : Option HalfRule → Option ℕ
-place_in None = None
-place_in (Some rule) = Some rule.number
-
 -- an entry with the places of the rules that it names
 abbrev pub placed_entry : List Rule → NamedEntry → Entry
 placed_entry rules entry =
@@ -89,30 +74,6 @@ placed_entry rules entry =
       b = half_rule_at rules (place_if_named rules entry.b);
       grid = entry.grid;
       phase = phase_of entry.phase;
-    }
-
--- an entry with the names of the rules at its places
-abbrev pub named_entry : List Rule → Entry → NamedEntry
-named_entry rules entry =
-    record {
-      a = name_of (rule_at rules (place_in entry.a));
-      b = name_of (rule_at rules (place_in entry.b));
-      grid = entry.grid;
-      phase = phase_number entry.phase;
-    }
-
--- a cycle's entries, with names
-abbrev pub named_entries : List Rule → List Entry → List NamedEntry
-named_entries rules entries = map (named_entry rules) entries
-
--- an entry with the rules at its places
-abbrev pub rules_at : List Rule → Entry → EntryRules
-rules_at rules entry =
-    record {
-      a = rule_at rules (place_in entry.a);
-      b = rule_at rules (place_in entry.b);
-      grid = entry.grid;
-      phase = entry.phase;
     }
 
 -- a rule stands at the place, if there is a place
@@ -141,18 +102,6 @@ closed_half place (Some rule) = Some (record rule { number = closed_up place rul
 abbrev pub closed_entry : ℕ → Entry → Entry
 closed_entry place entry =
     record entry { a = closed_half place entry.a; b = closed_half place entry.b }
-
--- the rule of a half, if it has one, stands at its place, and is written for what the half says
-abbrev pub IsPlaced : List Rule → Option HalfRule → Type 0
-IsPlaced rules None = ⊤
-IsPlaced rules (Some half) =
-    (rule : Rule) × (slice_get rules half.number ≡ Some rule) ×
-    (rule.wiring.hood ≡ half.hood) × (rule.wiring.minor ≡ half.minor)
-
--- so it is with all entries
-abbrev pub ArePlaced : List Rule → List Entry → Type 0
-ArePlaced rules entries =
-    AllByRecursion (λ entry. IsPlaced rules entry.a × IsPlaced rules entry.b) entries
 
 -- the machine of which these are kept
 abbrev pub stored : Stored → List Rule → List Entry → ℕ → List ℕ → StoredMachine

@@ -1,5 +1,6 @@
 -- What was said of a text that was tried.
 use Rattle.std.specs.Prelude.{◌≡◌, ℕ, List, Some, None, Result, Ok, Err, ⊤}
+use Rattle.std.specs.Str.{IsUtf8}
 use Rattle.cam6_wiring.specs.declared.wirings.Wiring.{Wiring}
 use Rattle.cam6_machine.specs.Internal.Places.{Compiled}
 use Rattle.cam6_machine.specs.Refusals.{words_refusal}
@@ -7,11 +8,11 @@ use Rattle.cam6_machine.specs.declared.replies.Reply.TheVariants as reply
 use Rattle.cam6_machine.specs.declared.rules.RuleRefusal.{RuleRefusal}
 use Rattle.cam6_machine.specs.declared.rules.RuleRefusal.TheVariants as refused
 
--- a text was tried: it is a rule that stops nowhere and is kept, or it is refused for its fault, or
--- for the least address at which it stops; for want of memory nothing is said
+-- a text was tried: it is UTF-8 and a rule that stops nowhere and is kept, or it is refused for its
+-- fault, or for the least address at which it stops; for want of memory nothing is said
 abbrev pub IsVerdict : Wiring → List ℕ → Result Compiled RuleRefusal → Type 0
 IsVerdict wiring text (Ok rule) =
-    (words_refusal wiring text ≡ None) × (rule.wiring ≡ wiring) × (rule.text ≡ text)
+    (words_refusal wiring text ≡ None) × (rule.wiring ≡ wiring) × (rule.text ≡ text) × IsUtf8 text
 IsVerdict wiring text (Err (refused.Text fault)) =
     words_refusal wiring text ≡ Some (reply.RuleText fault)
 IsVerdict wiring text (Err (refused.Stops address fault)) =

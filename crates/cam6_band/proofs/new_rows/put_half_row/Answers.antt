@@ -1,4 +1,5 @@
 use Rattle.std.proofs.Common.{◌≡◌, ◌∙◌, sym, ap, arith, slice_index}
+use Rattle.std.specs.Option.{option_map}
 use Rattle.cam6_planes.specs.Cells.{Cells, cells}
 use Rattle.cam6_planes.specs.Row.{column_bit}
 use Rattle.cam6_planes.specs.Side.{side_number}
@@ -6,6 +7,7 @@ use Rattle.cam6_planes.specs.Stored.{width}
 use Rattle.cam6_wiring.specs.Lines.{address_in}
 use Rattle.cam6_wiring.specs.Name.{plane_of, other_half}
 use Rattle.cam6_table.specs.NewBits.{bit_for}
+use Rattle.cam6_band.specs.ByTables.{entries_of}
 use Rattle.cam6_band.specs.Internal.ByLines.{bit_by_lines}
 use Rattle.cam6_band.proofs.TwoRows.{both, written, other_rows, other_planes}
 use Rattle.cam6_band.proofs.new_rows.put_half_row.Goals as goal
@@ -28,7 +30,8 @@ returns-clause-half c = λ level x h.
     (λ level x. bit_for level (slice_index c.in-Some.by.table.now (address_in a.lines.now x)))
     (λ x h. c.put_rows.ensures.lower x (omega (arith, h, side)))
     (λ x h. c.put_rows.ensures.upper x (omega (arith, h, side))) level x h ∙
-    ap (λ t. bit_by_lines old a.half t a.lines.now level x a.y) (sym c.in-Some.is)
+    ap (λ t. bit_by_lines old a.half (option_map entries_of t) a.lines.now level x a.y)
+    (sym c.in-Some.is)
 
 pub returns-clause-other_half : goal.returns-clause-other_half
 returns-clause-other_half c = λ level x v h k.

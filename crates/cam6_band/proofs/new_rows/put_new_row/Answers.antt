@@ -5,7 +5,7 @@ use Rattle.cam6_planes.specs.Side.{side_number}
 use Rattle.cam6_planes.specs.Stored.{width}
 use Rattle.cam6_wiring.specs.Name.{plane_of}
 use Rattle.cam6_wiring.specs.declared.names.Half.TheVariants.{A, B}
-use Rattle.cam6_band.specs.ByTables.{setting_by}
+use Rattle.cam6_band.specs.ByTables.{setting_by, values_of}
 use Rattle.cam6_band.specs.Internal.ByLines.{ShowAddresses}
 use Rattle.cam6_band.proofs.HalfPlanes.{both_halves, by_lines, plane-lt}
 use Rattle.cam6_band.proofs.Further.{south_is}
@@ -16,7 +16,7 @@ returns-clause-new c = λ f north first old.
     let args = c.args in
     let s = width args.image.now in
     let y = args.y in
-    let tables = args.tables.now in
+    let tables = values_of args.tables.now in
     let side : side_number c.side.result ≡ s = ap side_number c.side.ensures.side in
     let south = c.row_to_the_south.result.now in
     let here : IsRow s f y c.row.result.now = λ p x h k.

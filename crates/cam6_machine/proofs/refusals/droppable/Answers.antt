@@ -1,5 +1,6 @@
 use Rattle.std.proofs.Common.{◌∙◌, sym, true, false}
-use Rattle.cam6_machine.specs.Internal.Places.{rules_of, named_entries}
+use Rattle.cam6_machine.specs.Numbers.{named_entries}
+use Rattle.cam6_machine.specs.Internal.Places.{rules_of}
 use Rattle.cam6_machine.proofs.Naming.{dropped_placed, dropped_none}
 use Rattle.cam6_machine.proofs.refusals.droppable.Goals as goal
 

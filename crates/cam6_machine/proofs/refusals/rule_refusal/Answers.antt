@@ -2,7 +2,8 @@ use Rattle.std.proofs.Common.{◌≡◌, ◌∙◌, sym, arith, length, true, fa
 use Rattle.std.proofs.lemmas.Bool.{le-leb, lt-leb}
 use Rattle.std.proofs.lemmas.List.{length-map}
 use Rattle.cam6_machine.specs.Limits.{max_rules}
-use Rattle.cam6_machine.specs.Internal.Places.{rules_of, named_entries}
+use Rattle.cam6_machine.specs.Numbers.{named_entries}
+use Rattle.cam6_machine.specs.Internal.Places.{rules_of}
 use Rattle.cam6_machine.proofs.Naming.{refused_placed, refused_new}
 use Rattle.cam6_machine.proofs.refusals.rule_refusal.Goals as goal
 

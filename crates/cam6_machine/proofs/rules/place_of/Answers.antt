@@ -6,4 +6,4 @@ use Rattle.cam6_machine.proofs.rules.place_of.Goals as goal
 pub returns : goal.returns
 returns c =
     c.get_index_of.ensures.index ∙ place_of-rules_of c.as_str.result.now c.args.rules.now.entries ∙
-    ap (λ name. place_of name (rules_of c.args.rules.now.entries)) c.as_str.ensures
+    ap (λ name. place_of name (rules_of c.args.rules.now.entries)) c.as_str.ensures.text

@@ -9,4 +9,4 @@ returns c =
     let entries = c.args.rules.now.entries in
     ap rules_of c.shift_remove.ensures.entries ∙
     rules_of-remove_entry c.as_str.result.now entries ∙
-    ap (λ name. without_rule name (rules_of entries)) c.as_str.ensures
+    ap (λ name. without_rule name (rules_of entries)) c.as_str.ensures.text

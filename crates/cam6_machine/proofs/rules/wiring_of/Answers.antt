@@ -13,7 +13,7 @@ returns-in-Some c =
     sym (ap (λ o. option_map (λ (r : KeptRule). r.wiring) (option_copied o)) c.in-Some.is) ∙
     ap (option_map (λ (r : KeptRule). r.wiring)) c.get.ensures.value ∙
     rule_named-rules_of c.as_str.result.now entries ∙
-    ap (λ name. wiring_of name (rules_of entries)) c.as_str.ensures
+    ap (λ name. wiring_of name (rules_of entries)) c.as_str.ensures.text
 
 pub returns-in-None : goal.returns-in-None
 returns-in-None c =
@@ -21,4 +21,4 @@ returns-in-None c =
     sym (ap (λ o. option_map (λ (r : KeptRule). r.wiring) (option_copied o)) c.in-None.is) ∙
     ap (option_map (λ (r : KeptRule). r.wiring)) c.get.ensures.value ∙
     rule_named-rules_of c.as_str.result.now entries ∙
-    ap (λ name. wiring_of name (rules_of entries)) c.as_str.ensures
+    ap (λ name. wiring_of name (rules_of entries)) c.as_str.ensures.text

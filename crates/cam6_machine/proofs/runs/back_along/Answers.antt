@@ -3,11 +3,14 @@ use Rattle.std.proofs.lemmas.Option.{slice_get-get_or}
 use Rattle.cam6_planes.specs.Stored.{width}
 use Rattle.cam6_wiring.specs.declared.blocks.Grid.TheVariants.{Even}
 use Rattle.cam6_wiring.specs.declared.names.Phase.TheVariants.{P0}
+use Rattle.cam6_band.specs.ByTables.{values_of}
 use Rattle.cam6_cycle.specs.declared.entries.Entry.{Entry}
 use Rattle.cam6_cycle.specs.declared.tables.Direction.TheVariants.{Backward}
 use Rattle.cam6_machine.specs.Machine.{unsteps, unstepped, machine_of}
-use Rattle.cam6_machine.specs.Internal.Places.{rules_at, stored}
+use Rattle.cam6_machine.specs.Numbers.{rules_at}
+use Rattle.cam6_machine.specs.Internal.Places.{stored}
 use Rattle.cam6_machine.proofs.AlongBackward.{one_step_back, undoable_at, undone_step}
+use Rattle.cam6_machine.proofs.TablesOfPositions.{tables_by_use}
 use Rattle.cam6_machine.proofs.runs.back_along.Goals as goal
 
 pub loop-undone-preserved : goal.loop-undone-preserved
@@ -24,10 +27,11 @@ loop-undone-preserved c =
     record {
       position = within;
       steps = λ rules colours own placed are undoable.
-          let tables = c.tables_at-inverses.ensures Backward rules entry placed are
-          (slice_get-get_or cycle before past within) in
+          let step = values_of c.tables_at-inverses.result in
+          let tables = tables_by_use Backward rules cycle c.args.tables.now before entry step placed
+          are (slice_get-get_or cycle before past within) c.tables_at-inverses.ensures in
           let made = c.step-image.ensures.planes ∙
-          undone_step old (rules_at rules entry) c.tables_at-inverses.result
+          undone_step old (rules_at rules entry) step
           (undoable_at rules cycle before past own within undoable) tables in
           one_step_back old c.step-image.result.planes rules cycle now.position before colours
           past own c.backward-position.ensures.previous within c.step-image.ensures.alike made ∙

@@ -6,11 +6,14 @@ use Rattle.cam6_planes.proofs.CellsAt.{torus_again}
 use Rattle.cam6_planes.proofs.SideNumbers.{side_least}
 use Rattle.cam6_wiring.specs.declared.blocks.Grid.TheVariants.{Even}
 use Rattle.cam6_wiring.specs.declared.names.Phase.TheVariants.{P0}
+use Rattle.cam6_band.specs.ByTables.{values_of}
 use Rattle.cam6_cycle.specs.declared.entries.Entry.{Entry}
 use Rattle.cam6_cycle.specs.declared.tables.Direction.TheVariants.{Forward}
 use Rattle.cam6_machine.specs.Machine.{steps, stepped, machine_of}
-use Rattle.cam6_machine.specs.Internal.Places.{rules_at, stored}
+use Rattle.cam6_machine.specs.Numbers.{rules_at}
+use Rattle.cam6_machine.specs.Internal.Places.{stored}
 use Rattle.cam6_machine.proofs.Along.{one_step}
+use Rattle.cam6_machine.proofs.TablesOfPositions.{tables_by_use}
 use Rattle.cam6_machine.proofs.TrueSteps.{true_step}
 use Rattle.cam6_machine.proofs.runs.run_along.Goals as goal
 
@@ -25,10 +28,12 @@ loop-step-preserved c =
     record {
       position = c.forward-position.ensures.within;
       steps = λ rules colours own placed are.
-          let true_tables = c.tables_at.ensures Forward rules entry placed are
-          (slice_get-get_or cycle now.position past now.invariant.position) in
+          let by = values_of c.tables_at.result in
+          let true_tables = tables_by_use Forward rules cycle c.args.tables.now now.position entry
+          by placed are (slice_get-get_or cycle now.position past now.invariant.position)
+          c.tables_at.ensures in
           let made = c.step-image.ensures.planes ∙
-          true_step s (rules_at rules entry) c.tables_at.result true_tables
+          true_step s (rules_at rules entry) by true_tables
           (cells now.image.planes)
           (torus_again s (stored_bit now.image.planes.rows)
           (omega (arith, side_least now.image.planes.side))) in

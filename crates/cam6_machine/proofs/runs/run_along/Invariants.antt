@@ -3,8 +3,8 @@ use Rattle.cam6_cycle.specs.Tables.{tables_needed}
 use Rattle.cam6_cycle.specs.declared.tables.Direction.TheVariants.{Forward}
 use Rattle.cam6_machine.specs.Rules.{Rule}
 use Rattle.cam6_machine.specs.Always.{HaveOwnNames}
-use Rattle.cam6_machine.specs.Internal.Places.{stored, ArePlaced}
-use Rattle.cam6_machine.specs.Internal.Uses.{AreTables}
+use Rattle.cam6_machine.specs.Numbers.{ArePlaced, AreTables}
+use Rattle.cam6_machine.specs.Internal.Places.{stored}
 use Rattle.cam6_machine.specs.Machine.{steps, machine_of}
 use Rattle.cam6_machine.proofs.runs.run_along.Given as goal
 

@@ -2,7 +2,7 @@ use Rattle.std.proofs.Common.{ℕ, ◌≡◌, ◌∙◌, ap, sym, subst}
 use Rattle.cam6_planes.specs.Cells.{Cells, cells}
 use Rattle.cam6_planes.specs.Side.{side_number}
 use Rattle.cam6_planes.specs.Stored.{width}
-use Rattle.cam6_band.specs.ByTables.{step_by}
+use Rattle.cam6_band.specs.ByTables.{step_by, values_of}
 use Rattle.cam6_band.specs.Partway.{Partway}
 use Rattle.cam6_machine.proofs.steps.step.Goals as goal
 
@@ -12,14 +12,14 @@ loop-more-init c =
     let begun = c.begin-mid.ensures in
     record {
       alike = record { side = begun.side; limit = begun.limit };
-      partway = begun.partway (step_by (width old) c.args.tables.now (cells old));
+      partway = begun.partway (step_by (width old) (values_of c.args.tables.now) (cells old));
     }
 
 pub loop-more-preserved : goal.loop-more-preserved
 loop-more-preserved c =
     let now = c.loop-more in
     let old = c.args.image.planes in
-    let made : ℕ → Cells = λ n. step_by n c.args.tables.now (cells old) in
+    let made : ℕ → Cells = λ n. step_by n (values_of c.args.tables.now) (cells old) in
     let side : width now.mid.planes ≡ width old = ap side_number now.invariant.alike.side in
     let next = c.in-More.ensures.next (cells old)
     (subst (λ n. Partway (cells old) (made n) now.mid) (sym side) now.invariant.partway) in

@@ -1,7 +1,7 @@
 use Rattle.std.proofs.Common.{◌-◌}
 use Rattle.cam6_planes.specs.Cells.{cells}
 use Rattle.cam6_planes.specs.Stored.{width, AreAlike}
-use Rattle.cam6_band.specs.ByTables.{step_by}
+use Rattle.cam6_band.specs.ByTables.{step_by, values_of}
 use Rattle.cam6_band.specs.Partway.{Partway}
 use Rattle.cam6_machine.proofs.steps.step.Given as goal
 
@@ -9,7 +9,7 @@ abbrev pub invariant-loop-more : goal.invariant-loop-more
 invariant-loop-more l = record {
   alike : AreAlike l.fn.image.planes l.mid.planes;
   partway : let old = l.fn.image.planes in
-      Partway (cells old) (step_by (width old) l.tables (cells old)) l.mid;
+      Partway (cells old) (step_by (width old) (values_of l.tables) (cells old)) l.mid;
 }
 
 abbrev pub decreases-loop-more : goal.decreases-loop-more

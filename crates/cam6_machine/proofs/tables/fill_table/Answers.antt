@@ -1,6 +1,7 @@
 use Rattle.std.proofs.Common.{sym, subst, Some}
 use Rattle.cam6_cycle.specs.declared.tables.Direction.TheVariants.{Forward, Backward}
-use Rattle.cam6_machine.specs.Internal.Places.{rules_of, rule_at}
+use Rattle.cam6_machine.specs.Numbers.{rule_at}
+use Rattle.cam6_machine.specs.Internal.Places.{rules_of}
 use Rattle.cam6_machine.specs.TrueTables.{IsTableFor}
 use Rattle.cam6_machine.proofs.KeptRules.{rule_found, no_rule_found}
 use Rattle.cam6_machine.proofs.tables.fill_table.Goals as goal

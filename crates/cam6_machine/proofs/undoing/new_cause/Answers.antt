@@ -1,6 +1,7 @@
 use Rattle.std.proofs.Common.{◌∙◌, ap, sym}
 use Rattle.cam6_machine.specs.Refusals.{rule_cause}
-use Rattle.cam6_machine.specs.Internal.Places.{rules_of, rule_at, place_in}
+use Rattle.cam6_machine.specs.Numbers.{rule_at, place_in}
+use Rattle.cam6_machine.specs.Internal.Places.{rules_of}
 use Rattle.cam6_machine.proofs.FirstCauses.{used_has_none}
 use Rattle.cam6_machine.proofs.undoing.new_cause.Goals as goal
 

@@ -1,16 +1,24 @@
 use Rattle.std.proofs.Common.{arith}
 use Rattle.cam6_session.proofs.Parts as parts
+use Rattle.cam6_session.proofs.Spending.{took_more, took_newline}
 use Rattle.cam6_session.proofs.lines.next_line.Goals as goal
 
 pub loop-turns-preserved : goal.loop-turns-preserved
 loop-turns-preserved g c = record {
   read = parts.more_is_read _ _ _ _ _ c.loop-turns.invariant.read c.in-More.ensures;
   turns = omega arith;
+  bytes = took_more _ _ (omega arith) _ _ _ _ _ c.loop-turns.invariant.read c.in-More.ensures
+      c.loop-turns.invariant.bytes;
 }
 
 pub returns-in-Newline-clause-line : goal.returns-in-Newline-clause-line
 returns-in-Newline-clause-line g c =
     parts.line_is_ended _ _ _ _ _ c.loop-turns.invariant.read c.in-Newline.ensures
+
+pub returns-in-Newline-clause-bytes : goal.returns-in-Newline-clause-bytes
+returns-in-Newline-clause-bytes g c =
+    took_newline _ _ (omega arith) _ _ _ _ _ c.loop-turns.invariant.read c.in-Newline.ensures
+    c.loop-turns.invariant.bytes
 
 pub returns-in-AtEnd-clause-line : goal.returns-in-AtEnd-clause-line
 returns-in-AtEnd-clause-line g c =

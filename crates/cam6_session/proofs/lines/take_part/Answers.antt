@@ -1,10 +1,21 @@
 use Rattle.std.proofs.Common.{◌+◌, [], ◌∷◌, ◌++◌, take, sym, ap, subst, ◌∙◌, rules, arith}
 use Rattle.std.proofs.Common.{append-nil}
-use Rattle.std.proofs.lemmas.List.{take_more}
+use Rattle.std.proofs.lemmas.Bool.Decides.{nat_tests}
+use Rattle.std.proofs.lemmas.List.{take_more, length-take-le}
 use Rattle.std.specs.Io.KnownBytes.{Consumes}
 use Rattle.std.specs.Io.BufRead.{FillKeeps}
 use Rattle.std.proofs.BufReadLemmas.{Consumes_shown}
 use Rattle.cam6_session.proofs.lines.take_part.Goals as goal
+
+pub returns-in-Err : goal.returns-in-Err
+returns-in-Err g c = record {
+  part = [];
+  free = search rules;
+  grows = search rules;
+  taken = search rules;
+  more = λ e. cc;
+  at_end = λ e. cc;
+}
 
 pub returns-else-len-shown : goal.returns-else-len-shown
 returns-else-len-shown g c =
@@ -21,6 +32,8 @@ returns-else-len-shown g c =
       free = len.ensures.before;
       grows = search rules;
       taken = subst (Consumes _ _) (sym (append-nil _)) moved.0;
+      more = λ e.
+          rw (length-take-le len.result shown len.ensures.within) (grind (arith, nat_tests));
       at_end = λ e. cc;
     }
 
@@ -41,5 +54,6 @@ returns-then-len-shown g c =
       free = len.ensures.before;
       grows = search rules;
       taken = subst (Consumes _ _) with_lf moved.0;
+      more = λ e. cc;
       at_end = λ e. cc;
     }

@@ -2,6 +2,7 @@ use Rattle.cam6_session.specs.Answers.{by_machine}
 use Rattle.cam6_session.proofs.Known.{serves_none, serves_all, serves_until_fault}
 use Rattle.cam6_session.proofs.Known.{serves_until_bound, runs_on, serves_until, serves_last}
 use Rattle.cam6_session.proofs.Known.{serves_until_last}
+use Rattle.cam6_session.proofs.Spending.{spent_more}
 use Rattle.std.proofs.Common.{◌∙◌}
 use Rattle.cam6_session.proofs.sessions.serve.Goals as goal
 use Rattle.cam6_session.proofs.sessions.serve.Goals.{in-Ok-respond, in-Err-respond}
@@ -35,6 +36,8 @@ loop-line-preserved g c = record {
   ready = c.respond.ensures.ready;
   runs = runs_on by_machine _ _ _ _ _ _ _ _ c.loop-line.invariant.runs _ _ c.in-Ended.ensures.line
       c.in_default-respond.ensures.responds;
+  spent = spent_more _ _ _ _ _ _ _ c.loop-line.invariant.spent c.in-Ended.ensures.line
+      c.in-Ended.ensures.bytes;
 }
 
 pub returns-in-Last-clause-served : goal.returns-in-Last-clause-served

@@ -3,7 +3,7 @@ use Rattle.cam6_planes.specs.Cells.{cells}
 use Rattle.cam6_planes.specs.Side.{side_number}
 use Rattle.cam6_planes.specs.Stored.{width}
 use Rattle.cam6_planes.proofs.SideNumbers.{side_least}
-use Rattle.cam6_band.specs.ByTables.{step_by}
+use Rattle.cam6_band.specs.ByTables.{step_by, values_of}
 use Rattle.cam6_band.specs.Partway.{Partway, Mid}
 use Rattle.cam6_band.specs.Internal.KeptRows.{mid_of}
 use Rattle.cam6_band.proofs.Further.{one_more, a_band}
@@ -14,7 +14,7 @@ pub loop-y-preserved : goal.loop-y-preserved
 loop-y-preserved c =
     let now = c.loop-y in
     let s = width c.args.self.planes in
-    let tables = c.args.tables.now in
+    let tables = values_of c.args.tables.now in
     let side : width now.image ≡ s = ap side_number now.invariant.alike.side in
     let m = c.self.inside in
     let shown : width m.image ≡ s = ap (λ (mid : Mid). width mid.planes) c.self.view_is in
@@ -49,8 +49,8 @@ returns-then-done-number-clause-next c = λ o start.
     let side : width now.image ≡ s = ap side_number now.invariant.alike.side in
     let shown : width c.self.inside.image ≡ s =
     ap (λ (mid : Mid). width mid.planes) c.self.view_is in
-    all_stepped s c.args.tables.now o now.image (omega (arith, side_least c.args.self.planes.side))
-    side
+    all_stepped s (values_of c.args.tables.now) o now.image
+    (omega (arith, side_least c.args.self.planes.side)) side
     (λ p x y h k l. part.new p x y h (omega (arith, k, side)) (omega (
       arith,
       l,
@@ -67,5 +67,5 @@ returns-clause-next c = λ o start.
     let s = width c.args.self.planes in
     let all : now.y ≡ c.self.inside.done + 16 =
     omega (arith, c.loop-y-test.false, now.auto.y-end) in
-    subst (λ n. Partway o (step_by s c.args.tables.now o)
+    subst (λ n. Partway o (step_by s (values_of c.args.tables.now) o)
     (mid_of now.image c.self.inside.first now.last n)) all (now.invariant.partway o start)

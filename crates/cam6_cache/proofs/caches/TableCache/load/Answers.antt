@@ -1,15 +1,14 @@
-use Rattle.std.proofs.Common.{ap, sym, subst, ◌∙◌, is_some}
-use Rattle.cam6_cache.specs.Kept.{Kept, AreTrue}
+use Rattle.std.proofs.Common.{ap, sym, ◌∙◌, is_some}
 use Rattle.cam6_cache.specs.Internal.Entries.{key_of, kept_of}
 use Rattle.cam6_cache.proofs.KeptTables.{found_where_kept, true_where_found, kept_where_promoted}
-use Rattle.cam6_cache.proofs.KeptTables.{are_true_with_first, are_true_or_not}
+use Rattle.cam6_cache.proofs.KeptTables.{in_order_with_first, in_order_or_not}
 use Rattle.cam6_cache.proofs.caches.TableCache.load.Goals as goal
 
 pub returns-in-Some-clause-table : goal.returns-in-Some-clause-table
 returns-in-Some-clause-table c =
     rw (c.copy_from.ensures, ← c.named-named.ensures)
     (true_where_found c.named-named.result.now c.self.inside.tables.entries c.in-Some.table.now
-    c.self.invariant (sym c.in-Some.ensures))
+    c.self.invariant.0 (sym c.in-Some.ensures))
 
 pub returns-in-Some-clause-hit : goal.returns-in-Some-clause-hit
 returns-in-Some-clause-hit c =
@@ -30,10 +29,9 @@ invariant_of-self c =
     let old = c.self.inside.tables in
     let table = c.in-Some.table.now in
     let is = sym c.in-Some.ensures in
-    subst (λ (kept : Kept). AreTrue kept.tables)
-    (sym (kept_where_promoted k old c.promote.new.self table is c.promote.ensures.entries))
-    (are_true_with_first (key_of k) table (kept_of old)
-    (true_where_found k old.entries table c.self.invariant is) c.self.invariant)
+    in_order_with_first (key_of k) table (kept_of old) (kept_of c.promote.new.self)
+    (true_where_found k old.entries table c.self.invariant.0 is) c.self.invariant
+    (kept_where_promoted k old c.promote.new.self table is c.promote.ensures.entries)
 
 pub keep-requires : goal.keep-requires
 keep-requires c =
@@ -46,7 +44,7 @@ keep-requires c =
 
 pub invariant_of-self-2 : goal.invariant_of-self-2
 invariant_of-self-2 c =
-    are_true_or_not (key_of c.named-named.result.now) c.fill_true.new.out
+    in_order_or_not (key_of c.named-named.result.now) c.fill_true.new.out
     (kept_of c.self.inside.tables) (kept_of c.keep.new.tables) c.fill_true.ensures c.self.invariant
     c.keep.ensures
 

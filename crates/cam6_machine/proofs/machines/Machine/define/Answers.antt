@@ -6,8 +6,8 @@ use Rattle.cam6_machine.specs.Alone.{after}
 use Rattle.cam6_machine.specs.Always.{IsMachine}
 use Rattle.cam6_machine.specs.Refusals.{rule_refusal}
 use Rattle.cam6_machine.specs.Internal.Images.{planes_of}
-use Rattle.cam6_machine.specs.Internal.Places.{rules_of, entries_of, named_entries, stored}
-use Rattle.cam6_machine.specs.Internal.Places.{ArePlaced}
+use Rattle.cam6_machine.specs.Numbers.{named_entries, ArePlaced}
+use Rattle.cam6_machine.specs.Internal.Places.{rules_of, entries_of, stored}
 use Rattle.cam6_machine.specs.Internal.Verdicts.{IsVerdict}
 use Rattle.cam6_machine.specs.declared.commands.Command.TheVariants.{Rule}
 use Rattle.cam6_machine.proofs.Done as done
@@ -58,7 +58,7 @@ invariant_of-self-in-Ok c = (
       (stays_machine (machine_of (stored (planes_of c.self.inside.image)
       (rules_of c.self.inside.rules.entries) (entries_of c.self.inside.cycle) c.self.inside.position
       c.self.inside.colours))
-      (Rule c.args.name c.args.wiring c.args.text) c.self.invariant.0),
+      (Rule c.args.name c.args.wiring c.args.text) c.self.invariant.0 (verdict c).3),
   subst (λ l. ArePlaced l (entries_of c.self.inside.cycle)) (sym (put c))
       (placed_with _ (rules_of c.self.inside.rules.entries) (entries_of c.self.inside.cycle)
       c.self.invariant.0.own (sym (room c)) c.self.invariant.1),

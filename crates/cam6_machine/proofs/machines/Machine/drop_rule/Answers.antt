@@ -7,8 +7,9 @@ use Rattle.cam6_machine.specs.Refusals.{drop_refusal}
 use Rattle.cam6_machine.specs.Alone.{after}
 use Rattle.cam6_machine.specs.Always.{IsMachine}
 use Rattle.cam6_machine.specs.Internal.Images.{planes_of}
-use Rattle.cam6_machine.specs.Internal.Places.{rules_of, entries_of, named_entries, stored}
-use Rattle.cam6_machine.specs.Internal.Places.{uses_place, closed_entry, ArePlaced}
+use Rattle.cam6_machine.specs.Numbers.{named_entries, ArePlaced}
+use Rattle.cam6_machine.specs.Internal.Places.{rules_of, entries_of, stored, uses_place}
+use Rattle.cam6_machine.specs.Internal.Places.{closed_entry}
 use Rattle.cam6_machine.specs.declared.commands.Command.TheVariants.{Drop}
 use Rattle.cam6_machine.proofs.Done.{after-drop, stored-drop}
 use Rattle.cam6_machine.proofs.Dropped.{placed_closed}
@@ -58,7 +59,7 @@ invariant_of-self c =
     let cycle = entries_of m.cycle in (
       subst IsMachine (sym (after_drop c))
           (stays_machine (machine_of (stored (planes_of m.image) rules cycle m.position m.colours))
-          (Drop c.args.name.now) c.self.invariant.0),
+          (Drop c.args.name.now) c.self.invariant.0 tt),
       subst (λ l. ArePlaced l (entries_of c.closed_cycle-self-inside.result))
           (sym c.remove.ensures)
           (subst (ArePlaced (without_rule c.args.name.now rules)) (sym (closed c))

@@ -31,7 +31,7 @@ invariant_of-self c =
       subst IsMachine (sym (after_set c))
           (stays_machine
           (machine_of (stored (planes_of m.image) (rules_of m.rules.entries) (entries_of m.cycle)
-          m.position m.colours)) (Map c.args.colours.now) c.self.invariant.0),
+          m.position m.colours)) (Map c.args.colours.now) c.self.invariant.0 tt),
       c.self.invariant.1,
       c.self.invariant.2,
       c.self.invariant.3,

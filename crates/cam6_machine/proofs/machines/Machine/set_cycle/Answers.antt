@@ -3,8 +3,8 @@ use Rattle.cam6_machine.specs.Machine.{machine_of}
 use Rattle.cam6_machine.specs.Alone.{after}
 use Rattle.cam6_machine.specs.Always.{IsMachine}
 use Rattle.cam6_machine.specs.Internal.Images.{planes_of}
+use Rattle.cam6_machine.specs.Numbers.{ArePlaced}
 use Rattle.cam6_machine.specs.Internal.Places.{rules_of, entries_of, placed_entry, stored}
-use Rattle.cam6_machine.specs.Internal.Places.{ArePlaced}
 use Rattle.cam6_machine.specs.declared.commands.Command.TheVariants.{Cycle}
 use Rattle.cam6_machine.proofs.Done.{after-cycle}
 use Rattle.cam6_machine.proofs.Naming.{are_placed}
@@ -41,7 +41,7 @@ invariant_of-self c =
       subst IsMachine (sym (after_set c))
           (stays_machine
           (machine_of (stored (planes_of m.image) rules (entries_of m.cycle) m.position m.colours))
-          (Cycle c.args.entries.now) c.self.invariant.0),
+          (Cycle c.args.entries.now) c.self.invariant.0 tt),
       subst (ArePlaced rules) (sym (entries_placed c)) (are_placed rules c.args.entries.now),
       c.self.invariant.2,
       c.self.invariant.3,

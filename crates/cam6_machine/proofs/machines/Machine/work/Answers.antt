@@ -7,8 +7,8 @@ use Rattle.cam6_cycle.specs.declared.entries.Entry.{Entry}
 use Rattle.cam6_machine.specs.Machine.{machine_of}
 use Rattle.cam6_machine.specs.Always.{IsMachine}
 use Rattle.cam6_machine.specs.Internal.Images.{planes_of}
-use Rattle.cam6_machine.specs.Internal.Places.{rules_of, entries_of, named_entry, stored, ArePlaced}
-use Rattle.cam6_machine.specs.Internal.Uses.{AreTables}
+use Rattle.cam6_machine.specs.Numbers.{named_entry, ArePlaced, AreTables}
+use Rattle.cam6_machine.specs.Internal.Places.{rules_of, entries_of, stored}
 use Rattle.cam6_machine.specs.Alone.{reply, after, command_of}
 use Rattle.cam6_machine.specs.Refusals.{refusal}
 use Rattle.cam6_machine.specs.Internal.Ways.{moved, CanMove}

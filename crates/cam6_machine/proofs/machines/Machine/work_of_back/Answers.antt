@@ -1,7 +1,8 @@
 use Rattle.std.proofs.Common.{◌∙◌, sym, subst}
 use Rattle.cam6_machine.specs.AtOnce.{IsLeftBy}
 use Rattle.cam6_machine.specs.Internal.Images.{planes_of}
-use Rattle.cam6_machine.specs.Internal.Places.{rules_of, entries_of, named_entries, stored}
+use Rattle.cam6_machine.specs.Numbers.{named_entries}
+use Rattle.cam6_machine.specs.Internal.Places.{rules_of, entries_of, stored}
 use Rattle.cam6_machine.proofs.FirstCauses.{causes_leave}
 use Rattle.cam6_machine.proofs.machines.Machine.work_of_back.Goals as goal
 
