@@ -30,15 +30,15 @@ pub record StepTables : Type 0 where
   pub phase : Phase
 
 -- a half's table, wherever it lies
-abbrev pub entries_of : HalfTable → HalfEntries
-entries_of half = record { entries = half.table.now; hood = half.hood; minor = half.minor }
+abbrev pub half_entries : HalfTable → HalfEntries
+half_entries half = record { entries = half.table.now; hood = half.hood; minor = half.minor }
 
 -- the tables of both halves, wherever they lie
 abbrev pub values_of : EntryTables → StepTables
 values_of tables =
     record {
-      a = option_map entries_of tables.a;
-      b = option_map entries_of tables.b;
+      a = option_map half_entries tables.a;
+      b = option_map half_entries tables.b;
       grid = tables.grid;
       phase = tables.phase;
     }

@@ -9,7 +9,7 @@ ghost use Rattle.cam6_band.specs.Partway.{Partway};
 ghost use Rattle.cam6_band.specs.Next.{GoesOn, IsNext};
 
 use crate::images::{AtRest, Spare};
-use crate::new_rows::{LinesOfHalves, put_new_row};
+use crate::new_rows::{LinesOfHalves, step_row};
 use crate::tables::EntryTables;
 use cam6_planes::{CellRow, Planes, Side};
 use std::marker::Model;
@@ -34,7 +34,7 @@ impl Model for MidStep {
     ghost use Rattle.cam6_planes.specs.Stored.{width};
     ghost use Rattle.cam6_band.specs.Limits.{band};
     ghost use Rattle.cam6_band.specs.Partway.{Mid};
-    ghost use Rattle.cam6_band.specs.Internal.KeptRows.{mid_of};
+    ghost use Rattle.cam6_band.specs.Internal.SavedRows.{mid_of};
 
     ghost Value = { Mid };
 
@@ -88,7 +88,7 @@ impl MidStep {
         let side = image.side();
         let mut lines = LinesOfHalves::blank();
         for y in done..done + BAND {
-            put_new_row(&mut image, &mut last, &first, y, tables, &mut lines);
+            step_row(&mut image, &mut last, &first, y, tables, &mut lines);
         }
         let done = done + BAND;
         if done == side.number() {

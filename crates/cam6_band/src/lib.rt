@@ -6,7 +6,7 @@
 //! promises it promises for all old planes of which the image is partway (`specs/Partway.antt`)
 //! towards their step by the tables at hand (`specs/ByTables.antt`). The band after which no row is
 //! left answers `Next::Whole`, with the planes after the step. `move_into` takes a step with all
-//! that is kept of it to another image, and `abandon` gives it up. `tables_at` finds, among tables
+//! that is saved of it to another image, and `abandon` gives it up. `tables_at` finds, among tables
 //! that lie as a cycle needs them, those of the entry at a position (`specs/AtPosition.antt`); the
 //! law: each half goes by the table of its use. No call takes memory.
 //!

@@ -8,7 +8,7 @@ ghost use Rattle.cam6_planes.specs.Stored.{width};
 ghost use Rattle.cam6_wiring.specs.Lines.{AreRowsAround};
 ghost use Rattle.cam6_wiring.specs.Name.{plane_of, other_half};
 ghost use Rattle.cam6_wiring.specs.declared.names.Level.{Level};
-ghost use Rattle.cam6_band.specs.ByTables.{step_by, values_of, entries_of};
+ghost use Rattle.cam6_band.specs.ByTables.{step_by, values_of, half_entries};
 ghost use Rattle.cam6_band.specs.Internal.ByLines.{ShowAddresses, bit_by_lines};
 
 use crate::tables::{EntryTables, HalfTable};
@@ -31,9 +31,9 @@ impl LinesOfHalves {
     }
 }
 
-/// Writes the new row `y` over the old one, which is kept as the last of the old rows. The rows to
+/// Writes the new row `y` over the old one, which is saved as the last of the old rows. The rows to
 /// the south of it are still old; to the south of the last one lies the old row 0.
-pub(crate) fn put_new_row(
+pub(crate) fn step_row(
     image: &mut Planes,
     last: &mut CellRow,
     first: &CellRow,
@@ -49,7 +49,7 @@ pub(crate) fn put_new_row(
         cells image.new p x y ≡ step_by s (values_of tables.now) f p x y }
     ensures others { (p x v : ℕ) → p < 4 → x < width image.old → v < width image.old → v ≢ y →
         cells image.new p x v ≡ cells image.old p x v }
-    ensures kept { IsRow (width image.old) (cells image.old) y last.new }
+    ensures saved { IsRow (width image.old) (cells image.old) y last.new }
     ensures side { image.new.side ≡ image.old.side }
     ensures limit { image.new.limit ≡ image.old.limit }
 {
@@ -69,7 +69,7 @@ pub(crate) fn put_new_row(
     put_half_row(image, Half::B, &b, y, &lines.b);
 }
 
-/// The row to the south of row `y`, where the first row is kept apart.
+/// The row to the south of row `y`, where the first row is saved apart.
 fn row_to_the_south<'a>(image: &'a Planes, first: &'a CellRow, y: usize) -> &'a CellRow
     requires { y < width image.now }
     ensures within { y + 1 < width image.now →
@@ -92,7 +92,7 @@ fn put_half_lines(
 )
     requires { y < side_number rows.now.side }
     ensures { (f : Cells) → AreRowsAround f y rows.now →
-        ShowAddresses (side_number rows.now.side) f setting (option_map entries_of table.now) y
+        ShowAddresses (side_number rows.now.side) f setting (option_map half_entries table.now) y
         lines.new }
 {
     if let Some(HalfTable { hood, minor, .. }) = *table {
@@ -105,7 +105,7 @@ fn put_half_row(image: &mut Planes, half: Half, table: &Option<HalfTable>, y: us
     requires { y < width image.old }
     ensures half { (level : Level) (x : ℕ) → x < width image.old →
         cells image.new (plane_of half level) x y
-        ≡ bit_by_lines (cells image.old) half (option_map entries_of table.now) lines.now
+        ≡ bit_by_lines (cells image.old) half (option_map half_entries table.now) lines.now
         level x y }
     ensures other_half { (level : Level) (x v : ℕ) → x < width image.old → v < width image.old →
         cells image.new (plane_of (other_half half) level) x v
@@ -121,7 +121,7 @@ fn put_half_row(image: &mut Planes, half: Half, table: &Option<HalfTable>, y: us
     let mut lower = [0; WORDS];
     let mut upper = [0; WORDS];
     by.table
-        .put_rows(&mut lower, &mut upper, lines, image.side());
+        .look_up(&mut lower, &mut upper, lines, image.side());
     image.set_row_words(half.plane(Level::Lower), y, lower);
     image.set_row_words(half.plane(Level::Upper), y, upper);
 }

@@ -2,7 +2,7 @@
 ghost use Rattle.std.specs.Prelude.{◌≡◌, ◌<◌, ◌≤◌, length, Some};
 ghost use Rattle.std.specs.Option.{option_map};
 ghost use Rattle.cam6_cycle.specs.Limits.{max_tables};
-ghost use Rattle.cam6_band.specs.ByTables.{values_of, entries_of};
+ghost use Rattle.cam6_band.specs.ByTables.{values_of, half_entries};
 ghost use Rattle.cam6_band.specs.AtPosition.{step_tables_at, half_at};
 
 use crate::tables::{EntryTables, HalfTable};
@@ -34,7 +34,7 @@ fn half_table<'a>(
     index: usize,
 ) -> Option<HalfTable<'a>>
     requires { index < length tables.now }
-    ensures { half_at rule tables.now index ≡ option_map entries_of result }
+    ensures { half_at rule tables.now index ≡ option_map half_entries result }
 {
     let rule = rule?;
     Some(HalfTable {

@@ -13,7 +13,7 @@ use Rattle.cam6_wiring.specs.declared.wirings.Minor.{Minor}
 use Rattle.cam6_wiring.specs.declared.wirings.Minor.TheVariants.{Centers, Phases, HorzVert}
 use Rattle.cam6_block.specs.BlockMaps.{Reading, block_map, preimage, first_from, is_margolus}
 use Rattle.cam6_block.specs.BlockMaps.{IsOneToOne, IsReversible}
-use Rattle.cam6_block.specs.Refusals.{IsMeeting, IsRefused, has_met, meeting_of, or_later}
+use Rattle.cam6_block.specs.Refusals.{IsMeeting, IsRefused, has_met, meeting_of, or_at_later_phase}
 use Rattle.cam6_block.specs.Refusals.{first_meeting, centres_or, cause_of}
 use Rattle.cam6_block.specs.Laws.{CauseIsFound}
 use Rattle.cam6_block.specs.declared.refusals.NotReversible.{NotReversible}
@@ -77,14 +77,14 @@ differs : (a b : ℕ) → a ≢ b → (a == b) ≡ false
 differs a b ne = elim (eqb_tells a b) [ inl e ↦ absurd (ne e.1) | inr e ↦ e.0 ]
 
 module _ (f : ℕ → ℕ) where
-  -- the least state with an image
+  -- the least state with an successor
   least_state : (a t : ℕ) → a < 256 → f a ≡ t → ((i : ℕ) → i < a → f i ≢ t) → preimage f t ≡ a
   unfolding preimage
   least_state a t h e none =
       first_hit (λ s. f s == t) 256 0 a (f 0 == t) refl (omega arith) (omega (arith, h))
       (eq-eqb _ _ e) (λ i l. differs (f i) t (none i l))
 
-  -- is at most each state with the image
+  -- is at most each state with the successor
   at_most : (s t : ℕ) → s < 256 → f s ≡ t → preimage f t ≤ s
   unfolding preimage
   at_most s t h e =
@@ -98,15 +98,15 @@ module _ (f : ℕ → ℕ) where
       ]
 
   -- and has it
-  has_image : (t : ℕ) → preimage f t < 256 → f (preimage f t) ≡ t
+  has_successor : (t : ℕ) → preimage f t < 256 → f (preimage f t) ≡ t
   unfolding preimage
-  has_image t h = eqb-true _ _ (holds_there (λ s. f s == t) 256 0 (f 0 == t) refl h)
+  has_successor t h = eqb-true _ _ (holds_there (λ s. f s == t) 256 0 (f 0 == t) refl h)
 
   -- what is told of the first state that meets a smaller one, if there is any
   abbrev found_at : ℕ → Bool → Option (ℕ × ℕ)
   found_at k c = if c then Some (preimage f (f k), k) else None
 
-  -- two states that meet are found
+  -- two block_states that meet are found
   pub found_meeting : (a b : ℕ) → IsMeeting f a b → meeting_of f ≡ Some (a, b)
   unfolding meeting_of
   found_meeting a b is =
@@ -129,9 +129,9 @@ module _ (f : ℕ → ℕ) where
       by_test i l true e =
           let less : preimage f (f i) < i = ltb-true _ _ e in
           let in_range : preimage f (f i) < 256 = omega (arith, less, l, is.state) in
-          absurd (is.least (preimage f (f i)) i less l (has_image (f i) in_range))
+          absurd (is.least (preimage f (f i)) i less l (has_successor (f i) in_range))
 
-  -- where no two have one image, none is found
+  -- where no two have one successor, none is found
   pub no_meeting : IsOneToOne f → meeting_of f ≡ None
   unfolding meeting_of
   no_meeting one =
@@ -148,7 +148,7 @@ module _ (f : ℕ → ℕ) where
           by_test false e = e
           by_test true e = absurd (omega (arith, ltb-true i i e))
 
-  -- and where none is found, no two have one image
+  -- and where none is found, no two have one successor
   pub none_found : meeting_of f ≡ None → IsOneToOne f
   unfolding meeting_of
   none_found none a b ha hb e =
@@ -184,7 +184,7 @@ module _ (read : Reading) where
 
   abbrev at_phases : Option (ℕ × ℕ) → Option (ℕ × ℕ) → Option (ℕ × ℕ) → Option (ℕ × ℕ) →
       Option NotReversible
-  at_phases a b c d = or_later P0 a (or_later P1 b (or_later P2 c (or_later P3 d None)))
+  at_phases a b c d = or_at_later_phase P0 a (or_at_later_phase P1 b (or_at_later_phase P2 c (or_at_later_phase P3 d None)))
 
   at_phase : (phase : Phase) (a b : ℕ) →
       ((before : Phase) → phase_number before < phase_number phase →
@@ -225,17 +225,17 @@ module _ (read : Reading) where
       ap (λ o. at_phases None None None o) (no_meeting (block_map read P3) (one P3))
 
   neither : (phase : Phase) (o : Option (ℕ × ℕ)) (later : Option NotReversible) →
-      or_later phase o later ≡ None → (o ≡ None) × (later ≡ None)
+      or_at_later_phase phase o later ≡ None → (o ≡ None) × (later ≡ None)
   neither phase None later e = (refl, e)
   neither phase (Some pair) later e = cc e
 
   all_one : first_meeting read ≡ None → (phase : Phase) → IsOneToOne (block_map read phase)
   all_one none phase =
       let (a, later) = neither P0 (meets P0)
-      (or_later P1 (meets P1) (or_later P2 (meets P2) (or_later P3 (meets P3) None))) none in
+      (or_at_later_phase P1 (meets P1) (or_at_later_phase P2 (meets P2) (or_at_later_phase P3 (meets P3) None))) none in
       let (b, last) = neither P1 (meets P1)
-      (or_later P2 (meets P2) (or_later P3 (meets P3) None)) later in
-      let (c, end) = neither P2 (meets P2) (or_later P3 (meets P3) None) last in
+      (or_at_later_phase P2 (meets P2) (or_at_later_phase P3 (meets P3) None)) later in
+      let (c, end) = neither P2 (meets P2) (or_at_later_phase P3 (meets P3) None) last in
       let (d, nothing) = neither P3 (meets P3) None end in
       by_phase a b c d phase
     where

@@ -1,4 +1,4 @@
--- A table that is filled place by place.
+-- A table that is filled corner by corner.
 use Rattle.std.proofs.Common.{◌≡◌, ◌≢◌, inl, inr, ℕ, ◌+◌, ◌*◌, ◌/◌, ◌%◌, ◌<◌, true, List, length}
 use Rattle.std.proofs.Common.{get_or, set, sym, ◌∙◌, ap, arith, length-set, subst}
 use Rattle.std.proofs.lemmas.List.{get_or-set_same, get_or-set_other}
@@ -8,15 +8,15 @@ use Rattle.cam6_wiring.specs.Name.{phase_number}
 use Rattle.cam6_wiring.specs.declared.names.Phase.{Phase}
 use Rattle.cam6_wiring.specs.declared.wirings.Hood.{Hood}
 use Rattle.cam6_wiring.specs.declared.wirings.Minor.{Minor}
-use Rattle.cam6_block.specs.Blocks.{place_address, bits_at}
+use Rattle.cam6_block.specs.Blocks.{corner_address, corner_bits}
 use Rattle.cam6_block.specs.BlockMaps.{Reading, block_map, preimage, IsOneToOne, is_margolus}
 use Rattle.cam6_block.specs.Inverted.{IsInverted}
 use Rattle.cam6_block.proofs.States.{block_map-lt}
 use Rattle.cam6_block.proofs.Pigeonhole.{takes_each}
 use Rattle.cam6_block.proofs.Phases.{phase_of, phase_of-number, phase_number-lt}
 use Rattle.cam6_block.proofs.Preimages.{preimage_is}
-use Rattle.cam6_block.proofs.Turned.{IsReading, agree}
-use Rattle.cam6_block.proofs.Undoing.{phase_at, state_at, place_at}
+use Rattle.cam6_block.proofs.Rotated.{IsReading, agree}
+use Rattle.cam6_block.proofs.Undoing.{phase_at, state_numbered, corner_numbered}
 
 -- the first n values are written, each at its address, and all else is as at the start
 pub record IsFilled (address value : ℕ → ℕ) (n : ℕ) (entries : List ℕ) : Type 0 where
@@ -58,18 +58,18 @@ one_filled address value n entries a v k agrees h ea ev = record {
       get_or-set_other entries a b v 0 ne ∙ k.rest b l (λ m lt. none m (omega arith));
 }
 
--- the address that a place of a block's image shows, and the bits that the place had before
+-- the address that a corner of a block's successor shows, and the bits that the corner had before
 abbrev pub address_at : Reading → Hood → Minor → ℕ → ℕ
 address_at read hood minor n =
-    place_address hood minor (phase_at n) (block_map read (phase_at n) (state_at n)) (place_at n)
+    corner_address hood minor (phase_at n) (block_map read (phase_at n) (state_numbered n)) (corner_numbered n)
 
 abbrev pub value_at : ℕ → ℕ
-value_at n = bits_at (state_at n) (place_at n)
+value_at n = corner_bits (state_numbered n) (corner_numbered n)
 
 abbrev pub IsFilledTo : Reading → Hood → Minor → ℕ → List ℕ → Type 0
 IsFilledTo read hood minor n entries = IsFilled (address_at read hood minor) value_at n entries
 
--- the number of a place of a state at the phase with this number
+-- the number of a corner of a state at the phase with this number
 module _ (k s p : ℕ) (hs : s < 256) (hp : p < 4) where
   phase_there : phase_at (1024 * k + 4 * s + p) ≡ phase_of k
   phase_there =
@@ -77,36 +77,36 @@ module _ (k s p : ℕ) (hs : s < 256) (hp : p < 4) where
       let e : n / 1024 ≡ k = omega arith in
       ap phase_of e
 
-  state_there : state_at (1024 * k + 4 * s + p) ≡ s
+  state_there : state_numbered (1024 * k + 4 * s + p) ≡ s
   state_there = omega arith
 
-  place_there : place_at (1024 * k + 4 * s + p) ≡ p
-  place_there = omega arith
+  corner_there : corner_numbered (1024 * k + 4 * s + p) ≡ p
+  corner_there = omega arith
 
   address_there : (read : Reading) (hood : Hood) (minor : Minor) →
       address_at read hood minor (1024 * k + 4 * s + p)
-      ≡ place_address hood minor (phase_of k) (block_map read (phase_of k) s) p
+      ≡ corner_address hood minor (phase_of k) (block_map read (phase_of k) s) p
   address_there read hood minor =
       let n = 1024 * k + 4 * s + p in
-      ap (λ q. place_address hood minor q (block_map read q (state_at n)) (place_at n))
+      ap (λ q. corner_address hood minor q (block_map read q (state_numbered n)) (corner_numbered n))
       phase_there ∙
-      ap (λ q. place_address hood minor (phase_of k) (block_map read (phase_of k) q) (place_at n))
+      ap (λ q. corner_address hood minor (phase_of k) (block_map read (phase_of k) q) (corner_numbered n))
       state_there ∙
-      ap (place_address hood minor (phase_of k) (block_map read (phase_of k) s)) place_there
+      ap (corner_address hood minor (phase_of k) (block_map read (phase_of k) s)) corner_there
 
-  value_there : value_at (1024 * k + 4 * s + p) ≡ bits_at s p
+  value_there : value_at (1024 * k + 4 * s + p) ≡ corner_bits s p
   value_there =
-      ap (λ q. bits_at q (place_at (1024 * k + 4 * s + p))) state_there ∙
-      ap (bits_at s) place_there
+      ap (λ q. corner_bits q (corner_numbered (1024 * k + 4 * s + p))) state_there ∙
+      ap (corner_bits s) corner_there
 
 module _ (read : Reading) (hood : Hood) (minor : Minor) (reads : IsReading hood minor read)
     (blocks : is_margolus hood ≡ true)
     (one : (phase : Phase) → IsOneToOne (block_map read phase)) where
-  -- one more place
+  -- one more corner
   pub next_filled : (k s p : ℕ) (entries : List ℕ) (a v : ℕ) → k < 4 → s < 256 → p < 4 →
       IsFilledTo read hood minor (1024 * k + 4 * s + p) entries → a < 4096 →
-      a ≡ place_address hood minor (phase_of k) (block_map read (phase_of k) s) p →
-      v ≡ bits_at s p →
+      a ≡ corner_address hood minor (phase_of k) (block_map read (phase_of k) s) p →
+      v ≡ corner_bits s p →
       IsFilledTo read hood minor (1024 * k + 4 * s + (p + 1)) (set entries a v)
   next_filled k s p entries a v hk hs hp filled ha ea ev =
       let n = 1024 * k + 4 * s + p in
@@ -114,8 +114,8 @@ module _ (read : Reading) (hood : Hood) (minor : Minor) (reads : IsReading hood 
       subst (λ (m : ℕ). IsFilledTo read hood minor m (set entries a v)) next
       (one_filled (address_at read hood minor) value_at n entries a v filled
       (λ m h e.
-      agree read hood minor reads blocks (phase_at m) (phase_at n) (state_at m) (place_at m)
-      (state_at n) (place_at n) (omega arith) (omega arith) (omega arith) (one (phase_at n)) e)
+      agree read hood minor reads blocks (phase_at m) (phase_at n) (state_numbered m) (corner_numbered m)
+      (state_numbered n) (corner_numbered n) (omega arith) (omega arith) (omega arith) (one (phase_at n)) e)
       ha (ea ∙ sym (address_there k s p hs hp read hood minor))
       (ev ∙ sym (value_there k s p hs hp)))
 
@@ -123,24 +123,24 @@ module _ (read : Reading) (hood : Hood) (minor : Minor) (reads : IsReading hood 
       IsInverted read hood minor entries
   all_filled entries filled = record {
     whole = filled.long;
-    shown = λ phase image place hi hp.
+    shown = λ phase successor corner hi hp.
         let f = block_map read phase in
-        let (s, s_lt, is) = takes_each f (λ i _. block_map-lt read phase i) (one phase) image hi in
+        let (s, s_lt, is) = takes_each f (λ i _. block_map-lt read phase i) (one phase) successor hi in
         let k = phase_number phase in
         let k_lt : k < 4 = phase_number-lt phase in
-        let there = address_there k s place s_lt hp read hood minor in
-        let ea : address_at read hood minor (1024 * k + 4 * s + place)
-        ≡ place_address hood minor phase image place =
+        let there = address_there k s corner s_lt hp read hood minor in
+        let ea : address_at read hood minor (1024 * k + 4 * s + corner)
+        ≡ corner_address hood minor phase successor corner =
         there ∙
-        ap (λ q. place_address hood minor q (block_map read q s) place) (phase_of-number phase) ∙
-        ap (λ q. place_address hood minor phase q place) is in
-        let before : s ≡ preimage f image =
+        ap (λ q. corner_address hood minor q (block_map read q s) corner) (phase_of-number phase) ∙
+        ap (λ q. corner_address hood minor phase q corner) is in
+        let before : s ≡ preimage f successor =
         sym (preimage_is f s s_lt (one phase)) ∙ ap (preimage f) is in
         ap (λ a. get_or entries a 0) (sym ea) ∙
-        filled.done (1024 * k + 4 * s + place) (omega arith) ∙
-        value_there k s place s_lt hp ∙ ap (λ q. bits_at q place) before;
+        filled.done (1024 * k + 4 * s + corner) (omega arith) ∙
+        value_there k s corner s_lt hp ∙ ap (λ q. corner_bits q corner) before;
     hidden = λ a ha none.
         filled.rest a ha (λ m hm.
-        none (phase_at m) (block_map read (phase_at m) (state_at m)) (place_at m)
-        (block_map-lt read (phase_at m) (state_at m)) (omega arith));
+        none (phase_at m) (block_map read (phase_at m) (state_numbered m)) (corner_numbered m)
+        (block_map-lt read (phase_at m) (state_numbered m)) (omega arith));
   }

@@ -2,23 +2,23 @@
 
 -- States of a block and their bits.
 pub mod States
--- A map of states of which no two have one image takes each state.
+-- A map of block_states of which no two have one successor takes each state.
 pub mod Pigeonhole
--- A search of all states, which keeps the state of each image.
+-- A search of all block_states, which keeps the state of each successor.
 pub mod Search
--- The least state with an image.
+-- The least state with an successor.
 pub mod Preimages
--- The lines that a place of a block shows.
+-- The lines that a corner of a block shows.
 pub mod Lines
 -- Phases by their numbers.
 pub mod Phases
--- What lines 8 to 11 tell of places.
+-- What lines 8 to 11 tell of corners.
 pub mod OtherLines
--- Two places that show one address were two places with the same bits.
-pub mod Turned
+-- Two corners that show one address were two corners with the same bits.
+pub mod Rotated
 -- What inverted tables do, and that there is one.
 pub mod Undoing
 -- What is refused is refused for its cause, and what has no cause is reversible.
 pub mod Causes
--- A table that is filled place by place.
+-- A table that is filled corner by corner.
 pub mod Filled

@@ -1,4 +1,4 @@
--- The lines that a place of a block shows: eight bits of the block, and four that its state has no
+-- The lines that a corner of a block shows: eight bits of the block, and four that its state has no
 -- part in.
 use Rattle.std.proofs.Common.{◌≡◌, ℕ, ◌+◌, ◌*◌, Bool, true, false, List, [], ◌∷◌}
 use Rattle.std.proofs.Common.{◌++◌, length, drop, map, refl, sym, ◌∙◌, ap, arith}
@@ -13,93 +13,93 @@ use Rattle.cam6_wiring.specs.declared.wirings.Hood.TheVariants.{Moore, VonNeuman
 use Rattle.cam6_wiring.specs.declared.wirings.Hood.TheVariants.{MargolusPhase, MargolusHorzVert}
 use Rattle.cam6_wiring.specs.declared.wirings.Minor.{Minor}
 use Rattle.cam6_wiring.specs.declared.wirings.Minor.TheVariants.{Centers, Phases, HorzVert}
-use Rattle.cam6_block.specs.Blocks.{place_bit, place_sees, place_address, is_right, is_low}
+use Rattle.cam6_block.specs.Blocks.{corner_bit, corner_sees, corner_address, is_right, is_low}
 use Rattle.cam6_block.specs.BlockMaps.{is_margolus}
 
--- what a place shows on each line
+-- what a corner shows on each line
 abbrev pub lines : Hood → Minor → Phase → ℕ → ℕ → List Bool
-lines hood minor phase state place =
-    map (line_shows (place_sees phase state place)) (names_of hood minor)
+lines hood minor phase state corner =
+    map (line_shows (corner_sees phase state corner)) (names_of hood minor)
 
 -- on lines 0 to 7
 abbrev pub block_lines : ℕ → ℕ → List Bool
-block_lines state place =
-    place_bit state Lower place ∷ place_bit state Upper place
-    ∷ place_bit state Lower (place + 1) ∷ place_bit state Lower (place + 3)
-    ∷ place_bit state Lower (place + 2)
-    ∷ place_bit state Upper (place + 1) ∷ place_bit state Upper (place + 3)
-    ∷ place_bit state Upper (place + 2) ∷ []
+block_lines state corner =
+    corner_bit state Lower corner ∷ corner_bit state Upper corner
+    ∷ corner_bit state Lower (corner + 1) ∷ corner_bit state Lower (corner + 3)
+    ∷ corner_bit state Lower (corner + 2)
+    ∷ corner_bit state Upper (corner + 1) ∷ corner_bit state Upper (corner + 3)
+    ∷ corner_bit state Upper (corner + 2) ∷ []
 
 -- and on lines 8 to 11, whatever the state
 abbrev pub other_lines : Hood → Minor → Phase → ℕ → List Bool
-other_lines hood minor phase place =
-    map (line_shows (place_sees phase 0 place)) (drop 8 (names_of hood minor))
+other_lines hood minor phase corner =
+    map (line_shows (corner_sees phase 0 corner)) (drop 8 (names_of hood minor))
 
-pub split : (hood : Hood) (minor : Minor) (phase : Phase) (state place : ℕ) →
+pub split : (hood : Hood) (minor : Minor) (phase : Phase) (state corner : ℕ) →
     is_margolus hood ≡ true →
-    lines hood minor phase state place
-    ≡ block_lines state place ++ other_lines hood minor phase place
-split Moore minor phase state place h = cc
-split VonNeumann minor phase state place h = cc
-split Margolus Centers phase state place h = refl
-split Margolus Phases phase state place h = refl
-split Margolus HorzVert phase state place h = refl
-split MargolusPhase Centers phase state place h = refl
-split MargolusPhase Phases phase state place h = refl
-split MargolusPhase HorzVert phase state place h = refl
-split MargolusHorzVert Centers phase state place h = refl
-split MargolusHorzVert Phases phase state place h = refl
-split MargolusHorzVert HorzVert phase state place h = refl
+    lines hood minor phase state corner
+    ≡ block_lines state corner ++ other_lines hood minor phase corner
+split Moore minor phase state corner h = cc
+split VonNeumann minor phase state corner h = cc
+split Margolus Centers phase state corner h = refl
+split Margolus Phases phase state corner h = refl
+split Margolus HorzVert phase state corner h = refl
+split MargolusPhase Centers phase state corner h = refl
+split MargolusPhase Phases phase state corner h = refl
+split MargolusPhase HorzVert phase state corner h = refl
+split MargolusHorzVert Centers phase state corner h = refl
+split MargolusHorzVert Phases phase state corner h = refl
+split MargolusHorzVert HorzVert phase state corner h = refl
 
-pub other_long : (hood : Hood) (minor : Minor) (phase other : Phase) (place k : ℕ) →
-    length (other_lines hood minor phase place) ≡ length (other_lines hood minor other k)
-other_long hood minor phase other place k =
+pub other_long : (hood : Hood) (minor : Minor) (phase other : Phase) (corner k : ℕ) →
+    length (other_lines hood minor phase corner) ≡ length (other_lines hood minor other k)
+other_long hood minor phase other corner k =
     length-map (drop 8 (names_of hood minor)) _ ∙ sym (length-map (drop 8 (names_of hood minor)) _)
 
 -- lines 8 and 9 and lines 10 and 11, each as a number
 abbrev hood_number : Hood → Phase → ℕ → ℕ
-hood_number hood phase place =
-    number_of (map (line_shows (place_sees phase 0 place)) (drop 8 (hood_names hood)))
+hood_number hood phase corner =
+    number_of (map (line_shows (corner_sees phase 0 corner)) (drop 8 (hood_names hood)))
 
 abbrev minor_number : Minor → Phase → ℕ → ℕ
-minor_number minor phase place =
-    number_of (map (line_shows (place_sees phase 0 place)) (minor_names minor))
+minor_number minor phase corner =
+    number_of (map (line_shows (corner_sees phase 0 corner)) (minor_names minor))
 
 two_more : (a b : Bool) (rest : List Bool) →
     number_of (a ∷ b ∷ rest) ≡ number_of (a ∷ b ∷ []) + 4 * number_of rest
 two_more a b rest = omega arith
 
-other_number : (hood : Hood) (minor : Minor) (phase : Phase) (place : ℕ) →
+other_number : (hood : Hood) (minor : Minor) (phase : Phase) (corner : ℕ) →
     is_margolus hood ≡ true →
-    number_of (other_lines hood minor phase place)
-    ≡ hood_number hood phase place + 4 * minor_number minor phase place
-other_number Moore minor phase place h = cc
-other_number VonNeumann minor phase place h = cc
-other_number Margolus minor phase place h =
-    two_more false false (map (line_shows (place_sees phase 0 place)) (minor_names minor))
-other_number MargolusPhase minor phase place h =
+    number_of (other_lines hood minor phase corner)
+    ≡ hood_number hood phase corner + 4 * minor_number minor phase corner
+other_number Moore minor phase corner h = cc
+other_number VonNeumann minor phase corner h = cc
+other_number Margolus minor phase corner h =
+    two_more false false (map (line_shows (corner_sees phase 0 corner)) (minor_names minor))
+other_number MargolusPhase minor phase corner h =
     two_more (phase_bit phase Lower) (phase_bit phase Upper)
-    (map (line_shows (place_sees phase 0 place)) (minor_names minor))
-other_number MargolusHorzVert minor phase place h =
-    two_more (is_right place) (is_low place)
-    (map (line_shows (place_sees phase 0 place)) (minor_names minor))
+    (map (line_shows (corner_sees phase 0 corner)) (minor_names minor))
+other_number MargolusHorzVert minor phase corner h =
+    two_more (is_right corner) (is_low corner)
+    (map (line_shows (corner_sees phase 0 corner)) (minor_names minor))
 
-eight_more : (state place : ℕ) (rest : List Bool) →
-    number_of (block_lines state place ++ rest)
-    ≡ number_of (block_lines state place) + 256 * number_of rest
-eight_more state place rest = omega arith
+eight_more : (state corner : ℕ) (rest : List Bool) →
+    number_of (block_lines state corner ++ rest)
+    ≡ number_of (block_lines state corner) + 256 * number_of rest
+eight_more state corner rest = omega arith
 
--- a place's address, part by part
-pub address_by_parts : (hood : Hood) (minor : Minor) (phase : Phase) (state place : ℕ) →
+-- a corner's address, part by part
+pub address_by_parts : (hood : Hood) (minor : Minor) (phase : Phase) (state corner : ℕ) →
     is_margolus hood ≡ true →
-    number_of (block_lines state place) + 256 * hood_number hood phase place
-    + 1024 * minor_number minor phase place
-    ≡ place_address hood minor phase state place
-unfolding place_address address_of
-address_by_parts hood minor phase state place h =
+    number_of (block_lines state corner) + 256 * hood_number hood phase corner
+    + 1024 * minor_number minor phase corner
+    ≡ corner_address hood minor phase state corner
+unfolding corner_address address_of
+address_by_parts hood minor phase state corner h =
     omega (
       arith,
-      other_number hood minor phase place h,
-      eight_more state place (other_lines hood minor phase place),
-      ap number_of (split hood minor phase state place h),
+      other_number hood minor phase corner h,
+      eight_more state corner (other_lines hood minor phase corner),
+      ap number_of (split hood minor phase state corner h),
     )

@@ -1,4 +1,4 @@
--- What lines 8 to 11 tell of places: where two places show the same there, so do the places that
+-- What lines 8 to 11 tell of corners: where two corners show the same there, so do the corners that
 -- lie equally far clockwise of them. A test of every case.
 use Rattle.std.proofs.Common.{◌≡◌, ℕ, zero, suc, ◌+◌, ◌-◌, ◌*◌, ◌/◌, ◌%◌, ◌<◌, ◌==◌, Bool, true}
 use Rattle.std.proofs.Common.{false, ◌&&◌, ◌||◌, not, ◌∙◌, refl, sym, ap, arith}
@@ -35,7 +35,7 @@ all_below-at p (suc n) i h e =
       | Prim.no ge ↦ let same : i ≡ n = omega arith in ap p same ∙ and_left (p n) (all_below p n) e
     ]
 
--- what place i at one phase and place j at another show, and the places k further on
+-- what corner i at one phase and corner j at another show, and the corners k further on
 abbrev test : Hood → Minor → Phase → ℕ → Phase → ℕ → ℕ → Bool
 test hood minor phase i other j k =
     not (number_of (other_lines hood minor phase i) == number_of (other_lines hood minor other j))
@@ -68,13 +68,13 @@ implied : (a b : Bool) → (not a || b) ≡ true → a ≡ true → b ≡ true
 implied true b h e = h
 implied false b h e = cc
 
--- two places that show the same on these lines show the same when both are turned
-pub other_turned : (hood : Hood) (minor : Minor) (phase other : Phase) (i j k : ℕ) →
+-- two corners that show the same on these lines show the same when both are rotated
+pub other_rotated : (hood : Hood) (minor : Minor) (phase other : Phase) (i j k : ℕ) →
     i < 4 → j < 4 → k < 4 →
     number_of (other_lines hood minor phase i) ≡ number_of (other_lines hood minor other j) →
     number_of (other_lines hood minor phase (i + (4 - j) + k))
     ≡ number_of (other_lines hood minor other k)
-other_turned hood minor phase other i j k hi hj hk e =
+other_rotated hood minor phase other i j k hi hj hk e =
     let hp : phase_number phase < 4 = phase_number-lt phase in
     let ho : phase_number other < 4 = phase_number-lt other in
     let n = phase_number phase + 4 * i + 16 * phase_number other + 64 * j + 256 * k in

@@ -1,4 +1,4 @@
--- A map of the numbers below n to themselves, of which no two have one image, takes each of them.
+-- A map of the numbers below n to themselves, of which no two have one successor, takes each of them.
 use Rattle.std.proofs.Common.{◌≡◌, ◌≢◌, ◌⊎◌, inl, inr, ℕ, zero, suc, ◌<◌, ◌==◌, if◌then◌else◌}
 use Rattle.std.proofs.Common.{sym, ◌∙◌, ap, arith}
 use Rattle.std.proofs.lemmas.Bool.Decides.{eqb_tells}
@@ -8,7 +8,7 @@ use Rattle.cam6_block.specs.Laws.{TakesEach}
 abbrev pub IsOneToOneBelow : ℕ → (ℕ → ℕ) → Type 0
 IsOneToOneBelow n f = (s t : ℕ) → s < n → t < n → f s ≡ f t → s ≡ t
 
--- f with its value at n in place of the value m
+-- f with its value at n in corner of the value m
 abbrev moved : (ℕ → ℕ) → ℕ → ℕ → ℕ → ℕ
 moved f n m i = if f i == m then f n else f i
 
@@ -118,4 +118,4 @@ takes_each_below n f below one t h =
     ]
 
 pub takes_each : TakesEach
-takes_each f below one image h = takes_each_below 256 f below one image h
+takes_each f below one successor h = takes_each_below 256 f below one successor h

@@ -1,4 +1,4 @@
--- The least state with an image, where no two have one.
+-- The least state with an successor, where no two have one.
 use Rattle.std.proofs.Common.{◌≡◌, ℕ, zero, suc, ◌+◌, ◌<◌, ◌≤◌, ◌==◌, Bool, true, false}
 use Rattle.std.proofs.Common.{if◌then◌else◌, refl, sym, ◌∙◌, ap, arith}
 use Rattle.std.proofs.lemmas.Bool.{eqb-true, eq-eqb}
@@ -33,12 +33,12 @@ preimage_is f s h one =
     (eq-eqb _ _ refl) (λ i l e. one i s (omega arith) h (eqb-true _ _ e))
 
 -- each state has a preimage
-pub preimage-lt : (read : Reading) (phase : Phase) (image : ℕ) → image < 256 →
-    IsOneToOne (block_map read phase) → preimage (block_map read phase) image < 256
-preimage-lt read phase image h one =
-    let from : (s : ℕ) × (s < 256) × (block_map read phase s ≡ image) =
-    takes_each (block_map read phase) (λ s _. block_map-lt read phase s) one image h in
-    let same : preimage (block_map read phase) image ≡ from.0 =
+pub preimage-lt : (read : Reading) (phase : Phase) (successor : ℕ) → successor < 256 →
+    IsOneToOne (block_map read phase) → preimage (block_map read phase) successor < 256
+preimage-lt read phase successor h one =
+    let from : (s : ℕ) × (s < 256) × (block_map read phase s ≡ successor) =
+    takes_each (block_map read phase) (λ s _. block_map-lt read phase s) one successor h in
+    let same : preimage (block_map read phase) successor ≡ from.0 =
     ap (preimage (block_map read phase)) (sym (from.2)) ∙
     preimage_is (block_map read phase) (from.0) (from.1) one in
     omega (arith, from.1)

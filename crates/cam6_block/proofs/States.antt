@@ -10,7 +10,7 @@ use Rattle.cam6_wiring.specs.declared.names.Phase.{Phase}
 use Rattle.cam6_wiring.proofs.Numbers.{number_of-lt, bit_at-number_of}
 use Rattle.cam6_wiring.proofs.LinesOfNames.{bit_number-one}
 use Rattle.cam6_table.specs.NewBits.{bit_for}
-use Rattle.cam6_block.specs.Blocks.{place_bit, state_of, first_bit, bits_at, place_sees}
+use Rattle.cam6_block.specs.Blocks.{corner_bit, state_of, first_bit, corner_bits, corner_sees}
 use Rattle.cam6_block.specs.BlockMaps.{Reading, block_map}
 
 -- a number below 4 is one of four
@@ -42,25 +42,25 @@ bit_of bit i =
     bit_number-one (get_or (bits_of bit) i false)
 
 -- the bits of a state that is made of bits
-pub place_bit-state_of : (bit : Level → ℕ → Bool) (level : Level) (k : ℕ) → k < 4 →
-    place_bit (state_of bit) level k ≡ bit level k
-unfolding place_bit
-place_bit-state_of bit Lower k h =
-    four (λ k. place_bit (state_of bit) Lower k ≡ bit Lower k)
+pub corner_bit-state_of : (bit : Level → ℕ → Bool) (level : Level) (k : ℕ) → k < 4 →
+    corner_bit (state_of bit) level k ≡ bit level k
+unfolding corner_bit
+corner_bit-state_of bit Lower k h =
+    four (λ k. corner_bit (state_of bit) Lower k ≡ bit Lower k)
     (bit_of bit 0) (bit_of bit 1) (bit_of bit 2) (bit_of bit 3) k h
-place_bit-state_of bit Upper k h =
-    four (λ k. place_bit (state_of bit) Upper k ≡ bit Upper k)
+corner_bit-state_of bit Upper k h =
+    four (λ k. corner_bit (state_of bit) Upper k ≡ bit Upper k)
     (bit_of bit 4) (bit_of bit 5) (bit_of bit 6) (bit_of bit 7) k h
 
 pub state_of-lt : (bit : Level → ℕ → Bool) → state_of bit < 256
 unfolding state_of
 state_of-lt bit = number_of-lt (bits_of bit)
 
--- places are counted round and round
-pub place_bit-mod : (state : ℕ) (level : Level) (m n : ℕ) → m % 4 ≡ n % 4 →
-    place_bit state level m ≡ place_bit state level n
-unfolding place_bit
-place_bit-mod state level m n e = ap (λ k. bit_at state (k + first_bit level) == 1) e
+-- corners are counted round and round
+pub corner_bit-mod : (state : ℕ) (level : Level) (m n : ℕ) → m % 4 ≡ n % 4 →
+    corner_bit state level m ≡ corner_bit state level n
+unfolding corner_bit
+corner_bit-mod state level m n e = ap (λ k. bit_at state (k + first_bit level) == 1) e
 
 -- equal tests of a bit are equal bits
 same_bit : (a b : ℕ) → a < 2 → b < 2 → (a == 1) ≡ (b == 1) → a ≡ b
@@ -71,10 +71,10 @@ same_bit (suc zero) (suc zero) h k e = refl
 same_bit (suc (suc a)) b h k e = absurd (omega arith)
 same_bit a (suc (suc b)) h k e = absurd (omega arith)
 
--- two states with the same bits are one
+-- two block_states with the same bits are one
 pub same_state : (s t : ℕ) → s < 256 → t < 256 →
-    ((level : Level) (k : ℕ) → k < 4 → place_bit s level k ≡ place_bit t level k) → s ≡ t
-unfolding place_bit
+    ((level : Level) (k : ℕ) → k < 4 → corner_bit s level k ≡ corner_bit t level k) → s ≡ t
+unfolding corner_bit
 same_state s t h k e =
     let bit = λ (i : ℕ) (p : (bit_at s i == 1) ≡ (bit_at t i == 1)).
     same_bit (bit_at s i) (bit_at t i) (bit_at-lt s i) (bit_at-lt t i) p in
@@ -86,19 +86,19 @@ same_state s t h k e =
     (bit 6 (e Upper 2 (omega arith))) (bit 7 (e Upper 3 (omega arith))))
 
 -- the bits of what becomes of a state
-pub place_bit-block_map : (read : Reading) (phase : Phase) (state : ℕ) (level : Level) (k : ℕ) →
+pub corner_bit-block_map : (read : Reading) (phase : Phase) (state : ℕ) (level : Level) (k : ℕ) →
     k < 4 →
-    place_bit (block_map read phase state) level k
-    ≡ bit_for level (read (place_sees phase state k))
+    corner_bit (block_map read phase state) level k
+    ≡ bit_for level (read (corner_sees phase state k))
 unfolding block_map
-place_bit-block_map read phase state level k h =
-    place_bit-state_of (λ level place. bit_for level (read (place_sees phase state place))) level k
+corner_bit-block_map read phase state level k h =
+    corner_bit-state_of (λ level corner. bit_for level (read (corner_sees phase state corner))) level k
     h
 
 pub block_map-lt : (read : Reading) (phase : Phase) (state : ℕ) → block_map read phase state < 256
 unfolding block_map
 block_map-lt read phase state =
-    state_of-lt (λ level place. bit_for level (read (place_sees phase state place)))
+    state_of-lt (λ level corner. bit_for level (read (corner_sees phase state corner)))
 
 lower_of : (a b : Bool) → bit_for Lower (number_of (a ∷ b ∷ [])) ≡ a
 lower_of true true = refl
@@ -112,11 +112,11 @@ upper_of true false = refl
 upper_of false true = refl
 upper_of false false = refl
 
--- of a place's two bits each is the state's
-pub bit_for-bits_at : (level : Level) (state place : ℕ) →
-    bit_for level (bits_at state place) ≡ place_bit state level place
-unfolding bits_at
-bit_for-bits_at Lower state place =
-    lower_of (place_bit state Lower place) (place_bit state Upper place)
-bit_for-bits_at Upper state place =
-    upper_of (place_bit state Lower place) (place_bit state Upper place)
+-- of a corner's two bits each is the state's
+pub bit_for-corner_bits : (level : Level) (state corner : ℕ) →
+    bit_for level (corner_bits state corner) ≡ corner_bit state level corner
+unfolding corner_bits
+bit_for-corner_bits Lower state corner =
+    lower_of (corner_bit state Lower corner) (corner_bit state Upper corner)
+bit_for-corner_bits Upper state corner =
+    upper_of (corner_bit state Lower corner) (corner_bit state Upper corner)

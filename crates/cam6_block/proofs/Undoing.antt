@@ -8,24 +8,24 @@ use Rattle.cam6_wiring.specs.declared.wirings.Hood.{Hood}
 use Rattle.cam6_wiring.specs.declared.wirings.Minor.{Minor}
 use Rattle.cam6_table.specs.NewBits.{bit_for}
 use Rattle.cam6_table.proofs.TrueTables.{true_table}
-use Rattle.cam6_block.specs.Blocks.{place_address, bits_at}
+use Rattle.cam6_block.specs.Blocks.{corner_address, corner_bits}
 use Rattle.cam6_block.specs.BlockMaps.{Reading, by_table, made, block_map, preimage}
-use Rattle.cam6_block.specs.Laws.{TrueTableHasTheBlockMap, PlacesAgree, IsTheOnlyOne}
+use Rattle.cam6_block.specs.Laws.{TrueTableHasTheBlockMap, CornersAgree, IsTheOnlyOne}
 use Rattle.cam6_block.specs.Laws.{InvertedTakesPreimages, InvertedUndoes}
-use Rattle.cam6_block.proofs.States.{place_bit-block_map, block_map-lt, same_state}
-use Rattle.cam6_block.proofs.States.{bit_for-bits_at}
+use Rattle.cam6_block.proofs.States.{corner_bit-block_map, block_map-lt, same_state}
+use Rattle.cam6_block.proofs.States.{bit_for-corner_bits}
 use Rattle.cam6_block.proofs.Pigeonhole.{found, takes_each}
 use Rattle.cam6_block.proofs.Phases.{phase_of, phase_of-number, phase_number-lt}
 use Rattle.cam6_block.proofs.Preimages.{preimage_is, preimage-lt}
-use Rattle.cam6_block.proofs.Turned.{table_reads, agree}
+use Rattle.cam6_block.proofs.Rotated.{table_reads, agree}
 
 pub true_table_map : TrueTableHasTheBlockMap
 true_table_map wiring parts entries phase state rule true =
     ap (λ (read : Reading). block_map read phase state)
     (fun_ext (λ sees. sym (ap made (true_table wiring parts entries sees rule true))))
 
-pub places_agree : PlacesAgree
-places_agree hood minor entries reversible phase other s u i j hs hu hi hj same =
+pub corners_agree : CornersAgree
+corners_agree hood minor entries reversible phase other s u i j hs hu hi hj same =
     let read = by_table hood minor entries in
     let f = block_map read phase in
     let g = block_map read other in
@@ -34,15 +34,15 @@ places_agree hood minor entries reversible phase other s u i j hs hu hi hj same 
     let (b, b_lt, b_is) = takes_each g (λ s _. block_map-lt read other s) (one other) u hu in
     let before : preimage f s ≡ a = ap (preimage f) (sym a_is) ∙ preimage_is f a a_lt (one phase) in
     let after : preimage g u ≡ b = ap (preimage g) (sym b_is) ∙ preimage_is g b b_lt (one other) in
-    ap (λ n. bits_at n i) before ∙
+    ap (λ n. corner_bits n i) before ∙
     agree read hood minor (table_reads hood minor entries) reversible.blocks phase other a i b j
     hi b_lt hj (one other)
-    (ap (λ n. place_address hood minor phase n i) a_is ∙ same ∙
-    ap (λ n. place_address hood minor other n j) (sym b_is)) ∙
-    ap (λ n. bits_at n j) (sym after)
+    (ap (λ n. corner_address hood minor phase n i) a_is ∙ same ∙
+    ap (λ n. corner_address hood minor other n j) (sym b_is)) ∙
+    ap (λ n. corner_bits n j) (sym after)
 
 pub takes_preimages : InvertedTakesPreimages
-unfolding place_address
+unfolding corner_address
 takes_preimages hood minor entries inverted phase state reversible is h =
     let read = by_table hood minor entries in
     let undo = by_table hood minor inverted in
@@ -50,8 +50,8 @@ takes_preimages hood minor entries inverted phase state reversible is h =
     same_state (block_map undo phase state) before (block_map-lt undo phase state)
     (preimage-lt read phase state h (reversible.one_to_one phase))
     (λ level k h4.
-    place_bit-block_map undo phase state level k h4 ∙
-    ap (bit_for level) (is.shown phase state k h h4) ∙ bit_for-bits_at level before k)
+    corner_bit-block_map undo phase state level k h4 ∙
+    ap (bit_for level) (is.shown phase state k h h4) ∙ bit_for-corner_bits level before k)
 
 pub undoes : InvertedUndoes
 undoes hood minor entries inverted phase state reversible is h =
@@ -69,35 +69,35 @@ same_list (x ∷ xs) (y ∷ ys) h e =
     ap (λ n. n ∷ xs) (e 0 (omega arith)) ∙
     ap (λ l. y ∷ l) (same_list xs ys (omega arith) (λ i k. e (suc i) (omega arith)))
 
--- the addresses that places show, one after another: 4 places of 256 states at 4 phases
+-- the addresses that corners show, one after another: 4 corners of 256 block_states at 4 phases
 abbrev pub phase_at : ℕ → Phase
 phase_at n = phase_of (n / 1024)
 
-abbrev pub state_at : ℕ → ℕ
-state_at n = n / 4 % 256
+abbrev pub state_numbered : ℕ → ℕ
+state_numbered n = n / 4 % 256
 
-abbrev pub place_at : ℕ → ℕ
-place_at n = n % 4
+abbrev pub corner_numbered : ℕ → ℕ
+corner_numbered n = n % 4
 
 abbrev shown_by : Hood → Minor → ℕ → ℕ
-shown_by hood minor n = place_address hood minor (phase_at n) (state_at n) (place_at n)
+shown_by hood minor n = corner_address hood minor (phase_at n) (state_numbered n) (corner_numbered n)
 
--- each place of each state at each phase is among them
-shown_once : (hood : Hood) (minor : Minor) (phase : Phase) (state place : ℕ) → state < 256 →
-    place < 4 →
-    (n : ℕ) × (n < 4096) × (shown_by hood minor n ≡ place_address hood minor phase state place)
-shown_once hood minor phase state place hs hk =
-    let n = 1024 * phase_number phase + 4 * state + place in
+-- each corner of each state at each phase is among them
+shown_once : (hood : Hood) (minor : Minor) (phase : Phase) (state corner : ℕ) → state < 256 →
+    corner < 4 →
+    (n : ℕ) × (n < 4096) × (shown_by hood minor n ≡ corner_address hood minor phase state corner)
+shown_once hood minor phase state corner hs hk =
+    let n = 1024 * phase_number phase + 4 * state + corner in
     let hp : phase_number phase < 4 = phase_number-lt phase in
     let np : n / 1024 ≡ phase_number phase = omega arith in
     let ep : phase_at n ≡ phase = ap phase_of np ∙ phase_of-number phase in
-    let es : state_at n ≡ state = omega arith in
-    let ek : place_at n ≡ place = omega arith in (
+    let es : state_numbered n ≡ state = omega arith in
+    let ek : corner_numbered n ≡ corner = omega arith in (
       n,
       omega arith,
-      ap (λ p. place_address hood minor p (state_at n) (place_at n)) ep ∙
-          ap (λ s. place_address hood minor phase s (place_at n)) es ∙
-          ap (place_address hood minor phase state) ek,
+      ap (λ p. corner_address hood minor p (state_numbered n) (corner_numbered n)) ep ∙
+          ap (λ s. corner_address hood minor phase s (corner_numbered n)) es ∙
+          ap (corner_address hood minor phase state) ek,
     )
 
 pub only_one : IsTheOnlyOne
@@ -109,14 +109,14 @@ only_one read hood minor first second is it =
           let n = w.0 in
           let n_lt : n < 4096 = w.1 in
           ap (λ i. get_or first i 0) (sym (w.2)) ∙
-          is.shown (phase_at n) (state_at n) (place_at n) (omega arith) (omega arith) ∙
-          sym (it.shown (phase_at n) (state_at n) (place_at n) (omega arith) (omega arith)) ∙
+          is.shown (phase_at n) (state_numbered n) (corner_numbered n) (omega arith) (omega arith) ∙
+          sym (it.shown (phase_at n) (state_numbered n) (corner_numbered n) (omega arith) (omega arith)) ∙
           ap (λ i. get_or second i 0) (w.2)
       | inr none ↦
-          let never : (phase : Phase) (state place : ℕ) → state < 256 → place < 4 →
-          place_address hood minor phase state place ≢ a =
-          λ phase state place hs hk e.
-          let there = shown_once hood minor phase state place hs hk in
+          let never : (phase : Phase) (state corner : ℕ) → state < 256 → corner < 4 →
+          corner_address hood minor phase state corner ≢ a =
+          λ phase state corner hs hk e.
+          let there = shown_once hood minor phase state corner hs hk in
           none there.0 there.1 (there.2 ∙ e) in
           is.hidden a a_lt never ∙ sym (it.hidden a a_lt never)
     ])

@@ -13,7 +13,7 @@ use Rattle.cam6_forth.specs.Tree.{Part}
 use Rattle.cam6_table.specs.declared.faults.RuleFault.{RuleFault}
 use Rattle.cam6_table.specs.Meaning.{meaning}
 use Rattle.cam6_table.specs.NewBits.{bit_for}
-use Rattle.cam6_block.specs.Blocks.{states, state_of, place_sees}
+use Rattle.cam6_block.specs.Blocks.{block_states, state_of, corner_sees}
 
 -- two new bits, as a number, by what is seen
 abbrev pub Reading : Type 0
@@ -32,23 +32,23 @@ made (Err fault) = 0
 abbrev pub by_words : Wiring → List Part → Reading
 by_words wiring parts sees = made (meaning wiring parts sees)
 
--- what becomes of a block's state: each place takes the bits of what it sees
+-- what becomes of a block's state: each corner takes the bits of what it sees
 unfoldable pub block_map : Reading → Phase → ℕ → ℕ
 block_map read phase state =
-    state_of (λ level place. bit_for level (read (place_sees phase state place)))
+    state_of (λ level corner. bit_for level (read (corner_sees phase state corner)))
 
--- no two states have one image
+-- no two block_states have one successor
 abbrev pub IsOneToOne : (ℕ → ℕ) → Type 0
-IsOneToOne f = (a b : ℕ) → a < states → b < states → f a ≡ f b → a ≡ b
+IsOneToOne f = (a b : ℕ) → a < block_states → b < block_states → f a ≡ f b → a ≡ b
 
 -- the first of n numbers, from k on, at which p holds, or the one behind them all
 abbrev pub first_from : (ℕ → Bool) → ℕ → ℕ → ℕ
 first_from p zero k = k
 first_from p (suc n) k = if p k then k else first_from p n (suc k)
 
--- the least state with this image
+-- the least state with this successor
 unfoldable pub preimage : (ℕ → ℕ) → ℕ → ℕ
-preimage f image = first_from (λ state. f state == image) states 0
+preimage f successor = first_from (λ state. f state == successor) block_states 0
 
 -- under these neighbourhoods each cell is one of a block
 abbrev pub is_margolus : Hood → Bool
@@ -58,7 +58,7 @@ is_margolus Margolus = true
 is_margolus MargolusPhase = true
 is_margolus MargolusHorzVert = true
 
--- blocks that see nothing but themselves, of which no two have one image at any phase
+-- blocks that see nothing but themselves, of which no two have one successor at any phase
 pub record IsReversible (read : Reading) (hood : Hood) (minor : Minor) : Type 0 where
   pub blocks : is_margolus hood ≡ true
   pub alone : minor ≢ Centers

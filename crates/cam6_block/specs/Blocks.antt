@@ -1,8 +1,8 @@
--- The state of a block of four cells in both planes of a half, as a number, and what each place
+-- The state of a block of four cells in both planes of a half, as a number, and what each corner
 -- sees in it.
 --
---     0  1      places are counted clockwise from the upper left one, round and round: place 4 is
---     3  2      place 0 again
+--     0  1      corners are counted clockwise from the upper left one, round and round: corner 4 is
+--     3  2      corner 0 again
 use Rattle.std.specs.Prelude.{ℕ, ◌+◌, ◌%◌, ◌==◌, ◌||◌, Bool, false, [], ◌∷◌}
 use Rattle.std.specs.Int.{bit_at}
 use Rattle.cam6_wiring.specs.Name.{phase_bit}
@@ -12,23 +12,23 @@ use Rattle.cam6_wiring.specs.declared.names.Level.{Level}
 use Rattle.cam6_wiring.specs.declared.names.Level.TheVariants.{Lower, Upper}
 use Rattle.cam6_wiring.specs.declared.names.Name.TheVariants as name
 use Rattle.cam6_wiring.specs.declared.names.Phase.{Phase}
-use Rattle.cam6_wiring.specs.declared.names.Turn.{Turn}
-use Rattle.cam6_wiring.specs.declared.names.Turn.TheVariants.{Clockwise, Opposite, CounterClockwise}
+use Rattle.cam6_wiring.specs.declared.names.Rotation.{Rotation}
+use Rattle.cam6_wiring.specs.declared.names.Rotation.TheVariants.{Clockwise, Opposite, CounterClockwise}
 use Rattle.cam6_wiring.specs.declared.wirings.Hood.{Hood}
 use Rattle.cam6_wiring.specs.declared.wirings.Minor.{Minor}
 
--- a block has so many states: a bit at each of four places in each of two planes
-abbrev pub states : ℕ
-states = 256
+-- a block has so many block_states: a bit at each of four corners in each of two planes
+abbrev pub block_states : ℕ
+block_states = 256
 
 -- the lower plane's bits are the four lowest
 abbrev pub first_bit : Level → ℕ
 first_bit Lower = 0
 first_bit Upper = 4
 
--- the bit that a state has at a place
-unfoldable pub place_bit : ℕ → Level → ℕ → Bool
-place_bit state level place = bit_at state (place % 4 + first_bit level) == 1
+-- the bit that a state has at a corner
+unfoldable pub corner_bit : ℕ → Level → ℕ → Bool
+corner_bit state level corner = bit_at state (corner % 4 + first_bit level) == 1
 
 -- the state with these bits
 unfoldable pub state_of : (Level → ℕ → Bool) → ℕ
@@ -37,39 +37,39 @@ state_of bit =
     (bit Lower 0 ∷ bit Lower 1 ∷ bit Lower 2 ∷ bit Lower 3
     ∷ bit Upper 0 ∷ bit Upper 1 ∷ bit Upper 2 ∷ bit Upper 3 ∷ [])
 
--- a place's two bits as a table has them
-unfoldable pub bits_at : ℕ → ℕ → ℕ
-bits_at state place = number_of (place_bit state Lower place ∷ place_bit state Upper place ∷ [])
+-- a corner's two bits as a table has them
+unfoldable pub corner_bits : ℕ → ℕ → ℕ
+corner_bits state corner = number_of (corner_bit state Lower corner ∷ corner_bit state Upper corner ∷ [])
 
--- how many places further clockwise a name in the block looks
-abbrev pub places_on : Turn → ℕ
-places_on Clockwise = 1
-places_on Opposite = 2
-places_on CounterClockwise = 3
+-- how many corners further clockwise a name in the block looks
+abbrev pub corners_on : Rotation → ℕ
+corners_on Clockwise = 1
+corners_on Opposite = 2
+corners_on CounterClockwise = 3
 
--- places 1 and 2 lie in the right column
+-- corners 1 and 2 lie in the right column
 abbrev pub is_right : ℕ → Bool
-is_right place = (place % 4 == 1) || (place % 4 == 2)
+is_right corner = (corner % 4 == 1) || (corner % 4 == 2)
 
--- places 2 and 3 lie in the lower row
+-- corners 2 and 3 lie in the lower row
 abbrev pub is_low : ℕ → Bool
-is_low place = (place % 4 == 2) || (place % 4 == 3)
+is_low corner = (corner % 4 == 2) || (corner % 4 == 3)
 
--- what a place sees in its block under each name; of what lies beside the block, and of the other
+-- what a corner sees in its block under each name; of what lies beside the block, and of the other
 -- half, nothing
-abbrev pub place_sees : Phase → ℕ → ℕ → Sees
-place_sees phase state place (name.Beside Center level) = place_bit state level place
-place_sees phase state place (name.Beside _ level) = false
-place_sees phase state place (name.InBlock turn level) =
-    place_bit state level (place + places_on turn)
-place_sees phase state place (name.Phase level) = phase_bit phase level
-place_sees phase state place name.Horz = is_right place
-place_sees phase state place name.Vert = is_low place
-place_sees phase state place (name.MinorCenter level) = false
-place_sees phase state place (name.MinorPhase level) = phase_bit phase level
-place_sees phase state place name.MinorHorz = is_right place
-place_sees phase state place name.MinorVert = is_low place
+abbrev pub corner_sees : Phase → ℕ → ℕ → Sees
+corner_sees phase state corner (name.Beside Center level) = corner_bit state level corner
+corner_sees phase state corner (name.Beside _ level) = false
+corner_sees phase state corner (name.InBlock rotation level) =
+    corner_bit state level (corner + corners_on rotation)
+corner_sees phase state corner (name.Phase level) = phase_bit phase level
+corner_sees phase state corner name.Horz = is_right corner
+corner_sees phase state corner name.Vert = is_low corner
+corner_sees phase state corner (name.MinorCenter level) = false
+corner_sees phase state corner (name.MinorPhase level) = phase_bit phase level
+corner_sees phase state corner name.MinorHorz = is_right corner
+corner_sees phase state corner name.MinorVert = is_low corner
 
--- the address that a place shows
-unfoldable pub place_address : Hood → Minor → Phase → ℕ → ℕ → ℕ
-place_address hood minor phase state place = address_of hood minor (place_sees phase state place)
+-- the address that a corner shows
+unfoldable pub corner_address : Hood → Minor → Phase → ℕ → ℕ → ℕ
+corner_address hood minor phase state corner = address_of hood minor (corner_sees phase state corner)

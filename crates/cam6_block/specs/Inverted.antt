@@ -4,22 +4,22 @@ use Rattle.cam6_wiring.specs.declared.names.Phase.{Phase}
 use Rattle.cam6_wiring.specs.declared.wirings.Hood.{Hood}
 use Rattle.cam6_wiring.specs.declared.wirings.Minor.{Minor}
 use Rattle.cam6_table.specs.Limits.{addresses}
-use Rattle.cam6_block.specs.Blocks.{states, bits_at, place_address}
+use Rattle.cam6_block.specs.Blocks.{block_states, corner_bits, corner_address}
 use Rattle.cam6_block.specs.BlockMaps.{Reading, block_map, preimage}
 
--- no place shows this address, at whatever phase and of whatever state
+-- no corner shows this address, at whatever phase and of whatever state
 abbrev pub IsHidden : Hood → Minor → ℕ → Type 0
 IsHidden hood minor address =
-    (phase : Phase) (state place : ℕ) → state < states → place < 4 →
-    place_address hood minor phase state place ≢ address
+    (phase : Phase) (state corner : ℕ) → state < block_states → corner < 4 →
+    corner_address hood minor phase state corner ≢ address
 
--- at the address that a place shows stand the bits that the place has in the least state with this
--- image; an address that no place shows has its own two lowest bits
+-- at the address that a corner shows stand the bits that the corner has in the least state with this
+-- successor; an address that no corner shows has its own two lowest bits
 pub record IsInverted (read : Reading) (hood : Hood) (minor : Minor) (entries : List ℕ) :
     Type 0 where
   pub whole : length entries ≡ addresses
-  pub shown : (phase : Phase) (state place : ℕ) → state < states → place < 4 →
-      slice_index entries (place_address hood minor phase state place)
-      ≡ bits_at (preimage (block_map read phase) state) place
+  pub shown : (phase : Phase) (state corner : ℕ) → state < block_states → corner < 4 →
+      slice_index entries (corner_address hood minor phase state corner)
+      ≡ corner_bits (preimage (block_map read phase) state) corner
   pub hidden : (address : ℕ) → address < addresses → IsHidden hood minor address →
       slice_index entries address ≡ address % 4

@@ -6,7 +6,7 @@ use Rattle.cam6_wiring.specs.declared.wirings.Minor.{Minor}
 use Rattle.cam6_wiring.specs.declared.wirings.Wiring.{Wiring}
 use Rattle.cam6_forth.specs.Tree.{Part, IsRule}
 use Rattle.cam6_table.specs.Tables.{IsTrueTable}
-use Rattle.cam6_block.specs.Blocks.{states, bits_at, place_address}
+use Rattle.cam6_block.specs.Blocks.{block_states, corner_bits, corner_address}
 use Rattle.cam6_block.specs.BlockMaps.{Reading, by_table, by_words, block_map, preimage}
 use Rattle.cam6_block.specs.BlockMaps.{IsOneToOne, IsReversible}
 use Rattle.cam6_block.specs.Refusals.{IsRefused, cause_of}
@@ -21,24 +21,24 @@ TrueTableHasTheBlockMap =
     block_map (by_table wiring.hood wiring.minor entries) phase state
     ≡ block_map (by_words wiring parts) phase state
 
--- a map of states to states of which no two have one image takes each state
+-- a map of block_states to block_states of which no two have one successor takes each state
 abbrev pub TakesEach : Type 0
 TakesEach =
-    (f : ℕ → ℕ) → ((state : ℕ) → state < states → f state < states) → IsOneToOne f →
-    (image : ℕ) → image < states → (state : ℕ) × (state < states) × (f state ≡ image)
+    (f : ℕ → ℕ) → ((state : ℕ) → state < block_states → f state < block_states) → IsOneToOne f →
+    (successor : ℕ) → successor < block_states → (state : ℕ) × (state < block_states) × (f state ≡ successor)
 
--- two places that show one address, of whatever states and at whatever phases, take the same bits
-abbrev pub PlacesAgree : Type 0
-PlacesAgree =
+-- two corners that show one address, of whatever block_states and at whatever phases, take the same bits
+abbrev pub CornersAgree : Type 0
+CornersAgree =
     (hood : Hood) (minor : Minor) (entries : List ℕ) →
     let read = by_table hood minor entries in
     IsReversible read hood minor →
-    (phase other_phase : Phase) (state other_state place other_place : ℕ) →
-    state < states → other_state < states → place < 4 → other_place < 4 →
-    place_address hood minor phase state place
-    ≡ place_address hood minor other_phase other_state other_place →
-    bits_at (preimage (block_map read phase) state) place
-    ≡ bits_at (preimage (block_map read other_phase) other_state) other_place
+    (phase other_phase : Phase) (state other_state corner other_corner : ℕ) →
+    state < block_states → other_state < block_states → corner < 4 → other_corner < 4 →
+    corner_address hood minor phase state corner
+    ≡ corner_address hood minor other_phase other_state other_corner →
+    corner_bits (preimage (block_map read phase) state) corner
+    ≡ corner_bits (preimage (block_map read other_phase) other_state) other_corner
 
 -- there is one inverted table
 abbrev pub IsTheOnlyOne : Type 0
@@ -46,20 +46,20 @@ IsTheOnlyOne =
     (read : Reading) (hood : Hood) (minor : Minor) (first second : List ℕ) →
     IsInverted read hood minor first → IsInverted read hood minor second → first ≡ second
 
--- the inverted table makes of each state the least one with this image
+-- the inverted table makes of each state the least one with this successor
 abbrev pub InvertedTakesPreimages : Type 0
 InvertedTakesPreimages =
     (hood : Hood) (minor : Minor) (entries inverted : List ℕ) (phase : Phase) (state : ℕ) →
     let read = by_table hood minor entries in
-    IsReversible read hood minor → IsInverted read hood minor inverted → state < states →
+    IsReversible read hood minor → IsInverted read hood minor inverted → state < block_states →
     block_map (by_table hood minor inverted) phase state ≡ preimage (block_map read phase) state
 
--- so what it makes of a block's image is the block as it was
+-- so what it makes of a block's successor is the block as it was
 abbrev pub InvertedUndoes : Type 0
 InvertedUndoes =
     (hood : Hood) (minor : Minor) (entries inverted : List ℕ) (phase : Phase) (state : ℕ) →
     let read = by_table hood minor entries in
-    IsReversible read hood minor → IsInverted read hood minor inverted → state < states →
+    IsReversible read hood minor → IsInverted read hood minor inverted → state < block_states →
     block_map (by_table hood minor inverted) phase (block_map read phase state) ≡ state
 
 -- what is refused is refused for its cause, and what is reversible has none; what has none is

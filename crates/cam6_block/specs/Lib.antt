@@ -1,4 +1,4 @@
--- In the order of reading: blocks and what their places see; what a rule or a table makes of a
+-- In the order of reading: blocks and what their corners see; what a rule or a table makes of a
 -- block; why it can't be undone, and the table that undoes it. Last, what follows.
 pub mod Blocks
 pub mod BlockMaps

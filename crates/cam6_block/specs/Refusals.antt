@@ -7,21 +7,21 @@ use Rattle.cam6_wiring.specs.declared.names.Phase.TheVariants.{P0, P1, P2, P3}
 use Rattle.cam6_wiring.specs.declared.wirings.Hood.{Hood}
 use Rattle.cam6_wiring.specs.declared.wirings.Minor.{Minor}
 use Rattle.cam6_wiring.specs.declared.wirings.Minor.TheVariants.{Centers, Phases, HorzVert}
-use Rattle.cam6_block.specs.Blocks.{states}
+use Rattle.cam6_block.specs.Blocks.{block_states}
 use Rattle.cam6_block.specs.BlockMaps.{Reading, block_map, preimage, first_from}
 use Rattle.cam6_block.specs.BlockMaps.{IsOneToOne, is_margolus}
 use Rattle.cam6_block.specs.declared.refusals.NotReversible.{NotReversible}
 use Rattle.cam6_block.specs.declared.refusals.NotReversible.TheVariants as not_reversible
 
--- b is the least state that has the image of a smaller one, and a is that smaller one
+-- b is the least state that has the successor of a smaller one, and a is that smaller one
 pub record IsMeeting (f : ℕ → ℕ) (a b : ℕ) : Type 0 where
   pub smaller : a < b
-  pub state : b < states
+  pub state : b < block_states
   pub meet : f a ≡ f b
   pub least : (s t : ℕ) → s < t → t < b → f s ≢ f t
 
 -- the cause: first the neighbourhood, then the minor assignment, then the least phase at which two
--- states meet
+-- block_states meet
 abbrev pub IsRefused : Reading → Hood → Minor → NotReversible → Type 0
 IsRefused read hood minor not_reversible.Hood = is_margolus hood ≡ false
 IsRefused read hood minor not_reversible.Centres = (is_margolus hood ≡ true) × (minor ≡ Centers)
@@ -31,26 +31,26 @@ IsRefused read hood minor (not_reversible.Meeting phase a b) =
     IsOneToOne (block_map read before))
     × IsMeeting (block_map read phase) a b
 
--- whether a smaller state has the same image
+-- whether a smaller state has the same successor
 abbrev pub has_met : (ℕ → ℕ) → ℕ → Bool
 has_met f state = nat_lt (preimage f (f state)) state
 
--- the least state of which this is so, behind the smaller one with its image, if there is any
+-- the least state of which this is so, behind the smaller one with its successor, if there is any
 unfoldable pub meeting_of : (ℕ → ℕ) → Option (ℕ × ℕ)
 meeting_of f =
-    let b = first_from (has_met f) states 0 in
-    if nat_lt b states then Some (preimage f (f b), b) else None
+    let b = first_from (has_met f) block_states 0 in
+    if nat_lt b block_states then Some (preimage f (f b), b) else None
 
 -- the meeting at a phase, or else the later cause
-abbrev pub or_later : Phase → Option (ℕ × ℕ) → Option NotReversible → Option NotReversible
-or_later phase None later = later
-or_later phase (Some pair) later = Some (not_reversible.Meeting phase pair.0 pair.1)
+abbrev pub or_at_later_phase : Phase → Option (ℕ × ℕ) → Option NotReversible → Option NotReversible
+or_at_later_phase phase None later = later
+or_at_later_phase phase (Some pair) later = Some (not_reversible.Meeting phase pair.0 pair.1)
 
 -- the meeting at the least phase, if there is any
 abbrev pub first_meeting : Reading → Option NotReversible
 first_meeting read =
-    or_later P0 (meeting_of (block_map read P0)) (or_later P1 (meeting_of (block_map read P1))
-    (or_later P2 (meeting_of (block_map read P2)) (or_later P3 (meeting_of (block_map read P3))
+    or_at_later_phase P0 (meeting_of (block_map read P0)) (or_at_later_phase P1 (meeting_of (block_map read P1))
+    (or_at_later_phase P2 (meeting_of (block_map read P2)) (or_at_later_phase P3 (meeting_of (block_map read P3))
     None)))
 
 -- the other half's centres, or else the later cause

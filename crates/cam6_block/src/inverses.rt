@@ -8,8 +8,8 @@ ghost use Rattle.cam6_block.specs.BlockMaps.{IsOneToOne, IsReversible};
 ghost use Rattle.cam6_block.specs.Inverted.{IsInverted};
 ghost use Rattle.cam6_block.specs.Refusals.{IsRefused};
 
-use crate::images::image;
-use crate::places::{PLACES, STATES, bits_at, is_margolus, place_address};
+use crate::successors::successor;
+use crate::corners::{CORNERS, STATES, corner_bits, is_margolus, corner_address};
 use crate::refusals::{NotReversible, Pair, meeting};
 use cam6_table::Table;
 use cam6_wiring::{Hood, Minor, Phase};
@@ -55,7 +55,7 @@ fn fill_hidden(out: &mut Table)
     }
 }
 
-/// Writes to each address that a place shows the bits that the place had before.
+/// Writes to each address that a corner shows the bits that the corner had before.
 fn fill_shown(table: &Table, hood: Hood, minor: Minor, out: &mut Table)
     requires margolus { is_margolus hood ≡ true }
     requires one_to_one { (phase : Phase) →
@@ -68,10 +68,10 @@ fn fill_shown(table: &Table, hood: Hood, minor: Minor, out: &mut Table)
     for phase in PHASES {
         for state in 0..STATES {
             let state = state as u8;
-            let image = image(table, hood, minor, phase, state);
-            for place in 0..PLACES {
-                let address = place_address(hood, minor, phase, image, place);
-                out.put(address, bits_at(state, place));
+            let successor = successor(table, hood, minor, phase, state);
+            for corner in 0..CORNERS {
+                let address = corner_address(hood, minor, phase, successor, corner);
+                out.put(address, corner_bits(state, corner));
             }
         }
     }

@@ -1,6 +1,6 @@
 //! Laws of blocks and of the tables that undo them. Each is the contract of a function that does
 //! nothing.
-ghost use Rattle.cam6_block.specs.Laws.{TrueTableHasTheBlockMap, TakesEach, PlacesAgree};
+ghost use Rattle.cam6_block.specs.Laws.{TrueTableHasTheBlockMap, TakesEach, CornersAgree};
 ghost use Rattle.cam6_block.specs.Laws.{IsTheOnlyOne, InvertedTakesPreimages, InvertedUndoes};
 ghost use Rattle.cam6_block.specs.Laws.{CauseIsFound};
 
@@ -9,14 +9,14 @@ pub fn a_true_table_has_the_block_map()
     ensures law { TrueTableHasTheBlockMap }
 {}
 
-/// A map of states of which no two have one image takes each state.
+/// A map of block_states of which no two have one successor takes each state.
 pub fn one_to_one_takes_each_state()
     ensures law { TakesEach }
 {}
 
-/// Two places that show one address take the same bits of what they were.
-pub fn places_that_show_one_address_agree()
-    ensures law { PlacesAgree }
+/// Two corners that show one address take the same bits of what they were.
+pub fn corners_that_show_one_address_agree()
+    ensures law { CornersAgree }
 {}
 
 /// A table has one inverse.
@@ -24,7 +24,7 @@ pub fn there_is_one_inverse()
     ensures law { IsTheOnlyOne }
 {}
 
-/// The inverted table makes of each state the least one with this image.
+/// The inverted table makes of each state the least one with this successor.
 pub fn the_inverse_takes_preimages()
     ensures law { InvertedTakesPreimages }
 {}

@@ -1,26 +1,26 @@
 //! Blocks of the Margolus neighbourhoods, and the table that undoes them.
 //!
 //! Contract: a table makes of each state of a block another one, at each phase
-//! (`specs/BlockMaps.antt`). `invert` writes the table by which each place takes its bits of the
+//! (`specs/BlockMaps.antt`). `invert` writes the table by which each corner takes its bits of the
 //! state that the block was made from (`specs/Inverted.antt`), or says why there is none, and with
-//! which states (`specs/Refusals.antt`). It takes no memory. The laws: a true table has the block
-//! map of its rule; a map of states of which no two have one image takes each state; two places
+//! which block_states (`specs/Refusals.antt`). It takes no memory. The laws: a true table has the block
+//! map of its rule; a map of block_states of which no two have one successor takes each state; two corners
 //! that show one address agree; there is one inverted table, and it gives each block back.
 //!
 //! So, of the rule `: R CW >PLN0 ;`, by which each cell takes what the next one clockwise was: the
 //! inverted table gives each cell what the next one counter-clockwise is. Of `: R CENTER CW AND
-//! >PLN0 ;` there is none, for at phase 0 the states 0 and 1 both become 0.
+//! >PLN0 ;` there is none, for at phase 0 the block_states 0 and 1 both become 0.
 //!
 //! Stands on: `cam6_wiring`, `cam6_forth` and `cam6_table`.
 //!
-//! Read next: `places`, what a place of a block sees; `images`; `refusals`; then `inverses`; and
+//! Read next: `corners`, what a corner of a block sees; `successors`; `refusals`; then `inverses`; and
 //! `laws`.
 #![tactic(auto)]
 
-mod images;
+mod successors;
 mod inverses;
 pub mod laws;
-mod places;
+mod corners;
 mod refusals;
 
 pub use inverses::invert;

@@ -1,10 +1,10 @@
-//! Why a table has no inverse, and the states that show it.
+//! Why a table has no inverse, and the block_states that show it.
 ghost use Rattle.std.specs.Prelude.{◌≡◌, IfSome, None, true};
 ghost use Rattle.cam6_block.specs.BlockMaps.{by_table, block_map, IsOneToOne, is_margolus};
 ghost use Rattle.cam6_block.specs.Refusals.{IsMeeting};
 
-use crate::images::image;
-use crate::places::STATES;
+use crate::successors::successor;
+use crate::corners::STATES;
 use cam6_table::Table;
 use cam6_wiring::{Hood, Minor, Phase};
 
@@ -15,32 +15,32 @@ pub enum NotReversible {
     Hood,
     /// The blocks see the other half's centres.
     Centres,
-    /// At this phase, the least one at which it is so, two states have one image: `b` is the least
+    /// At this phase, the least one at which it is so, two block_states have one successor: `b` is the least
     /// state for which there is a smaller one, and `a` is that smaller one.
     Meeting { phase: Phase, a: u8, b: u8 },
 }
 
-/// Two states, the smaller one first.
+/// Two block_states, the smaller one first.
 #[derive(Clone, Copy)]
 pub(crate) struct Pair {
     pub(crate) a: u8,
     pub(crate) b: u8,
 }
 
-/// The first state that has the image of a smaller one, with that smaller one, if there is any.
+/// The first state that has the successor of a smaller one, with that smaller one, if there is any.
 pub(crate) fn meeting(table: &Table, hood: Hood, minor: Minor, phase: Phase) -> Option<Pair>
     requires margolus { is_margolus hood ≡ true }
     ensures some { IfSome result (λ pair.
         IsMeeting (block_map (by_table hood minor table.now) phase) pair.a pair.b) }
     ensures none { result ≡ None → IsOneToOne (block_map (by_table hood minor table.now) phase) }
 {
-    let mut state_of_image = [None; STATES as usize];
+    let mut state_of_successor = [None; STATES as usize];
     for state in 0..STATES {
         let b = state as u8;
-        let image = usize::from(image(table, hood, minor, phase, b));
-        match state_of_image[image] {
+        let successor = usize::from(successor(table, hood, minor, phase, b));
+        match state_of_successor[successor] {
             Some(a) => return Some(Pair { a, b }),
-            None => state_of_image[image] = Some(b),
+            None => state_of_successor[successor] = Some(b),
         }
     }
     None

@@ -4,5 +4,5 @@
 pub mod SameKeys
 -- True tables: there is one of a key, and it is found by way of the straight one.
 pub mod TrueTables
--- What is kept, as the map of tables has it.
-pub mod KeptTables
+-- What is cached, as the map of tables has it.
+pub mod CachedTables

@@ -9,7 +9,7 @@ use Rattle.cam6_wiring.specs.declared.wirings.Minor.{Minor}
 use Rattle.cam6_forth.specs.Trees.{tree_of}
 use Rattle.cam6_table.specs.Limits.{addresses}
 use Rattle.cam6_table.specs.RuleTexts.{IsTableOf}
-use Rattle.cam6_block.specs.Blocks.{states, bits_at}
+use Rattle.cam6_block.specs.Blocks.{block_states, corner_bits}
 use Rattle.cam6_block.specs.BlockMaps.{Reading, by_table, block_map, preimage}
 use Rattle.cam6_block.specs.BlockMaps.{IsOneToOne, IsReversible}
 use Rattle.cam6_block.specs.Inverted.{IsInverted}
@@ -42,7 +42,7 @@ inverted_too first second hood minor entries same is =
       whole = is.whole;
       shown = λ phase state place hs hp.
           is.shown phase state place hs hp ∙
-          ap (λ (f : ℕ → ℕ). bits_at (preimage f state) place) (fun_ext (same phase));
+          ap (λ (f : ℕ → ℕ). corner_bits (preimage f state) place) (fun_ext (same phase));
       hidden = is.hidden;
     }
 
@@ -54,7 +54,7 @@ never_refused read hood minor not_reversible.Centres is why = is.alone why.1
 never_refused read hood minor (not_reversible.Meeting phase a b) is why =
     let meeting = why.3 in
     let smaller : a < b = meeting.smaller in
-    let state : b < states = meeting.state in
+    let state : b < block_states = meeting.state in
     let same : a ≡ b = is.one_to_one phase a b (omega arith) state meeting.meet in
     omega arith
 

@@ -3,6 +3,6 @@
 -- it.
 pub mod Limits
 pub mod Keys
-pub mod Kept
+pub mod Cached
 pub mod Laws
 pub mod Internal

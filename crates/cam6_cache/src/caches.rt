@@ -3,8 +3,8 @@ ghost use Rattle.std.specs.Prelude.{◌≡◌, ◌⊎◌, true, false};
 ghost use Rattle.cam6_block.specs.Inverted.{IsInverted};
 ghost use Rattle.cam6_table.specs.RuleTexts.{IsCodeFor, IsTableOf};
 ghost use Rattle.cam6_cache.specs.Keys.{IsReversibleKey, IsTrueFor, reading_of};
-ghost use Rattle.cam6_cache.specs.Kept.{is_kept, with_first};
-ghost use Rattle.cam6_cache.specs.Internal.Entries.{key_of, tables_of, kept_of};
+ghost use Rattle.cam6_cache.specs.Cached.{is_cached, with_first};
+ghost use Rattle.cam6_cache.specs.Internal.Entries.{key_of, tables_of, cached_of};
 
 use crate::keys::{Key, NamedKey};
 use cam6_block::invert;
@@ -29,13 +29,13 @@ pub struct TableCache {
 
 impl Model for TableCache {
     ghost use Rattle.std.specs.Prelude.{◌≤◌};
-    ghost use Rattle.cam6_cache.specs.Kept.{Kept, AreTrue};
+    ghost use Rattle.cam6_cache.specs.Cached.{Cached, AreTrue};
     ghost use Rattle.cam6_cache.specs.Limits.{max_capacity};
-    ghost use Rattle.cam6_cache.specs.Internal.Entries.{tables_of, kept_of};
+    ghost use Rattle.cam6_cache.specs.Internal.Entries.{tables_of, cached_of};
 
-    ghost Value = { Kept };
+    ghost Value = { Cached };
 
-    ghost view = { λ c. kept_of c.tables };
+    ghost view = { λ c. cached_of c.tables };
 
     ghost invariant = { λ c. AreTrue (tables_of c.tables.entries)
         × (c.tables.cap ≤ max_capacity) };
@@ -46,12 +46,12 @@ impl TableCache {
     ghost use Rattle.cam6_table.specs.Limits.{addresses};
     ghost use Rattle.cam6_table.specs.RuleTexts.{IsCodeFor};
     ghost use Rattle.cam6_cache.specs.Keys.{IsReversibleKey, IsTrueFor};
-    ghost use Rattle.cam6_cache.specs.Kept.{AreTrue, AreApart, is_kept, is_empty};
-    ghost use Rattle.cam6_cache.specs.Kept.{with_first, without_last};
+    ghost use Rattle.cam6_cache.specs.Cached.{AreTrue, AreApart, is_cached, is_empty};
+    ghost use Rattle.cam6_cache.specs.Cached.{with_first, without_last};
     ghost use Rattle.cam6_cache.specs.Limits.{max_capacity};
 
     /// An empty cache of 1 to 64 tables. It takes the memory of a table and of places for so many;
-    /// each table that is kept takes its own.
+    /// each table that is cached takes its own.
     pub fn new(alloc: Global, capacity: usize) -> Result<TableCache, NoMemory>
         requires least { 0 < capacity }
         requires most { capacity ≤ max_capacity }
@@ -71,7 +71,7 @@ impl TableCache {
         })
     }
 
-    /// How many tables are kept. Who takes a cache out of a lock learns here what holds of it.
+    /// How many tables are cached. Who takes a cache out of a lock learns here what holds of it.
     pub fn len(&self) -> usize
         ensures number { result ≡ length self.now.tables }
         ensures few { result ≤ self.now.capacity }
@@ -84,18 +84,18 @@ impl TableCache {
         self.tables.len()
     }
 
-    /// Makes `out` the key's true table, and says whether it was kept. The code is that of the
-    /// key's text. Memory is taken for what is newly kept alone; where it is refused nothing is
-    /// kept, and nobody sees it.
+    /// Makes `out` the key's true table, and says whether it was cached. The code is that of the
+    /// key's text. Memory is taken for what is newly cached alone; where it is refused nothing is
+    /// cached, and nobody sees it.
     pub fn load(&mut self, key: &Key, code: &Code, out: &mut Table) -> bool
         requires code { IsCodeFor key.now.wiring key.now.text code.now }
         requires reversible { key.now.inverted ≡ true → IsReversibleKey key.now }
         ensures table { IsTrueFor key.now out.new }
         ensures whole { length out.new ≡ addresses }
-        ensures hit { result ≡ is_kept key.now self.old.tables }
+        ensures hit { result ≡ is_cached key.now self.old.tables }
         // A hit goes first; so does what was not there, or there was no memory for it and nothing
         // changes.
-        ensures kept { MatchBool result (self.new ≡ with_first key.now out.new self.old)
+        ensures cached { MatchBool result (self.new ≡ with_first key.now out.new self.old)
             ((self.new ≡ with_first key.now out.new self.old) ⊎ (self.new ≡ self.old)) }
     {
         let named = key.named();
@@ -156,11 +156,11 @@ fn undo(key: &NamedKey, straight: &Table, out: &mut Table)
     }
 }
 
-/// Keeps a copy of a table that wasn't kept, if there is memory.
+/// Keeps a copy of a table that wasn't cached, if there is memory.
 fn keep(alloc: Global, tables: &mut LruCache<NamedKey, Table>, key: &NamedKey, table: &Table)
-    requires absent { is_kept (key_of key.now) (tables_of tables.old.entries) ≡ false }
-    ensures { (kept_of tables.new ≡ with_first (key_of key.now) table.now (kept_of tables.old))
-        ⊎ (kept_of tables.new ≡ kept_of tables.old) }
+    requires absent { is_cached (key_of key.now) (tables_of tables.old.entries) ≡ false }
+    ensures { (cached_of tables.new ≡ with_first (key_of key.now) table.now (cached_of tables.old))
+        ⊎ (cached_of tables.new ≡ cached_of tables.old) }
 {
     let Ok(mut copy) = Table::blank(alloc) else {
         return;

@@ -2,7 +2,7 @@
 use Rattle.std.proofs.Common.{◌≡◌, ℕ, zero, suc, ◌+◌, ◌-◌, ◌<◌, ◌%◌, arith, ap, ◌∙◌}
 use Rattle.std.proofs.Math.Nat.{mod_self, mod-eq_of_lt}
 use native.Mathlib.Decide.{dec_lt}
-use Rattle.cam6_cycle.specs.Turns.{next, previous}
+use Rattle.cam6_cycle.specs.Along.{next, previous}
 
 there_and_back : (n position : ℕ) → position < n → previous n (next n position) ≡ position
 there_and_back n position within =

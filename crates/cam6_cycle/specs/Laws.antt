@@ -3,7 +3,7 @@ use Rattle.std.specs.Prelude.{◌≡◌, ◌<◌, ◌≤◌, ◌+◌, ℕ, List,
 use Rattle.std.specs.List.{slice_get}
 use Rattle.cam6_wiring.specs.declared.names.Half.TheVariants.{A, B}
 use Rattle.cam6_cycle.specs.Limits.{max_entries, max_tables}
-use Rattle.cam6_cycle.specs.Turns.{next, previous}
+use Rattle.cam6_cycle.specs.Along.{next, previous}
 use Rattle.cam6_cycle.specs.Tables.{needed_for, tables_needed}
 use Rattle.cam6_cycle.specs.declared.entries.Entry.{Entry}
 use Rattle.cam6_cycle.specs.declared.entries.HalfRule.{HalfRule}

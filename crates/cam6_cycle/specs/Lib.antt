@@ -1,7 +1,7 @@
 -- In the order of reading: which entries are a cycle, and the ways along it; the tables that it
 -- needs; what stands in places that aren't used; and what follows.
 pub mod Limits
-pub mod Turns
+pub mod Along
 pub mod Tables
 pub mod Unused
 pub mod Laws

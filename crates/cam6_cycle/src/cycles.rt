@@ -2,7 +2,7 @@
 ghost use Rattle.std.specs.Prelude.{◌≡◌, ◌<◌, ◌≤◌, ◌+◌, Some, length, take};
 ghost use Rattle.std.specs.List.{slice_get};
 ghost use Rattle.cam6_cycle.specs.Limits.{max_tables};
-ghost use Rattle.cam6_cycle.specs.Turns.{cycle_of, next, previous};
+ghost use Rattle.cam6_cycle.specs.Along.{cycle_of, next, previous};
 ghost use Rattle.cam6_cycle.specs.Tables.{tables_needed, count_before};
 ghost use Rattle.cam6_cycle.specs.declared.cycles.TheConstants.{MAX_ENTRIES};
 ghost use Rattle.cam6_cycle.specs.declared.tables.Direction.{Direction};

@@ -2,7 +2,7 @@
 //!
 //! Contract: a cycle is a list of 1 to 16 entries (`Cycle::new`). `forward` takes the entry at a
 //! position and goes on to the next, `backward` goes back by one and takes the entry there, both
-//! round the cycle (`specs/Turns.antt`); the law: they undo each other. `tables_needed` lists a
+//! round the cycle (`specs/Along.antt`); the law: they undo each other. `tables_needed` lists a
 //! table for each use of a rule, entry by entry, half A's before half B's (`specs/Tables.antt`),
 //! and `tables_before` says where those of an entry begin. `copy` has the same entries. No call
 //! takes memory.

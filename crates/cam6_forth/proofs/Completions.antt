@@ -10,7 +10,7 @@ use Rattle.cam6_forth.specs.Comments as comments
 use Rattle.cam6_forth.specs.Tree.{case_words, case_size, meant}
 use Rattle.cam6_forth.specs.Texts.{Begins}
 use Rattle.cam6_forth.specs.Unfinished.{opened_size, Unfinished, Whole, Unnamed, Within, Braced}
-use Rattle.cam6_forth.specs.Reading.{State, begin, step, read, numbered}
+use Rattle.cam6_forth.specs.Reading.{State, beginning, advance, read, numbered}
 use Rattle.cam6_forth.proofs.States.{after_all, after_colon, in_body, in_braces}
 use Rattle.cam6_forth.proofs.States.{open_flags, opened_words, state_of}
 use Rattle.cam6_forth.proofs.Runs.{ok_state, run, then_run, append_run, length-all}
@@ -29,7 +29,7 @@ pub record Completes (w : Wiring) (s : State) : Type 0 where
 
 module _ (w : Wiring) where
   -- one token more
-  token_completes : (s next : State) (t : Token) → step w s t ≡ Ok next → Completes w next →
+  token_completes : (s next : State) (t : Token) → advance w s t ≡ Ok next → Completes w next →
       Completes w s
   token_completes s next t e c = record {
     later = t ∷ c.later;
@@ -45,7 +45,7 @@ module _ (w : Wiring) where
       let one : Defined = record { name = name; words = words; size = size } in
       let new = done ++ one ∷ [] in
       token_completes (in_body done name words size []) (after_all new) (codes ";")
-      (steps.step-end w done name words size)
+      (steps.advance-end w done name words size)
       (record {
         later = [];
         done = new;
@@ -60,21 +60,21 @@ module _ (w : Wiring) where
   body_completes (has_else ∷ outer) done name words size =
       token_completes (in_body done name words size (has_else ∷ outer))
       (in_body done name (words ++ word.Then ∷ []) size outer) (codes "THEN")
-      (steps.step-then w done name words size has_else outer)
+      (steps.advance-then w done name words size has_else outer)
       (body_completes outer done name (words ++ word.Then ∷ []) size)
 
   -- a definition that has only its `:`
   colon_completes : (done : List Defined) → Completes w (after_colon done)
   colon_completes done =
       token_completes (after_colon done) (in_body done (fresh_name done) [] 0 []) (fresh_name done)
-      (steps.step-name w done (fresh_name done) (fresh-other _) (fresh-free done))
+      (steps.advance-name w done (fresh_name done) (fresh-other _) (fresh-free done))
       (end_completes done (fresh_name done) [] 0)
 
   -- what is being written
   unfinished_completes : (u : Unfinished) → Completes w (state_of w u)
   unfinished_completes (Whole []) =
       token_completes (after_all []) (after_colon []) (codes ":")
-      (steps.step-colon w [] (omega arith))
+      (steps.advance-colon w [] (omega arith))
       (colon_completes [])
   unfinished_completes (Whole (part ∷ parts)) = record {
     later = [];
@@ -92,7 +92,7 @@ module _ (w : Wiring) where
       let flags = open_flags last.open_ifs in
       token_completes (in_braces done last.name said size flags)
       (in_body done last.name (said ++ word.EndCases ∷ []) size flags) (codes "}")
-      (steps.step-close w done last.name said size flags)
+      (steps.advance-close w done last.name said size flags)
       (body_completes flags done last.name (said ++ word.EndCases ∷ []) size)
 
   -- the same in a comment
@@ -102,8 +102,8 @@ module _ (w : Wiring) where
       (ap ok_state (plain_state w u)) (unfinished_completes u)
   comment_completes false u = subst (Completes w) (sym (plain_state w u)) (unfinished_completes u)
 
-  -- tokens that were read without a fault begin a rule
-  pub run_begins : (before : List Token) (last : State) → run w begin before ≡ ok_state last →
+  -- tokens that were read without a fault beginning a rule
+  pub run_begins : (before : List Token) (last : State) → run w beginning before ≡ ok_state last →
       Begins w before
   run_begins before last e =
       let r = run_sound w before last e in
@@ -111,9 +111,9 @@ module _ (w : Wiring) where
       (comment_completes (comments.is_comment (comments.mode_after comments.Plain before))
       r.unfinished) in
       let all = before ++ c.later in
-      let there = append_run w begin last before c.later (ok_state (after_all c.done)) e c.run in
-      let read_all : read w begin 1 all ≡ Ok c.done =
-      read-run w all begin (after_all c.done) 1 there
+      let there = append_run w beginning last before c.later (ok_state (after_all c.done)) e c.run in
+      let read_all : read w beginning 1 all ≡ Ok c.done =
+      read-run w all beginning (after_all c.done) 1 there
       ∙ ap (λ r. numbered r (1 + length all)) (steps.some-is c.done c.some) in
       let back = rule_back w all c.done read_all in
       (c.later, back.0, back.1)

@@ -4,7 +4,7 @@ use Rattle.std.proofs.Common.{length, refl, ap, sym, ◌∙◌, arith, Result, O
 use Rattle.cam6_wiring.specs.declared.wirings.Wiring.{Wiring}
 use Rattle.cam6_forth.specs.Tokens.{Token}
 use Rattle.cam6_forth.specs.Defined.{Defined}
-use Rattle.cam6_forth.specs.Reading.{State, step, finish, numbered, go_on, read}
+use Rattle.cam6_forth.specs.Reading.{State, advance, finish, numbered, go_on, read}
 use Rattle.cam6_forth.proofs.Runs.{and_then, run, ok_state, ok-same, then_run}
 
 -- definitions, and a fault with its token
@@ -51,7 +51,7 @@ read-run wiring [] s last n is =
     ap (λ x. numbered (finish x) n) (ok-same s last is)
     ∙ ap (numbered (finish last)) (count-none n)
 read-run wiring (token ∷ later) s last n is =
-    run-go (step wiring s token) last n _ _ _
+    run-go (advance wiring s token) last n _ _ _
     (λ next others. read-run wiring later next last (n + 1) others
     ∙ ap (numbered (finish last)) (count-next n (length later)))
     is
@@ -59,15 +59,15 @@ read-run wiring (token ∷ later) s last n is =
 -- a run stops at the first fault
 pub read-stops : (wiring : Wiring) (before : List Token) (s middle : State) (n : ℕ)
     (token : Token) (later : List Token) (number : ℕ) → run wiring s before ≡ Ok middle →
-    step wiring middle token ≡ Err number →
+    advance wiring middle token ≡ Err number →
     read wiring s n (before ++ token ∷ later) ≡ Err (number, n + length before)
 read-stops wiring [] s middle n token later number is fault =
-    ap (λ x. go_on (step wiring x token) n (λ next. read wiring next (n + 1) later))
+    ap (λ x. go_on (advance wiring x token) n (λ next. read wiring next (n + 1) later))
     (ok-same s middle is)
     ∙ ap (λ x. go_on x n (λ next. read wiring next (n + 1) later)) fault
     ∙ ap (fault_out number) (count-none n)
 read-stops wiring (first ∷ before) s middle n token later number is fault =
-    run-go (step wiring s first) middle n _ _ _
+    run-go (advance wiring s first) middle n _ _ _
     (λ next others. read-stops wiring before next middle (n + 1) token later number others fault
     ∙ ap (fault_out number) (count-next n (length before)))
     is
@@ -92,7 +92,7 @@ pub read-ok : (wiring : Wiring) (ts : List Token) (s : State) (n : ℕ) (out : L
     (last : State) × (run wiring s ts ≡ ok_state last) × (finish last ≡ Ok out)
 read-ok wiring [] s n out is = (s, refl, ok-end (finish s) n out is)
 read-ok wiring (token ∷ later) s n out is =
-    ok-next (step wiring s token) n out _ _
+    ok-next (advance wiring s token) n out _ _
     (λ next others. read-ok wiring later next (n + 1) out others) is
 
 -- a token has this fault after a state
@@ -100,7 +100,7 @@ abbrev StopsAt : Wiring → State → List Token → ℕ → ℕ → ℕ → Typ
 StopsAt wiring s ts n number m =
     (before : List Token) × (token : Token) × (later : List Token) × (middle : State)
     × (ts ≡ before ++ token ∷ later) × (m ≡ n + length before)
-    × (run wiring s before ≡ ok_state middle) × (step wiring middle token ≡ fault_step number)
+    × (run wiring s before ≡ ok_state middle) × (advance wiring middle token ≡ fault_step number)
 
 -- the end has this fault after a state
 abbrev EndsAt : Wiring → State → List Token → ℕ → ℕ → ℕ → Type 0
@@ -116,18 +116,18 @@ end-is (Err found) n number m is =
     (sym (ap (λ pair. pair.1) same), ap (λ pair. fault_end pair.0) same)
 
 -- what is read with a fault: the token has it, or what follows
-step-is : (result : Result State ℕ) (n number m : ℕ) (g : State → Out) →
+advance-is : (result : Result State ℕ) (n number m : ℕ) (g : State → Out) →
     go_on result n g ≡ fault_out number m →
     ((m ≡ n) × (result ≡ fault_step number))
     ⊎ ((next : State) × (result ≡ ok_state next) × (g next ≡ fault_out number m))
-step-is (Ok next) n number m g is = inr (next, refl, is)
-step-is (Err found) n number m g is =
+advance-is (Ok next) n number m g is = inr (next, refl, is)
+advance-is (Err found) n number m g is =
     let same : numbers found n ≡ numbers number m = cc in
     inl (sym (ap (λ pair. pair.1) same), ap (λ pair. fault_step pair.0) same)
 
 -- a token more at the front
 fault-later : (wiring : Wiring) (s next : State) (token : Token) (later : List Token)
-    (n number m : ℕ) → step wiring s token ≡ ok_state next →
+    (n number m : ℕ) → advance wiring s token ≡ ok_state next →
     StopsAt wiring next later (n + 1) number m ⊎ EndsAt wiring next later (n + 1) number m →
     StopsAt wiring s (token ∷ later) n number m ⊎ EndsAt wiring s (token ∷ later) n number m
 fault-later wiring s next token later n number m first (inl stops) =
@@ -153,8 +153,8 @@ fault-later wiring s next token later n number m first (inr ends) =
 fault-first : (wiring : Wiring) (s : State) (token : Token) (later : List Token) (n number m : ℕ) →
     ((next : State) → read wiring next (n + 1) later ≡ fault_out number m →
     StopsAt wiring next later (n + 1) number m ⊎ EndsAt wiring next later (n + 1) number m) →
-    ((m ≡ n) × (step wiring s token ≡ fault_step number))
-    ⊎ ((next : State) × (step wiring s token ≡ ok_state next)
+    ((m ≡ n) × (advance wiring s token ≡ fault_step number))
+    ⊎ ((next : State) × (advance wiring s token ≡ ok_state next)
     × (read wiring next (n + 1) later ≡ fault_out number m)) →
     StopsAt wiring s (token ∷ later) n number m ⊎ EndsAt wiring s (token ∷ later) n number m
 fault-first wiring s token later n number m others (inl here) =
@@ -167,7 +167,7 @@ pub read-fault : (wiring : Wiring) (ts : List Token) (s : State) (n number m : �
     read wiring s n ts ≡ Err (number, m) →
     ((before : List Token) × (token : Token) × (later : List Token) × (middle : State)
     × (ts ≡ before ++ token ∷ later) × (m ≡ n + length before)
-    × (run wiring s before ≡ ok_state middle) × (step wiring middle token ≡ Err number))
+    × (run wiring s before ≡ ok_state middle) × (advance wiring middle token ≡ Err number))
     ⊎ ((last : State) × (m ≡ n + length ts) × (run wiring s ts ≡ ok_state last)
     × (finish last ≡ Err number))
 read-fault wiring [] s n number m is =
@@ -176,4 +176,4 @@ read-fault wiring [] s n number m is =
 read-fault wiring (token ∷ later) s n number m is =
     fault-first wiring s token later n number m
     (λ next others. read-fault wiring later next (n + 1) number m others)
-    (step-is (step wiring s token) n number m _ is)
+    (advance-is (advance wiring s token) n number m _ is)

@@ -11,10 +11,10 @@ use Rattle.cam6_forth.specs.declared.kinds.Kind.{Kind}
 use Rattle.cam6_forth.specs.declared.kinds.Kind.TheVariants as kind
 use Rattle.cam6_forth.specs.Tokens.{Token}
 use Rattle.cam6_forth.specs.Limits.{max_size, max_open_ifs, max_definitions, unknown_word}
-use Rattle.cam6_forth.specs.Limits.{out_of_place, too_large, too_many_ifs, other_half, too_long}
+use Rattle.cam6_forth.specs.Limits.{out_of_place, too_large, too_many_ifs, wrong_output, too_long}
 use Rattle.cam6_forth.specs.Defined.{Defined}
 use Rattle.cam6_wiring.specs.Name.{is_same_half}
-use Rattle.cam6_forth.specs.SingleWords.{place_of, defined_word}
+use Rattle.cam6_forth.specs.SingleWords.{definition_at, defined_word}
 use Rattle.cam6_forth.specs.Tree.{Part, case_size, meant}
 use Rattle.cam6_forth.specs.Unfinished.{OpenIf, Opened, Whole, Unnamed, Within, Braced, opened_size}
 use Rattle.cam6_forth.specs.Faults.{size_fault, word_fault, token_fault}
@@ -71,7 +71,7 @@ module _ (size : ℕ) (fits : nat_le size max_size ≡ true) where
       ≡ cond (not (is_some o)) (Some unknown_word)
       (fault_if (takes_above size (more (defined_size o))) too_large)
   defined_or from more sum None = refl
-  defined_or from more sum (Some (place, own)) =
+  defined_or from more sum (Some (position, own)) =
       by_size from (max own 1) (more (max own 1)) (sum (max own 1))
 
   end_or : (open_ifs : List OpenIf) →
@@ -148,13 +148,13 @@ inside wiring parts last token k fits = at_kind k
     at_kind (kind.Digits (Some value)) = sized size 1 fits
     at_kind (kind.Stack stack) = sized size 1 fits
     at_kind (kind.Output output) =
-        known_or size fits size 1 refl (single.Output output.target) other_half
+        known_or size fits size 1 refl (single.Output output.target) wrong_output
         (is_same_half output.half wiring.half)
     at_kind (kind.Name name) =
         known_or size fits size 1 refl (single.Name name) unknown_word
         (is_some (line_of wiring.hood wiring.minor name))
     at_kind kind.Other =
-        defined_or size fits size (λ own. own) (λ own. refl) (place_of token done)
+        defined_or size fits size (λ own. own) (λ own. refl) (definition_at token done)
     at_kind _ = refl
 
 -- between braces
@@ -184,14 +184,14 @@ braced wiring parts last words token k fits = at_kind k
     at_kind (kind.Digits (Some value)) = by_size size fits (size + 1) 1 2 two
     at_kind (kind.Stack stack) = by_size size fits (size + 1) 1 2 two
     at_kind (kind.Output output) =
-        known_or size fits (size + 1) 2 two (single.Output output.target) other_half
+        known_or size fits (size + 1) 2 two (single.Output output.target) wrong_output
         (is_same_half output.half wiring.half)
     at_kind (kind.Name name) =
         known_or size fits (size + 1) 2 two (single.Name name) unknown_word
         (is_some (line_of wiring.hood wiring.minor name))
     at_kind kind.Other =
         defined_or size fits (size + 1) (λ own. own + 1) (λ own. omega arith)
-        (place_of token done)
+        (definition_at token done)
     at_kind _ = refl
 
 pub faults_in_order : FaultsInOrder
@@ -221,7 +221,7 @@ one_between wiring (Within parts last) (kind.Output output) token =
 one_between wiring (Within parts last) (kind.Name name) token =
     at_most_one (not (is_some (line_of wiring.hood wiring.minor name)))
 one_between wiring (Within parts last) kind.Other token =
-    at_most_one (not (is_some (place_of token (meant wiring [] parts))))
+    at_most_one (not (is_some (definition_at token (meant wiring [] parts))))
 one_between wiring (Within parts last) (kind.Digits None) token = refl
 one_between wiring (Within parts last) (kind.Digits (Some value)) token = refl
 one_between wiring (Within parts last) k token = refl
@@ -230,7 +230,7 @@ one_between wiring (Braced parts last words) (kind.Output output) token =
 one_between wiring (Braced parts last words) (kind.Name name) token =
     at_most_one (not (is_some (line_of wiring.hood wiring.minor name)))
 one_between wiring (Braced parts last words) kind.Other token =
-    at_most_one (not (is_some (place_of token (meant wiring [] parts))))
+    at_most_one (not (is_some (definition_at token (meant wiring [] parts))))
 one_between wiring (Braced parts last words) (kind.Digits None) token = refl
 one_between wiring (Braced parts last words) (kind.Digits (Some value)) token = refl
 one_between wiring (Braced parts last words) k token = refl

@@ -1,4 +1,4 @@
--- A step refuses a token with the fault that the token has after what is being written.
+-- A advance refuses a token with the fault that the token has after what is being written.
 use Rattle.std.proofs.Common.{◌≡◌, ◌+◌, ℕ, Bool, true, false, List, [], ◌∷◌}
 use Rattle.std.proofs.Common.{length, refl, ap, ◌∙◌, arith, Option, Some, None}
 use Rattle.std.proofs.Common.{is_some, Result, Ok, Err, cond, nat_lt, nat_le, suc}
@@ -13,7 +13,7 @@ use Rattle.cam6_forth.specs.Tokens.{Token}
 use Rattle.cam6_forth.specs.Limits.{max_size, max_open_ifs, max_definitions, too_large}
 use Rattle.cam6_forth.specs.Limits.{too_many_ifs, not_definable, out_of_place}
 use Rattle.cam6_forth.specs.Defined.{Defined}
-use Rattle.cam6_forth.specs.SingleWords.{word_of, place_of}
+use Rattle.cam6_forth.specs.SingleWords.{word_of, definition_at}
 use Rattle.cam6_forth.specs.Tree.{Part, meant}
 use Rattle.cam6_forth.specs.Unfinished.{OpenIf, Opened, Unfinished, Whole, Unnamed, Within, Braced}
 use Rattle.cam6_forth.specs.Faults.{size_fault, word_fault, fault_outside, fault_naming}
@@ -25,7 +25,7 @@ use Rattle.cam6_forth.specs.Reading.{with_definition, step_at, finish, some_defi
 use Rattle.cam6_forth.proofs.States.{open_flags, state_of}
 use Rattle.cam6_forth.proofs.Runs.{length-all}
 
--- the fault of a step
+-- the fault of a advance
 abbrev pub fault_in : {T : Type 0} → Result T ℕ → Option ℕ
 fault_in (Ok value) = None
 fault_in (Err number) = Some number
@@ -68,7 +68,7 @@ outside-fault s parts k e = refl
 -- a fault right after `:`
 naming-fault : (s : State) (k : Kind) (t : Token) →
     fault_in (naming s k t) ≡ fault_naming s.done k t
-naming-fault s kind.Other t = by_other State (is_some (place_of t s.done)) _ not_definable refl
+naming-fault s kind.Other t = by_other State (is_some (definition_at t s.done)) _ not_definable refl
 naming-fault s k t = refl
 
 end-fault : (open_ifs : List OpenIf) (s : State) →
@@ -130,14 +130,14 @@ braces-fault w s kind.CloseBrace t = refl
 braces-fault w s k t = grown_by-fault 1 (s.size + 1) (word_of w s.done k t) s refl
 
 -- a fault of a token outside comments
-pub step-fault : (w : Wiring) (u : Unfinished) (k : Kind) (t : Token) →
+pub advance-fault : (w : Wiring) (u : Unfinished) (k : Kind) (t : Token) →
     fault_in (step_at w (state_of w u).context (state_of w u) k t) ≡ token_fault w u k t
-step-fault w (Whole parts) k t =
+advance-fault w (Whole parts) k t =
     outside-fault (state_of w (Whole parts)) parts k (length-all w parts)
-step-fault w (Unnamed parts) k t = naming-fault (state_of w (Unnamed parts)) k t
-step-fault w (Within parts last) k t =
+advance-fault w (Unnamed parts) k t = naming-fault (state_of w (Unnamed parts)) k t
+advance-fault w (Within parts last) k t =
     inside-fault w (state_of w (Within parts last)) last k t refl
-step-fault w (Braced parts last words) k t =
+advance-fault w (Braced parts last words) k t =
     braces-fault w (state_of w (Braced parts last words)) k t
 
 -- a fault of the end outside comments

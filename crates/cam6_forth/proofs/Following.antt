@@ -10,7 +10,7 @@ use Rattle.cam6_forth.specs.Comments.{Mode, Plain, AfterColon, InComment, mode_a
 use Rattle.cam6_forth.specs.Comments.{next_mode, is_comment, with_token, uncommented, mode_after}
 use Rattle.cam6_forth.specs.Unfinished.{Unfinished, Whole, Unnamed, Within}
 use Rattle.cam6_forth.specs.Unfinished.{Braced, spell_unfinished, IsSound}
-use Rattle.cam6_forth.specs.Reading.{State, step, step_at}
+use Rattle.cam6_forth.specs.Reading.{State, advance, step_at}
 use Rattle.cam6_forth.proofs.States.{state_of}
 use Rattle.cam6_forth.proofs.Runs.{ok_state, ok-same, and_then, run, then_run}
 use Rattle.cam6_forth.proofs.OneMore.{mode_of, Grows}
@@ -46,7 +46,7 @@ pub record Follows (w : Wiring) (u : Unfinished) (mode : Mode) (ts : List Token)
   pub spelled : spell_unfinished unfinished ≡ spell_unfinished u ++ uncommented mode ts
   pub state : last ≡ with_comment (is_comment (mode_after mode ts)) (state_of w unfinished)
 
--- a token opens a comment, or `(` is a name's place
+-- a token opens a comment, or `(` is a name's position
 opens : (u : Unfinished) (k : Kind) →
     ((k ≡ kind.Open) × (mode_of u ≡ Plain)) ⊎ (k ≡ kind.Open → mode_of u ≡ AfterColon)
 opens (Unnamed parts) k = inr (λ e. refl)
@@ -97,15 +97,15 @@ and_then_ok (Ok s1) f last e = (s1, refl, e)
 and_then_ok (Err x) f last e = cc
 
 module _ (w : Wiring) where
-  -- a step outside comments
+  -- a advance outside comments
   pub step_plain : (u : Unfinished) (t : Token) →
-      step w (with_comment false (state_of w u)) t
+      advance w (with_comment false (state_of w u)) t
       ≡ step_at w (state_of w u).context (state_of w u) (kind_of t) t
   step_plain u t = ap (λ s. step_at w s.context s (kind_of t) t) (plain_state w u)
 
   -- `(` where it opens a comment
   pub step_open : (u : Unfinished) (t : Token) → kind_of t ≡ kind.Open → mode_of u ≡ Plain →
-      step w (with_comment false (state_of w u)) t ≡ ok_state (with_comment true (state_of w u))
+      advance w (with_comment false (state_of w u)) t ≡ ok_state (with_comment true (state_of w u))
   step_open u t e f =
       step_plain u t ∙ ap (λ k. step_at w (state_of w u).context (state_of w u) k t) e ∙ opened u f
     where
@@ -203,7 +203,7 @@ module _ (w : Wiring) where
             (sym (ap (λ r. and_then r (λ next. run w next ts)) (step_open u t first.0 first.1))
             ∙ e))
         | inr closed ↦
-            (let f = and_then_ok (step w (with_comment false (state_of w u)) t)
+            (let f = and_then_ok (advance w (with_comment false (state_of w u)) t)
             (λ next. run w next ts) last e in
             let g = grows w u t f.0 sound closed (sym (step_plain u t) ∙ f.1) in
             let there : f.0 ≡ with_comment false (state_of w g.unfinished) =
@@ -240,10 +240,10 @@ module _ (w : Wiring) where
             ∙ ap (λ m. ok_state (with_comment (is_comment m) last)) (sym same.1)))
         | inr closed ↦
             (let there = said_next u t ts closed in
-            let f = and_then_ok (step w (state_of w u) t)
+            let f = and_then_ok (advance w (state_of w u) t)
             (λ next. run w next (uncommented (next_mode (mode_of u) t) ts)) last
             (ap (run w (state_of w u)) (sym there) ∙ e) in
-            let plain = ap (λ s. step w s t) (plain_state w u) in
+            let plain = ap (λ s. advance w s t) (plain_state w u) in
             let g = grows w u t f.0 sound closed (sym (step_plain u t) ∙ plain ∙ f.1) in
             then_run w (with_comment false (state_of w u)) f.0 t ts _ (plain ∙ f.1)
             (ap (λ s. run w s ts) (g.state ∙ sym (plain_state w g.unfinished))

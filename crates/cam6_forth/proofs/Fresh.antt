@@ -9,7 +9,7 @@ use Rattle.cam6_forth.specs.Spellings.{stack_word, output_word, neighbour_name, 
 use Rattle.cam6_forth.specs.Spellings.{primed_name, block_name, added_name, minor_name}
 use Rattle.cam6_forth.specs.Kinds.{kind_of, mark}
 use Rattle.cam6_forth.specs.Defined.{Defined}
-use Rattle.cam6_forth.specs.SingleWords.{place_of, place_from}
+use Rattle.cam6_forth.specs.SingleWords.{definition_at, position_from}
 
 -- the bytes of all names
 abbrev pub all_names : List Defined → List ℕ
@@ -27,22 +27,22 @@ unfolding kind_of mark stack_word output_word neighbour_name plain_name primed_n
 fresh-other bytes = refl
 
 -- a longer token is no name of theirs
-pub longer-is-none : (token : Token) (done : List Defined) (place : ℕ) →
-    length (all_names done) < length token → place_from place token done ≡ None
-longer-is-none token [] place longer = refl
-longer-is-none token (definition ∷ later) place longer =
+pub longer-is-none : (token : Token) (done : List Defined) (position : ℕ) →
+    length (all_names done) < length token → position_from position token done ≡ None
+longer-is-none token [] position longer = refl
+longer-is-none token (definition ∷ later) position longer =
     let lengths = length-append definition.name (all_names later) in
     by_test (bytes_eq definition.name token) (bytes_eq-Decides definition.name token).0
-    (longer-is-none token later (place + 1) (omega arith))
+    (longer-is-none token later (position + 1) (omega arith))
   where
     by_test : (same : Bool) → (same ≡ true → definition.name ≡ token) →
-        place_from (place + 1) token later ≡ None →
-        cond same (Some (place, definition.size)) (place_from (place + 1) token later) ≡ None
+        position_from (position + 1) token later ≡ None →
+        cond same (Some (position, definition.size)) (position_from (position + 1) token later) ≡ None
     by_test true is none =
         (let equal : length definition.name ≡ length token = ap length (is refl) in
         let lengths = length-append definition.name (all_names later) in
         absurd (omega arith))
     by_test false is none = none
 
-pub fresh-free : (done : List Defined) → place_of (fresh_name done) done ≡ None
+pub fresh-free : (done : List Defined) → definition_at (fresh_name done) done ≡ None
 fresh-free done = longer-is-none (fresh_name done) done 0 (omega arith)

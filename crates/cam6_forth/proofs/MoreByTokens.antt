@@ -1,4 +1,4 @@
--- What is being written grows by each token that a step reads.
+-- What is being written grows by each token that a advance reads.
 use Rattle.std.proofs.Common.{◌≡◌, ◌<◌, ℕ, List, [], ◌∷◌, ◌++◌, length, refl, sym}
 use Rattle.std.proofs.Common.{ap, ◌∙◌, append_assoc, zero-add, length-append, arith}
 use Rattle.std.proofs.Common.{Option, Some, None, is_some, Err, cond, nat_lt, codes}
@@ -11,7 +11,7 @@ use Rattle.cam6_forth.specs.Kinds.{kind_of}
 use Rattle.cam6_forth.specs.Comments.{Plain, AfterColon, mode_after_kind, next_mode}
 use Rattle.cam6_forth.specs.Limits.{max_definitions, not_definable, out_of_place, too_long}
 use Rattle.cam6_forth.specs.Defined.{Defined}
-use Rattle.cam6_forth.specs.SingleWords.{word_of, place_of}
+use Rattle.cam6_forth.specs.SingleWords.{word_of, definition_at}
 use Rattle.cam6_forth.specs.Tree.{Body, End, Part, spell, words_of, size_of, meant}
 use Rattle.cam6_forth.specs.Unfinished.{OpenIf, Opened, Unfinished, Whole}
 use Rattle.cam6_forth.specs.Unfinished.{Unnamed, Within, Braced, IsSound}
@@ -48,9 +48,9 @@ module _ (w : Wiring) (parts : List Part) where
   name_grows : (t : Token) (s1 : State) → IsSound w (Unnamed parts) → kind_of t ≡ kind.Other →
       naming (state_of w (Unnamed parts)) kind.Other t ≡ ok_state s1 →
       Grows w (Unnamed parts) t Plain s1
-  name_grows t s1 sound e f = by_fresh (place_of t done) refl f
+  name_grows t s1 sound e f = by_fresh (definition_at t done) refl f
     where
-      by_fresh : (o : Option (ℕ × ℕ)) → place_of t done ≡ o →
+      by_fresh : (o : Option (ℕ × ℕ)) → definition_at t done ≡ o →
           cond (is_some o) (Err not_definable) (ok_state (in_body done t [] 0 [])) ≡ ok_state s1 →
           Grows w (Unnamed parts) t Plain s1
       by_fresh None p g = record {
@@ -157,7 +157,7 @@ module _ (w : Wiring) (parts : List Part) where
       more.case_grows w parts last words t s1 sound
       (ap (λ j. grown_by 1 (word_of w done j t) (state_of w (Braced parts last words))) e ∙ f)
 
--- a token that a step reads outside comments, and that opens none
+-- a token that a advance reads outside comments, and that opens none
 pub grows : (w : Wiring) (u : Unfinished) (t : Token) (s1 : State) → IsSound w u →
     (kind_of t ≡ kind.Open → mode_of u ≡ AfterColon) →
     step_at w (state_of w u).context (state_of w u) (kind_of t) t ≡ ok_state s1 →

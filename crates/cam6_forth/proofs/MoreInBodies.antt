@@ -1,4 +1,4 @@
--- What is being written grows by each token that a step reads in a body or between braces.
+-- What is being written grows by each token that a advance reads in a body or between braces.
 use Rattle.std.proofs.Common.{◌≡◌, ◌≤◌, ◌<◌, ◌+◌, true, false, List, [], ◌∷◌, ◌++◌}
 use Rattle.std.proofs.Common.{length, refl, sym, ◌∙◌, append_assoc, append-nil}
 use Rattle.std.proofs.Common.{arith, MatchOption, Option, Some, None, is_some, Err, nat_lt, codes}
@@ -12,7 +12,7 @@ use Rattle.cam6_forth.specs.Comments.{Plain}
 use Rattle.cam6_forth.specs.Kinds.{kind_of}
 use Rattle.cam6_forth.specs.Limits.{max_size, max_open_ifs, too_many_ifs, out_of_place}
 use Rattle.cam6_forth.specs.Defined.{Defined}
-use Rattle.cam6_forth.specs.SingleWords.{place_of}
+use Rattle.cam6_forth.specs.SingleWords.{definition_at}
 use Rattle.cam6_forth.specs.Tree.{Body, End, Says, Choice, Either, Cases, Part, word_at, meant}
 use Rattle.cam6_forth.specs.Tree.{spell_body, spell, words_of, size_of}
 use Rattle.cam6_forth.specs.Unfinished.{OpenIf, Opened, Unfinished, Within, Braced, FitsAt, IsSound}
@@ -119,7 +119,7 @@ module _ (w : Wiring) (parts : List Part) where
   -- may stand there, and the state has its words and its size
   one_item : (u : Unfinished) (name : Token) (open_ifs : List OpenIf) (before item : Body)
       (t : Token) (s1 : State) → AreBefore w parts → kind_of name ≡ kind.Other →
-      place_of name done ≡ None → AreOpenIfs w done open_ifs →
+      definition_at name done ≡ None → AreOpenIfs w done open_ifs →
       FitsAt w done (length open_ifs) before → FitsAt w done (length open_ifs) item →
       open_size w done open_ifs + (size_of w done before + size_of w done item) ≤ max_size →
       spell parts

@@ -5,9 +5,9 @@ use Rattle.cam6_wiring.specs.declared.wirings.Wiring.{Wiring}
 use Rattle.cam6_forth.specs.Tokens.{Token}
 use Rattle.cam6_forth.specs.Defined.{Defined}
 use Rattle.cam6_forth.specs.Tree.{Part, defined, meant}
-use Rattle.cam6_forth.specs.Reading.{State, step}
+use Rattle.cam6_forth.specs.Reading.{State, advance}
 
--- a state, as the result of a step
+-- a state, as the result of a advance
 abbrev pub ok_state : State → Result State ℕ
 ok_state s = Ok s
 
@@ -22,7 +22,7 @@ and_then (Err e) f = Err e
 -- the state after tokens, or the number of the first fault
 abbrev pub run : Wiring → State → List Token → Result State ℕ
 run w s [] = Ok s
-run w s (t ∷ ts) = and_then (step w s t) (λ next. run w next ts)
+run w s (t ∷ ts) = and_then (advance w s t) (λ next. run w next ts)
 
 and_then-assoc : (r : Result State ℕ) (f g k : State → Result State ℕ) →
     ((x : State) → f x ≡ and_then (g x) k) → and_then r f ≡ and_then (and_then r g) k
@@ -34,11 +34,11 @@ pub run-append : (w : Wiring) (s : State) (xs ys : List Token) →
     run w s (xs ++ ys) ≡ and_then (run w s xs) (λ next. run w next ys)
 run-append w s [] ys = refl
 run-append w s (t ∷ xs) ys =
-    and_then-assoc (step w s t) _ _ _ (λ next. run-append w next xs ys)
+    and_then-assoc (advance w s t) _ _ _ (λ next. run-append w next xs ys)
 
 -- one token, and then the others
 pub then_run : (w : Wiring) (s s1 : State) (t : Token) (ts : List Token) (r : Result State ℕ) →
-    step w s t ≡ Ok s1 → run w s1 ts ≡ r → run w s (t ∷ ts) ≡ r
+    advance w s t ≡ Ok s1 → run w s1 ts ≡ r → run w s (t ∷ ts) ≡ r
 then_run w s s1 t ts r e f = ap (λ x. and_then x (λ next. run w next ts)) e ∙ f
 
 -- some tokens, and then the others

@@ -17,10 +17,10 @@ use Rattle.cam6_forth.specs.declared.kinds.Kind.{Kind}
 use Rattle.cam6_forth.specs.declared.kinds.Kind.TheVariants as kind
 use Rattle.cam6_forth.specs.Tokens.{Token}
 use Rattle.cam6_forth.specs.Kinds.{kind_of}
-use Rattle.cam6_forth.specs.Limits.{other_half, unknown_word}
+use Rattle.cam6_forth.specs.Limits.{wrong_output, unknown_word}
 use Rattle.cam6_forth.specs.Defined.{Defined}
 use Rattle.cam6_wiring.specs.Name.{is_same_half}
-use Rattle.cam6_forth.specs.SingleWords.{place_from, place_of}
+use Rattle.cam6_forth.specs.SingleWords.{position_from, definition_at}
 use Rattle.cam6_forth.specs.SingleWords.{literal_word, defined_word, word_of, IsSingle}
 use Rattle.cam6_forth.specs.Laws.{KnownIsSingle}
 use Rattle.cam6_forth.specs.Spellings.{output_word, neighbour_name}
@@ -32,24 +32,24 @@ Said = Result (SingleWord × ℕ) ℕ
 abbrev some_word : SingleWord → Said
 some_word said = Ok (said, 1)
 
--- a place that is found from a start on, with the size there: it is the first of the name
+-- a position that is found from a start on, with the size there: it is the first of the name
 abbrev IsPlaced : ℕ → Token → List Defined → ℕ → ℕ → Type 0
-IsPlaced start name done place size =
+IsPlaced start name done position size =
     (before : List Defined) × (definition : Defined) × (later : List Defined)
-    × (done ≡ before ++ definition ∷ later) × (place ≡ start + length before)
-    × (definition.name ≡ name) × ((from : ℕ) → place_from from name before ≡ None)
+    × (done ≡ before ++ definition ∷ later) × (position ≡ start + length before)
+    × (definition.name ≡ name) × ((from : ℕ) → position_from from name before ≡ None)
     × (size ≡ definition.size)
 
 placed_first : (start : ℕ) (name : Token) (definition : Defined) (later : List Defined) (b : Bool)
-    (place size : ℕ) → bytes_eq definition.name name ≡ b →
-    cond b (Some (start, definition.size)) (place_from (start + 1) name later)
-    ≡ Some (place, size) →
-    (place_from (start + 1) name later ≡ Some (place, size) →
-    IsPlaced (start + 1) name later place size) →
-    IsPlaced start name (definition ∷ later) place size
-placed_first start name definition later true place size named found rest =
-    let same = same_Some (start, definition.size) (place, size) found in
-    let at : start ≡ place = ap (λ p. p.0) same in
+    (position size : ℕ) → bytes_eq definition.name name ≡ b →
+    cond b (Some (start, definition.size)) (position_from (start + 1) name later)
+    ≡ Some (position, size) →
+    (position_from (start + 1) name later ≡ Some (position, size) →
+    IsPlaced (start + 1) name later position size) →
+    IsPlaced start name (definition ∷ later) position size
+placed_first start name definition later true position size named found rest =
+    let same = same_Some (start, definition.size) (position, size) found in
+    let at : start ≡ position = ap (λ p. p.0) same in
     let is : definition.size ≡ size = ap (λ p. p.1) same in (
       [],
       definition,
@@ -60,7 +60,7 @@ placed_first start name definition later true place size named found rest =
       λ from. refl,
       omega (arith, is),
     )
-placed_first start name definition later false place size named found rest =
+placed_first start name definition later false position size named found rest =
     let (before, here, behind, split, at, is_named, none, is) = rest found in (
       definition ∷ before,
       here,
@@ -69,17 +69,17 @@ placed_first start name definition later false place size named found rest =
       omega (arith, at),
       is_named,
       λ from.
-          ap (λ b. cond b (Some (from, definition.size)) (place_from (from + 1) name before))
+          ap (λ b. cond b (Some (from, definition.size)) (position_from (from + 1) name before))
           named ∙ none (from + 1),
       is,
     )
 
-placed : (start : ℕ) (name : Token) (done : List Defined) (place size : ℕ) →
-    place_from start name done ≡ Some (place, size) → IsPlaced start name done place size
-placed start name [] place size found = cc
-placed start name (definition ∷ later) place size found =
-    placed_first start name definition later (bytes_eq definition.name name) place size refl found
-    (λ f. placed (start + 1) name later place size f)
+placed : (start : ℕ) (name : Token) (done : List Defined) (position size : ℕ) →
+    position_from start name done ≡ Some (position, size) → IsPlaced start name done position size
+placed start name [] position size found = cc
+placed start name (definition ∷ later) position size found =
+    placed_first start name definition later (bytes_eq definition.name name) position size refl found
+    (λ f. placed (start + 1) name later position size f)
 
 same_half : (first second : Half) → is_same_half first second ≡ true → first ≡ second
 same_half A A same = refl
@@ -104,7 +104,7 @@ module _ (wiring : Wiring) (done : List Defined) (token : Token) where
 
   single_output : (output : Output) (b : Bool) → output_word token ≡ Some output →
       is_same_half output.half wiring.half ≡ b →
-      Holds (cond b (some_word (single.Output output.target)) (Err other_half))
+      Holds (cond b (some_word (single.Output output.target)) (Err wrong_output))
   single_output output false spelled same = tt
   single_output output true spelled same = (
     spelled ∙
@@ -113,11 +113,11 @@ module _ (wiring : Wiring) (done : List Defined) (token : Token) where
     refl,
   )
 
-  single_defined : (o : Option (ℕ × ℕ)) → place_of token done ≡ o → Holds (defined_word o)
+  single_defined : (o : Option (ℕ × ℕ)) → definition_at token done ≡ o → Holds (defined_word o)
   single_defined None e = tt
-  single_defined (Some (place, size)) e =
+  single_defined (Some (position, size)) e =
       let (before, definition, later, split, at, named, none, is) =
-      placed 0 token done place size e in
+      placed 0 token done position size e in
       (before, definition, later, split, omega (arith, at), named, none 0, ap (λ n. max n 1) is)
 
   single_word : (k : Kind) → IsOfKind token k → Holds (word_of wiring done k token)
@@ -127,7 +127,7 @@ module _ (wiring : Wiring) (done : List Defined) (token : Token) where
       single_output output (is_same_half output.half wiring.half) is refl
   single_word (kind.Name name) is =
       single_name name (line_of wiring.hood wiring.minor name) is refl
-  single_word kind.Other is = single_defined (place_of token done) refl
+  single_word kind.Other is = single_defined (definition_at token done) refl
   single_word _ is = tt
 
 -- a known token says a single word

@@ -15,8 +15,8 @@ use Rattle.cam6_forth.specs.Unfinished.{first_size, open_size, FitsAt, AreOpenIf
 use Rattle.cam6_forth.proofs.States.{in_body, in_braces, first_words, open_words, open_flags}
 use Rattle.cam6_forth.proofs.Runs.{run, then_run, append_run}
 use Rattle.cam6_forth.proofs.FaultsOfSteps.{length-flags}
-use Rattle.cam6_forth.proofs.Steps.{same_body, same_braces, said_by, size_by, step-word, step-case}
-use Rattle.cam6_forth.proofs.Steps.{step-if, step-else, step-then, step-open, step-close}
+use Rattle.cam6_forth.proofs.Steps.{same_body, same_braces, said_by, size_by, advance-word, advance-case}
+use Rattle.cam6_forth.proofs.Steps.{advance-if, advance-else, advance-then, advance-open, advance-close}
 
 module _ (wiring : Wiring) (done : List Defined) (name : Token) where
   -- words between braces
@@ -35,7 +35,7 @@ module _ (wiring : Wiring) (done : List Defined) (name : Token) where
       let more = case_size wiring done tokens in
       then_run wiring (in_braces done name ws n open_ifs)
       (in_braces done name (ws ++ said) (n + (size + 1)) open_ifs) token tokens _
-      (step-case wiring done name token ws n open_ifs known.0 (omega arith))
+      (advance-case wiring done name token ws n open_ifs known.0 (omega arith))
       (run-cases tokens (ws ++ said) (n + (size + 1)) open_ifs known.1 (omega arith)
       ∙ same_braces wiring done name ((ws ++ said) ++ words) (ws ++ (said ++ words))
       (n + (size + 1) + more) (n + (size + 1 + more)) open_ifs
@@ -57,7 +57,7 @@ module _ (wiring : Wiring) (done : List Defined) (name : Token) where
       let more = size_of wiring done rest in
       then_run wiring (in_body done name ws n open_ifs)
       (in_body done name (ws ++ said) (n + size) open_ifs) token (spell_body rest) _
-      (step-word wiring done name token ws n open_ifs known.0 (omega arith))
+      (advance-word wiring done name token ws n open_ifs known.0 (omega arith))
       (run-body rest (ws ++ said) (n + size) open_ifs known.1 (omega arith) few
       ∙ same_body wiring done name ((ws ++ said) ++ words) (ws ++ (said ++ words))
       (n + size + more) (n + (size + more)) open_ifs (append_assoc ws said words)
@@ -79,11 +79,11 @@ module _ (wiring : Wiring) (done : List Defined) (name : Token) where
       let from_then = codes "THEN" ∷ spell_body rest in
       then_run wiring (in_body done name ws n open_ifs) after_if (codes "IF")
       (spell_body on ++ from_then) _
-      (step-if wiring done name ws n open_ifs (omega arith) (omega arith))
+      (advance-if wiring done name ws n open_ifs (omega arith) (omega arith))
       (append_run wiring after_if after_on (spell_body on) from_then _
       (run-body on words_if size_if opened known.0 (omega arith) (omega arith))
       (then_run wiring after_on after_then (codes "THEN") (spell_body rest) _
-      (step-then wiring done name words_on size_on false open_ifs)
+      (advance-then wiring done name words_on size_on false open_ifs)
       (run-body rest words_then size_on open_ifs known.1 (omega arith) (omega arith)
       ∙ same_body wiring done name (words_then ++ words)
       (ws ++ word.If ∷ (said ++ word.Then ∷ words))
@@ -115,15 +115,15 @@ module _ (wiring : Wiring) (done : List Defined) (name : Token) where
       let from_else = codes "ELSE" ∷ (spell_body off ++ from_then) in
       then_run wiring (in_body done name ws n open_ifs) after_if (codes "IF")
       (spell_body on ++ from_else) _
-      (step-if wiring done name ws n open_ifs (omega arith) (omega arith))
+      (advance-if wiring done name ws n open_ifs (omega arith) (omega arith))
       (append_run wiring after_if after_on (spell_body on) from_else _
       (run-body on words_if size_if opened known.0 (omega arith) (omega arith))
       (then_run wiring after_on after_else (codes "ELSE") (spell_body off ++ from_then) _
-      (step-else wiring done name words_on size_on open_ifs (omega arith))
+      (advance-else wiring done name words_on size_on open_ifs (omega arith))
       (append_run wiring after_else after_off (spell_body off) from_then _
       (run-body off words_else size_else halved known.1 (omega arith) (omega arith))
       (then_run wiring after_off after_then (codes "THEN") (spell_body rest) _
-      (step-then wiring done name words_off size_off true open_ifs)
+      (advance-then wiring done name words_off size_off true open_ifs)
       (run-body rest words_then size_off open_ifs known.2 (omega arith) (omega arith)
       ∙ same_body wiring done name (words_then ++ words)
       (ws ++ word.If ∷ (on_said ++ word.Else ∷ (off_said ++ word.Then ∷ words)))
@@ -144,11 +144,11 @@ module _ (wiring : Wiring) (done : List Defined) (name : Token) where
       let after_close = in_body done name words_close size_cases open_ifs in
       let from_close = codes "}" ∷ spell_body rest in
       then_run wiring (in_body done name ws n open_ifs) after_open (codes "{")
-      (tokens ++ from_close) _ (step-open wiring done name ws n open_ifs (omega arith))
+      (tokens ++ from_close) _ (advance-open wiring done name ws n open_ifs (omega arith))
       (append_run wiring after_open after_words tokens from_close _
       (run-cases tokens words_open size_open open_ifs known.0 (omega arith))
       (then_run wiring after_words after_close (codes "}") (spell_body rest) _
-      (step-close wiring done name words_cases size_cases open_ifs)
+      (advance-close wiring done name words_cases size_cases open_ifs)
       (run-body rest words_close size_cases open_ifs known.1 (omega arith) few
       ∙ same_body wiring done name (words_close ++ words)
       (ws ++ word.Cases ∷ (said ++ word.EndCases ∷ words))
@@ -175,7 +175,7 @@ module _ (wiring : Wiring) (done : List Defined) (name : Token) where
       (codes "ELSE" ∷ []) _
       (run-body body ws n (false ∷ outer) may.known (omega arith) (omega arith))
       (then_run wiring after_body after_else (codes "ELSE") [] _
-      (step-else wiring done name words (n + size) outer (omega arith))
+      (advance-else wiring done name words (n + size) outer (omega arith))
       (same_body wiring done name (words ++ word.Else ∷ []) (ws ++ (said ++ word.Else ∷ []))
       (n + size + 1) (n + (size + 1)) (true ∷ outer) (append_assoc ws said (word.Else ∷ []))
       (omega arith)))
@@ -209,7 +209,7 @@ module _ (wiring : Wiring) (done : List Defined) (name : Token) where
       (append_run wiring at_outer at_if (spell_body open_if.before) from_if _
       (run-body open_if.before ws n flags may.0.known (omega arith) (omega arith))
       (then_run wiring at_if after_if (codes "IF") (spell_first open_if.first) _
-      (step-if wiring done name (ws ++ said) (n + size) flags (omega arith) (omega arith))
+      (advance-if wiring done name (ws ++ said) (n + size) flags (omega arith) (omega arith))
       (run-first open_if.first words_if size_if flags (length outer + 1) (omega arith) may.1
       (omega arith)
       ∙ same_body wiring done name (words_if ++ words) (ws ++ (said ++ (word.If ∷ words)))

@@ -11,13 +11,13 @@ use Rattle.cam6_forth.specs.Tree.{case_words, case_size, defined, AreDefinitions
 use Rattle.cam6_forth.specs.Unfinished.{Opened, Unfinished, Whole, Unnamed, Within, Braced}
 use Rattle.cam6_forth.specs.Unfinished.{spell_open_ifs, spell_opened, spell_unfinished}
 use Rattle.cam6_forth.specs.Unfinished.{open_size, opened_size, IsOpened, AreBefore, IsSound}
-use Rattle.cam6_forth.specs.Reading.{State, begin}
+use Rattle.cam6_forth.specs.Reading.{State, beginning}
 use Rattle.cam6_forth.proofs.States.{after_all, after_colon, in_body, in_braces}
 use Rattle.cam6_forth.proofs.States.{open_words, open_flags, opened_words, state_of}
 use Rattle.cam6_forth.proofs.Runs.{run, ok_state, then_run, append_run, length-meant}
 use Rattle.cam6_forth.proofs.FaultsOfSteps.{length-flags}
-use Rattle.cam6_forth.proofs.Steps.{same_braces, step-open, step-name}
-use Rattle.cam6_forth.proofs.Steps.{step-colon, step-end, after_end}
+use Rattle.cam6_forth.proofs.Steps.{same_braces, advance-open, advance-name}
+use Rattle.cam6_forth.proofs.Steps.{advance-colon, advance-end, after_end}
 use Rattle.cam6_forth.proofs.SpelledBodies.{run-cases, run-body, run-open_ifs}
 
 -- definitions
@@ -39,13 +39,13 @@ run-parts wiring (part ∷ parts) done each few =
     let size = each.0.size in
     let depth = each.0.depth in
     then_run wiring (after_all done) (after_colon done) (codes ":")
-    (part.name ∷ (body ++ from_end)) _ (step-colon wiring done (omega arith))
+    (part.name ∷ (body ++ from_end)) _ (advance-colon wiring done (omega arith))
     (then_run wiring (after_colon done) at_body part.name (body ++ from_end) _
-    (step-name wiring done part.name each.0.name each.0.fresh)
+    (advance-name wiring done part.name each.0.name each.0.fresh)
     (append_run wiring at_body at_end body from_end _
     (run-body wiring done part.name part.body [] 0 [] each.0.known (omega arith) (omega arith))
     (then_run wiring at_end (after_all next) (codes ";") (spell parts) _
-    (step-end wiring done part.name ws (0 + n)
+    (advance-end wiring done part.name ws (0 + n)
     ∙ ap (λ m. ok_state (after_end done part.name ws m)) (zero-add n))
     (run-parts wiring parts next each.1 fewer))))
 
@@ -64,9 +64,9 @@ run-opened wiring done last more few opened =
     let depth = opened.said.depth in
     let tokens = spell_open_ifs last.open_ifs ++ spell_body last.said in
     then_run wiring (after_all done) (after_colon done) (codes ":") (last.name ∷ tokens) _
-    (step-colon wiring done few)
+    (advance-colon wiring done few)
     (then_run wiring (after_colon done) (in_body done last.name [] 0 []) last.name tokens _
-    (step-name wiring done last.name opened.name opened.fresh)
+    (advance-name wiring done last.name opened.name opened.fresh)
     (append_run wiring (in_body done last.name [] 0 []) (in_body done last.name ws n flags)
     (spell_open_ifs last.open_ifs) (spell_body last.said) _
     (run-open_ifs wiring done last.name last.open_ifs opened.open_ifs (omega arith))
@@ -78,23 +78,23 @@ run-before : (wiring : Wiring) (parts : List Part) (later : List Token)
     (result : Result State ℕ) → AreBefore wiring parts →
     (length (meant wiring [] parts) < max_definitions →
     run wiring (after_all (meant wiring [] parts)) later ≡ result) →
-    run wiring begin (spell parts ++ later) ≡ result
+    run wiring beginning (spell parts ++ later) ≡ result
 run-before wiring parts later result before others =
     let few = before.few in
-    append_run wiring begin (after_all (meant wiring [] parts)) (spell parts) later result
+    append_run wiring beginning (after_all (meant wiring [] parts)) (spell parts) later result
     (run-parts wiring parts [] before.each (omega arith))
     (others (omega (arith, length-meant wiring parts [])))
 
 -- a rule that is being written
 pub run-unfinished : (wiring : Wiring) (u : Unfinished) → IsSound wiring u →
-    run wiring begin (spell_unfinished u) ≡ Ok (state_of wiring u)
+    run wiring beginning (spell_unfinished u) ≡ Ok (state_of wiring u)
 run-unfinished wiring (Whole parts) sound =
     let few = sound.1 in run-parts wiring parts [] sound.0 (omega arith)
 run-unfinished wiring (Unnamed parts) sound =
     let done = meant wiring [] parts in
     run-before wiring parts (codes ":" ∷ []) _ sound
     (λ few. then_run wiring (after_all done) (after_colon done) (codes ":") [] _
-    (step-colon wiring done few) refl)
+    (advance-colon wiring done few) refl)
 run-unfinished wiring (Within parts last) sound =
     run-before wiring parts (spell_opened last) _ sound.0
     (λ few. run-opened wiring (meant wiring [] parts) last 0 few sound.1)
@@ -112,7 +112,7 @@ run-unfinished wiring (Braced parts last tokens) sound =
     (run-opened wiring done last (1 + more) few sound.1)
     (then_run wiring (in_body done last.name ws n flags)
     (in_braces done last.name (ws ++ word.Cases ∷ []) (n + 1) flags) (codes "{") tokens _
-    (step-open wiring done last.name ws n flags (omega arith))
+    (advance-open wiring done last.name ws n flags (omega arith))
     (run-cases wiring done last.name tokens (ws ++ word.Cases ∷ []) (n + 1) flags sound.2
     (omega arith)
     ∙ same_braces wiring done last.name ((ws ++ word.Cases ∷ []) ++ words)

@@ -9,15 +9,15 @@ use Rattle.cam6_forth.specs.Defined.{Defined}
 use Rattle.cam6_forth.specs.Tree.{Body, words_of, case_words, case_size, meant}
 use Rattle.cam6_forth.specs.Unfinished.{OpenIf, Opened, opened_size, Unfinished}
 use Rattle.cam6_forth.specs.Unfinished.{Whole, Unnamed, Within, Braced}
-use Rattle.cam6_forth.specs.Reading.{State, begin}
+use Rattle.cam6_forth.specs.Reading.{State, beginning}
 
 -- outside definitions
 abbrev pub after_all : List Defined → State
-after_all done = record begin { done = done }
+after_all done = record beginning { done = done }
 
 -- right after `:`
 abbrev pub after_colon : List Defined → State
-after_colon done = record begin { done = done; context = context.Naming }
+after_colon done = record beginning { done = done; context = context.Naming }
 
 -- in a body
 abbrev pub in_body : List Defined → Token → List Word → ℕ → List Bool → State

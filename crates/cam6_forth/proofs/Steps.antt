@@ -14,9 +14,9 @@ use Rattle.cam6_forth.specs.Kinds.{kind_of, mark}
 use Rattle.cam6_forth.specs.Limits.{max_definitions, max_size, max_open_ifs}
 use Rattle.cam6_forth.specs.Limits.{not_definable, too_large, too_many_ifs, too_long}
 use Rattle.cam6_forth.specs.Defined.{Defined}
-use Rattle.cam6_forth.specs.SingleWords.{word_of, place_of}
+use Rattle.cam6_forth.specs.SingleWords.{word_of, definition_at}
 use Rattle.cam6_forth.specs.Tree.{word_at, words_in, size_in}
-use Rattle.cam6_forth.specs.Reading.{State, step, grown, grown_by, outside}
+use Rattle.cam6_forth.specs.Reading.{State, advance, grown, grown_by, outside}
 use Rattle.cam6_forth.specs.Reading.{naming, inside, braces, some_definition}
 use Rattle.cam6_forth.proofs.States.{after_all, after_colon, in_body, in_braces}
 use Rattle.cam6_forth.proofs.Runs.{ok_state}
@@ -97,94 +97,94 @@ module _ (wiring : Wiring) (done : List Defined) (name : Token) where
   size_by token = size_in (word_at wiring done token)
 
   -- in a body the word is added
-  step-said : (token : Token) (ws : List Word) (n : ℕ) (open_ifs : List Bool)
+  advance-said : (token : Token) (ws : List Word) (n : ℕ) (open_ifs : List Bool)
       (result : Result (SingleWord × ℕ) ℕ) → word_at wiring done token ≡ result → IsOk result →
       n + size_in result ≤ max_size →
-      step wiring (in_body done name ws n open_ifs) token
+      advance wiring (in_body done name ws n open_ifs) token
       ≡ Ok (in_body done name (ws ++ words_in result) (n + size_in result) open_ifs)
-  step-said token ws n open_ifs (Ok (said, size)) is known fits =
+  advance-said token ws n open_ifs (Ok (said, size)) is known fits =
       let s = in_body done name ws n open_ifs in
       let words = ws ++ word.Single said ∷ [] in
       inside-word wiring s (kind_of token) token said size is
       ∙ grown-fits (size + 0) (word.Single said) s (omega arith)
       ∙ same_body words words (n + (size + 0)) (n + size) open_ifs refl (omega arith)
-  step-said token ws n open_ifs (Err number) is known fits = absurd (false≢true known)
+  advance-said token ws n open_ifs (Err number) is known fits = absurd (false≢true known)
 
-  pub step-word : (token : Token) (ws : List Word) (n : ℕ) (open_ifs : List Bool) →
+  pub advance-word : (token : Token) (ws : List Word) (n : ℕ) (open_ifs : List Bool) →
       IsOk (word_at wiring done token) → n + size_by token ≤ max_size →
-      step wiring (in_body done name ws n open_ifs) token
+      advance wiring (in_body done name ws n open_ifs) token
       ≡ Ok (in_body done name (ws ++ said_by token) (n + size_by token) open_ifs)
-  step-word token ws n open_ifs known fits =
-      step-said token ws n open_ifs (word_at wiring done token) refl known fits
+  advance-word token ws n open_ifs known fits =
+      advance-said token ws n open_ifs (word_at wiring done token) refl known fits
 
   -- and so it is between braces
-  step-said_case : (token : Token) (ws : List Word) (n : ℕ) (open_ifs : List Bool)
+  advance-said_case : (token : Token) (ws : List Word) (n : ℕ) (open_ifs : List Bool)
       (result : Result (SingleWord × ℕ) ℕ) → word_at wiring done token ≡ result → IsOk result →
       n + (size_in result + 1) ≤ max_size →
-      step wiring (in_braces done name ws n open_ifs) token
+      advance wiring (in_braces done name ws n open_ifs) token
       ≡ Ok (in_braces done name (ws ++ words_in result) (n + (size_in result + 1)) open_ifs)
-  step-said_case token ws n open_ifs (Ok (said, size)) is known fits =
+  advance-said_case token ws n open_ifs (Ok (said, size)) is known fits =
       let s = in_braces done name ws n open_ifs in
       braces-word wiring s (kind_of token) token said size is
       ∙ grown-fits (size + 1) (word.Single said) s fits
-  step-said_case token ws n open_ifs (Err number) is known fits = absurd (false≢true known)
+  advance-said_case token ws n open_ifs (Err number) is known fits = absurd (false≢true known)
 
-  pub step-case : (token : Token) (ws : List Word) (n : ℕ) (open_ifs : List Bool) →
+  pub advance-case : (token : Token) (ws : List Word) (n : ℕ) (open_ifs : List Bool) →
       IsOk (word_at wiring done token) → n + (size_by token + 1) ≤ max_size →
-      step wiring (in_braces done name ws n open_ifs) token
+      advance wiring (in_braces done name ws n open_ifs) token
       ≡ Ok (in_braces done name (ws ++ said_by token) (n + (size_by token + 1)) open_ifs)
-  step-case token ws n open_ifs known fits =
-      step-said_case token ws n open_ifs (word_at wiring done token) refl known fits
+  advance-case token ws n open_ifs known fits =
+      advance-said_case token ws n open_ifs (word_at wiring done token) refl known fits
 
-  pub step-if : (ws : List Word) (n : ℕ) (open_ifs : List Bool) → n + 1 ≤ max_size →
+  pub advance-if : (ws : List Word) (n : ℕ) (open_ifs : List Bool) → n + 1 ≤ max_size →
       length open_ifs < max_open_ifs →
-      step wiring (in_body done name ws n open_ifs) (codes "IF")
+      advance wiring (in_body done name ws n open_ifs) (codes "IF")
       ≡ Ok (in_body done name (ws ++ word.If ∷ []) (n + 1) (false ∷ open_ifs))
-  step-if ws n open_ifs fits few =
+  advance-if ws n open_ifs fits few =
       let next = in_body done name ws n (false ∷ open_ifs) in
       ap (λ k. inside wiring (in_body done name ws n open_ifs) k (codes "IF")) kind-if
       ∙ ap (λ test. cond test (grown 1 word.If next) (Err too_many_ifs))
       (lt-ltb (length open_ifs) max_open_ifs few)
       ∙ grown-fits 1 word.If next fits
 
-  pub step-else : (ws : List Word) (n : ℕ) (outer : List Bool) → n + 1 ≤ max_size →
-      step wiring (in_body done name ws n (false ∷ outer)) (codes "ELSE")
+  pub advance-else : (ws : List Word) (n : ℕ) (outer : List Bool) → n + 1 ≤ max_size →
+      advance wiring (in_body done name ws n (false ∷ outer)) (codes "ELSE")
       ≡ Ok (in_body done name (ws ++ word.Else ∷ []) (n + 1) (true ∷ outer))
-  step-else ws n outer fits =
+  advance-else ws n outer fits =
       ap (λ k. inside wiring (in_body done name ws n (false ∷ outer)) k (codes "ELSE")) kind-else
       ∙ grown-fits 1 word.Else (in_body done name ws n (true ∷ outer)) fits
 
-  pub step-then : (ws : List Word) (n : ℕ) (has_else : Bool) (outer : List Bool) →
-      step wiring (in_body done name ws n (has_else ∷ outer)) (codes "THEN")
+  pub advance-then : (ws : List Word) (n : ℕ) (has_else : Bool) (outer : List Bool) →
+      advance wiring (in_body done name ws n (has_else ∷ outer)) (codes "THEN")
       ≡ Ok (in_body done name (ws ++ word.Then ∷ []) n outer)
-  step-then ws n has_else outer =
+  advance-then ws n has_else outer =
       ap (λ k. inside wiring (in_body done name ws n (has_else ∷ outer)) k (codes "THEN")) kind-then
 
-  pub step-open : (ws : List Word) (n : ℕ) (open_ifs : List Bool) → n + 1 ≤ max_size →
-      step wiring (in_body done name ws n open_ifs) (codes "{")
+  pub advance-open : (ws : List Word) (n : ℕ) (open_ifs : List Bool) → n + 1 ≤ max_size →
+      advance wiring (in_body done name ws n open_ifs) (codes "{")
       ≡ Ok (in_braces done name (ws ++ word.Cases ∷ []) (n + 1) open_ifs)
-  step-open ws n open_ifs fits =
+  advance-open ws n open_ifs fits =
       ap (λ k. inside wiring (in_body done name ws n open_ifs) k (codes "{")) kind-open_brace
       ∙ grown-fits 1 word.Cases (in_braces done name ws n open_ifs) fits
 
-  pub step-close : (ws : List Word) (n : ℕ) (open_ifs : List Bool) →
-      step wiring (in_braces done name ws n open_ifs) (codes "}")
+  pub advance-close : (ws : List Word) (n : ℕ) (open_ifs : List Bool) →
+      advance wiring (in_braces done name ws n open_ifs) (codes "}")
       ≡ Ok (in_body done name (ws ++ word.EndCases ∷ []) n open_ifs)
-  step-close ws n open_ifs =
+  advance-close ws n open_ifs =
       ap (λ k. braces wiring (in_braces done name ws n open_ifs) k (codes "}")) kind-close_brace
 
 -- a name that may be defined
-pub step-name : (wiring : Wiring) (done : List Defined) (token : Token) →
-    kind_of token ≡ kind.Other → place_of token done ≡ None →
-    step wiring (after_colon done) token ≡ Ok (in_body done token [] 0 [])
-step-name wiring done token free fresh =
+pub advance-name : (wiring : Wiring) (done : List Defined) (token : Token) →
+    kind_of token ≡ kind.Other → definition_at token done ≡ None →
+    advance wiring (after_colon done) token ≡ Ok (in_body done token [] 0 [])
+advance-name wiring done token free fresh =
     ap (λ k. naming (after_colon done) k token) free
     ∙ ap (λ test. cond test (Err not_definable) (ok_state (in_body done token [] 0 [])))
     (ap is_some fresh)
 
-pub step-colon : (wiring : Wiring) (done : List Defined) → length done < max_definitions →
-    step wiring (after_all done) (codes ":") ≡ Ok (after_colon done)
-step-colon wiring done few =
+pub advance-colon : (wiring : Wiring) (done : List Defined) → length done < max_definitions →
+    advance wiring (after_all done) (codes ":") ≡ Ok (after_colon done)
+advance-colon wiring done few =
     ap (λ k. outside (after_all done) k) kind-colon
     ∙ ap (λ test. cond test (ok_state (after_colon done)) (Err too_long))
     (lt-ltb (length done) max_definitions few)
@@ -194,10 +194,10 @@ abbrev pub after_end : List Defined → Token → List Word → ℕ → State
 after_end done name ws n =
     after_all (done ++ record { name = name; words = ws; size = n } ∷ [])
 
-pub step-end : (wiring : Wiring) (done : List Defined) (name : Token) (ws : List Word) (n : ℕ) →
-    step wiring (in_body done name ws n []) (codes ";")
+pub advance-end : (wiring : Wiring) (done : List Defined) (name : Token) (ws : List Word) (n : ℕ) →
+    advance wiring (in_body done name ws n []) (codes ";")
     ≡ Ok (after_end done name ws n)
-step-end wiring done name ws n =
+advance-end wiring done name ws n =
     ap (λ k. inside wiring (in_body done name ws n []) k (codes ";")) kind-semicolon
 
 -- definitions may end where there is one

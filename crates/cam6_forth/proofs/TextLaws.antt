@@ -13,7 +13,7 @@ use Rattle.cam6_forth.specs.Defined.{Defined, RuleWords}
 use Rattle.cam6_forth.specs.Tree.{Part, meant, rule_of, IsOfTree}
 use Rattle.cam6_forth.specs.Texts.{AreTokensOf, IsTextOf, Begins}
 use Rattle.cam6_forth.specs.Faults.{HasTokenFault, HasFault}
-use Rattle.cam6_forth.specs.Reading.{begin, read, read_text}
+use Rattle.cam6_forth.specs.Reading.{beginning, read, read_text}
 use Rattle.cam6_forth.specs.Outcome.{IsReadAs, IsThisRule, IsThisFault, IsAccepted, IsRefused}
 use Rattle.cam6_forth.specs.Laws as laws
 use Rattle.cam6_forth.proofs.Readings.{sound_run, token_fault_read, end_fault_read}
@@ -50,17 +50,17 @@ same_rule rule wiring done e f =
     ap (λ v. rule_with v rule.definitions) e ∙ ap (rule_with wiring) f
 
 read_short : (w : Wiring) (text : List ℕ) → length text ≤ max_text →
-    read_text w text ≡ read w begin 1 (tokens text)
+    read_text w text ≡ read w beginning 1 (tokens text)
 unfolding read_text
 read_short w text short =
-    ap (λ b. cond b (fault_out too_long 0) (read w begin 1 (tokens text)))
+    ap (λ b. cond b (fault_out too_long 0) (read w beginning 1 (tokens text)))
     (le-ltb max_text (length text) short)
 
 read_long : (w : Wiring) (text : List ℕ) → max_text < length text →
     read_text w text ≡ fault_out too_long 0
 unfolding read_text
 read_long w text long =
-    ap (λ b. cond b (fault_out too_long 0) (read w begin 1 (tokens text)))
+    ap (λ b. cond b (fault_out too_long 0) (read w beginning 1 (tokens text)))
     (lt-ltb max_text (length text) long)
 
 -- a text is too long or not
@@ -117,7 +117,7 @@ module _ (w : Wiring) (text : List ℕ) where
       ]
 
   -- what is read to the end is the rule of a tree
-  pub read_is_tree : (done : List Defined) → read w begin 1 (tokens text) ≡ Ok done →
+  pub read_is_tree : (done : List Defined) → read w beginning 1 (tokens text) ≡ Ok done →
       IsOfTree (rule_with w done)
   read_is_tree done e =
       let back = rule_back w (tokens text) done e in

@@ -11,10 +11,10 @@ use Rattle.cam6_forth.specs.declared.kinds.Kind.TheVariants.{Digits, Stack, Outp
 use Rattle.cam6_forth.specs.Tokens.{Token}
 use Rattle.cam6_forth.specs.Limits.{max_definitions, max_size, max_open_ifs}
 use Rattle.cam6_forth.specs.Limits.{unknown_word, not_definable, out_of_place, too_large}
-use Rattle.cam6_forth.specs.Limits.{too_many_ifs, other_half, literal_range, too_long}
+use Rattle.cam6_forth.specs.Limits.{too_many_ifs, wrong_output, literal_range, too_long}
 use Rattle.cam6_forth.specs.Defined.{Defined}
 use Rattle.cam6_wiring.specs.Name.{is_same_half}
-use Rattle.cam6_forth.specs.SingleWords.{place_of}
+use Rattle.cam6_forth.specs.SingleWords.{definition_at}
 use Rattle.cam6_forth.specs.Tree.{case_size, meant}
 use Rattle.cam6_forth.specs.Unfinished.{OpenIf, Unfinished, Whole, Unnamed, Within, Braced}
 use Rattle.cam6_forth.specs.Unfinished.{opened_size}
@@ -31,12 +31,12 @@ abbrev pub is_unknown : Wiring → Option (List Defined) → Kind → Token → 
 is_unknown wiring None kind token = false
 is_unknown wiring (Some done) (Name name) token =
     not (is_some (line_of wiring.hood wiring.minor name))
-is_unknown wiring (Some done) Other token = not (is_some (place_of token done))
+is_unknown wiring (Some done) Other token = not (is_some (definition_at token done))
 is_unknown wiring (Some done) kind token = false
 
 -- 21, after `:`: a token that is reserved, or a name that is defined already
 abbrev pub is_taken : List Defined → Kind → Token → Bool
-is_taken done Other token = is_some (place_of token done)
+is_taken done Other token = is_some (definition_at token done)
 is_taken done kind token = true
 
 abbrev pub is_not_definable : Wiring → Unfinished → Kind → Token → Bool
@@ -90,14 +90,14 @@ is_out_of_place (Braced parts last words) kind = is_no_case kind
 -- a token's own size: a defined name has its definition's, or 1 where that is 0
 abbrev pub defined_size : Option (ℕ × ℕ) → ℕ
 defined_size None = 0
-defined_size (Some (place, size)) = max size 1
+defined_size (Some (position, size)) = max size 1
 
 abbrev pub own_size : List Defined → Kind → Token → ℕ
 own_size done (Digits value) token = 1
 own_size done (Stack word) token = 1
 own_size done (Output output) token = 1
 own_size done (Name name) token = 1
-own_size done Other token = defined_size (place_of token done)
+own_size done Other token = defined_size (definition_at token done)
 own_size done If token = 1
 own_size done Else token = 1
 own_size done OpenBrace token = 1
@@ -155,7 +155,7 @@ between wiring unfinished kind token =
     let body = before_body wiring unfinished in
     (unknown_word, is_unknown wiring body kind token)
     ∷ (too_many_ifs, is_too_deep unfinished kind)
-    ∷ (other_half, is_of_the_other_half wiring body kind)
+    ∷ (wrong_output, is_of_the_other_half wiring body kind)
     ∷ (literal_range, is_above_the_range body kind)
     ∷ (too_long, is_one_too_many unfinished kind)
     ∷ []

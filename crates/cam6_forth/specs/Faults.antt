@@ -14,7 +14,7 @@ use Rattle.cam6_forth.specs.Limits.{max_text, max_definitions, max_size}
 use Rattle.cam6_forth.specs.Limits.{max_open_ifs, not_definable, out_of_place}
 use Rattle.cam6_forth.specs.Limits.{too_large, too_many_ifs, no_definition, too_long}
 use Rattle.cam6_forth.specs.Defined.{Defined}
-use Rattle.cam6_forth.specs.SingleWords.{word_of, place_of}
+use Rattle.cam6_forth.specs.SingleWords.{word_of, definition_at}
 use Rattle.cam6_forth.specs.Tree.{Part, case_size, meant}
 use Rattle.cam6_forth.specs.Unfinished.{OpenIf, Opened, opened_size, Unfinished, Whole}
 use Rattle.cam6_forth.specs.Unfinished.{Unnamed, Within, Braced, spell_unfinished, IsSound}
@@ -37,7 +37,7 @@ fault_outside parts kind = Some out_of_place
 
 -- right after `:`: a name that isn't defined yet
 abbrev pub fault_naming : List Defined → Kind → Token → Option ℕ
-fault_naming done Other token = if is_some (place_of token done) then Some not_definable else None
+fault_naming done Other token = if is_some (definition_at token done) then Some not_definable else None
 fault_naming done kind token = Some not_definable
 
 -- `;` stands where no IF is open

@@ -46,8 +46,8 @@ abbrev pub too_many_ifs : ℕ
 too_many_ifs = 24
 
 -- an output word of the other half
-abbrev pub other_half : ℕ
-other_half = 25
+abbrev pub wrong_output : ℕ
+wrong_output = 25
 
 -- a literal above 65,535
 abbrev pub literal_range : ℕ
@@ -68,7 +68,7 @@ fault_number NotDefinable = not_definable
 fault_number OutOfPlace = out_of_place
 fault_number TooLarge = too_large
 fault_number TooManyIfs = too_many_ifs
-fault_number OtherHalf = other_half
+fault_number OtherHalf = wrong_output
 fault_number LiteralRange = literal_range
 fault_number NoDefinition = no_definition
 fault_number TooLong = too_long

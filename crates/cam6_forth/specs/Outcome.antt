@@ -4,8 +4,8 @@ use Rattle.std.specs.declared.alloc.Global.{Global}
 use Rattle.cam6_wiring.specs.declared.wirings.Wiring.{Wiring}
 use Rattle.cam6_forth.specs.declared.faults.ParseFault.{ParseFault}
 use Rattle.cam6_forth.specs.declared.faults.ParseFault.TheVariants as parse_fault
-use Rattle.cam6_forth.specs.declared.faults.StepFault.{StepFault}
-use Rattle.cam6_forth.specs.declared.faults.StepFault.TheVariants as step_fault
+use Rattle.cam6_forth.specs.declared.faults.AdvanceFault.{AdvanceFault}
+use Rattle.cam6_forth.specs.declared.faults.AdvanceFault.TheVariants as step_fault
 use Rattle.cam6_forth.specs.declared.faults.TokenFault.{TokenFault}
 use Rattle.cam6_forth.specs.Limits.{fault_number}
 use Rattle.cam6_forth.specs.Defined.{Defined, RuleWords}
@@ -15,7 +15,7 @@ use Rattle.cam6_forth.specs.Faults.{HasFault}
 use Rattle.cam6_forth.specs.Reading.{State}
 
 -- the new state, or the token's fault
-abbrev pub Steps : Result State ℕ → State → Result (Unit {0}) StepFault → Type 0
+abbrev pub Steps : Result State ℕ → State → Result (Unit {0}) AdvanceFault → Type 0
 Steps reading new (Ok done) = reading ≡ Ok new
 Steps reading new (Err step_fault.NoMemory) = Unit {0}
 Steps reading new (Err (step_fault.Token fault)) = reading ≡ Err (fault_number fault)

@@ -17,7 +17,7 @@ use Rattle.cam6_forth.specs.Limits.{max_text, max_definitions, max_size}
 use Rattle.cam6_forth.specs.Limits.{max_open_ifs, not_definable, out_of_place}
 use Rattle.cam6_forth.specs.Limits.{too_large, too_many_ifs, no_definition, too_long}
 use Rattle.cam6_forth.specs.Defined.{Defined}
-use Rattle.cam6_forth.specs.SingleWords.{word_of, place_of}
+use Rattle.cam6_forth.specs.SingleWords.{word_of, definition_at}
 
 -- what was read: the definitions, where the next token stands, whether a comment is open, and
 -- of the definition that is read its name, its words, its size and its open IFs, the innermost
@@ -32,8 +32,8 @@ pub record State : Type 0 where
   pub open_ifs : List Bool
 
 -- before the first token
-abbrev pub begin : State
-begin = record {
+abbrev pub beginning : State
+beginning = record {
   done = [];
   context = Outside;
   comment = false;
@@ -66,7 +66,7 @@ outside state kind = Err out_of_place
 -- after `:`, a name that is neither reserved nor defined
 abbrev pub naming : State → Kind → Token → Result State ℕ
 naming state Other token =
-    if is_some (place_of token state.done) then Err not_definable
+    if is_some (definition_at token state.done) then Err not_definable
     else Ok (record state { context = Inside; name = token; words = []; size = 0; open_ifs = [] })
 naming state kind token = Err not_definable
 
@@ -89,14 +89,14 @@ with_then (has_else ∷ outer) state =
     Ok (record state { words = state.words ++ word.Then ∷ []; open_ifs = outer })
 
 -- the definition that was read
-abbrev pub defined : State → Defined
-defined state = record { name = state.name; words = state.words; size = state.size }
+abbrev pub definition_read : State → Defined
+definition_read state = record { name = state.name; words = state.words; size = state.size }
 
 -- `;`, where no IF is open
 abbrev pub with_definition : List Bool → State → Result State ℕ
 with_definition [] state =
     Ok (record state {
-      done = state.done ++ defined state ∷ [];
+      done = state.done ++ definition_read state ∷ [];
       context = Outside;
       name = [];
       words = [];
@@ -129,8 +129,8 @@ step_at wiring Inside state kind token = inside wiring state kind token
 step_at wiring Braces state kind token = braces wiring state kind token
 
 -- one more token, or the number of its fault
-abbrev pub step : Wiring → State → Token → Result State ℕ
-step wiring state token =
+abbrev pub advance : Wiring → State → Token → Result State ℕ
+advance wiring state token =
     if state.comment then Ok (record state { comment = not (ends_comment token) })
     else step_at wiring state.context state (kind_of token) token
 
@@ -142,7 +142,7 @@ some_definition (first ∷ later) = Ok (first ∷ later)
 -- a text may end outside definitions
 abbrev pub finish_at : Context → State → Result (List Defined) ℕ
 finish_at Outside state = some_definition state.done
-finish_at place state = Err out_of_place
+finish_at position state = Err out_of_place
 
 -- the definitions at the end of the text, or the number of the end's fault
 abbrev pub finish : State → Result (List Defined) ℕ
@@ -163,14 +163,14 @@ go_on (Err number) token_number rest = Err (number, token_number)
 abbrev pub read : Wiring → State → ℕ → List Token → Result (List Defined) (ℕ × ℕ)
 read wiring state token_number [] = numbered (finish state) token_number
 read wiring state token_number (token ∷ later) =
-    go_on (step wiring state token) token_number
+    go_on (advance wiring state token) token_number
     (λ next. read wiring next (token_number + 1) later)
 
 -- a text's definitions, or its first fault with its token
 unfoldable pub read_text : Wiring → List ℕ → Result (List Defined) (ℕ × ℕ)
 read_text wiring text =
     if nat_lt max_text (length text) then Err (too_long, 0)
-    else read wiring begin 1 (tokens text)
+    else read wiring beginning 1 (tokens text)
 
 -- the token is of a definition's body
 abbrev pub is_in_body : Context → Bool
@@ -189,9 +189,9 @@ then_so (Err number) rest = false
 abbrev pub begins : Wiring → State → List Token → Bool
 begins wiring state [] = false
 begins wiring state (token ∷ later) =
-    then_so (step wiring state token)
+    then_so (advance wiring state token)
     (λ next. is_in_body next.context || begins wiring next later)
 
 -- something of a text is kept
 abbrev pub keeps : Wiring → List ℕ → Bool
-keeps wiring text = nat_le (length text) max_text && begins wiring begin (tokens text)
+keeps wiring text = nat_le (length text) max_text && begins wiring beginning (tokens text)

@@ -12,19 +12,19 @@ use Rattle.cam6_forth.specs.declared.kinds.Kind.TheVariants.{Digits, Stack, Outp
 use Rattle.cam6_forth.specs.Tokens.{Token}
 use Rattle.cam6_forth.specs.Spellings.{stack_word, output_word, neighbour_name}
 use Rattle.cam6_forth.specs.Kinds.{is_digits, literal}
-use Rattle.cam6_forth.specs.Limits.{unknown_word, out_of_place, other_half, literal_range}
+use Rattle.cam6_forth.specs.Limits.{unknown_word, out_of_place, wrong_output, literal_range}
 use Rattle.cam6_forth.specs.Defined.{Defined}
 
--- the place of a name among definitions that are counted from a place on, and its definition's size
-abbrev pub place_from : ℕ → Token → List Defined → Option (ℕ × ℕ)
-place_from place name [] = None
-place_from place name (definition ∷ later) =
-    if bytes_eq definition.name name then Some (place, definition.size)
-    else place_from (place + 1) name later
+-- the position of a name among definitions that are counted from a position on, and its definition's size
+abbrev pub position_from : ℕ → Token → List Defined → Option (ℕ × ℕ)
+position_from position name [] = None
+position_from position name (definition ∷ later) =
+    if bytes_eq definition.name name then Some (position, definition.size)
+    else position_from (position + 1) name later
 
--- the place of a name among the definitions, and its definition's size
-abbrev pub place_of : Token → List Defined → Option (ℕ × ℕ)
-place_of name done = place_from 0 name done
+-- the position of a name among the definitions, and its definition's size
+abbrev pub definition_at : Token → List Defined → Option (ℕ × ℕ)
+definition_at name done = position_from 0 name done
 
 -- a literal has size 1, and a value of at most 65,535
 abbrev pub literal_word : Option ℕ → Result (SingleWord × ℕ) ℕ
@@ -34,7 +34,7 @@ literal_word (Some value) = Ok (single.Literal value, 1)
 -- a defined name has its definition's size, or 1 where that is 0
 abbrev pub defined_word : Option (ℕ × ℕ) → Result (SingleWord × ℕ) ℕ
 defined_word None = Err unknown_word
-defined_word (Some (place, size)) = Ok (single.Defined place, max size 1)
+defined_word (Some (position, size)) = Ok (single.Defined position, max size 1)
 
 -- the word that a token says by itself, with its size, or the number of the token's fault
 abbrev pub word_of : Wiring → List Defined → Kind → Token → Result (SingleWord × ℕ) ℕ
@@ -42,11 +42,11 @@ word_of wiring done (Digits value) token = literal_word value
 word_of wiring done (Stack stack) token = Ok (single.Stack stack, 1)
 word_of wiring done (Output output) token =
     if is_same_half output.half wiring.half then Ok (single.Output output.target, 1)
-    else Err other_half
+    else Err wrong_output
 word_of wiring done (Name name) token =
     if is_some (line_of wiring.hood wiring.minor name) then Ok (single.Name name, 1)
     else Err unknown_word
-word_of wiring done Other token = defined_word (place_of token done)
+word_of wiring done Other token = defined_word (definition_at token done)
 word_of wiring done kind token = Err out_of_place
 
 -- a token says this single word, of this size: a literal in range its value; a stack word, an
@@ -62,8 +62,8 @@ IsSingle wiring done token (single.Stack stack) size =
     (stack_word token ≡ Some stack) × (size ≡ 1)
 IsSingle wiring done token (single.Output target) size =
     (output_word token ≡ Some (record { half = wiring.half; target = target })) × (size ≡ 1)
-IsSingle wiring done token (single.Defined place) size =
+IsSingle wiring done token (single.Defined position) size =
     (before : List Defined) × (definition : Defined) × (later : List Defined)
-    × (done ≡ before ++ definition ∷ later) × (place ≡ length before)
-    × (definition.name ≡ token) × (place_of token before ≡ None)
+    × (done ≡ before ++ definition ∷ later) × (position ≡ length before)
+    × (definition.name ≡ token) × (definition_at token before ≡ None)
     × (size ≡ max definition.size 1)

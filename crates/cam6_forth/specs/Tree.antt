@@ -10,7 +10,7 @@ use Rattle.cam6_forth.specs.Tokens.{Token}
 use Rattle.cam6_forth.specs.Kinds.{kind_of}
 use Rattle.cam6_forth.specs.Limits as limits
 use Rattle.cam6_forth.specs.Defined.{Defined, RuleWords}
-use Rattle.cam6_forth.specs.SingleWords.{word_of, place_of}
+use Rattle.cam6_forth.specs.SingleWords.{word_of, definition_at}
 
 -- a body: its items in a row. A single word is its token: a literal with its digits, a neighbour
 -- name, a stack word, an output word or a defined name
@@ -134,7 +134,7 @@ defined wiring done part = record {
 -- a definition that may follow others
 pub record IsDefinition (wiring : Wiring) (done : List Defined) (part : Part) : Type 0 where
   pub name : kind_of part.name ≡ kind.Other
-  pub fresh : place_of part.name done ≡ None
+  pub fresh : definition_at part.name done ≡ None
   pub known : IsKnown wiring done part.body
   pub size : size_of wiring done part.body ≤ limits.max_size
   pub depth : depth_of part.body ≤ limits.max_open_ifs

@@ -7,7 +7,7 @@ use Rattle.cam6_forth.specs.Tokens.{Token}
 use Rattle.cam6_forth.specs.Kinds.{kind_of}
 use Rattle.cam6_forth.specs.Limits.{max_definitions, max_size, max_open_ifs}
 use Rattle.cam6_forth.specs.Defined.{Defined}
-use Rattle.cam6_forth.specs.SingleWords.{place_of}
+use Rattle.cam6_forth.specs.SingleWords.{definition_at}
 use Rattle.cam6_forth.specs.Tree.{Body, Part, spell_body, spell, size_of, case_size}
 use Rattle.cam6_forth.specs.Tree.{depth_of, IsKnown, AreWords, AreDefinitions, meant}
 
@@ -95,12 +95,12 @@ AreOpenIfs wiring done (open_if ∷ outer) =
 pub record IsOpened (wiring : Wiring) (done : List Defined) (last : Opened) (more : ℕ) :
     Type 0 where
   pub name : kind_of last.name ≡ kind.Other
-  pub fresh : place_of last.name done ≡ None
+  pub fresh : definition_at last.name done ≡ None
   pub open_ifs : AreOpenIfs wiring done last.open_ifs
   pub said : FitsAt wiring done (length last.open_ifs) last.said
   pub size : opened_size wiring done last + more ≤ max_size
 
--- definitions after which one more may begin
+-- definitions after which one more may beginning
 pub record AreBefore (wiring : Wiring) (parts : List Part) : Type 0 where
   pub each : AreDefinitions wiring [] parts
   pub few : length parts < max_definitions

@@ -65,28 +65,28 @@ pub enum ParseFault {
 
 /// Why a token isn't read.
 #[derive(Clone, Copy, Debug)]
-pub(crate) enum StepFault {
+pub(crate) enum AdvanceFault {
     NoMemory,
     /// The token has this fault.
     Token(TokenFault),
 }
 
-impl From<AllocError> for StepFault {
-    ghost use Rattle.cam6_forth.specs.declared.faults.StepFault.TheVariants.{NoMemory};
+impl From<AllocError> for AdvanceFault {
+    ghost use Rattle.cam6_forth.specs.declared.faults.AdvanceFault.TheVariants.{NoMemory};
 
     ghost from_gives = { λ _ e. e ≡ NoMemory };
 
-    fn from(_refused: AllocError) -> StepFault {
-        StepFault::NoMemory
+    fn from(_refused: AllocError) -> AdvanceFault {
+        AdvanceFault::NoMemory
     }
 }
 
-impl<T: Drop> From<AllocFailed<T>> for StepFault {
-    ghost use Rattle.cam6_forth.specs.declared.faults.StepFault.TheVariants.{NoMemory};
+impl<T: Drop> From<AllocFailed<T>> for AdvanceFault {
+    ghost use Rattle.cam6_forth.specs.declared.faults.AdvanceFault.TheVariants.{NoMemory};
 
     ghost from_gives = { λ _ e. e ≡ NoMemory };
 
-    fn from(_refused: AllocFailed<T>) -> StepFault {
-        StepFault::NoMemory
+    fn from(_refused: AllocFailed<T>) -> AdvanceFault {
+        AdvanceFault::NoMemory
     }
 }

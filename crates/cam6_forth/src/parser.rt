@@ -10,7 +10,7 @@ ghost use Rattle.cam6_forth.specs.Faults.{HasFault};
 ghost use Rattle.cam6_forth.specs.Outcome.{IsReadAs, IsAccepted, IsRefused, IsThisRule};
 ghost use Rattle.cam6_forth.specs.Outcome.{IsThisFault};
 
-use crate::faults::{ParseFault, StepFault, TextFault, TokenFault};
+use crate::faults::{ParseFault, AdvanceFault, TextFault, TokenFault};
 use crate::limits::MAX_TEXT;
 use crate::reader::Reader;
 use crate::rules::Rule;
@@ -76,10 +76,10 @@ fn read_text(alloc: Global, text: &str, wiring: Wiring) -> Result<Rule, ParseFau
     let mut rest = text.as_bytes();
     let mut token_number = 1;
     while let Some((token, after)) = first_token(rest) {
-        match reader.step(wiring, token) {
+        match reader.advance(wiring, token) {
             Ok(()) => {}
-            Err(StepFault::NoMemory) => return Err(ParseFault::NoMemory),
-            Err(StepFault::Token(fault)) => return Err(text_fault(fault, token_number)),
+            Err(AdvanceFault::NoMemory) => return Err(ParseFault::NoMemory),
+            Err(AdvanceFault::Token(fault)) => return Err(text_fault(fault, token_number)),
         }
         rest = after;
         token_number += 1;

@@ -1,9 +1,9 @@
 //! A text is read token by token: what was read so far, and one more token.
 ghost use Rattle.std.specs.Prelude.{◌≡◌, ◌≢◌, ◌||◌, Ok, Err, MatchResult, true};
 ghost use Rattle.cam6_forth.specs.Limits.{fault_number};
-ghost use Rattle.cam6_forth.specs.SingleWords.{place_of};
+ghost use Rattle.cam6_forth.specs.SingleWords.{definition_at};
 
-use crate::faults::{StepFault, TokenFault};
+use crate::faults::{AdvanceFault, TokenFault};
 use crate::kinds::{Kind, ends_comment, kind_of};
 use crate::limits::{MAX_DEFINITIONS, MAX_OPEN_IFS, MAX_SIZE};
 use crate::open_ifs::OpenIfs;
@@ -57,14 +57,14 @@ impl Model for Reader {
 
 impl Reader {
     ghost use Rattle.cam6_forth.specs.SingleWords.{word_of};
-    ghost use Rattle.cam6_forth.specs.Reading.{begin, step, grown, outside, naming, with_if};
+    ghost use Rattle.cam6_forth.specs.Reading.{beginning, advance, grown, outside, naming, with_if};
     ghost use Rattle.cam6_forth.specs.Reading.{with_else, with_then, with_definition, inside};
     ghost use Rattle.cam6_forth.specs.Reading.{braces, finish, is_in_body, then_so};
-    ghost use Rattle.cam6_forth.specs.declared.faults.StepFault.TheVariants.{NoMemory};
+    ghost use Rattle.cam6_forth.specs.declared.faults.AdvanceFault.TheVariants.{NoMemory};
     ghost use Rattle.cam6_forth.specs.Outcome.{Steps, Finishes};
 
     pub(crate) fn new(alloc: Global) -> Self
-        ensures { result ≡ begin }
+        ensures { result ≡ beginning }
     {
         Reader {
             alloc,
@@ -79,12 +79,12 @@ impl Reader {
     }
 
     /// One more token.
-    pub(crate) fn step(&mut self, wiring: Wiring, token: &[u8]) -> Result<(), StepFault>
-        ensures state { Steps (step wiring self.old token.now) self.new result }
+    pub(crate) fn advance(&mut self, wiring: Wiring, token: &[u8]) -> Result<(), AdvanceFault>
+        ensures state { Steps (advance wiring self.old token.now) self.new result }
         // Memory is wanted for a name, and in a body, alone.
         ensures memory { result ≡ Err NoMemory →
             (is_in_body self.old.context
-            || then_so (step wiring self.old token.now) (λ next. is_in_body next.context))
+            || then_so (advance wiring self.old token.now) (λ next. is_in_body next.context))
             ≡ true }
     {
         if self.comment {
@@ -113,14 +113,14 @@ impl Reader {
         }
     }
 
-    fn outside(&mut self, kind: Kind) -> Result<(), StepFault>
+    fn outside(&mut self, kind: Kind) -> Result<(), AdvanceFault>
         ensures state { Steps (outside self.old kind) self.new result }
         ensures memory { result ≢ Err NoMemory }
     {
         match kind {
             Kind::Colon => {
                 if self.definitions.len() >= MAX_DEFINITIONS {
-                    return Err(StepFault::Token(TokenFault::TooLong));
+                    return Err(AdvanceFault::Token(TokenFault::TooLong));
                 }
                 self.context = Context::Naming;
                 Ok(())
@@ -129,17 +129,17 @@ impl Reader {
                 self.comment = true;
                 Ok(())
             }
-            _ => Err(StepFault::Token(TokenFault::OutOfPlace)),
+            _ => Err(AdvanceFault::Token(TokenFault::OutOfPlace)),
         }
     }
 
-    fn naming(&mut self, kind: Kind, token: &[u8]) -> Result<(), StepFault>
+    fn naming(&mut self, kind: Kind, token: &[u8]) -> Result<(), AdvanceFault>
         ensures state { Steps (naming self.old kind token.now) self.new result }
         ensures memory { result ≡ Err NoMemory →
             then_so (naming self.old kind token.now) (λ next. is_in_body next.context) ≡ true }
     {
-        if kind != Kind::Other || place_of(token, &self.definitions).is_some() {
-            return Err(StepFault::Token(TokenFault::NotDefinable));
+        if kind != Kind::Other || definition_at(token, &self.definitions).is_some() {
+            return Err(AdvanceFault::Token(TokenFault::NotDefinable));
         }
         self.name = token.to_vec(self.alloc)?;
         self.words = Vec::new(self.alloc);
@@ -149,7 +149,7 @@ impl Reader {
         Ok(())
     }
 
-    fn inside(&mut self, wiring: Wiring, kind: Kind, token: &[u8]) -> Result<(), StepFault>
+    fn inside(&mut self, wiring: Wiring, kind: Kind, token: &[u8]) -> Result<(), AdvanceFault>
         ensures { Steps (inside wiring self.old kind token.now) self.new result }
     {
         match kind {
@@ -167,12 +167,12 @@ impl Reader {
             }
             _ => match self.word_of(wiring, kind, token) {
                 Ok((word, size)) => self.grow(size.into(), Word::Single(word)),
-                Err(fault) => Err(StepFault::Token(fault)),
+                Err(fault) => Err(AdvanceFault::Token(fault)),
             },
         }
     }
 
-    fn braces(&mut self, wiring: Wiring, kind: Kind, token: &[u8]) -> Result<(), StepFault>
+    fn braces(&mut self, wiring: Wiring, kind: Kind, token: &[u8]) -> Result<(), AdvanceFault>
         ensures { Steps (braces wiring self.old kind token.now) self.new result }
     {
         match kind {
@@ -187,47 +187,47 @@ impl Reader {
             }
             _ => match self.word_of(wiring, kind, token) {
                 Ok((word, size)) => self.grow(u32::from(size) + 1, Word::Single(word)),
-                Err(fault) => Err(StepFault::Token(fault)),
+                Err(fault) => Err(AdvanceFault::Token(fault)),
             },
         }
     }
 
-    fn with_if(&mut self) -> Result<(), StepFault>
+    fn with_if(&mut self) -> Result<(), AdvanceFault>
         ensures { Steps (with_if self.old) self.new result }
     {
         if self.open_ifs.len() >= MAX_OPEN_IFS {
-            return Err(StepFault::Token(TokenFault::TooManyIfs));
+            return Err(AdvanceFault::Token(TokenFault::TooManyIfs));
         }
         self.open_ifs.push(false);
         self.grow(1, Word::If)
     }
 
-    fn with_else(&mut self) -> Result<(), StepFault>
+    fn with_else(&mut self) -> Result<(), AdvanceFault>
         ensures { Steps (with_else self.old.open_ifs self.old) self.new result }
     {
         if self.open_ifs.len() == 0 || self.open_ifs.pop() {
-            return Err(StepFault::Token(TokenFault::OutOfPlace));
+            return Err(AdvanceFault::Token(TokenFault::OutOfPlace));
         }
         self.open_ifs.push(true);
         self.grow(1, Word::Else)
     }
 
-    fn with_then(&mut self) -> Result<(), StepFault>
+    fn with_then(&mut self) -> Result<(), AdvanceFault>
         ensures { Steps (with_then self.old.open_ifs self.old) self.new result }
     {
         if self.open_ifs.len() == 0 {
-            return Err(StepFault::Token(TokenFault::OutOfPlace));
+            return Err(AdvanceFault::Token(TokenFault::OutOfPlace));
         }
         let _ = self.open_ifs.pop();
         self.words.push(Word::Then)?;
         Ok(())
     }
 
-    fn with_definition(&mut self) -> Result<(), StepFault>
+    fn with_definition(&mut self) -> Result<(), AdvanceFault>
         ensures { Steps (with_definition self.old.open_ifs self.old) self.new result }
     {
         if self.open_ifs.len() != 0 {
-            return Err(StepFault::Token(TokenFault::OutOfPlace));
+            return Err(AdvanceFault::Token(TokenFault::OutOfPlace));
         }
         let name = mem::replace(&mut self.name, Vec::new(self.alloc));
         let words = mem::replace(&mut self.words, Vec::new(self.alloc));
@@ -238,12 +238,12 @@ impl Reader {
     }
 
     // One more word, of this size.
-    fn grow(&mut self, size: u32, word: Word) -> Result<(), StepFault>
+    fn grow(&mut self, size: u32, word: Word) -> Result<(), AdvanceFault>
         ensures { Steps (grown size word self.old) self.new result }
     {
         let total = u64::from(self.size) + u64::from(size);
         if total > u64::from(MAX_SIZE) {
-            return Err(StepFault::Token(TokenFault::TooLarge));
+            return Err(AdvanceFault::Token(TokenFault::TooLarge));
         }
         self.words.push(word)?;
         self.size = total as u16;
@@ -279,8 +279,8 @@ impl Reader {
                     Err(TokenFault::UnknownWord)
                 }
             }
-            Kind::Other => match place_of(token, &self.definitions) {
-                Some((place, size)) => Ok((SingleWord::Defined(place), size.max(1))),
+            Kind::Other => match definition_at(token, &self.definitions) {
+                Some((position, size)) => Ok((SingleWord::Defined(position), size.max(1))),
                 None => Err(TokenFault::UnknownWord),
             },
             _ => Err(TokenFault::OutOfPlace),
@@ -288,9 +288,9 @@ impl Reader {
     }
 }
 
-// The place of a name among the definitions, and that definition's size.
-fn place_of(token: &[u8], definitions: &[Definition]) -> Option<(usize, u16)>
-    ensures { result ≡ place_of token.now definitions.now }
+// The position of a name among the definitions, and that definition's size.
+fn definition_at(token: &[u8], definitions: &[Definition]) -> Option<(usize, u16)>
+    ensures { result ≡ definition_at token.now definitions.now }
 {
     for (i, definition) in definitions.iter().enumerate() {
         if definition.name.as_slice() == token {

@@ -4,7 +4,7 @@ ghost use Rattle.cam6_forth.specs.Spellings.{stack_word, output_word, neighbour_
 ghost use Rattle.cam6_forth.specs.Spellings.{primed_name, block_name, added_name, minor_name};
 
 use crate::words::{Output, StackWord, Target};
-use cam6_wiring::{Compass, Half, Level, Name, Turn};
+use cam6_wiring::{Compass, Half, Level, Name, Rotation};
 
 #[tactic(auto, unfolding(crate::specs::Spellings::stack_word))]
 pub(crate) fn stack_word(token: &[u8]) -> Option<StackWord>
@@ -116,16 +116,16 @@ fn primed_name(token: &[u8]) -> Option<Name>
 fn block_name(token: &[u8]) -> Option<Name>
     ensures { result ≡ block_name token.now }
 {
-    let (turn, level) = match token {
-        b"CW" => (Turn::Clockwise, Level::Lower),
-        b"CCW" => (Turn::CounterClockwise, Level::Lower),
-        b"OPP" => (Turn::Opposite, Level::Lower),
-        b"CW'" => (Turn::Clockwise, Level::Upper),
-        b"CCW'" => (Turn::CounterClockwise, Level::Upper),
-        b"OPP'" => (Turn::Opposite, Level::Upper),
+    let (rotation, level) = match token {
+        b"CW" => (Rotation::Clockwise, Level::Lower),
+        b"CCW" => (Rotation::CounterClockwise, Level::Lower),
+        b"OPP" => (Rotation::Opposite, Level::Lower),
+        b"CW'" => (Rotation::Clockwise, Level::Upper),
+        b"CCW'" => (Rotation::CounterClockwise, Level::Upper),
+        b"OPP'" => (Rotation::Opposite, Level::Upper),
         _ => return None,
     };
-    Some(Name::InBlock(turn, level))
+    Some(Name::InBlock(rotation, level))
 }
 
 #[tactic(auto, unfolding(crate::specs::Spellings::added_name))]

@@ -8,9 +8,9 @@ use Rattle.cam6_wiring.specs.declared.names.Compass.TheVariants.{Center}
 use Rattle.cam6_wiring.specs.declared.names.Level.{Level}
 use Rattle.cam6_wiring.specs.declared.names.Level.TheVariants.{Lower, Upper}
 use Rattle.cam6_wiring.specs.declared.names.Name.TheVariants as name
-use Rattle.cam6_wiring.specs.declared.names.Turn.{Turn}
-use Rattle.cam6_wiring.specs.declared.names.Turn.TheVariants.{Clockwise, Opposite}
-use Rattle.cam6_wiring.specs.declared.names.Turn.TheVariants.{CounterClockwise}
+use Rattle.cam6_wiring.specs.declared.names.Rotation.{Rotation}
+use Rattle.cam6_wiring.specs.declared.names.Rotation.TheVariants.{Clockwise, Opposite}
+use Rattle.cam6_wiring.specs.declared.names.Rotation.TheVariants.{CounterClockwise}
 use Rattle.cam6_wiring.specs.declared.wirings.Hood.{Hood}
 use Rattle.cam6_wiring.specs.declared.wirings.Hood.TheVariants.{Moore, VonNeumann, Margolus}
 use Rattle.cam6_wiring.specs.declared.wirings.Hood.TheVariants.{MargolusPhase, MargolusHorzVert}
@@ -21,8 +21,8 @@ use Rattle.cam6_block.specs.BlockMaps.{is_margolus}
 -- two ways of seeing agree on the names of a block
 pub record Agrees (a b : Sees) : Type 0 where
   pub centre : (level : Level) → a (name.Beside Center level) ≡ b (name.Beside Center level)
-  pub inside : (turn : Turn) (level : Level) →
-      a (name.InBlock turn level) ≡ b (name.InBlock turn level)
+  pub inside : (rotation : Rotation) (level : Level) →
+      a (name.InBlock rotation level) ≡ b (name.InBlock rotation level)
   pub phase : (level : Level) → a (name.Phase level) ≡ b (name.Phase level)
   pub horz : a name.Horz ≡ b name.Horz
   pub vert : a name.Vert ≡ b name.Vert

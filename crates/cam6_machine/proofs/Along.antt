@@ -1,4 +1,4 @@
--- A step by the entry at the position, with places and with names.
+-- A step by the entry at the position, with numbers and with names.
 use Rattle.std.proofs.Common.{◌≡◌, ◌<◌, ◌+◌, ◌%◌, ℕ, List, length, Some, sym, ap}
 use Rattle.std.proofs.Common.{◌∙◌, option_map, slice_get, get_or}
 use Rattle.std.proofs.lemmas.List.{length-map}
@@ -12,7 +12,7 @@ use Rattle.cam6_machine.specs.Steps.{step}
 use Rattle.cam6_machine.specs.Always.{HaveOwnNames}
 use Rattle.cam6_machine.specs.Machine.{Machine, machine_of, stepped, stepped_by}
 use Rattle.cam6_machine.specs.Numbers.{named_entry, named_entries, rules_at}
-use Rattle.cam6_machine.specs.Internal.Places.{stored}
+use Rattle.cam6_machine.specs.Internal.Numbered.{stored}
 use Rattle.cam6_cycle.specs.declared.entries.Entry.{Entry}
 use Rattle.cam6_machine.proofs.Naming.{same_rules}
 

@@ -1,4 +1,4 @@
--- A step undone along the cycle, with places and with names.
+-- A step undone along the cycle, with numbers and with names.
 use Rattle.std.proofs.Common.{◌≡◌, ◌∙◌, ℕ, ◌<◌, List, [], ◌∷◌, length, Some, sym, ap, subst}
 use Rattle.std.proofs.Common.{option_map, slice_get, get_or, zero, suc}
 use Rattle.std.specs.List.{AllByRecursion}
@@ -9,17 +9,17 @@ use Rattle.cam6_planes.specs.Stored.{Stored, AreAlike}
 use Rattle.cam6_planes.specs.Cells.{Cells, cells, stored_bit}
 use Rattle.cam6_planes.proofs.CellsAt.{torus_again}
 use Rattle.cam6_band.specs.ByTables.{StepTables, step_by}
-use Rattle.cam6_cycle.specs.Turns.{previous}
+use Rattle.cam6_cycle.specs.Along.{previous}
 use Rattle.cam6_cycle.specs.declared.entries.Entry.{Entry}
 use Rattle.cam6_cycle.specs.declared.tables.Direction.TheVariants.{Backward}
 use Rattle.cam6_machine.specs.Rules.{Rule}
 use Rattle.cam6_machine.specs.Cycles.{EntryRules, entry_rules}
-use Rattle.cam6_machine.specs.Undoing.{unstep, IsUndoableEntry}
+use Rattle.cam6_machine.specs.Undoing.{unstep, IsReversibleEntry}
 use Rattle.cam6_machine.specs.TrueTables.{AreTablesFor}
 use Rattle.cam6_machine.specs.Always.{HaveOwnNames}
 use Rattle.cam6_machine.specs.Machine.{Machine, machine_of, unstepped, unstepped_by}
 use Rattle.cam6_machine.specs.Numbers.{named_entry, named_entries, rules_at}
-use Rattle.cam6_machine.specs.Internal.Places.{stored}
+use Rattle.cam6_machine.specs.Internal.Numbered.{stored}
 use Rattle.cam6_machine.specs.declared.commands.NamedEntry.{NamedEntry}
 use Rattle.cam6_machine.proofs.Naming.{same_rules}
 use Rattle.cam6_machine.proofs.StepsOfATorus.{side_some, side_even}
@@ -33,28 +33,28 @@ all_at P (y ∷ xs) zero x all found = let same : y ≡ x = cc found in subst P 
 all_at P (y ∷ xs) (suc i) x all found = all_at P xs i x all.1 found
 
 -- the entry at a position of a cycle that can be undone can be undone
-pub undoable_at : (rules : List Rule) (cycle : List Entry) (position : ℕ) (past : Entry) →
+pub reversible_at : (rules : List Rule) (cycle : List Entry) (position : ℕ) (past : Entry) →
     HaveOwnNames rules → position < length cycle →
-    AllByRecursion (λ entry. IsUndoableEntry (entry_rules rules entry))
+    AllByRecursion (λ entry. IsReversibleEntry (entry_rules rules entry))
     (named_entries rules cycle) →
-    IsUndoableEntry (rules_at rules (get_or cycle position past))
-undoable_at rules cycle position past own within all =
+    IsReversibleEntry (rules_at rules (get_or cycle position past))
+reversible_at rules cycle position past own within all =
     let entry = get_or cycle position past in
-    subst IsUndoableEntry (same_rules rules entry own)
-    (all_at {X = NamedEntry} (λ e. IsUndoableEntry (entry_rules rules e))
+    subst IsReversibleEntry (same_rules rules entry own)
+    (all_at {X = NamedEntry} (λ e. IsReversibleEntry (entry_rules rules e))
     (named_entries rules cycle) position (named_entry rules entry) all
     (slice_get-map (named_entry rules) cycle position ∙
     ap (option_map (named_entry rules)) (slice_get-get_or cycle position past within)))
 
 -- on the cells of stored planes, a step by the tables that undo an entry is the entry's step undone
 pub undone_step : (old : Stored) (entry : EntryRules) (tables : StepTables) →
-    IsUndoableEntry entry → AreTablesFor Backward entry tables →
+    IsReversibleEntry entry → AreTablesFor Backward entry tables →
     step_by (side_number old.side) tables (cells old)
     ≡ unstep (side_number old.side) entry (cells old)
-undone_step old entry tables undoable are =
+undone_step old entry tables reversible are =
     let some = side_some old.side in
     inverted_tables_undo (side_number old.side) entry tables (cells old) some
-    (side_even old.side) undoable are
+    (side_even old.side) reversible are
     (torus_again (side_number old.side) (stored_bit old.rows) some)
 
 -- the planes after the step of the entry before the position is undone, which moves back

@@ -2,7 +2,7 @@
 -- it is taken back and then run.
 use Rattle.std.proofs.Common.{◌≡◌, ℕ, None, ◌∙◌, ap}
 use Rattle.cam6_block.specs.Laws.{CauseIsFound}
-use Rattle.cam6_machine.specs.Machine.{Machine, steps, unsteps, IsUndoableCycle}
+use Rattle.cam6_machine.specs.Machine.{Machine, steps, unsteps, IsReversibleCycle}
 use Rattle.cam6_machine.specs.Refusals.{refusal}
 use Rattle.cam6_machine.specs.Effects.{effect}
 use Rattle.cam6_machine.specs.Alone.{if_refused, after}
@@ -11,7 +11,7 @@ use Rattle.cam6_machine.specs.declared.commands.Command.{Command}
 use Rattle.cam6_machine.specs.declared.commands.Command.TheVariants.{Run, Back}
 use Rattle.cam6_machine.proofs.StepLaws.{only_planes_and_position}
 use Rattle.cam6_machine.proofs.StepsBack.{only_these_back}
-use Rattle.cam6_machine.proofs.Undoable.{back_runs, undoable}
+use Rattle.cam6_machine.proofs.ReversibleCycles.{back_runs, reversible}
 use Rattle.cam6_machine.proofs.RoundAndBack.{undoing_undoes, doing_redoes}
 
 -- what isn't refused is done
@@ -29,7 +29,7 @@ refused_after_back m n k = ap (λ m. refusal m (Run k)) (only_these_back m n)
 
 pub back_gives_back : CauseIsFound → BackGivesTheMachineBack
 back_gives_back found m n is none =
-    let can : IsUndoableCycle m = undoable found m n none in
+    let can : IsReversibleCycle m = reversible found m n none in
     let runs : refusal m (Run n) ≡ None = back_runs m n none in (
       ap (λ k. after k (Back n)) (done m (Run n) runs) ∙
           done (steps n m) (Back n) (refused_after_steps m n n ∙ none) ∙

@@ -12,10 +12,10 @@ use Rattle.cam6_wiring.specs.declared.blocks.Corner.TheVariants.{LowerRight, Low
 use Rattle.cam6_wiring.specs.declared.blocks.Grid.{Grid}
 use Rattle.cam6_wiring.specs.declared.names.Half.{Half}
 use Rattle.cam6_wiring.specs.declared.names.Level.{Level}
-use Rattle.cam6_block.specs.Blocks.{state_of, place_bit, is_right, is_low}
-use Rattle.cam6_block.proofs.States.{four, place_bit-state_of, state_of-lt}
-use Rattle.cam6_machine.specs.Undoing.{column_at, row_at, state_at, place_of_corner}
-use Rattle.cam6_machine.specs.Undoing.{place_in_block}
+use Rattle.cam6_block.specs.Blocks.{state_of, corner_bit, is_right, is_low}
+use Rattle.cam6_block.proofs.States.{four, corner_bit-state_of, state_of-lt}
+use Rattle.cam6_machine.specs.Undoing.{column_at, row_at, block_state_at, corner_number}
+use Rattle.cam6_machine.specs.Undoing.{corner_in_block}
 
 -- a number is as even as it is modulo an even side
 even_mod : (s n : ℕ) → s % 2 ≡ 0 → n % s % 2 ≡ n % 2
@@ -55,9 +55,9 @@ module _ (s : ℕ) (some : 0 < s) (even : s % 2 ≡ 0) (grid : Grid) where
       mod-add-mod (x + (s - side)) s side ∙ ap (λ n. n % s) whole ∙ add-mod_right x s ∙
       mod-eq_of_lt within
 
--- the sides on which a place lies
+-- the sides on which a corner lies
 pub right_of : (right low : ℕ) → right < 2 →
-    bit_number (is_right (place_of_corner (corner_at right low))) ≡ right
+    bit_number (is_right (corner_number (corner_at right low))) ≡ right
 right_of zero zero h = refl
 right_of zero (suc low) h = refl
 right_of (suc zero) zero h = refl
@@ -65,75 +65,75 @@ right_of (suc zero) (suc low) h = refl
 right_of (suc (suc right)) low h = absurd (omega (arith, h))
 
 pub low_of : (right low : ℕ) → low < 2 →
-    bit_number (is_low (place_of_corner (corner_at right low))) ≡ low
+    bit_number (is_low (corner_number (corner_at right low))) ≡ low
 low_of zero zero h = refl
 low_of (suc right) zero h = refl
 low_of zero (suc zero) h = refl
 low_of (suc right) (suc zero) h = refl
 low_of right (suc (suc low)) h = absurd (omega (arith, h))
 
-pub place_of_sides : (place : ℕ) → place < 4 →
-    place_of_corner (corner_at (bit_number (is_right place)) (bit_number (is_low place))) ≡ place
-place_of_sides =
+pub corner_of_sides : (corner : ℕ) → corner < 4 →
+    corner_number (corner_at (bit_number (is_right corner)) (bit_number (is_low corner))) ≡ corner
+corner_of_sides =
     four (λ k.
-    place_of_corner (corner_at (bit_number (is_right k)) (bit_number (is_low k))) ≡ k)
+    corner_number (corner_at (bit_number (is_right k)) (bit_number (is_low k))) ≡ k)
     refl refl refl refl
 
-pub right_side : (place : ℕ) → place < 4 → bit_number (is_right place) < 2
+pub right_side : (corner : ℕ) → corner < 4 → bit_number (is_right corner) < 2
 right_side =
     four (λ k. bit_number (is_right k) < 2)
     (omega arith) (omega arith) (omega arith) (omega arith)
 
-pub low_side : (place : ℕ) → place < 4 → bit_number (is_low place) < 2
+pub low_side : (corner : ℕ) → corner < 4 → bit_number (is_low corner) < 2
 low_side =
     four (λ k. bit_number (is_low k) < 2)
     (omega arith) (omega arith) (omega arith) (omega arith)
 
-pub place_of_corner-lt : (corner : Corner) → place_of_corner corner < 4
-place_of_corner-lt UpperLeft = omega arith
-place_of_corner-lt UpperRight = omega arith
-place_of_corner-lt LowerRight = omega arith
-place_of_corner-lt LowerLeft = omega arith
+pub corner_number-lt : (corner : Corner) → corner_number corner < 4
+corner_number-lt UpperLeft = omega arith
+corner_number-lt UpperRight = omega arith
+corner_number-lt LowerRight = omega arith
+corner_number-lt LowerLeft = omega arith
 
 module _ (s : ℕ) (f : Cells) (half : Half) (grid : Grid) where
-  pub state_at-lt : (x y : ℕ) → state_at s f half grid x y < 256
-  unfolding state_at
-  state_at-lt x y =
-      state_of-lt (λ level place.
-      f (plane_of half level) (column_at s grid x place) (row_at s grid y place))
+  pub block_state_at-lt : (x y : ℕ) → block_state_at s f half grid x y < 256
+  unfolding block_state_at
+  block_state_at-lt x y =
+      state_of-lt (λ level corner.
+      f (plane_of half level) (column_at s grid x corner) (row_at s grid y corner))
 
   -- the bits of a block's state are those of its cells
-  pub state_bit : (x y : ℕ) (level : Level) (place : ℕ) → place < 4 →
-      place_bit (state_at s f half grid x y) level place
-      ≡ f (plane_of half level) (column_at s grid x place) (row_at s grid y place)
-  unfolding state_at
-  state_bit x y level place h =
-      place_bit-state_of (λ level place.
-      f (plane_of half level) (column_at s grid x place) (row_at s grid y place)) level place h
+  pub state_bit : (x y : ℕ) (level : Level) (corner : ℕ) → corner < 4 →
+      corner_bit (block_state_at s f half grid x y) level corner
+      ≡ f (plane_of half level) (column_at s grid x corner) (row_at s grid y corner)
+  unfolding block_state_at
+  state_bit x y level corner h =
+      corner_bit-state_of (λ level corner.
+      f (plane_of half level) (column_at s grid x corner) (row_at s grid y corner)) level corner h
 
   -- cells of one block have its state
   pub state_same : (x y u v : ℕ) → block_of s grid u ≡ block_of s grid x →
       block_of s grid v ≡ block_of s grid y →
-      state_at s f half grid u v ≡ state_at s f half grid x y
-  unfolding state_at
+      block_state_at s f half grid u v ≡ block_state_at s f half grid x y
+  unfolding block_state_at
   state_same x y u v column row =
-      ap (λ b. state_of (λ level place.
-      f (plane_of half level) ((b + bit_number (is_right place)) % s) (row_at s grid v place)))
+      ap (λ b. state_of (λ level corner.
+      f (plane_of half level) ((b + bit_number (is_right corner)) % s) (row_at s grid v corner)))
       column ∙
-      ap (λ b. state_of (λ level place.
-      f (plane_of half level) (column_at s grid x place) ((b + bit_number (is_low place)) % s)))
+      ap (λ b. state_of (λ level corner.
+      f (plane_of half level) (column_at s grid x corner) ((b + bit_number (is_low corner)) % s)))
       row
 
-  -- a cell's bit is that of its place
+  -- a cell's bit is that of its corner
   pub own_bit : 0 < s → s % 2 ≡ 0 → (x y : ℕ) (level : Level) → x < s → y < s →
-      place_bit (state_at s f half grid x y) level (place_in_block grid x y)
+      corner_bit (block_state_at s f half grid x y) level (corner_in_block grid x y)
       ≡ f (plane_of half level) x y
   own_bit some even x y level h k =
       let right = side_in_block grid x in
       let low = side_in_block grid y in
-      let place = place_in_block grid x y in
-      state_bit x y level place (place_of_corner-lt (corner_of grid x y)) ∙
-      ap (λ n. f (plane_of half level) ((block_of s grid x + n) % s) (row_at s grid y place))
+      let corner = corner_in_block grid x y in
+      state_bit x y level corner (corner_number-lt (corner_of grid x y)) ∙
+      ap (λ n. f (plane_of half level) ((block_of s grid x + n) % s) (row_at s grid y corner))
       (right_of right low (omega arith)) ∙
       ap (λ n. f (plane_of half level) ((block_of s grid x + right) % s)
       ((block_of s grid y + n) % s)) (low_of right low (omega arith)) ∙

@@ -12,12 +12,12 @@ use Rattle.cam6_wiring.specs.declared.names.Half.{Half}
 use Rattle.cam6_wiring.specs.declared.names.Half.TheVariants.{A, B}
 use Rattle.cam6_wiring.specs.declared.names.Level.{Level}
 use Rattle.cam6_wiring.specs.declared.names.Level.TheVariants.{Lower, Upper}
-use Rattle.cam6_block.specs.Blocks.{place_bit, is_right, is_low}
+use Rattle.cam6_block.specs.Blocks.{corner_bit, is_right, is_low}
 use Rattle.cam6_block.proofs.States.{four, same_state}
-use Rattle.cam6_machine.specs.Undoing.{column_at, row_at, state_at, place_of_corner}
-use Rattle.cam6_machine.specs.Undoing.{place_in_block, changed_cell, blockwise}
-use Rattle.cam6_machine.proofs.BlocksOfCells.{side_on, block_on, place_of_sides, right_side}
-use Rattle.cam6_machine.proofs.BlocksOfCells.{low_side, state_at-lt, state_bit, state_same}
+use Rattle.cam6_machine.specs.Undoing.{column_at, row_at, block_state_at, corner_number}
+use Rattle.cam6_machine.specs.Undoing.{corner_in_block, changed_cell, blockwise}
+use Rattle.cam6_machine.proofs.BlocksOfCells.{side_on, block_on, corner_of_sides, right_side}
+use Rattle.cam6_machine.proofs.BlocksOfCells.{low_side, block_state_at-lt, state_bit, state_same}
 use Rattle.cam6_machine.proofs.BlocksOfCells.{own_bit}
 
 pub plane_of-lt : (half : Half) (level : Level) → plane_of half level < 4
@@ -51,17 +51,17 @@ IsUndone None (Some second) = ⊥
 IsUndone (Some first) None = ⊥
 
 module _ (s : ℕ) (some : 0 < s) (even : s % 2 ≡ 0) (grid : Grid) where
-  -- the place of the cell at a place of a block
-  place_at : (x y place : ℕ) → place < 4 →
-      place_in_block grid (column_at s grid x place) (row_at s grid y place) ≡ place
-  place_at x y place h =
-      let right = bit_number (is_right place) in
-      let low = bit_number (is_low place) in
-      ap (λ n. place_of_corner (corner_at n (side_in_block grid (row_at s grid y place))))
-      (side_on s some even grid x right (right_side place h)) ∙
-      ap (λ n. place_of_corner (corner_at right n))
-      (side_on s some even grid y low (low_side place h)) ∙
-      place_of_sides place h
+  -- the corner of the cell at a corner of a block
+  corner_there : (x y corner : ℕ) → corner < 4 →
+      corner_in_block grid (column_at s grid x corner) (row_at s grid y corner) ≡ corner
+  corner_there x y corner h =
+      let right = bit_number (is_right corner) in
+      let low = bit_number (is_low corner) in
+      ap (λ n. corner_number (corner_at n (side_in_block grid (row_at s grid y corner))))
+      (side_on s some even grid x right (right_side corner h)) ∙
+      ap (λ n. corner_number (corner_at right n))
+      (side_on s some even grid y low (low_side corner h)) ∙
+      corner_of_sides corner h
 
   -- changed planes, cell by cell
   changed_at : (changes : Half → Option (ℕ → ℕ)) (f : Cells) (half : Half) (level : Level)
@@ -80,22 +80,22 @@ module _ (s : ℕ) (some : 0 < s) (even : s % 2 ≡ 0) (grid : Grid) where
   pub block_changed : (changes : Half → Option (ℕ → ℕ)) (f : Cells) (half : Half)
       (change : ℕ → ℕ) (x y : ℕ) → changes half ≡ Some change →
       ((state : ℕ) → state < 256 → change state < 256) →
-      state_at s (blockwise s grid changes f) half grid x y ≡ change (state_at s f half grid x y)
+      block_state_at s (blockwise s grid changes f) half grid x y ≡ change (block_state_at s f half grid x y)
   block_changed changes f half change x y is bound =
       let new = blockwise s grid changes f in
-      let old = state_at s f half grid x y in
-      same_state (state_at s new half grid x y) (change old) (state_at-lt s new half grid x y)
-      (bound old (state_at-lt s f half grid x y)) (λ level place h.
-      let u = column_at s grid x place in
-      let v = row_at s grid y place in
-      state_bit s new half grid x y level place h ∙
+      let old = block_state_at s f half grid x y in
+      same_state (block_state_at s new half grid x y) (change old) (block_state_at-lt s new half grid x y)
+      (bound old (block_state_at-lt s f half grid x y)) (λ level corner h.
+      let u = column_at s grid x corner in
+      let v = row_at s grid y corner in
+      state_bit s new half grid x y level corner h ∙
       changed_at changes f half level u v (mod-lt _ some) (mod-lt _ some) ∙
       ap (λ c. changed_cell s f grid half c level u v) is ∙
-      ap (λ state. place_bit (change state) level (place_in_block grid u v))
+      ap (λ state. corner_bit (change state) level (corner_in_block grid u v))
       (state_same s f half grid x y u v
-      (block_on s some even grid x (bit_number (is_right place)) (right_side place h))
-      (block_on s some even grid y (bit_number (is_low place)) (low_side place h))) ∙
-      ap (place_bit (change old) level) (place_at x y place h))
+      (block_on s some even grid x (bit_number (is_right corner)) (right_side corner h))
+      (block_on s some even grid y (bit_number (is_low corner)) (low_side corner h))) ∙
+      ap (corner_bit (change old) level) (corner_there x y corner h))
 
   cell_back : (first second : Half → Option (ℕ → ℕ)) (f : Cells) (half : Half) (level : Level)
       (x y : ℕ) (there back : Option (ℕ → ℕ)) → first half ≡ there → IsUndone there back →
@@ -106,11 +106,11 @@ module _ (s : ℕ) (some : 0 < s) (even : s % 2 ≡ 0) (grid : Grid) where
       changed_at first f half level x y h k ∙
       ap (λ c. changed_cell s f grid half c level x y) is
   cell_back first second f half level x y (Some there) (Some back) is undone h k =
-      let place = place_in_block grid x y in
-      ap (λ state. place_bit (back state) level place)
+      let corner = corner_in_block grid x y in
+      ap (λ state. corner_bit (back state) level corner)
       (block_changed first f half there x y is undone.0) ∙
-      ap (λ state. place_bit state level place)
-      (undone.1 (state_at s f half grid x y) (state_at-lt s f half grid x y)) ∙
+      ap (λ state. corner_bit state level corner)
+      (undone.1 (block_state_at s f half grid x y) (block_state_at-lt s f half grid x y)) ∙
       own_bit s f half grid some even x y level h k
   cell_back first second f half level x y None (Some back) is undone h k = absurd undone
   cell_back first second f half level x y (Some there) None is undone h k = absurd undone

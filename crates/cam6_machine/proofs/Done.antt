@@ -16,9 +16,9 @@ use Rattle.cam6_machine.specs.Refusals.{drop_refusal}
 use Rattle.cam6_machine.specs.Effects.{accepted_reply, effect, with_rule, without_rule}
 use Rattle.cam6_machine.specs.Always.{IsEntry}
 use Rattle.cam6_machine.specs.Alone.{if_refused, reply, after, some_steps, work_of, command_of}
-use Rattle.cam6_machine.specs.Numbers.{named_entries, ArePlaced}
-use Rattle.cam6_machine.specs.Internal.Places.{placed_entry, stored, place_of, uses_place}
-use Rattle.cam6_machine.specs.Internal.Places.{closed_entry}
+use Rattle.cam6_machine.specs.Numbers.{named_entries, AreNumbered}
+use Rattle.cam6_machine.specs.Internal.Numbered.{numbered_entry, stored, rule_number, uses_number}
+use Rattle.cam6_machine.specs.Internal.Numbered.{closed_entry}
 use Rattle.cam6_machine.specs.Internal.Ways.{moved, reply_at}
 use Rattle.cam6_machine.proofs.Dropped.{names_closed}
 use Rattle.cam6_machine.specs.declared.commands.Command.{Command}
@@ -121,42 +121,42 @@ module _ (planes : Stored) (rules : List rule.Rule) (cycle : List Entry) (positi
       sym (after-accepted m (Clear plane) (ap fault_reply (sym within)))
 
   -- after a rule was dropped
-  pub after-drop : (name : List ℕ) (new : List rule.Rule) (place : ℕ) (closed : List Entry) →
-      place_of name rules ≡ Some place → list_any (uses_place place) cycle ≡ false →
+  pub after-drop : (name : List ℕ) (new : List rule.Rule) (number : ℕ) (closed : List Entry) →
+      rule_number name rules ≡ Some number → list_any (uses_number number) cycle ≡ false →
       drop_refusal rules (named_entries rules cycle) name ≡ None →
-      new ≡ without_rule name rules → closed ≡ map (closed_entry place) cycle →
+      new ≡ without_rule name rules → closed ≡ map (closed_entry number) cycle →
       machine_of (stored planes new closed position colours) ≡ after before (Drop name)
-  after-drop name new place closed found unused accepted dropped are_closed =
+  after-drop name new number closed found unused accepted dropped are_closed =
       let m = machine_of (stored planes rules cycle position colours) in
       ap (λ l. machine_of (stored planes l closed position colours)) dropped ∙
       ap (λ l. machine_of (stored planes (without_rule name rules) l position colours))
       are_closed ∙
       ap {B = Machine} (λ l. record m { rules = without_rule name rules; cycle = l })
-      (names_closed name rules place found cycle unused) ∙
+      (names_closed name rules number found cycle unused) ∙
       sym (after-accepted m (Drop name) (ap fault_reply accepted))
 
   -- what is stored then
-  pub stored-drop : (name : List ℕ) (new : List rule.Rule) (place : ℕ) (closed : List Entry) →
-      place_of name rules ≡ Some place → list_any (uses_place place) cycle ≡ false →
-      new ≡ without_rule name rules → closed ≡ map (closed_entry place) cycle →
+  pub stored-drop : (name : List ℕ) (new : List rule.Rule) (number : ℕ) (closed : List Entry) →
+      rule_number name rules ≡ Some number → list_any (uses_number number) cycle ≡ false →
+      new ≡ without_rule name rules → closed ≡ map (closed_entry number) cycle →
       stored planes new closed position colours
       ≡ record (stored planes rules cycle position colours) { rules = new }
-  stored-drop name new place closed found unused dropped are_closed =
+  stored-drop name new number closed found unused dropped are_closed =
       ap {B = StoredMachine} (λ l. record (stored planes rules cycle position colours) {
         rules = new;
         cycle = l;
       }) (ap (λ l. named_entries l closed) dropped ∙
       ap (named_entries (without_rule name rules)) are_closed ∙
-      names_closed name rules place found cycle unused)
+      names_closed name rules number found cycle unused)
 
   -- after a rule was put
   pub after-rule : (name text : List ℕ) (wiring : Wiring) (new : List rule.Rule) →
-      ArePlaced rules cycle → None ≡ rule_refusal rules (named_entries rules cycle) name →
+      AreNumbered rules cycle → None ≡ rule_refusal rules (named_entries rules cycle) name →
       words_refusal wiring text ≡ None →
       new ≡ with_rule (record { name = name; wiring = wiring; text = text }) rules →
       machine_of (stored planes new cycle position colours)
       ≡ after before (Rule name wiring text)
-  after-rule name text wiring new placed room words put =
+  after-rule name text wiring new numbered room words put =
       let m = machine_of (stored planes rules cycle position colours) in
       let put_rule : rule.Rule = record { name = name; wiring = wiring; text = text } in
       let command = Rule name wiring text in
@@ -164,32 +164,32 @@ module _ (planes : Stored) (rules : List rule.Rule) (cycle : List Entry) (positi
       ap (λ o. or_then (fault_reply o) (words_refusal wiring text)) (sym room) ∙ words in
       ap (λ l. machine_of (stored planes l cycle position colours)) put ∙
       ap {B = Machine} (λ l. record m { rules = with_rule put_rule rules; cycle = l })
-      (entries_with put_rule rules cycle placed) ∙
+      (entries_with put_rule rules cycle numbered) ∙
       sym (after-accepted m command accepted)
 
   -- after a cycle was set
   pub after-cycle : (entries : List NamedEntry) (new : List Entry) →
-      None ≡ cycle_refusal rules entries → new ≡ map (placed_entry rules) entries →
+      None ≡ cycle_refusal rules entries → new ≡ map (numbered_entry rules) entries →
       AllByRecursion (IsEntry rules) entries →
       machine_of (stored planes rules new 0 colours) ≡ after before (Cycle entries)
-  after-cycle entries new none placed are =
+  after-cycle entries new none numbered are =
       let m = machine_of (stored planes rules cycle position colours) in
       let accepted : refusal m (Cycle entries) ≡ None = ap fault_reply (sym none) in
-      ap (λ l. machine_of (stored planes rules l 0 colours)) placed ∙
+      ap (λ l. machine_of (stored planes rules l 0 colours)) numbered ∙
       ap {B = Machine} (λ l. record m { cycle = l; position = 0 })
       (named_back rules entries are) ∙
       sym (after-accepted m (Cycle entries) accepted)
 
   -- what is stored then
-  pub stored-rule : (new_rule : rule.Rule) (new : List rule.Rule) → ArePlaced rules cycle →
+  pub stored-rule : (new_rule : rule.Rule) (new : List rule.Rule) → AreNumbered rules cycle →
       new ≡ with_rule new_rule rules →
       stored planes new cycle position colours
       ≡ record (stored planes rules cycle position colours) { rules = new }
-  stored-rule new_rule new placed put =
+  stored-rule new_rule new numbered put =
       ap {B = StoredMachine} (λ l. record (stored planes rules cycle position colours) {
         rules = new;
         cycle = l;
-      }) (ap (λ l. named_entries l cycle) put ∙ entries_with new_rule rules cycle placed)
+      }) (ap (λ l. named_entries l cycle) put ∙ entries_with new_rule rules cycle numbered)
 
   -- the machine after steps that were done
   pub after-moves : (new : Stored) (last n : ℕ) (direction : Direction) →

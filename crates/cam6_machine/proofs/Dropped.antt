@@ -1,4 +1,4 @@
--- Rules after one was dropped: what held of them holds, and places and names still say the same.
+-- Rules after one was dropped: what held of them holds, and numbers and names still say the same.
 use Rattle.std.proofs.Common.{◌≡◌, ◌≤◌, ◌<◌, ◌-◌, ℕ, zero, suc, Bool, true, false, ◌||◌, ◌==◌, List}
 use Rattle.std.proofs.Common.{[], ◌∷◌, map, length, Option, Some, None, cond, refl, sym, ap, ◌∙◌}
 use Rattle.std.proofs.Common.{arith, subst, option_map, slice_get}
@@ -14,10 +14,10 @@ use Rattle.cam6_machine.specs.Rules.{Rule, rule_named}
 use Rattle.cam6_machine.specs.Effects.{without_rule}
 use Rattle.cam6_machine.specs.Always.{HaveOwnNames, IsNamed, IsEntry}
 use Rattle.cam6_machine.specs.Refusals.{is_name, uses}
-use Rattle.cam6_machine.specs.Numbers.{rule_at, name_of, place_in, named_entry, named_entries}
-use Rattle.cam6_machine.specs.Numbers.{IsPlaced, ArePlaced}
-use Rattle.cam6_machine.specs.Internal.Places.{place_of, is_place, uses_place, closed_up}
-use Rattle.cam6_machine.specs.Internal.Places.{closed_half, closed_entry}
+use Rattle.cam6_machine.specs.Numbers.{rule_at, name_of, number_in, named_entry, named_entries}
+use Rattle.cam6_machine.specs.Numbers.{IsNumbered, AreNumbered}
+use Rattle.cam6_machine.specs.Internal.Numbered.{rule_number, is_number, uses_number, closed_up}
+use Rattle.cam6_machine.specs.Internal.Numbered.{closed_half, closed_entry}
 use Rattle.cam6_machine.specs.declared.commands.NamedEntry.{NamedEntry}
 use Rattle.cam6_machine.proofs.Naming.{names_of, same_bytes}
 
@@ -116,22 +116,22 @@ entries_without name rules (entry ∷ cycle) unused are =
       entries_without name rules cycle later are.1,
     )
 
--- places behind it, and before it
-behind : (place other : ℕ) → place < other → closed_up place other ≡ other - 1
-behind place other h = ap (λ b. cond b (other - 1) other) (lt-ltb place other h)
+-- numbers behind it, and before it
+behind : (number other : ℕ) → number < other → closed_up number other ≡ other - 1
+behind number other h = ap (λ b. cond b (other - 1) other) (lt-ltb number other h)
 
-before : (place other : ℕ) → other ≤ place → closed_up place other ≡ other
-before place other h = ap (λ b. cond b (other - 1) other) (le-ltb place other h)
+before : (number other : ℕ) → other ≤ number → closed_up number other ≡ other
+before number other h = ap (λ b. cond b (other - 1) other) (le-ltb number other h)
 
-closed_up-suc : (place other : ℕ) → closed_up (suc place) (suc other) ≡ suc (closed_up place other)
-closed_up-suc place other =
-    elim (dec_lt place other) [
+closed_up-suc : (number other : ℕ) → closed_up (suc number) (suc other) ≡ suc (closed_up number other)
+closed_up-suc number other =
+    elim (dec_lt number other) [
       | Prim.yes lt ↦
-          behind (suc place) (suc other) (omega (arith, lt)) ∙ one_more other (omega (arith, lt)) ∙
-          sym (ap suc (behind place other lt))
+          behind (suc number) (suc other) (omega (arith, lt)) ∙ one_more other (omega (arith, lt)) ∙
+          sym (ap suc (behind number other lt))
       | Prim.no ge ↦
-          before (suc place) (suc other) (omega (arith, ge)) ∙
-          sym (ap suc (before place other (omega (arith, ge))))
+          before (suc number) (suc other) (omega (arith, ge)) ∙
+          sym (ap suc (before number other (omega (arith, ge))))
     ]
   where
     one_more : (n : ℕ) → 0 < n → suc n - 1 ≡ suc (n - 1)
@@ -140,19 +140,19 @@ closed_up-suc place other =
 one_less : (n : ℕ) → suc n - 1 ≡ n
 one_less n = omega arith
 
--- rules at other places stand where their places are closed up
+-- rules at other numbers stand where their numbers are closed up
 abbrev StandClosed : List ℕ → List Rule → Type 0
 StandClosed name rules =
-    (place other : ℕ) → place_of name rules ≡ Some place → (other ≡ place → ⊥) →
-    slice_get (without_rule name rules) (closed_up place other) ≡ slice_get rules other
+    (number other : ℕ) → rule_number name rules ≡ Some number → (other ≡ number → ⊥) →
+    slice_get (without_rule name rules) (closed_up number other) ≡ slice_get rules other
 
 get_without : (name : List ℕ) (rules : List Rule) → StandClosed name rules
-get_without name [] place other found apart = cc found
-get_without name (rule ∷ rules) place other found apart =
+get_without name [] number other found apart = cc found
+get_without name (rule ∷ rules) number other found apart =
     by_test (bytes_eq name rule.name) other found apart
     (λ p k here different. get_without name rules p k here different)
   where
-    later : (p other : ℕ) → place_of name rules ≡ Some p → (other ≡ suc p → ⊥) → StandClosed name rules →
+    later : (p other : ℕ) → rule_number name rules ≡ Some p → (other ≡ suc p → ⊥) → StandClosed name rules →
         slice_get (rule ∷ without_rule name rules) (closed_up (suc p) other)
         ≡ slice_get (rule ∷ rules) other
     later p zero found apart rest =
@@ -161,79 +161,79 @@ get_without name (rule ∷ rules) place other found apart =
         ap (slice_get (rule ∷ without_rule name rules)) (closed_up-suc p other) ∙
         rest p other found (λ same. apart (ap suc same))
 
-    by_place : (o : Option ℕ) (other : ℕ) → place_of name rules ≡ o →
-        option_map suc o ≡ Some place → (other ≡ place → ⊥) → StandClosed name rules →
-        slice_get (rule ∷ without_rule name rules) (closed_up place other)
+    by_number : (o : Option ℕ) (other : ℕ) → rule_number name rules ≡ o →
+        option_map suc o ≡ Some number → (other ≡ number → ⊥) → StandClosed name rules →
+        slice_get (rule ∷ without_rule name rules) (closed_up number other)
         ≡ slice_get (rule ∷ rules) other
-    by_place None other e found apart rest = cc found
-    by_place (Some p) other e found apart rest =
-        let is : suc p ≡ place = cc found in
-        subst (λ place. slice_get (rule ∷ without_rule name rules) (closed_up place other)
+    by_number None other e found apart rest = cc found
+    by_number (Some p) other e found apart rest =
+        let is : suc p ≡ number = cc found in
+        subst (λ number. slice_get (rule ∷ without_rule name rules) (closed_up number other)
         ≡ slice_get (rule ∷ rules) other) is
         (later p other e (λ same. apart (same ∙ is)) rest)
 
     by_test : (b : Bool) (other : ℕ) →
-        cond b (Some 0) (option_map suc (place_of name rules)) ≡ Some place →
-        (other ≡ place → ⊥) → StandClosed name rules →
-        slice_get (cond b rules (rule ∷ without_rule name rules)) (closed_up place other)
+        cond b (Some 0) (option_map suc (rule_number name rules)) ≡ Some number →
+        (other ≡ number → ⊥) → StandClosed name rules →
+        slice_get (cond b rules (rule ∷ without_rule name rules)) (closed_up number other)
         ≡ slice_get (rule ∷ rules) other
     by_test true zero found apart rest =
-        let is : 0 ≡ place = cc found in
+        let is : 0 ≡ number = cc found in
         absurd (apart is)
     by_test true (suc other) found apart rest =
-        let is : 0 ≡ place = cc found in
-        subst (λ place. slice_get rules (closed_up place (suc other)) ≡ slice_get rules other) is
+        let is : 0 ≡ number = cc found in
+        subst (λ number. slice_get rules (closed_up number (suc other)) ≡ slice_get rules other) is
         (ap (slice_get rules) (behind 0 (suc other) (omega arith) ∙ one_less other))
     by_test false other found apart rest =
-        by_place (place_of name rules) other refl found apart rest
+        by_number (rule_number name rules) other refl found apart rest
 
-module _ (name : List ℕ) (rules : List Rule) (place : ℕ) (found : place_of name rules ≡ Some place)
+module _ (name : List ℕ) (rules : List Rule) (number : ℕ) (found : rule_number name rules ≡ Some number)
   where
-    half_closed : (o : Option HalfRule) → is_place place (place_in o) ≡ false →
-        name_of (rule_at (without_rule name rules) (place_in (closed_half place o)))
-        ≡ name_of (rule_at rules (place_in o))
+    half_closed : (o : Option HalfRule) → is_number number (number_in o) ≡ false →
+        name_of (rule_at (without_rule name rules) (number_in (closed_half number o)))
+        ≡ name_of (rule_at rules (number_in o))
     half_closed None apart = refl
-    half_closed (Some half) apart = ap name_of (get_without name rules place half.number found (differ half.number place apart))
+    half_closed (Some half) apart = ap name_of (get_without name rules number half.number found (differ half.number number apart))
 
     -- the entries have the names that they had
-    pub names_closed : (cycle : List Entry) → list_any (uses_place place) cycle ≡ false →
-        named_entries (without_rule name rules) (map (closed_entry place) cycle)
+    pub names_closed : (cycle : List Entry) → list_any (uses_number number) cycle ≡ false →
+        named_entries (without_rule name rules) (map (closed_entry number) cycle)
         ≡ named_entries rules cycle
     names_closed [] unused = refl
     names_closed (entry ∷ cycle) unused =
         let (here, later) =
-        neither (uses_place place entry) (list_any (uses_place place) cycle) unused in
+        neither (uses_number number entry) (list_any (uses_number number) cycle) unused in
         let (a, b) =
-        neither (is_place place (place_in entry.a)) (is_place place (place_in entry.b)) here in
-        let named = named_entry (without_rule name rules) (closed_entry place entry) in
-        let rest = named_entries (without_rule name rules) (map (closed_entry place) cycle) in
+        neither (is_number number (number_in entry.a)) (is_number number (number_in entry.b)) here in
+        let named = named_entry (without_rule name rules) (closed_entry number entry) in
+        let rest = named_entries (without_rule name rules) (map (closed_entry number) cycle) in
         ap {B = List NamedEntry} (λ n. record named { a = n } ∷ rest) (half_closed entry.a a) ∙
         ap {B = List NamedEntry}
         (λ n. record (named_entry rules entry) { b = n } ∷ rest) (half_closed entry.b b) ∙
         ap (λ l. named_entry rules entry ∷ l) (names_closed cycle later)
 
-    half_is_closed : (o : Option HalfRule) → is_place place (place_in o) ≡ false →
-        IsPlaced rules o → IsPlaced (without_rule name rules) (closed_half place o)
-    half_is_closed None apart placed = tt
+    half_is_closed : (o : Option HalfRule) → is_number number (number_in o) ≡ false →
+        IsNumbered rules o → IsNumbered (without_rule name rules) (closed_half number o)
+    half_is_closed None apart numbered = tt
     half_is_closed (Some half) apart (rule, here, hood, minor) = (
       rule,
-      get_without name rules place half.number found (differ half.number place apart) ∙ here,
+      get_without name rules number half.number found (differ half.number number apart) ∙ here,
       hood,
       minor,
     )
 
-    -- and stand at their places
-    pub placed_closed : (cycle : List Entry) → list_any (uses_place place) cycle ≡ false →
-        ArePlaced rules cycle → ArePlaced (without_rule name rules) (map (closed_entry place) cycle)
-    placed_closed [] unused placed = tt
-    placed_closed (entry ∷ cycle) unused placed =
+    -- and stand at their numbers
+    pub numbered_closed : (cycle : List Entry) → list_any (uses_number number) cycle ≡ false →
+        AreNumbered rules cycle → AreNumbered (without_rule name rules) (map (closed_entry number) cycle)
+    numbered_closed [] unused numbered = tt
+    numbered_closed (entry ∷ cycle) unused numbered =
         let (here, later) =
-        neither (uses_place place entry) (list_any (uses_place place) cycle) unused in
+        neither (uses_number number entry) (list_any (uses_number number) cycle) unused in
         let (a, b) =
-        neither (is_place place (place_in entry.a)) (is_place place (place_in entry.b)) here in (
+        neither (is_number number (number_in entry.a)) (is_number number (number_in entry.b)) here in (
           (
-            half_is_closed entry.a a placed.0.0,
-            half_is_closed entry.b b placed.0.1,
+            half_is_closed entry.a a numbered.0.0,
+            half_is_closed entry.b b numbered.0.1,
           ),
-          placed_closed cycle later placed.1,
+          numbered_closed cycle later numbered.1,
         )

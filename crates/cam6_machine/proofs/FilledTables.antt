@@ -15,7 +15,7 @@ use Rattle.cam6_cycle.specs.declared.tables.NeededTable.{NeededTable}
 use Rattle.cam6_cycle.proofs.Needed as needed
 use Rattle.cam6_machine.specs.Rules.{Rule}
 use Rattle.cam6_machine.specs.TrueTables.{IsTableFor}
-use Rattle.cam6_machine.specs.Numbers.{rule_at, place_in, IsPlaced, ArePlaced, AreTables}
+use Rattle.cam6_machine.specs.Numbers.{rule_at, number_in, IsNumbered, AreNumbered, AreTables}
 use Rattle.cam6_machine.specs.Internal.Uses.{IsUse}
 
 -- an item of the first items is one of all
@@ -27,16 +27,16 @@ within_first (suc n) (y ∷ ys) zero x found = (omega arith, found)
 within_first (suc n) (y ∷ ys) (suc i) x found =
     let later = within_first n ys i x found in (omega (arith, later.0), later.1)
 
--- a use among the first ones is one of all, of the rule at that place
-pub used_before : (n first place : ℕ) (uses : List NeededTable) →
-    IsUse place (slice_get (take n uses) first) →
+-- a use among the first ones is one of all, of the rule at that number
+pub used_before : (n first number : ℕ) (uses : List NeededTable) →
+    IsUse number (slice_get (take n uses) first) →
     (table : NeededTable) × (first < n) × (slice_get uses first ≡ Some table)
-    × (table.rule.number ≡ place)
-used_before n first place uses is = by_table (slice_get (take n uses) first) refl is
+    × (table.rule.number ≡ number)
+used_before n first number uses is = by_table (slice_get (take n uses) first) refl is
   where
-    by_table : (o : Option NeededTable) → slice_get (take n uses) first ≡ o → IsUse place o →
+    by_table : (o : Option NeededTable) → slice_get (take n uses) first ≡ o → IsUse number o →
         (table : NeededTable) × (first < n) × (slice_get uses first ≡ Some table)
-        × (table.rule.number ≡ place)
+        × (table.rule.number ≡ number)
     by_table None e is = absurd is
     by_table (Some table) e is =
         let found = within_first n uses first table e in (table, found.0, found.1, is)
@@ -85,7 +85,7 @@ module _ (way : Direction) (rules : List Rule) (tables : List (List ℕ)) (k : �
     tables) where
   -- half A's table, and half B's, of the entry at a position
   pub first_table : (o : Option HalfRule) → (get_or cycle k past).a ≡ o →
-      IsTableFor way (rule_at rules (place_in o))
+      IsTableFor way (rule_at rules (number_in o))
       (get_or tables (length (tables_needed way (take k cycle))) [])
   first_table None is = tt
   first_table (Some rule) is =
@@ -95,7 +95,7 @@ module _ (way : Direction) (rules : List Rule) (tables : List (List ℕ)) (k : �
       (slice_get_within (tables_needed way cycle) index _ found) found
 
   pub second_table : (o : Option HalfRule) → (get_or cycle k past).b ≡ o →
-      IsTableFor way (rule_at rules (place_in o))
+      IsTableFor way (rule_at rules (number_in o))
       (get_or tables (length (tables_needed way (take k cycle))
       + length (needed_for way A (get_or cycle k past).a)) [])
   second_table None is = tt
@@ -106,13 +106,13 @@ module _ (way : Direction) (rules : List Rule) (tables : List (List ℕ)) (k : �
       are index (record { half = B; rule = rule; direction = way })
       (slice_get_within (tables_needed way cycle) index _ found) found
 
--- an entry's rules stand at their places
-pub placed_at : (rules : List Rule) (cycle : List Entry) (position : ℕ) (entry : Entry) →
-    slice_get cycle position ≡ Some entry → ArePlaced rules cycle →
-    IsPlaced rules entry.a × IsPlaced rules entry.b
-placed_at rules [] position entry found placed = cc found
-placed_at rules (first ∷ cycle) zero entry found placed =
+-- an entry's rules stand at their numbers
+pub numbered_at : (rules : List Rule) (cycle : List Entry) (position : ℕ) (entry : Entry) →
+    slice_get cycle position ≡ Some entry → AreNumbered rules cycle →
+    IsNumbered rules entry.a × IsNumbered rules entry.b
+numbered_at rules [] position entry found numbered = cc found
+numbered_at rules (first ∷ cycle) zero entry found numbered =
     let same : first ≡ entry = cc found in
-    subst (λ (e : Entry). IsPlaced rules e.a × IsPlaced rules e.b) same placed.0
-placed_at rules (first ∷ cycle) (suc position) entry found placed =
-    placed_at rules cycle position entry found placed.1
+    subst (λ (e : Entry). IsNumbered rules e.a × IsNumbered rules e.b) same numbered.0
+numbered_at rules (first ∷ cycle) (suc position) entry found numbered =
+    numbered_at rules cycle position entry found numbered.1

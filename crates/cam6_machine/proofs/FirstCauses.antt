@@ -13,10 +13,10 @@ use Rattle.cam6_machine.specs.Cycles.{EntryRules, entry_rules}
 use Rattle.cam6_machine.specs.Refusals.{or_then, rule_cause, cause_reply, entry_cause, first_cause}
 use Rattle.cam6_machine.specs.Stored.{StoredMachine}
 use Rattle.cam6_machine.specs.Always.{HaveOwnNames}
-use Rattle.cam6_machine.specs.AtOnce.{IsLeftBy}
+use Rattle.cam6_machine.specs.AtOnce.{StaysAfter}
 use Rattle.cam6_machine.specs.declared.commands.NamedEntry.{NamedEntry}
-use Rattle.cam6_machine.specs.Numbers.{named_entries, rules_at, rule_at, place_in}
-use Rattle.cam6_machine.specs.Internal.Places.{is_place, uses_place}
+use Rattle.cam6_machine.specs.Numbers.{named_entries, rules_at, rule_at, number_in}
+use Rattle.cam6_machine.specs.Internal.Numbered.{is_number, uses_number}
 use Rattle.cam6_machine.specs.Internal.Uses.{HasNoCause}
 use Rattle.cam6_machine.specs.declared.replies.Reply.{Reply}
 use Rattle.cam6_machine.specs.declared.replies.Reply.TheVariants as reply
@@ -38,28 +38,28 @@ all_more P (x ∷ xs) (suc n) past h all next =
     (all.0, all_more P xs n past (omega (arith, h)) all.1 next)
 
 -- a rule that one of these entries has can be undone, where all that they have can
-pub used_has_none : (rules : List Rule) (place : ℕ) (entries : List Entry) →
-    AllByRecursion (HasNoCause rules) entries → list_any (uses_place place) entries ≡ true →
-    rule_cause (rule_at rules (Some place)) ≡ None
-used_has_none rules place [] all used = cc used
-used_has_none rules place (entry ∷ entries) all used =
-    by_half (is_place place (place_in entry.a)) (is_place place (place_in entry.b)) refl refl
-    (λ e. used_has_none rules place entries all.1 e) used
+pub used_has_none : (rules : List Rule) (number : ℕ) (entries : List Entry) →
+    AllByRecursion (HasNoCause rules) entries → list_any (uses_number number) entries ≡ true →
+    rule_cause (rule_at rules (Some number)) ≡ None
+used_has_none rules number [] all used = cc used
+used_has_none rules number (entry ∷ entries) all used =
+    by_half (is_number number (number_in entry.a)) (is_number number (number_in entry.b)) refl refl
+    (λ e. used_has_none rules number entries all.1 e) used
   where
-    at_place : (o : Option ℕ) → is_place place o ≡ true → rule_cause (rule_at rules o) ≡ None →
-        rule_cause (rule_at rules (Some place)) ≡ None
-    at_place None e none = cc e
-    at_place (Some other) e none =
-        subst (λ k. rule_cause (rule_at rules (Some k)) ≡ None) (eqb-true other place e) none
+    at_number : (o : Option ℕ) → is_number number o ≡ true → rule_cause (rule_at rules o) ≡ None →
+        rule_cause (rule_at rules (Some number)) ≡ None
+    at_number None e none = cc e
+    at_number (Some other) e none =
+        subst (λ k. rule_cause (rule_at rules (Some k)) ≡ None) (eqb-true other number e) none
 
-    by_half : (a b : Bool) → is_place place (place_in entry.a) ≡ a →
-        is_place place (place_in entry.b) ≡ b →
-        (list_any (uses_place place) entries ≡ true →
-        rule_cause (rule_at rules (Some place)) ≡ None) →
-        ((a || b) || list_any (uses_place place) entries) ≡ true →
-        rule_cause (rule_at rules (Some place)) ≡ None
-    by_half true b is_a is_b rest e = at_place (place_in entry.a) is_a all.0.0
-    by_half false true is_a is_b rest e = at_place (place_in entry.b) is_b all.0.1
+    by_half : (a b : Bool) → is_number number (number_in entry.a) ≡ a →
+        is_number number (number_in entry.b) ≡ b →
+        (list_any (uses_number number) entries ≡ true →
+        rule_cause (rule_at rules (Some number)) ≡ None) →
+        ((a || b) || list_any (uses_number number) entries) ≡ true →
+        rule_cause (rule_at rules (Some number)) ≡ None
+    by_half true b is_a is_b rest e = at_number (number_in entry.a) is_a all.0.0
+    by_half false true is_a is_b rest e = at_number (number_in entry.b) is_b all.0.1
     by_half false false is_a is_b rest e = rest e
 
 -- the causes from an entry on
@@ -104,16 +104,16 @@ module _ (rules : List Rule) (entries : List Entry) (n : ℕ) (past : Entry)
 
 -- the reply for a cause leaves all that is stored
 a_cause_leaves : (n : ℕ) (a b : Option NotReversible) (later : Option Reply) (r : Reply)
-    (m : StoredMachine) → (later ≡ Some r → IsLeftBy r m m) →
-    or_then (or_then (cause_reply n A a) (cause_reply n B b)) later ≡ Some r → IsLeftBy r m m
+    (m : StoredMachine) → (later ≡ Some r → StaysAfter r m m) →
+    or_then (or_then (cause_reply n A a) (cause_reply n B b)) later ≡ Some r → StaysAfter r m m
 a_cause_leaves n (Some cause) b later r m rest e =
-    subst (λ k. IsLeftBy k m m) (same_Some (reply.NotReversible n A cause) r e) refl
+    subst (λ k. StaysAfter k m m) (same_Some (reply.NotReversible n A cause) r e) refl
 a_cause_leaves n None (Some cause) later r m rest e =
-    subst (λ k. IsLeftBy k m m) (same_Some (reply.NotReversible n B cause) r e) refl
+    subst (λ k. StaysAfter k m m) (same_Some (reply.NotReversible n B cause) r e) refl
 a_cause_leaves n None None later r m rest e = rest e
 
 pub causes_leave : (rules : List Rule) (n : ℕ) (cycle : List NamedEntry) (r : Reply)
-    (m : StoredMachine) → first_cause rules n cycle ≡ Some r → IsLeftBy r m m
+    (m : StoredMachine) → first_cause rules n cycle ≡ Some r → StaysAfter r m m
 causes_leave rules n [] r m e = cc e
 causes_leave rules n (entry ∷ cycle) r m e =
     let here = entry_rules rules entry in

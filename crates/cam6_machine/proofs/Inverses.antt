@@ -53,12 +53,12 @@ told_cause (Ok done) cause none some = sym none
 told_cause (Err e) cause none some = sym some
 
 -- what is so of each try that succeeds is so where the rule can be undone
-pub so_if_undoable : (wiring : Wiring) (text : List ℕ) (r : Result (Unit {0}) NotReversible)
+pub so_if_reversible : (wiring : Wiring) (text : List ℕ) (r : Result (Unit {0}) NotReversible)
     (P : Type 0) → IfOk r (λ _. P) →
     IfErr r (λ e. cause_of (by_words wiring (tree_of text)) wiring.hood wiring.minor ≡ Some e) →
     IsReversible (by_words wiring (tree_of text)) wiring.hood wiring.minor → P
-so_if_undoable wiring text (Ok done) P so refused reversible = so
-so_if_undoable wiring text (Err e) P so refused reversible =
+so_if_reversible wiring text (Ok done) P so refused reversible = so
+so_if_reversible wiring text (Err e) P so refused reversible =
     let none = (cause_is_found (by_words wiring (tree_of text)) wiring.hood wiring.minor).1 reversible in
     let contrary : None ≡ Some e = sym none ∙ refused in
     cc contrary

@@ -12,7 +12,7 @@ use Rattle.indexmap.specs.IndexMap.{insert_entry}
 use Rattle.cam6_machine.specs.Effects.{with_rule, without_rule}
 use Rattle.cam6_machine.specs.Rules.{Rule, rule_named, wiring_for, wiring_of}
 use Rattle.cam6_machine.specs.Numbers.{rule_at}
-use Rattle.cam6_machine.specs.Internal.Places.{rules_of, place_of}
+use Rattle.cam6_machine.specs.Internal.Numbered.{rules_of, rule_number}
 use Rattle.cam6_machine.specs.declared.rules.KeptRule.{KeptRule}
 
 -- whether a key of the map is this name
@@ -38,39 +38,39 @@ rule_named-rules_of name (e ∷ es) =
     found true h = refl
     found false h = h
 
--- a place that is counted from i on
+-- a number that is counted from i on
 counted : ℕ → Option ℕ → Option ℕ
-counted i = option_map (λ place. i + place)
+counted i = option_map (λ number. i + number)
 
-place_from-rules_of : (i : ℕ) (name : List ℕ) (es : List (String Global × KeptRule)) →
-    position_from (is_name name) i (map (λ e. e.0) es) ≡ counted i (place_of name (rules_of es))
+number_from-rules_of : (i : ℕ) (name : List ℕ) (es : List (String Global × KeptRule)) →
+    position_from (is_name name) i (map (λ e. e.0) es) ≡ counted i (rule_number name (rules_of es))
 unfolding counted
-place_from-rules_of i name [] = refl
-place_from-rules_of i name (e ∷ es) =
-    found (bytes_eq name (string_bytes e.0)) (place_from-rules_of (i + 1) name es)
+number_from-rules_of i name [] = refl
+number_from-rules_of i name (e ∷ es) =
+    found (bytes_eq name (string_bytes e.0)) (number_from-rules_of (i + 1) name es)
   where
     one_more : (o : Option ℕ) → counted (i + 1) o ≡ counted i (option_map suc o)
     one_more None = refl
-    one_more (Some place) = ap Some (omega arith)
+    one_more (Some number) = ap Some (omega arith)
 
     found : (b : Bool)
         → position_from (is_name name) (i + 1) (map (λ e. e.0) es)
-        ≡ counted (i + 1) (place_of name (rules_of es))
+        ≡ counted (i + 1) (rule_number name (rules_of es))
         → cond b (Some i) (position_from (is_name name) (i + 1) (map (λ e. e.0) es))
-        ≡ counted i (cond b (Some 0) (option_map suc (place_of name (rules_of es))))
+        ≡ counted i (cond b (Some 0) (option_map suc (rule_number name (rules_of es))))
     found true h = ap Some (omega arith)
-    found false h = h ∙ one_more (place_of name (rules_of es))
+    found false h = h ∙ one_more (rule_number name (rules_of es))
 
 counted_from_0 : (o : Option ℕ) → counted 0 o ≡ o
 unfolding counted
 counted_from_0 None = refl
-counted_from_0 (Some place) = ap Some (omega arith)
+counted_from_0 (Some number) = ap Some (omega arith)
 
-pub place_of-rules_of : (name : List ℕ) (es : List (String Global × KeptRule)) →
-    position (is_name name) (map (λ e. e.0) es) ≡ place_of name (rules_of es)
-place_of-rules_of name es =
-    position_from-zero (is_name name) (map (λ e. e.0) es) ∙ place_from-rules_of 0 name es ∙
-    counted_from_0 (place_of name (rules_of es))
+pub rule_number-rules_of : (name : List ℕ) (es : List (String Global × KeptRule)) →
+    position (is_name name) (map (λ e. e.0) es) ≡ rule_number name (rules_of es)
+rule_number-rules_of name es =
+    position_from-zero (is_name name) (map (λ e. e.0) es) ∙ number_from-rules_of 0 name es ∙
+    counted_from_0 (rule_number name (rules_of es))
 
 pub rules_of-insert_entry : (es : List (String Global × KeptRule)) (k : String Global)
     (v : KeptRule) →
@@ -106,18 +106,18 @@ rules_of-remove_entry name (e ∷ es) =
     by_test true rest = refl
     by_test false rest = ap (λ l. listed e ∷ l) rest
 
-pub rule_at-rules_of : (es : List (String Global × KeptRule)) (place : ℕ) →
-    rule_at (rules_of es) (Some place) ≡ option_map listed (slice_get es place)
-rule_at-rules_of es place = slice_get-map listed es place
+pub rule_at-rules_of : (es : List (String Global × KeptRule)) (number : ℕ) →
+    rule_at (rules_of es) (Some number) ≡ option_map listed (slice_get es number)
+rule_at-rules_of es number = slice_get-map listed es number
 
--- a rule that is found at a place
-pub rule_found : (es : List (String Global × KeptRule)) (place : ℕ)
-    (e : String Global × KeptRule) → Some e ≡ slice_get es place →
-    rule_at (rules_of es) (Some place) ≡ Some (listed e)
-rule_found es place e found =
-    rule_at-rules_of es place ∙ ap (option_map listed) (sym found)
+-- a rule that is found at a number
+pub rule_found : (es : List (String Global × KeptRule)) (number : ℕ)
+    (e : String Global × KeptRule) → Some e ≡ slice_get es number →
+    rule_at (rules_of es) (Some number) ≡ Some (listed e)
+rule_found es number e found =
+    rule_at-rules_of es number ∙ ap (option_map listed) (sym found)
 
-pub no_rule_found : (es : List (String Global × KeptRule)) (place : ℕ) →
-    None ≡ slice_get es place → rule_at (rules_of es) (Some place) ≡ None
-no_rule_found es place none =
-    rule_at-rules_of es place ∙ ap (option_map listed) (sym none)
+pub no_rule_found : (es : List (String Global × KeptRule)) (number : ℕ) →
+    None ≡ slice_get es number → rule_at (rules_of es) (Some number) ≡ None
+no_rule_found es number none =
+    rule_at-rules_of es number ∙ ap (option_map listed) (sym none)

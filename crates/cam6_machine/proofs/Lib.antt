@@ -1,12 +1,12 @@
 -- Lemmas, in the order of reading.
 
--- Places of rules, and their names: they say the same where the names are the rules' own.
+-- Numbers of rules, and their names: they say the same where the names are the rules' own.
 pub mod Naming
--- A step by the entry at the position, with places and with names.
+-- A step by the entry at the position, with numbers and with names.
 pub mod Along
 -- Rules after one was put under its name: what held of them holds.
 pub mod KeptNames
--- Rules after one was dropped: what held of them holds, and places and names still say the same.
+-- Rules after one was dropped: what held of them holds, and numbers and names still say the same.
 pub mod Dropped
 -- Tables that are filled use by use.
 pub mod FilledTables
@@ -14,7 +14,7 @@ pub mod FilledTables
 pub mod TablesOfPositions
 -- What is said of a rule's true table is said of the rule's words.
 pub mod Inverses
--- A step undone along the cycle, with places and with names.
+-- A step undone along the cycle, with numbers and with names.
 pub mod AlongBackward
 -- The first entry with a rule that can't be undone, entry by entry.
 pub mod FirstCauses
@@ -37,20 +37,20 @@ pub mod Staying
 -- What a step makes of planes, or a step undone, is a torus.
 pub mod StepsOfATorus
 -- A machine that may go back has a cycle of which every rule can be undone.
-pub mod Undoable
+pub mod ReversibleCycles
 -- Where the cells of a block lie, and the bits of a block's state.
 pub mod BlocksOfCells
 -- Planes whose blocks are changed, and what undoes a change of blocks.
 pub mod ChangedBlocks
 -- Two ways of seeing that agree on the names of a block show one address.
 pub mod AddressesOfBlocks
--- What a cell sees in its block is what its place sees in the block's state.
+-- What a cell sees in its block is what its number sees in the block's state.
 pub mod SeenInBlocks
 -- A step by rules of blocks changes each block as a whole.
 pub mod StepsByBlocks
 -- A step and the step undone, and a step by inverted tables.
 pub mod StepsUndone
--- The entry at a place of the cycle, and what its rules are.
+-- The entry at a number of the cycle, and what its rules are.
 pub mod RulesOfEntries
 -- Steps that are undone change planes and position alone, and leave a machine.
 pub mod StepsBack

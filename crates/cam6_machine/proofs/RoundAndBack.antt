@@ -4,12 +4,12 @@ use Rattle.std.proofs.Common.{refl, sym, subst, ◌∙◌, ap, arith, slice_get,
 use Rattle.std.proofs.Math.Nat.{mod-lt}
 use Rattle.cam6_planes.specs.Cells.{Cells}
 use Rattle.cam6_planes.specs.Side.{side_number}
-use Rattle.cam6_cycle.specs.Turns.{next, previous}
+use Rattle.cam6_cycle.specs.Along.{next, previous}
 use Rattle.cam6_cycle.proofs.RoundTheCycle.{undo_each_other}
 use Rattle.cam6_machine.specs.Cycles.{entry_rules}
-use Rattle.cam6_machine.specs.Undoing.{IsUndoableEntry}
+use Rattle.cam6_machine.specs.Undoing.{IsReversibleEntry}
 use Rattle.cam6_machine.specs.Machine.{Machine, stepped_by, stepped, steps}
-use Rattle.cam6_machine.specs.Machine.{unstepped_by, unstepped, unsteps, IsUndoableCycle}
+use Rattle.cam6_machine.specs.Machine.{unstepped_by, unstepped, unsteps, IsReversibleCycle}
 use Rattle.cam6_machine.specs.Always.{IsPosition, IsMachine}
 use Rattle.cam6_machine.specs.Laws.{IsOfBlocks, UndoingUndoes, DoingRedoes}
 use Rattle.cam6_machine.specs.declared.commands.NamedEntry.{NamedEntry}
@@ -24,7 +24,7 @@ use Rattle.cam6_machine.proofs.StepsUndone.{unstep-step, step-unstep}
 pub record IsReady (m : Machine) : Type 0 where
   pub whole : AreWhole m
   pub sound : AreSound m.rules
-  pub undoable : IsUndoableCycle m
+  pub reversible : IsReversibleCycle m
   pub position : IsPosition m.cycle m.position
 
 -- without a cycle nothing is done
@@ -42,21 +42,21 @@ goes_on : (m : Machine) (entry : NamedEntry) → slice_get m.cycle m.position �
     stepped m ≡ stepped_by (Some entry) m
 goes_on m entry found = ap (λ o. stepped_by o m) found
 
-goes_back : (m : Machine) (place : ℕ) (entry : NamedEntry) →
-    previous (length m.cycle) m.position ≡ place → slice_get m.cycle place ≡ Some entry →
-    unstepped m ≡ unstepped_by place (Some entry) m
-goes_back m place entry before found =
+goes_back : (m : Machine) (index : ℕ) (entry : NamedEntry) →
+    previous (length m.cycle) m.position ≡ index → slice_get m.cycle index ≡ Some entry →
+    unstepped m ≡ unstepped_by index (Some entry) m
+goes_back m index entry before found =
     ap (λ q. unstepped_by q (slice_get m.cycle q) m) before ∙
-    ap (λ o. unstepped_by place o m) found
+    ap (λ o. unstepped_by index o m) found
 
 -- an entry's rules are rules of blocks
-entry_of_blocks : (m : Machine) (place : ℕ) (entry : NamedEntry) → IsReady m →
-    slice_get m.cycle place ≡ Some entry →
+entry_of_blocks : (m : Machine) (index : ℕ) (entry : NamedEntry) → IsReady m →
+    slice_get m.cycle index ≡ Some entry →
     let rules = entry_rules m.rules entry in
-    IsUndoableEntry rules × IsOfBlocks rules.a × IsOfBlocks rules.b
-entry_of_blocks m place entry is found =
-    let can : IsUndoableEntry (entry_rules m.rules entry) =
-    of_entry (λ e. IsUndoableEntry (entry_rules m.rules e)) m.cycle place entry is.undoable
+    IsReversibleEntry rules × IsOfBlocks rules.a × IsOfBlocks rules.b
+entry_of_blocks m index entry is found =
+    let can : IsReversibleEntry (entry_rules m.rules entry) =
+    of_entry (λ e. IsReversibleEntry (entry_rules m.rules e)) m.cycle index entry is.reversible
     found in
     let rules = entry_rules m.rules entry in (
       can,
@@ -73,7 +73,7 @@ stepped_ready m is = elim (entry_or_none m.cycle m.position is.position) [
         whole = step_whole (side_number m.side) (entry_rules m.rules entry) m.planes
             (side_some m.side);
         sound = is.sound;
-        undoable = is.undoable;
+        reversible = is.reversible;
         position = is_position m.cycle (next (length m.cycle) m.position)
             (mod-lt (m.position + 1) (omega (arith, within)));
       })
@@ -83,15 +83,15 @@ unstepped_ready : (m : Machine) → IsReady m → IsReady (unstepped m)
 unstepped_ready m is = elim (entry_or_none m.cycle m.position is.position) [
   | inl none ↦ subst IsReady (sym (stays_back m none)) is
   | inr within ↦
-      let place = previous (length m.cycle) m.position in
+      let index = previous (length m.cycle) m.position in
       let inside = previous-lt (length m.cycle) m.position within in
-      let (entry, found) = entry_at m.cycle place inside in
-      subst IsReady (sym (goes_back m place entry refl found)) (record {
+      let (entry, found) = entry_at m.cycle index inside in
+      subst IsReady (sym (goes_back m index entry refl found)) (record {
         whole = unstep_whole (side_number m.side) (entry_rules m.rules entry) m.planes
             (side_some m.side);
         sound = is.sound;
-        undoable = is.undoable;
-        position = is_position m.cycle place inside;
+        reversible = is.reversible;
+        position = is_position m.cycle index inside;
       })
 ]
 
@@ -115,17 +115,17 @@ once_on : (m : Machine) → IsReady m → stepped (unstepped m) ≡ m
 once_on m is = elim (entry_or_none m.cycle m.position is.position) [
   | inl none ↦ ap stepped (stays_back m none) ∙ stays m none
   | inr within ↦
-      let place = previous (length m.cycle) m.position in
+      let index = previous (length m.cycle) m.position in
       let (entry, found) =
-      entry_at m.cycle place (previous-lt (length m.cycle) m.position within) in
+      entry_at m.cycle index (previous-lt (length m.cycle) m.position within) in
       let rules = entry_rules m.rules entry in
       let s = side_number m.side in
-      let (can, a, b) = entry_of_blocks m place entry is found in
+      let (can, a, b) = entry_of_blocks m index entry is found in
       let after = (undo_each_other (length m.cycle) m.position within).1 in
-      ap stepped (goes_back m place entry refl found) ∙
-      goes_on (unstepped_by place (Some entry) m) entry found ∙
+      ap stepped (goes_back m index entry refl found) ∙
+      goes_on (unstepped_by index (Some entry) m) entry found ∙
       ap {B = Machine} (λ (f : Cells).
-      record m { planes = f; position = next (length m.cycle) place })
+      record m { planes = f; position = next (length m.cycle) index })
       (step-unstep s rules (side_some m.side) (side_even m.side) can m.planes a b is.whole) ∙
       ap {B = Machine} (λ p. record m { position = p }) after
 ]
@@ -160,11 +160,11 @@ redone (suc n) m is =
     ap (steps n) (once_on (unsteps n m) (unsteps_ready n m is)) ∙ redone n m is
 
 -- a machine is ready where its cycle can be undone
-pub is_ready : (m : Machine) → IsMachine m → IsUndoableCycle m → IsReady m
+pub is_ready : (m : Machine) → IsMachine m → IsReversibleCycle m → IsReady m
 is_ready m is can = record {
   whole = is.planes;
   sound = is.sound;
-  undoable = can;
+  reversible = can;
   position = is.position;
 }
 

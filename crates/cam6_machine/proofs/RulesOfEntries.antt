@@ -1,11 +1,11 @@
--- The entry at a place of the cycle, and what its rules are.
+-- The entry at a index of the cycle, and what its rules are.
 use Rattle.std.proofs.Common.{◌≡◌, ◌<◌, ℕ, zero, suc, Bool, true, false, List, [], ◌∷◌, length}
 use Rattle.std.proofs.Common.{cond, Option, Some, None, refl, subst, arith}
 use Rattle.std.proofs.Common.{slice_get, ◌⊎◌, inl, inr}
 use Rattle.std.specs.List.{AllByRecursion}
 use Rattle.std.specs.Str.{bytes_eq}
 use Rattle.cam6_machine.specs.Rules.{Rule, rule_named, rule_if_named}
-use Rattle.cam6_machine.specs.Undoing.{IsUndoable}
+use Rattle.cam6_machine.specs.Undoing.{IsReversibleRule}
 use Rattle.cam6_machine.specs.Refusals.{words_refusal}
 use Rattle.cam6_machine.specs.Always.{IsPosition}
 use Rattle.cam6_machine.specs.Laws.{IsOfBlocks}
@@ -17,25 +17,25 @@ pub entry_or_none : (cycle : List NamedEntry) (position : ℕ) → IsPosition cy
 entry_or_none [] position is = inl refl
 entry_or_none (entry ∷ cycle) position is = inr is
 
-pub entry_at : (cycle : List NamedEntry) (place : ℕ) → place < length cycle →
-    (entry : NamedEntry) × (slice_get cycle place ≡ Some entry)
-entry_at [] place within = absurd (omega (arith, within))
+pub entry_at : (cycle : List NamedEntry) (index : ℕ) → index < length cycle →
+    (entry : NamedEntry) × (slice_get cycle index ≡ Some entry)
+entry_at [] index within = absurd (omega (arith, within))
 entry_at (entry ∷ cycle) zero within = (entry, refl)
-entry_at (entry ∷ cycle) (suc place) within = entry_at cycle place (omega (arith, within))
+entry_at (entry ∷ cycle) (suc index) within = entry_at cycle index (omega (arith, within))
 
 pub is_position : (cycle : List NamedEntry) (position : ℕ) → position < length cycle →
     IsPosition cycle position
 is_position [] position within = absurd (omega (arith, within))
 is_position (entry ∷ cycle) position within = within
 
--- what holds of all entries holds of the one at a place
-pub of_entry : (Q : NamedEntry → Type 0) (cycle : List NamedEntry) (place : ℕ)
-    (entry : NamedEntry) → AllByRecursion Q cycle → slice_get cycle place ≡ Some entry → Q entry
-of_entry Q [] place entry all found = cc found
+-- what holds of all entries holds of the one at a index
+pub of_entry : (Q : NamedEntry → Type 0) (cycle : List NamedEntry) (index : ℕ)
+    (entry : NamedEntry) → AllByRecursion Q cycle → slice_get cycle index ≡ Some entry → Q entry
+of_entry Q [] index entry all found = cc found
 of_entry Q (first ∷ cycle) zero entry all found =
     let same : first ≡ entry = cc found in subst Q same all.0
-of_entry Q (first ∷ cycle) (suc place) entry all found =
-    of_entry Q cycle place entry all.1 found
+of_entry Q (first ∷ cycle) (suc index) entry all found =
+    of_entry Q cycle index entry all.1 found
 
 -- texts that aren't refused
 abbrev pub AreSound : List Rule → Type 0
@@ -63,6 +63,6 @@ sound_if_named rules None sound = tt
 sound_if_named rules (Some name) sound = named_sound rules name sound
 
 -- so a rule that can be undone is one of blocks
-pub is_of_blocks : (rule : Option Rule) → IsSound rule → IsUndoable rule → IsOfBlocks rule
+pub is_of_blocks : (rule : Option Rule) → IsSound rule → IsReversibleRule rule → IsOfBlocks rule
 is_of_blocks None sound can = tt
 is_of_blocks (Some rule) sound can = (sound, can.blocks, can.alone)

@@ -1,10 +1,10 @@
--- What a cell sees in its block is what its place sees in the block's state.
+-- What a cell sees in its block is what its corner sees in the block's state.
 use Rattle.std.proofs.Common.{◌≡◌, ◌<◌, ℕ, zero, suc, ◌+◌, ◌*◌, ◌/◌, ◌%◌, ◌==◌, refl, sym, subst}
 use Rattle.std.proofs.Common.{◌∙◌, ap, arith}
 use Rattle.std.proofs.Math.Nat.{mod-lt}
 use Rattle.cam6_planes.specs.Cells.{Cells}
 use Rattle.cam6_wiring.specs.Block.{side_in_block, block_of, corner_at, corner_of, in_block}
-use Rattle.cam6_wiring.specs.Block.{turned}
+use Rattle.cam6_wiring.specs.Block.{rotated}
 use Rattle.cam6_wiring.specs.Name.{plane_of}
 use Rattle.cam6_wiring.specs.Seen.{seen, column_beside, row_beside}
 use Rattle.cam6_wiring.specs.declared.blocks.Corner.{Corner}
@@ -17,48 +17,48 @@ use Rattle.cam6_wiring.specs.declared.names.Compass.TheVariants.{East, NorthWest
 use Rattle.cam6_wiring.specs.declared.names.Compass.TheVariants.{SouthWest, SouthEast}
 use Rattle.cam6_wiring.specs.declared.names.Half.{Half}
 use Rattle.cam6_wiring.specs.declared.names.Level.{Level}
-use Rattle.cam6_wiring.specs.declared.names.Turn.{Turn}
-use Rattle.cam6_wiring.specs.declared.names.Turn.TheVariants.{Clockwise, Opposite}
-use Rattle.cam6_wiring.specs.declared.names.Turn.TheVariants.{CounterClockwise}
+use Rattle.cam6_wiring.specs.declared.names.Rotation.{Rotation}
+use Rattle.cam6_wiring.specs.declared.names.Rotation.TheVariants.{Clockwise, Opposite}
+use Rattle.cam6_wiring.specs.declared.names.Rotation.TheVariants.{CounterClockwise}
 use Rattle.cam6_wiring.specs.declared.neighbours.Setting.{Setting}
-use Rattle.cam6_wiring.proofs.Turning.{turns}
-use Rattle.cam6_block.specs.Blocks.{place_bit, places_on, place_sees, is_right, is_low}
-use Rattle.cam6_block.proofs.States.{place_bit-mod}
-use Rattle.cam6_machine.specs.Undoing.{state_at, place_of_corner, place_in_block}
+use Rattle.cam6_wiring.proofs.Rotating.{rotations}
+use Rattle.cam6_block.specs.Blocks.{corner_bit, corners_on, corner_sees, is_right, is_low}
+use Rattle.cam6_block.proofs.States.{corner_bit-mod}
+use Rattle.cam6_machine.specs.Undoing.{block_state_at, corner_number, corner_in_block}
 use Rattle.cam6_machine.proofs.BlocksOfCells.{state_same, own_bit}
 use Rattle.cam6_machine.proofs.AddressesOfBlocks.{Agrees}
 
 -- the right column and the lower row
 right_is : (right low : ℕ) → right < 2 →
-    (right == 1) ≡ is_right (place_of_corner (corner_at right low))
+    (right == 1) ≡ is_right (corner_number (corner_at right low))
 right_is zero zero h = refl
 right_is zero (suc low) h = refl
 right_is (suc zero) zero h = refl
 right_is (suc zero) (suc low) h = refl
 right_is (suc (suc right)) low h = absurd (omega (arith, h))
 
-low_is : (right low : ℕ) → low < 2 → (low == 1) ≡ is_low (place_of_corner (corner_at right low))
+low_is : (right low : ℕ) → low < 2 → (low == 1) ≡ is_low (corner_number (corner_at right low))
 low_is zero zero h = refl
 low_is (suc right) zero h = refl
 low_is zero (suc zero) h = refl
 low_is (suc right) (suc zero) h = refl
 low_is right (suc (suc low)) h = absurd (omega (arith, h))
 
--- a turned corner is so many places further on, counted round and round
-turned_place : (turn : Turn) (corner : Corner) →
-    place_of_corner (turned turn corner) % 4 ≡ (place_of_corner corner + places_on turn) % 4
-turned_place Clockwise UpperLeft = refl
-turned_place Clockwise UpperRight = refl
-turned_place Clockwise LowerRight = refl
-turned_place Clockwise LowerLeft = refl
-turned_place Opposite UpperLeft = refl
-turned_place Opposite UpperRight = refl
-turned_place Opposite LowerRight = refl
-turned_place Opposite LowerLeft = refl
-turned_place CounterClockwise UpperLeft = refl
-turned_place CounterClockwise UpperRight = refl
-turned_place CounterClockwise LowerRight = refl
-turned_place CounterClockwise LowerLeft = refl
+-- a rotated corner is so many corners further on, counted round and round
+rotated_corner : (rotation : Rotation) (corner : Corner) →
+    corner_number (rotated rotation corner) % 4 ≡ (corner_number corner + corners_on rotation) % 4
+rotated_corner Clockwise UpperLeft = refl
+rotated_corner Clockwise UpperRight = refl
+rotated_corner Clockwise LowerRight = refl
+rotated_corner Clockwise LowerLeft = refl
+rotated_corner Opposite UpperLeft = refl
+rotated_corner Opposite UpperRight = refl
+rotated_corner Opposite LowerRight = refl
+rotated_corner Opposite LowerLeft = refl
+rotated_corner CounterClockwise UpperLeft = refl
+rotated_corner CounterClockwise UpperRight = refl
+rotated_corner CounterClockwise LowerRight = refl
+rotated_corner CounterClockwise LowerLeft = refl
 
 -- a neighbour lies on the torus
 column_within : (s x : ℕ) (compass : Compass) → x < s → column_beside s compass x < s
@@ -83,49 +83,49 @@ row_within s y NorthEast h = mod-lt _ (omega (arith, h))
 row_within s y SouthWest h = mod-lt _ (omega (arith, h))
 row_within s y SouthEast h = mod-lt _ (omega (arith, h))
 
--- where a turn leads, on a torus of any even side
-abbrev Turns : ℕ → Cells → Grid → Turn → ℕ → ℕ → ℕ → Type 0
-Turns s f grid turn p x y =
-    let there = in_block (corner_of grid x y) turn in
+-- where a rotation leads, on a torus of any even side
+abbrev Rotations : ℕ → Cells → Grid → Rotation → ℕ → ℕ → ℕ → Type 0
+Rotations s f grid rotation p x y =
+    let there = in_block (corner_of grid x y) rotation in
     let column = column_beside s there x in
     let row = row_beside s there y in
     (f p column row ≡ f p column row) ×
-    (corner_of grid column row ≡ turned turn (corner_of grid x y)) ×
+    (corner_of grid column row ≡ rotated rotation (corner_of grid x y)) ×
     (block_of s grid column ≡ block_of s grid x) × (block_of s grid row ≡ block_of s grid y)
 
-turns_at : (s : ℕ) (f : Cells) (grid : Grid) (turn : Turn) (p x y : ℕ) → 0 < s → s % 2 ≡ 0 →
-    Turns s f grid turn p x y
-turns_at s f grid turn p x y some even =
+rotations_at : (s : ℕ) (f : Cells) (grid : Grid) (rotation : Rotation) (p x y : ℕ) → 0 < s → s % 2 ≡ 0 →
+    Rotations s f grid rotation p x y
+rotations_at s f grid rotation p x y some even =
     let twice : 2 * (s / 2) ≡ s = omega (arith, even) in
-    subst (λ n. Turns n f grid turn p x y) twice
-    (turns (s / 2) f grid p x y (omega (arith, some, even)) turn)
+    subst (λ n. Rotations n f grid rotation p x y) twice
+    (rotations (s / 2) f grid p x y (omega (arith, some, even)) rotation)
 
--- where a turn leads lies the cell of that place
-in_its_block : (s : ℕ) (f : Cells) (half : Half) (grid : Grid) (x y : ℕ) (turn : Turn)
+-- where a rotation leads lies the cell of that corner
+in_its_block : (s : ℕ) (f : Cells) (half : Half) (grid : Grid) (x y : ℕ) (rotation : Rotation)
     (level : Level) → 0 < s → s % 2 ≡ 0 → x < s → y < s →
-    let there = in_block (corner_of grid x y) turn in
+    let there = in_block (corner_of grid x y) rotation in
     f (plane_of half level) (column_beside s there x) (row_beside s there y)
-    ≡ place_bit (state_at s f half grid x y) level (place_in_block grid x y + places_on turn)
-in_its_block s f half grid x y turn level some even h k =
-    let there = in_block (corner_of grid x y) turn in
+    ≡ corner_bit (block_state_at s f half grid x y) level (corner_in_block grid x y + corners_on rotation)
+in_its_block s f half grid x y rotation level some even h k =
+    let there = in_block (corner_of grid x y) rotation in
     let column = column_beside s there x in
     let row = row_beside s there y in
-    let state = state_at s f half grid x y in
-    let led = turns_at s f grid turn (plane_of half level) x y some even in
+    let state = block_state_at s f half grid x y in
+    let led = rotations_at s f grid rotation (plane_of half level) x y some even in
     sym (own_bit s f half grid some even column row level (column_within s x there h)
     (row_within s y there k)) ∙
-    ap (λ state. place_bit state level (place_in_block grid column row))
+    ap (λ state. corner_bit state level (corner_in_block grid column row))
     (state_same s f half grid x y column row led.2 led.3) ∙
-    ap (λ c. place_bit state level (place_of_corner c)) led.1 ∙
-    place_bit-mod state level (place_of_corner (turned turn (corner_of grid x y)))
-    (place_in_block grid x y + places_on turn) (turned_place turn (corner_of grid x y))
+    ap (λ c. corner_bit state level (corner_number c)) led.1 ∙
+    corner_bit-mod state level (corner_number (rotated rotation (corner_of grid x y)))
+    (corner_in_block grid x y + corners_on rotation) (rotated_corner rotation (corner_of grid x y))
 
--- what a cell sees in its block, its place sees in the block's state
+-- what a cell sees in its block, its corner sees in the block's state
 pub sees_block : (s : ℕ) (f : Cells) (setting : Setting) (x y : ℕ) → 0 < s → s % 2 ≡ 0 → x < s →
     y < s →
     Agrees (λ name. seen s f setting name x y)
-    (place_sees setting.phase (state_at s f setting.half setting.grid x y)
-    (place_in_block setting.grid x y))
+    (corner_sees setting.phase (block_state_at s f setting.half setting.grid x y)
+    (corner_in_block setting.grid x y))
 sees_block s f setting x y some even h k =
     let grid = setting.grid in
     let right = side_in_block grid x in
@@ -134,7 +134,7 @@ sees_block s f setting x y some even h k =
     let vert = low_is right low (omega arith) in
     record {
       centre = λ level. sym (own_bit s f setting.half grid some even x y level h k);
-      inside = λ turn level. in_its_block s f setting.half grid x y turn level some even h k;
+      inside = λ rotation level. in_its_block s f setting.half grid x y rotation level some even h k;
       phase = λ level. refl;
       horz = horz;
       vert = vert;

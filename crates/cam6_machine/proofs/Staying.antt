@@ -37,14 +37,15 @@ use Rattle.cam6_table.specs.declared.faults.RuleFault.{RuleFault}
 use Rattle.cam6_table.specs.Meaning.{at_address}
 use Rattle.cam6_table.specs.Tables.{least_stop}
 use Rattle.cam6_table.proofs.TrueTables.{runs_everywhere}
-use Rattle.cam6_machine.specs.Limits.{max_rules, max_entries, max_colour, max_steps, states}
+use Rattle.cam6_machine.specs.Limits.{max_rules, max_colour, max_steps, cell_states}
+use Rattle.cam6_cycle.specs.Limits.{max_entries}
 use Rattle.cam6_machine.specs.Rules.{Rule, rule_named, rule_if_named, wiring_for, is_rule_name}
 use Rattle.cam6_machine.specs.Steps.{words_mean}
 use Rattle.cam6_machine.specs.Machine.{Machine, own_colours, first_side, steps, machine_of}
 use Rattle.cam6_machine.specs.Internal.Ways.{moved, CanMove}
-use Rattle.cam6_machine.specs.Numbers.{IsPlaced, ArePlaced, rule_at, name_of, place_in, named_entry}
+use Rattle.cam6_machine.specs.Numbers.{IsNumbered, AreNumbered, rule_at, name_of, number_in, named_entry}
 use Rattle.cam6_machine.specs.Numbers.{named_entries}
-use Rattle.cam6_machine.specs.Internal.Places.{stored}
+use Rattle.cam6_machine.specs.Internal.Numbered.{stored}
 use Rattle.cam6_cycle.specs.declared.entries.Entry.{Entry}
 use Rattle.cam6_cycle.specs.declared.entries.HalfRule.{HalfRule}
 use Rattle.cam6_planes.specs.Stored.{Stored}
@@ -70,7 +71,7 @@ use Rattle.cam6_machine.proofs.Dropped.{entries_without}
 use Rattle.cam6_machine.proofs.Naming.{same_bytes, rule_of_name, name_with}
 use Rattle.cam6_machine.proofs.StepsOfATorus.{AreWhole, side_some, steps_whole}
 use Rattle.cam6_machine.proofs.StepsBack.{only_these_back, unsteps_is}
-use Rattle.cam6_machine.proofs.Undoable.{back_runs, undoable}
+use Rattle.cam6_machine.proofs.ReversibleCycles.{back_runs, reversible}
 use Rattle.cam6_machine.proofs.StepLaws.{only_planes_and_position, position_goes_round}
 
 pub none_own : HaveOwnNames []
@@ -152,7 +153,7 @@ moves_begin m n Backward is accepted =
 pub can_move : (m : Machine) (n : ℕ) (direction : Direction) →
     refuse.refusal m (command_of n direction) ≡ None → CanMove direction m
 can_move m n Forward accepted = tt
-can_move m n Backward accepted = undoable cause_is_found m n accepted
+can_move m n Backward accepted = reversible cause_is_found m n accepted
 
 below_is : (cycle : List NamedEntry) (position : ℕ) → position < length cycle →
     IsPosition cycle position
@@ -220,9 +221,9 @@ cycle_entries rules (entry ∷ entries) none phases =
 pub accepted_cycle : (rules : List Rule) (entries : List NamedEntry) →
     refuse.cycle_refusal rules entries ≡ None →
     (length entries ≤ max_entries) × AllByRecursion (IsEntry rules) entries
-accepted_cycle rules entries none = by_test (refuse.is_cycle entries) refl none
+accepted_cycle rules entries none = by_test (refuse.is_named_cycle entries) refl none
   where
-    by_test : (b : Bool) → refuse.is_cycle entries ≡ b →
+    by_test : (b : Bool) → refuse.is_named_cycle entries ≡ b →
         cond b (refuse.first_refusal rules entries) (Some OutOfRange) ≡ None →
         (length entries ≤ max_entries) × AllByRecursion (IsEntry rules) entries
     by_test false is none = cc none
@@ -338,37 +339,37 @@ apart_if_room rules cycle name none = by_name (is_rule_name name) none
     by_name false none = cc none
     by_name true none = by_rule (rule_named name rules) refl none
 
--- the rule at a place of an entry that is apart from a rule that is put stays there
+-- the rule at a number of an entry that is apart from a rule that is put stays there
 half_stays : (new : Rule) (rules : List Rule) (o : Option HalfRule) → HaveOwnNames rules →
-    IsApart rules new.name (name_of (rule_at rules (place_in o))) → IsPlaced rules o →
-    IsPlaced (with_rule new rules) o
-half_stays new rules None own apart placed = tt
+    IsApart rules new.name (name_of (rule_at rules (number_in o))) → IsNumbered rules o →
+    IsNumbered (with_rule new rules) o
+half_stays new rules None own apart numbered = tt
 half_stays new rules (Some kept) own apart (rule, here, hood, minor) =
-    let place = kept.number in
+    let number = kept.number in
     let named : rule_named rule.name rules ≡ Some rule =
     ap (λ found. rule_if_named (name_of found) rules) (sym here) ∙
-    rule_of_name rules place own ∙ here in
+    rule_of_name rules number own ∙ here in
     let other = other_name rules new.name rule.name rule named
     (subst (λ found. IsApart rules new.name (name_of found)) here apart) in
-    let stays : name_of (slice_get (with_rule new rules) place) ≡ Some rule.name =
-    name_with new rules place (slice_get_within rules place rule here) ∙ ap name_of here in
-    let there : slice_get (with_rule new rules) place ≡ Some rule =
-    sym (rule_of_name (with_rule new rules) place (own_with new rules none_own own)) ∙
+    let stays : name_of (slice_get (with_rule new rules) number) ≡ Some rule.name =
+    name_with new rules number (slice_get_within rules number rule here) ∙ ap name_of here in
+    let there : slice_get (with_rule new rules) number ≡ Some rule =
+    sym (rule_of_name (with_rule new rules) number (own_with new rules none_own own)) ∙
     ap (λ name. rule_if_named name (with_rule new rules)) stays ∙
     other_named rule.name new rules other ∙ named in (rule, there, hood, minor)
 
-placed_apart : (new : Rule) (rules : List Rule) (cycle : List Entry) → HaveOwnNames rules →
-    AreApart rules (named_entries rules cycle) new.name → ArePlaced rules cycle →
-    ArePlaced (with_rule new rules) cycle
-placed_apart new rules [] own apart placed = tt
-placed_apart new rules (entry ∷ cycle) own (inl none) placed = (
+numbered_apart : (new : Rule) (rules : List Rule) (cycle : List Entry) → HaveOwnNames rules →
+    AreApart rules (named_entries rules cycle) new.name → AreNumbered rules cycle →
+    AreNumbered (with_rule new rules) cycle
+numbered_apart new rules [] own apart numbered = tt
+numbered_apart new rules (entry ∷ cycle) own (inl none) numbered = (
   (
-    half_stays new rules entry.a own (inl none) placed.0.0,
-    half_stays new rules entry.b own (inl none) placed.0.1,
+    half_stays new rules entry.a own (inl none) numbered.0.0,
+    half_stays new rules entry.b own (inl none) numbered.0.1,
   ),
-  placed_apart new rules cycle own (inl none) placed.1,
+  numbered_apart new rules cycle own (inl none) numbered.1,
 )
-placed_apart new rules (entry ∷ cycle) own (inr unused) placed =
+numbered_apart new rules (entry ∷ cycle) own (inr unused) numbered =
     let named = named_entry rules entry in
     let (here, later) =
     neither (refuse.uses new.name named)
@@ -376,19 +377,19 @@ placed_apart new rules (entry ∷ cycle) own (inr unused) placed =
     let (a, b) =
     neither (refuse.is_name new.name named.a) (refuse.is_name new.name named.b) here in (
       (
-        half_stays new rules entry.a own (inr a) placed.0.0,
-        half_stays new rules entry.b own (inr b) placed.0.1,
+        half_stays new rules entry.a own (inr a) numbered.0.0,
+        half_stays new rules entry.b own (inr b) numbered.0.1,
       ),
-      placed_apart new rules cycle own (inr later) placed.1,
+      numbered_apart new rules cycle own (inr later) numbered.1,
     )
 
--- so all rules of a cycle stay at their places where a rule is put that isn't refused
-pub placed_with : (new : Rule) (rules : List Rule) (cycle : List Entry) → HaveOwnNames rules →
+-- so all rules of a cycle stay at their numbers where a rule is put that isn't refused
+pub numbered_with : (new : Rule) (rules : List Rule) (cycle : List Entry) → HaveOwnNames rules →
     refuse.rule_refusal rules (named_entries rules cycle) new.name ≡ None →
-    ArePlaced rules cycle → ArePlaced (with_rule new rules) cycle
-placed_with new rules cycle own none placed =
-    placed_apart new rules cycle own
-    (apart_if_room rules (named_entries rules cycle) new.name none) placed
+    AreNumbered rules cycle → AreNumbered (with_rule new rules) cycle
+numbered_with new rules cycle own none numbered =
+    numbered_apart new rules cycle own
+    (apart_if_room rules (named_entries rules cycle) new.name none) numbered
 
 -- a rule that isn't refused is put under its name
 rule_is : (m : Machine) (new : Rule) → IsMachine m →
@@ -433,12 +434,12 @@ small (colour ∷ colours) are =
 
 -- colours that aren't refused
 allowed_colours : (colours : List ℕ) → refuse.map_refusal colours ≡ None →
-    (length colours ≡ states) × AllByRecursion (λ colour. colour ≤ max_colour) colours
+    (length colours ≡ cell_states) × AllByRecursion (λ colour. colour ≤ max_colour) colours
 allowed_colours colours none =
     let (sixteen, are) =
-    both (length colours == states) (list_all (λ colour. nat_le colour max_colour) colours)
+    both (length colours == cell_states) (list_all (λ colour. nat_le colour max_colour) colours)
     (allowed _ OutOfRange none) in
-    (eqb-true (length colours) states sixteen, small colours are)
+    (eqb-true (length colours) cell_states sixteen, small colours are)
 
 -- a rule that isn't refused is dropped
 dropped_is : (m : Machine) (name : List ℕ) → IsMachine m →
@@ -489,8 +490,8 @@ effect_is m (command.Set plane row bits) is text none =
     else m.planes q u v) (side_some m.side)) is.position
 effect_is m (command.Rule name wiring text) is utf8 none =
     let new : Rule = record { name = name; wiring = wiring; text = text } in
-    let (place, words) = first_none _ (refuse.words_refusal wiring text) none in
-    rule_is m new is (no_fault _ place) words utf8
+    let (number, words) = first_none _ (refuse.words_refusal wiring text) none in
+    rule_is m new is (no_fault _ number) words utf8
 effect_is m (command.Clear plane) is text none =
     let s = side_number m.side in
     moved_is m (effect m (command.Clear plane)).planes m.position is
@@ -615,7 +616,7 @@ blank_is_machine limit = record {
 -- a machine that stores nothing yet
 pub blank_stored : (planes : Stored) (rules : List Rule) (entries : List Entry) (limit : Side) →
     planes.side ≡ first_side limit → planes.limit ≡ limit → rules ≡ [] → entries ≡ [] →
-    IsMachine (machine_of (stored planes rules entries 0 own_colours)) × ArePlaced rules entries
+    IsMachine (machine_of (stored planes rules entries 0 own_colours)) × AreNumbered rules entries
 blank_stored planes rules entries limit side whole no_rules no_entries =
     let is = blank_is_machine limit in
     let first = first_within limit in
@@ -634,9 +635,9 @@ blank_stored planes rules entries limit side whole no_rules no_entries =
       coloured = is.coloured;
       colours = is.colours;
     } in
-    subst (λ l. IsMachine (machine_of (stored planes rules l 0 own_colours)) × ArePlaced rules l)
+    subst (λ l. IsMachine (machine_of (stored planes rules l 0 own_colours)) × AreNumbered rules l)
     (sym no_entries)
-    (subst (λ l. IsMachine (machine_of (stored planes l [] 0 own_colours)) × ArePlaced l [])
+    (subst (λ l. IsMachine (machine_of (stored planes l [] 0 own_colours)) × AreNumbered l [])
     (sym no_rules) (blank, tt))
 
 -- a text without a fault spells a rule

@@ -70,18 +70,18 @@ only_planes_and_position m (suc n) =
     (λ (k : Machine). record k { planes = after.planes; position = after.position })
     (only_planes_and_position m n)
 
--- an entry stands at each place of the cycle
-at_place : (cycle : List NamedEntry) (place : ℕ) → place < length cycle →
-    (entry : NamedEntry) × (slice_get cycle place ≡ Some entry)
-at_place [] place within = absurd (omega (arith, within))
-at_place (entry ∷ cycle) zero within = (entry, refl)
-at_place (entry ∷ cycle) (suc place) within = at_place cycle place (omega (arith, within))
+-- an entry stands at each index of the cycle
+at_index : (cycle : List NamedEntry) (index : ℕ) → index < length cycle →
+    (entry : NamedEntry) × (slice_get cycle index ≡ Some entry)
+at_index [] index within = absurd (omega (arith, within))
+at_index (entry ∷ cycle) zero within = (entry, refl)
+at_index (entry ∷ cycle) (suc index) within = at_index cycle index (omega (arith, within))
 
 -- the position after one step
 one_on : (m : Machine) → m.position < length m.cycle →
     (stepped m).position ≡ (m.position + 1) % length m.cycle
 one_on m within =
-    let (entry, found) = at_place m.cycle m.position within in
+    let (entry, found) = at_index m.cycle m.position within in
     ap (λ o. (stepped_by o m).position) found
 
 pub position_goes_round : laws.PositionGoesRound

@@ -1,7 +1,7 @@
 -- Steps that are undone change planes and position alone, and leave a machine.
 use Rattle.std.proofs.Common.{◌≡◌, ◌<◌, ℕ, zero, suc, List, [], ◌∷◌, length, Option, Some, None}
 use Rattle.std.proofs.Common.{refl, sym, subst, ◌∙◌, ap, arith, slice_get}
-use Rattle.cam6_cycle.specs.Turns.{previous}
+use Rattle.cam6_cycle.specs.Along.{previous}
 use Rattle.cam6_machine.specs.Machine.{Machine, unstepped_by, unstepped, unsteps}
 use Rattle.cam6_machine.specs.Always.{IsPosition, IsMachine}
 use Rattle.cam6_machine.specs.declared.commands.NamedEntry.{NamedEntry}
@@ -23,8 +23,8 @@ only_these_back m zero = refl
 only_these_back m (suc n) =
     let before = unsteps n m in
     let after = unstepped before in
-    let place = previous (length before.cycle) before.position in
-    moved place (slice_get before.cycle place) before ∙
+    let index = previous (length before.cycle) before.position in
+    moved index (slice_get before.cycle index) before ∙
     ap {B = Machine}
     (λ (k : Machine). record k { planes = after.planes; position = after.position })
     (only_these_back m n)
@@ -49,10 +49,10 @@ pub unsteps_position : (n : ℕ) (m : Machine) → IsPosition m.cycle m.position
 unsteps_position zero m is = is
 unsteps_position (suc n) m is =
     let before = unsteps n m in
-    let place = previous (length before.cycle) before.position in
+    let index = previous (length before.cycle) before.position in
     let same : before.cycle ≡ m.cycle = ap (λ (k : Machine). k.cycle) (only_these_back m n) in
     subst (λ cycle. IsPosition cycle (unstepped before).position) same
-    (position_back before (slice_get before.cycle place)
+    (position_back before (slice_get before.cycle index)
     (subst (λ cycle. IsPosition cycle before.position) (sym same) (unsteps_position n m is)))
 
 -- so a machine stays one

@@ -23,18 +23,18 @@ use Rattle.cam6_table.specs.Meaning.{meaning, at_address}
 use Rattle.cam6_table.specs.NewBits.{bit_for}
 use Rattle.cam6_table.specs.Tables.{least_stop}
 use Rattle.cam6_table.proofs.TrueTables.{at_seen}
-use Rattle.cam6_block.specs.Blocks.{place_sees}
+use Rattle.cam6_block.specs.Blocks.{corner_sees}
 use Rattle.cam6_block.specs.BlockMaps.{made}
-use Rattle.cam6_block.proofs.States.{place_bit-block_map}
+use Rattle.cam6_block.proofs.States.{corner_bit-block_map}
 use Rattle.cam6_machine.specs.Rules.{Rule}
 use Rattle.cam6_machine.specs.Cycles.{rule_for, setting_for}
 use Rattle.cam6_machine.specs.Steps.{new_bit, new_cell}
-use Rattle.cam6_machine.specs.Undoing.{state_at, place_in_block, changed_cell, blockwise}
+use Rattle.cam6_machine.specs.Undoing.{block_state_at, corner_in_block, changed_cell, blockwise}
 use Rattle.cam6_machine.specs.Undoing.{reading_of, done_by}
 use Rattle.cam6_machine.specs.Refusals.{text_refusal, stop_refusal, words_refusal}
 use Rattle.cam6_machine.specs.Laws.{IsOfBlocks, StepChangesBlocks}
-use Rattle.cam6_machine.proofs.Undoable.{neither_comes}
-use Rattle.cam6_machine.proofs.BlocksOfCells.{place_of_corner-lt}
+use Rattle.cam6_machine.proofs.ReversibleCycles.{neither_comes}
+use Rattle.cam6_machine.proofs.BlocksOfCells.{corner_number-lt}
 use Rattle.cam6_machine.proofs.AddressesOfBlocks.{addresses_agree}
 use Rattle.cam6_machine.proofs.SeenInBlocks.{sees_block}
 
@@ -70,7 +70,7 @@ same_on_planes bit other same (suc zero) = same A Upper
 same_on_planes bit other same (suc (suc zero)) = same B Lower
 same_on_planes bit other same (suc (suc (suc p))) = same B Upper
 
--- a cell's new bit by a rule of blocks is that of its place in what becomes of the block
+-- a cell's new bit by a rule of blocks is that of its corner in what becomes of the block
 new_cell_of_block : (s : ℕ) (f : Cells) (setting : Setting) (rule : Option Rule) (level : Level)
     (x y : ℕ) → 0 < s → s % 2 ≡ 0 → x < s → y < s → IsOfBlocks rule →
     new_cell s f setting rule level x y
@@ -79,20 +79,20 @@ new_cell_of_block s f setting None level x y some even h k blocks = refl
 new_cell_of_block s f setting (Some rule) level x y some even h k (words, margolus, alone) =
     let wiring = rule.wiring in
     let tree = tree_of rule.text in
-    let state = state_at s f setting.half setting.grid x y in
-    let place = place_in_block setting.grid x y in
+    let state = block_state_at s f setting.half setting.grid x y in
+    let corner = corner_in_block setting.grid x y in
     let sees : Sees = λ name. seen s f setting name x y in
-    let from_place = place_sees setting.phase state place in
+    let from_corner = corner_sees setting.phase state corner in
     let is_rule = text_is_rule wiring rule.text words in
     let same =
-    addresses_agree sees from_place (sees_block s f setting x y some even h k) wiring.hood
+    addresses_agree sees from_corner (sees_block s f setting x y some even h k) wiring.hood
     wiring.minor margolus alone in
     ap (new_bit level)
     (at_seen wiring tree sees is_rule ∙ ap (at_address wiring tree) same ∙
-    sym (at_seen wiring tree from_place is_rule)) ∙
-    made_bit level (meaning wiring tree from_place) ∙
-    sym (place_bit-block_map (reading_of rule) setting.phase state level place
-    (place_of_corner-lt (corner_of setting.grid x y)))
+    sym (at_seen wiring tree from_corner is_rule)) ∙
+    made_bit level (meaning wiring tree from_corner) ∙
+    sym (corner_bit-block_map (reading_of rule) setting.phase state level corner
+    (corner_number-lt (corner_of setting.grid x y)))
 
 pub step_changes_blocks : StepChangesBlocks
 unfolding blockwise

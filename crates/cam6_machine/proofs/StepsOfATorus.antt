@@ -9,7 +9,7 @@ use Rattle.cam6_planes.proofs.CellsAt.{torus_again}
 use Rattle.cam6_wiring.specs.Name.{on_plane}
 use Rattle.cam6_wiring.specs.declared.blocks.Grid.{Grid}
 use Rattle.cam6_wiring.specs.declared.names.Half.{Half}
-use Rattle.cam6_cycle.specs.Turns.{previous}
+use Rattle.cam6_cycle.specs.Along.{previous}
 use Rattle.cam6_machine.specs.Cycles.{EntryRules, rule_for, setting_for, entry_rules}
 use Rattle.cam6_machine.specs.Steps.{new_cell, step}
 use Rattle.cam6_machine.specs.Undoing.{changed_cell, blockwise, undone_by, unstep}

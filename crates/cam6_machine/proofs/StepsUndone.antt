@@ -12,9 +12,9 @@ use Rattle.cam6_wiring.specs.declared.names.Level.{Level}
 use Rattle.cam6_wiring.specs.declared.names.Phase.{Phase}
 use Rattle.cam6_wiring.specs.declared.neighbours.Setting.{Setting}
 use Rattle.cam6_table.specs.NewBits.{bit_for}
-use Rattle.cam6_block.specs.Blocks.{place_sees, place_address}
+use Rattle.cam6_block.specs.Blocks.{corner_sees, corner_address}
 use Rattle.cam6_block.specs.BlockMaps.{block_map, preimage}
-use Rattle.cam6_block.proofs.States.{block_map-lt, bit_for-bits_at}
+use Rattle.cam6_block.proofs.States.{block_map-lt, bit_for-corner_bits}
 use Rattle.cam6_block.proofs.Pigeonhole.{takes_each}
 use Rattle.cam6_block.proofs.Preimages.{preimage_is, preimage-lt}
 use Rattle.cam6_cycle.specs.declared.tables.Direction.TheVariants.{Backward}
@@ -23,33 +23,33 @@ use Rattle.cam6_band.specs.ByTables.{HalfEntries, StepTables}
 use Rattle.cam6_machine.specs.Rules.{Rule}
 use Rattle.cam6_machine.specs.Cycles.{EntryRules, rule_for, setting_for}
 use Rattle.cam6_machine.specs.Steps.{step}
-use Rattle.cam6_machine.specs.Undoing.{state_at, place_in_block, changed_cell, blockwise}
+use Rattle.cam6_machine.specs.Undoing.{block_state_at, corner_in_block, changed_cell, blockwise}
 use Rattle.cam6_machine.specs.Undoing.{reading_of, done_by, undone_by, unstep}
-use Rattle.cam6_machine.specs.Undoing.{IsUndoable, IsUndoableEntry}
+use Rattle.cam6_machine.specs.Undoing.{IsReversibleRule, IsReversibleEntry}
 use Rattle.cam6_machine.specs.TrueTables.{HasTableFor, AreTablesFor}
 use Rattle.cam6_machine.specs.Laws.{IsOfBlocks, InvertedTablesUndo}
-use Rattle.cam6_machine.proofs.BlocksOfCells.{place_of_corner-lt, state_at-lt}
+use Rattle.cam6_machine.proofs.BlocksOfCells.{corner_number-lt, block_state_at-lt}
 use Rattle.cam6_machine.proofs.ChangedBlocks.{IsUndone, changed_back}
 use Rattle.cam6_machine.proofs.AddressesOfBlocks.{addresses_agree}
 use Rattle.cam6_machine.proofs.SeenInBlocks.{sees_block}
 use Rattle.cam6_machine.proofs.StepsByBlocks.{same_on_planes, step_changes_blocks}
 
--- a cell's new bit by an inverted table is that of its place in the least state that becomes its
+-- a cell's new bit by an inverted table is that of its corner in the least state that becomes its
 -- block's
 cell_by_inverted : (s : ℕ) (f : Cells) (setting : Setting) (rule : Option Rule)
     (table : Option HalfEntries) (level : Level) (x y : ℕ) → 0 < s → s % 2 ≡ 0 → x < s → y < s →
-    IsUndoable rule → HasTableFor Backward rule table →
+    IsReversibleRule rule → HasTableFor Backward rule table →
     bit_by_table s f setting table level x y
     ≡ changed_cell s f setting.grid setting.half (undone_by setting.phase rule) level x y
-unfolding place_address
+unfolding corner_address
 cell_by_inverted s f setting None None level x y some even h k can has = refl
 cell_by_inverted s f setting None (Some half) level x y some even h k can has = absurd has
 cell_by_inverted s f setting (Some rule) None level x y some even h k can has = absurd has
 cell_by_inverted s f setting (Some rule) (Some half) level x y some even h k can has =
     let entries = half.entries in
     let wiring = rule.wiring in
-    let state = state_at s f setting.half setting.grid x y in
-    let place = place_in_block setting.grid x y in
+    let state = block_state_at s f setting.half setting.grid x y in
+    let corner = corner_in_block setting.grid x y in
     let sees : Sees = λ name. seen s f setting name x y in
     let inverted = has.2 can in
     ap (λ hood. bit_for level (slice_index entries (address s f setting hood half.minor x y)))
@@ -57,16 +57,16 @@ cell_by_inverted s f setting (Some rule) (Some half) level x y some even h k can
     ap (λ minor. bit_for level (slice_index entries (address s f setting wiring.hood minor x y)))
     has.1 ∙
     ap (λ shown. bit_for level (slice_index entries shown))
-    (addresses_agree sees (place_sees setting.phase state place)
+    (addresses_agree sees (corner_sees setting.phase state corner)
     (sees_block s f setting x y some even h k) wiring.hood wiring.minor can.blocks can.alone) ∙
     ap (bit_for level)
-    (inverted.shown setting.phase state place (state_at-lt s f setting.half setting.grid x y)
-    (place_of_corner-lt (corner_of setting.grid x y))) ∙
-    bit_for-bits_at level (preimage (block_map (reading_of rule) setting.phase) state) place
+    (inverted.shown setting.phase state corner (block_state_at-lt s f setting.half setting.grid x y)
+    (corner_number-lt (corner_of setting.grid x y))) ∙
+    bit_for-corner_bits level (preimage (block_map (reading_of rule) setting.phase) state) corner
 
 module _ (s : ℕ) (entry : EntryRules) (some : 0 < s) (even : s % 2 ≡ 0)
-    (can : IsUndoableEntry entry) where
-  can_be : (half : Half) → IsUndoable (rule_for half entry)
+    (can : IsReversibleEntry entry) where
+  can_be : (half : Half) → IsReversibleRule (rule_for half entry)
   can_be A = can.0
   can_be B = can.1
 
@@ -101,7 +101,7 @@ module _ (s : ℕ) (entry : EntryRules) (some : 0 < s) (even : s % 2 ≡ 0)
         cell_by_inverted s f (setting_for half entry) (rule_for half entry)
         (table_for half tables) level x y some even h k (can_be half) (half_has half)) p)
 
-  there : (rule : Option Rule) (phase : Phase) → IsUndoable rule →
+  there : (rule : Option Rule) (phase : Phase) → IsReversibleRule rule →
       IsUndone (done_by phase rule) (undone_by phase rule)
   there None phase can = tt
   there (Some rule) phase can = (
@@ -109,7 +109,7 @@ module _ (s : ℕ) (entry : EntryRules) (some : 0 < s) (even : s % 2 ≡ 0)
     λ state h. preimage_is (block_map (reading_of rule) phase) state h (can.one_to_one phase),
   )
 
-  back : (rule : Option Rule) (phase : Phase) → IsUndoable rule →
+  back : (rule : Option Rule) (phase : Phase) → IsReversibleRule rule →
       IsUndone (undone_by phase rule) (done_by phase rule)
   back None phase can = tt
   back (Some rule) phase can =

@@ -7,7 +7,8 @@ use Rattle.cam6_wiring.specs.declared.names.Half.{Half}
 use Rattle.cam6_wiring.specs.declared.names.Half.TheVariants.{A, B}
 use Rattle.cam6_planes.specs.Side.{side_number}
 use Rattle.cam6_planes.specs.Cells.{torus}
-use Rattle.cam6_machine.specs.Limits.{max_rules, max_entries, states, max_colour}
+use Rattle.cam6_machine.specs.Limits.{max_rules, cell_states, max_colour}
+use Rattle.cam6_cycle.specs.Limits.{max_entries}
 use Rattle.cam6_machine.specs.Rules.{Rule, rule_named, is_rule_name}
 use Rattle.cam6_machine.specs.Refusals.{words_refusal}
 use Rattle.cam6_machine.specs.Machine.{Machine}
@@ -48,7 +49,7 @@ pub record IsMachine (m : Machine) : Type 0 where
   pub short : length m.cycle ≤ max_entries
   pub entries : AllByRecursion (IsEntry m.rules) m.cycle
   pub position : IsPosition m.cycle m.position
-  pub coloured : length m.colours ≡ states
+  pub coloured : length m.colours ≡ cell_states
   pub colours : AllByRecursion (λ colour. colour ≤ max_colour) m.colours
 
 -- the text of a rule that a command defines, if it defines one, is UTF-8

@@ -13,9 +13,9 @@ use Rattle.cam6_machine.specs.declared.replies.Reply.{Reply}
 use Rattle.cam6_machine.specs.declared.replies.Reply.TheVariants as reply
 
 -- the steps that are left to do, and their direction, if there are any
-abbrev pub work_left : Now → Option (ℕ × Direction)
-work_left (now.Reply r) = None
-work_left (now.Work n direction) = Some (n, direction)
+abbrev pub work_in : Now → Option (ℕ × Direction)
+work_in (now.Reply r) = None
+work_in (now.Work n direction) = Some (n, direction)
 
 -- a reply is the reply to the command
 abbrev pub IsReplyTo : Now → Machine → Command → Type 0
@@ -23,36 +23,36 @@ IsReplyTo (now.Reply r) m c = r ≡ reply_to m c
 IsReplyTo (now.Work n direction) m c = ⊤
 
 -- with a reply the command is done, and with steps left to do nothing is done yet
-abbrev pub machine_after : Now → Machine → Command → Machine
-machine_after (now.Reply r) m c = after m c
-machine_after (now.Work n direction) m c = m
+abbrev pub machine_then : Now → Machine → Command → Machine
+machine_then (now.Reply r) m c = after m c
+machine_then (now.Work n direction) m c = m
 
 -- what a reply leaves, of all that is stored: everything but planes, rules, colours, or the cycle
 -- or the planes with the position; a refusal leaves everything
-abbrev pub IsLeftBy : Reply → StoredMachine → StoredMachine → Type 0
-IsLeftBy reply.Set old new = new ≡ record old { planes = new.planes }
-IsLeftBy reply.Clear old new = new ≡ record old { planes = new.planes }
-IsLeftBy reply.Rule old new = new ≡ record old { rules = new.rules }
-IsLeftBy reply.Drop old new = new ≡ record old { rules = new.rules }
-IsLeftBy (reply.Rules names) old new = new ≡ old
-IsLeftBy reply.Cycle old new = new ≡ record old { cycle = new.cycle; position = 0 }
-IsLeftBy reply.Side old new = new ≡ record old { planes = new.planes; position = 0 }
-IsLeftBy reply.Map old new = new ≡ record old { colours = new.colours }
-IsLeftBy (reply.Run position) old new = new ≡ old
-IsLeftBy (reply.Back position) old new = new ≡ old
-IsLeftBy (reply.Row bits) old new = new ≡ old
-IsLeftBy (reply.Plane rows) old new = new ≡ old
-IsLeftBy (reply.Colours colours) old new = new ≡ old
-IsLeftBy (reply.Count count) old new = new ≡ old
-IsLeftBy (reply.Fault fault) old new = new ≡ old
-IsLeftBy (reply.RuleText fault) old new = new ≡ old
-IsLeftBy (reply.RuleStops address fault) old new = new ≡ old
-IsLeftBy (reply.NotReversible entry half cause) old new = new ≡ old
+abbrev pub StaysAfter : Reply → StoredMachine → StoredMachine → Type 0
+StaysAfter reply.Set old new = new ≡ record old { planes = new.planes }
+StaysAfter reply.Clear old new = new ≡ record old { planes = new.planes }
+StaysAfter reply.Rule old new = new ≡ record old { rules = new.rules }
+StaysAfter reply.Drop old new = new ≡ record old { rules = new.rules }
+StaysAfter (reply.Rules names) old new = new ≡ old
+StaysAfter reply.Cycle old new = new ≡ record old { cycle = new.cycle; position = 0 }
+StaysAfter reply.Side old new = new ≡ record old { planes = new.planes; position = 0 }
+StaysAfter reply.Map old new = new ≡ record old { colours = new.colours }
+StaysAfter (reply.Run position) old new = new ≡ old
+StaysAfter (reply.Back position) old new = new ≡ old
+StaysAfter (reply.Row bits) old new = new ≡ old
+StaysAfter (reply.Plane rows) old new = new ≡ old
+StaysAfter (reply.Colours colours) old new = new ≡ old
+StaysAfter (reply.Count count) old new = new ≡ old
+StaysAfter (reply.Fault fault) old new = new ≡ old
+StaysAfter (reply.RuleText fault) old new = new ≡ old
+StaysAfter (reply.RuleStops address fault) old new = new ≡ old
+StaysAfter (reply.NotReversible entry half cause) old new = new ≡ old
 
 -- the same of what is said at once; where steps are left, nothing is done yet
-abbrev pub Leaves : Now → StoredMachine → StoredMachine → Type 0
-Leaves (now.Reply r) old new = IsLeftBy r old new
-Leaves (now.Work n direction) old new = new ≡ old
+abbrev pub StaysUnless : Now → StoredMachine → StoredMachine → Type 0
+StaysUnless (now.Reply r) old new = StaysAfter r old new
+StaysUnless (now.Work n direction) old new = new ≡ old
 
 -- the commands for which memory may be wanted: what is kept of a rule, and the rows and the names
 -- that a reply lists

@@ -22,7 +22,7 @@ use Rattle.cam6_machine.specs.declared.replies.Reply.TheVariants as reply
 unfoldable pub plane_rows : ℕ → ℕ → Cells → ℕ → List (List ℕ)
 plane_rows s n f p = map (λ y. row_text n (λ x. f p x y)) (range_with_len 0 s)
 
--- a rule whose name is there keeps its place and gets the new rule; another goes last
+-- a rule whose name is there keeps its number and gets the new rule; another goes last
 abbrev pub with_rule : Rule → List Rule → List Rule
 with_rule new [] = new ∷ []
 with_rule new (rule ∷ rules) =

@@ -19,10 +19,10 @@ use Rattle.cam6_cycle.specs.declared.tables.Direction.TheVariants.{Forward, Back
 use Rattle.cam6_machine.specs.Rules.{Rule}
 use Rattle.cam6_machine.specs.Cycles.{EntryRules, name_for, entry_rules, rule_for}
 use Rattle.cam6_machine.specs.Steps.{words_mean, step}
-use Rattle.cam6_machine.specs.Undoing.{blockwise, done_by, unstep, IsUndoableEntry}
+use Rattle.cam6_machine.specs.Undoing.{blockwise, done_by, unstep, IsReversibleEntry}
 use Rattle.cam6_machine.specs.TrueTables.{AreTablesFor}
-use Rattle.cam6_machine.specs.Numbers.{rules_at, named_entry, IsPlaced, ArePlaced, AreTables}
-use Rattle.cam6_machine.specs.Machine.{Machine, blank, steps, unsteps, IsUndoableCycle}
+use Rattle.cam6_machine.specs.Numbers.{rules_at, named_entry, IsNumbered, AreNumbered, AreTables}
+use Rattle.cam6_machine.specs.Machine.{Machine, blank, steps, unsteps, IsReversibleCycle}
 use Rattle.cam6_machine.specs.Refusals.{refusal, words_refusal}
 use Rattle.cam6_machine.specs.Always.{IsMachine, HaveOwnNames, HasText}
 use Rattle.cam6_machine.specs.Alone.{after}
@@ -41,7 +41,7 @@ abbrev pub TablesByUse : Type 0
 TablesByUse =
     (direction : Direction) (rules : List Rule) (entries : List Entry) (tables : List (List ℕ))
     (position : ℕ) (entry : Entry) (step : StepTables) →
-    ArePlaced rules entries →
+    AreNumbered rules entries →
     AreTables direction (length (tables_needed direction entries)) rules
     (tables_needed direction entries) tables →
     slice_get entries position ≡ Some entry → step_tables_at entries position tables ≡ Some step →
@@ -51,7 +51,7 @@ TablesByUse =
 abbrev pub NumbersAndNames : Type 0
 NumbersAndNames =
     (rules : List Rule) (entry : Entry) → HaveOwnNames rules →
-    IsPlaced rules entry.a → IsPlaced rules entry.b →
+    IsNumbered rules entry.a → IsNumbered rules entry.b →
     entry_rules rules (named_entry rules entry) ≡ rules_at rules entry
 
 -- a half without a rule keeps its planes
@@ -123,19 +123,19 @@ StepChangesBlocks =
 abbrev pub InvertedTablesUndo : Type 0
 InvertedTablesUndo =
     (s : ℕ) (entry : EntryRules) (tables : StepTables) (f : Cells) → 0 < s → s % 2 ≡ 0 →
-    IsUndoableEntry entry → AreTablesFor Backward entry tables → torus s f ≡ f →
+    IsReversibleEntry entry → AreTablesFor Backward entry tables → torus s f ≡ f →
     step_by s tables f ≡ unstep s entry f
 
 -- where every rule of the cycle can be undone, steps that are done and undone again give the
 -- machine back
 abbrev pub UndoingUndoes : Type 0
 UndoingUndoes =
-    (m : Machine) (n : ℕ) → IsMachine m → IsUndoableCycle m → unsteps n (steps n m) ≡ m
+    (m : Machine) (n : ℕ) → IsMachine m → IsReversibleCycle m → unsteps n (steps n m) ≡ m
 
 -- and so do steps that are undone and done again
 abbrev pub DoingRedoes : Type 0
 DoingRedoes =
-    (m : Machine) (n : ℕ) → IsMachine m → IsUndoableCycle m → steps n (unsteps n m) ≡ m
+    (m : Machine) (n : ℕ) → IsMachine m → IsReversibleCycle m → steps n (unsteps n m) ≡ m
 
 -- a machine that goes back as far as it ran, where it isn't refused this, is the machine that it
 -- was, and so is one that then runs as far as it went back

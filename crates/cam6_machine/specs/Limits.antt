@@ -8,17 +8,13 @@ max_rules = 16
 abbrev pub max_name : ℕ
 max_name = 24
 
--- the most entries of a cycle
-abbrev pub max_entries : ℕ
-max_entries = 16
-
 -- the most steps of one command
 abbrev pub max_steps : ℕ
 max_steps = 65535
 
 -- a cell's state is a bit of each of four planes; so many states, and the largest colour of one
-abbrev pub states : ℕ
-states = 16
+abbrev pub cell_states : ℕ
+cell_states = 16
 
 abbrev pub max_colour : ℕ
 max_colour = 15

@@ -5,11 +5,11 @@ use Rattle.cam6_planes.specs.Side.{side_number}
 use Rattle.cam6_planes.specs.declared.sides.Side.{Side}
 use Rattle.cam6_planes.specs.declared.sides.Side.TheVariants.{S128, S256, S512}
 use Rattle.cam6_planes.specs.Cells.{Cells, cells, no_cells}
-use Rattle.cam6_cycle.specs.Turns.{previous}
+use Rattle.cam6_cycle.specs.Along.{previous}
 use Rattle.cam6_machine.specs.Rules.{Rule}
 use Rattle.cam6_machine.specs.Cycles.{entry_rules}
 use Rattle.cam6_machine.specs.Steps.{step}
-use Rattle.cam6_machine.specs.Undoing.{unstep, IsUndoableEntry}
+use Rattle.cam6_machine.specs.Undoing.{unstep, IsReversibleEntry}
 use Rattle.cam6_machine.specs.Stored.{StoredMachine}
 use Rattle.cam6_machine.specs.declared.commands.NamedEntry.{NamedEntry}
 
@@ -87,8 +87,8 @@ unsteps zero m = m
 unsteps (suc n) m = unstepped (unsteps n m)
 
 -- every rule of the cycle can be undone
-abbrev pub IsUndoableCycle : Machine → Type 0
-IsUndoableCycle m = AllByRecursion (λ entry. IsUndoableEntry (entry_rules m.rules entry)) m.cycle
+abbrev pub IsReversibleCycle : Machine → Type 0
+IsReversibleCycle m = AllByRecursion (λ entry. IsReversibleEntry (entry_rules m.rules entry)) m.cycle
 
 -- the machine that is stored
 abbrev pub machine_of : StoredMachine → Machine

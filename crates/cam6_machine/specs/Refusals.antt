@@ -17,6 +17,7 @@ use Rattle.cam6_block.specs.Refusals.{cause_of}
 use Rattle.cam6_block.specs.declared.refusals.NotReversible.{NotReversible}
 use Rattle.cam6_planes.specs.Side.{side_number, side_of}
 use Rattle.cam6_planes.specs.declared.sides.Side.{Side}
+use Rattle.cam6_cycle.specs.Limits.{max_entries}
 use Rattle.cam6_machine.specs.Limits as limits
 use Rattle.cam6_machine.specs.Rules.{Rule, rule_named, wiring_of, is_rule_name}
 use Rattle.cam6_machine.specs.Cycles.{EntryRules, entry_rules}
@@ -71,14 +72,14 @@ side_refusal limit n = within_refusal limit (side_of n)
 abbrev pub map_refusal : List ℕ → Option Fault
 map_refusal colours =
     unless
-    ((length colours == limits.states)
+    ((length colours == limits.cell_states)
     && list_all (λ colour. nat_le colour limits.max_colour) colours) OutOfRange
 
 -- a row whose colours are asked for
 abbrev pub colours_refusal : Side → ℕ → Option Fault
 colours_refusal side row = unless (nat_lt row (side_number side)) OutOfRange
 
--- a mask has no bit but those of states
+-- a mask has no bit but those of cell_states
 abbrev pub count_refusal : ℕ → Option Fault
 count_refusal mask = unless (nat_le mask limits.max_mask) OutOfRange
 
@@ -126,9 +127,9 @@ abbrev pub have_phases : List NamedEntry → Bool
 have_phases entries = list_all (λ entry. nat_lt entry.phase 4) entries
 
 -- 1 to 16 entries, each with a phase
-abbrev pub is_cycle : List NamedEntry → Bool
-is_cycle entries =
-    nat_le 1 (length entries) && nat_le (length entries) limits.max_entries && have_phases entries
+abbrev pub is_named_cycle : List NamedEntry → Bool
+is_named_cycle entries =
+    nat_le 1 (length entries) && nat_le (length entries) max_entries && have_phases entries
 
 -- a name must be a rule's, and the rule one of this half
 abbrev pub wiring_refusal : Half → Option Wiring → Option Fault
@@ -151,7 +152,7 @@ first_refusal rules (entry ∷ entries) =
 
 abbrev pub cycle_refusal : List Rule → List NamedEntry → Option Fault
 cycle_refusal rules entries =
-    if is_cycle entries then first_refusal rules entries else Some OutOfRange
+    if is_named_cycle entries then first_refusal rules entries else Some OutOfRange
 
 -- a text's first fault, with its token
 abbrev pub text_refusal : Result (List Defined) (ℕ × ℕ) → Option Reply

@@ -7,14 +7,14 @@ use Rattle.cam6_cycle.specs.declared.tables.Direction.TheVariants.{Forward, Back
 use Rattle.cam6_band.specs.ByTables.{HalfEntries, StepTables}
 use Rattle.cam6_machine.specs.Rules.{Rule}
 use Rattle.cam6_machine.specs.Cycles.{EntryRules}
-use Rattle.cam6_machine.specs.Undoing.{reading_of, IsUndoable}
+use Rattle.cam6_machine.specs.Undoing.{reading_of, IsReversibleRule}
 
 -- a rule's table: forward, that of its words; backward, the one that undoes its blocks, if it can
 -- be undone
 abbrev pub IsTable : Direction → Rule → List ℕ → Type 0
 IsTable Forward rule entries = IsTableOf rule.wiring rule.text entries
 IsTable Backward rule entries =
-    IsUndoable (Some rule) →
+    IsReversibleRule (Some rule) →
     IsInverted (reading_of rule) rule.wiring.hood rule.wiring.minor entries
 
 -- the same, where there is a rule

@@ -13,35 +13,35 @@ use Rattle.cam6_wiring.specs.declared.names.Half.{Half}
 use Rattle.cam6_wiring.specs.declared.names.Level.{Level}
 use Rattle.cam6_wiring.specs.declared.names.Phase.{Phase}
 use Rattle.cam6_forth.specs.Trees.{tree_of}
-use Rattle.cam6_block.specs.Blocks.{state_of, place_bit, is_right, is_low}
+use Rattle.cam6_block.specs.Blocks.{state_of, corner_bit, is_right, is_low}
 use Rattle.cam6_block.specs.BlockMaps.{Reading, by_words, block_map, preimage, IsReversible}
 use Rattle.cam6_machine.specs.Rules.{Rule}
 use Rattle.cam6_machine.specs.Cycles.{EntryRules, rule_for}
 
--- the column of a place of the block in which column x lies, on a torus of s columns, and the row
--- of a place of the block in which row y lies
+-- the column of a corner of the block in which column x lies, on a torus of s columns, and the row
+-- of a corner of the block in which row y lies
 abbrev pub column_at : ℕ → Grid → ℕ → ℕ → ℕ
-column_at s grid x place = (block_of s grid x + bit_number (is_right place)) % s
+column_at s grid x corner = (block_of s grid x + bit_number (is_right corner)) % s
 
 abbrev pub row_at : ℕ → Grid → ℕ → ℕ → ℕ
-row_at s grid y place = (block_of s grid y + bit_number (is_low place)) % s
+row_at s grid y corner = (block_of s grid y + bit_number (is_low corner)) % s
 
 -- the state of the block in which the cell at column x of row y lies
-unfoldable pub state_at : ℕ → Cells → Half → Grid → ℕ → ℕ → ℕ
-state_at s f half grid x y =
-    state_of (λ level place.
-    f (plane_of half level) (column_at s grid x place) (row_at s grid y place))
+unfoldable pub block_state_at : ℕ → Cells → Half → Grid → ℕ → ℕ → ℕ
+block_state_at s f half grid x y =
+    state_of (λ level corner.
+    f (plane_of half level) (column_at s grid x corner) (row_at s grid y corner))
 
--- the number of a corner as a place of its block
-abbrev pub place_of_corner : Corner → ℕ
-place_of_corner UpperLeft = 0
-place_of_corner UpperRight = 1
-place_of_corner LowerRight = 2
-place_of_corner LowerLeft = 3
+-- the number of a corner as a corner of its block
+abbrev pub corner_number : Corner → ℕ
+corner_number UpperLeft = 0
+corner_number UpperRight = 1
+corner_number LowerRight = 2
+corner_number LowerLeft = 3
 
--- the place of the cell at column x of row y in its block
-abbrev pub place_in_block : Grid → ℕ → ℕ → ℕ
-place_in_block grid x y = place_of_corner (corner_of grid x y)
+-- the corner of the cell at column x of row y in its block
+abbrev pub corner_in_block : Grid → ℕ → ℕ → ℕ
+corner_in_block grid x y = corner_number (corner_of grid x y)
 
 -- the new bit of a plane of a half at a cell of f: the cell's bit in what becomes of its block's
 -- state. With nothing that becomes of it the bit stays
@@ -49,7 +49,7 @@ abbrev pub changed_cell :
     ℕ → Cells → Grid → Half → Option (ℕ → ℕ) → Level → ℕ → ℕ → Bool
 changed_cell s f grid half None level x y = f (plane_of half level) x y
 changed_cell s f grid half (Some change) level x y =
-    place_bit (change (state_at s f half grid x y)) level (place_in_block grid x y)
+    corner_bit (change (block_state_at s f half grid x y)) level (corner_in_block grid x y)
 
 -- planes whose blocks on a grid are changed, each half's by what becomes of a state
 unfoldable pub blockwise : ℕ → Grid → (Half → Option (ℕ → ℕ)) → Cells → Cells
@@ -76,10 +76,10 @@ unstep s entry f =
 
 -- a rule can be undone, where there is one: its blocks see themselves alone, and no two of their
 -- states become one
-abbrev pub IsUndoable : Option Rule → Type 0
-IsUndoable None = ⊤
-IsUndoable (Some rule) = IsReversible (reading_of rule) rule.wiring.hood rule.wiring.minor
+abbrev pub IsReversibleRule : Option Rule → Type 0
+IsReversibleRule None = ⊤
+IsReversibleRule (Some rule) = IsReversible (reading_of rule) rule.wiring.hood rule.wiring.minor
 
 -- both rules of an entry can be
-abbrev pub IsUndoableEntry : EntryRules → Type 0
-IsUndoableEntry entry = IsUndoable entry.a × IsUndoable entry.b
+abbrev pub IsReversibleEntry : EntryRules → Type 0
+IsReversibleEntry entry = IsReversibleRule entry.a × IsReversibleRule entry.b

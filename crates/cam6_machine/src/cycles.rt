@@ -1,13 +1,13 @@
-//! A cycle as a machine keeps it: with the numbers of its rules, which are their places.
+//! A cycle as a machine keeps it: with the numbers of its rules, which are their numbers.
 ghost use Rattle.std.specs.Prelude.{◌≡◌, ◌≤◌, length, map};
 ghost use Rattle.cam6_cycle.specs.declared.cycles.TheConstants.{MAX_ENTRIES};
 ghost use Rattle.cam6_machine.specs.Cycles.{phase_of};
-ghost use Rattle.cam6_machine.specs.Internal.Places.{rules_of, place_if_named, placed_entry};
-ghost use Rattle.cam6_machine.specs.Internal.Places.{half_rule_at, entries_of, closed_half};
-ghost use Rattle.cam6_machine.specs.Internal.Places.{closed_entry};
+ghost use Rattle.cam6_machine.specs.Internal.Numbered.{rules_of, number_if_named, numbered_entry};
+ghost use Rattle.cam6_machine.specs.Internal.Numbered.{half_rule_at, entries_of, closed_half};
+ghost use Rattle.cam6_machine.specs.Internal.Numbered.{closed_entry};
 
 use crate::commands::NamedEntry;
-use crate::rules::{KeptRule, place_of, wiring_at};
+use crate::rules::{KeptRule, rule_number, wiring_at};
 use crate::texts::Text;
 use arrayvec::ArrayVec;
 use cam6_cycle::{Cycle, Entry, HalfRule, MAX_ENTRIES};
@@ -24,49 +24,49 @@ pub(crate) fn entries_of(cycle: &Option<Cycle>) -> &[Entry]
     }
 }
 
-/// The cycle of these entries, each with the places of its rules; none, if there are no entries.
-pub(crate) fn placed_cycle(
+/// The cycle of these entries, each with the numbers of its rules; none, if there are no entries.
+pub(crate) fn numbered_cycle(
     rules: &IndexMap<String, KeptRule>,
     entries: &[NamedEntry],
 ) -> Option<Cycle>
     requires { length entries.now ≤ MAX_ENTRIES }
-    ensures { entries_of result ≡ map (placed_entry (rules_of rules.now.entries)) entries.now }
+    ensures { entries_of result ≡ map (numbered_entry (rules_of rules.now.entries)) entries.now }
 {
-    let mut placed: ArrayVec<Entry, MAX_ENTRIES> = ArrayVec::new();
+    let mut numbered: ArrayVec<Entry, MAX_ENTRIES> = ArrayVec::new();
     for entry in entries {
-        placed.push(placed_entry(rules, entry));
+        numbered.push(numbered_entry(rules, entry));
     }
-    Cycle::new(placed.as_slice()).ok()
+    Cycle::new(numbered.as_slice()).ok()
 }
 
-/// The cycle once the rule at a place is dropped: the rules behind it have closed up.
-pub(crate) fn closed_cycle(cycle: &[Entry], place: usize) -> Option<Cycle>
+/// The cycle once the rule at a number is dropped: the rules behind it have closed up.
+pub(crate) fn closed_cycle(cycle: &[Entry], number: usize) -> Option<Cycle>
     requires { length cycle.now ≤ MAX_ENTRIES }
-    ensures { entries_of result ≡ map (closed_entry place) cycle.now }
+    ensures { entries_of result ≡ map (closed_entry number) cycle.now }
 {
     let mut closed: ArrayVec<Entry, MAX_ENTRIES> = ArrayVec::new();
     for entry in cycle {
-        closed.push(closed_entry(*entry, place));
+        closed.push(closed_entry(*entry, number));
     }
     Cycle::new(closed.as_slice()).ok()
 }
 
-fn closed_entry(entry: Entry, place: usize) -> Entry
-    ensures { result ≡ closed_entry place entry }
+fn closed_entry(entry: Entry, number: usize) -> Entry
+    ensures { result ≡ closed_entry number entry }
 {
     Entry {
-        a: closed_half(entry.a, place),
-        b: closed_half(entry.b, place),
+        a: closed_half(entry.a, number),
+        b: closed_half(entry.b, number),
         grid: entry.grid,
         phase: entry.phase,
     }
 }
 
-fn closed_half(rule: Option<HalfRule>, place: usize) -> Option<HalfRule>
-    ensures { result ≡ closed_half place rule }
+fn closed_half(rule: Option<HalfRule>, number: usize) -> Option<HalfRule>
+    ensures { result ≡ closed_half number rule }
 {
     let rule = rule?;
-    let number = if place < rule.number {
+    let number = if number < rule.number {
         rule.number - 1
     } else {
         rule.number
@@ -78,36 +78,35 @@ fn closed_half(rule: Option<HalfRule>, place: usize) -> Option<HalfRule>
     })
 }
 
-fn placed_entry(rules: &IndexMap<String, KeptRule>, entry: &NamedEntry) -> Entry
-    ensures { result ≡ placed_entry (rules_of rules.now.entries) entry.now }
+fn numbered_entry(rules: &IndexMap<String, KeptRule>, entry: &NamedEntry) -> Entry
+    ensures { result ≡ numbered_entry (rules_of rules.now.entries) entry.now }
 {
     Entry {
-        a: half_rule_at(rules, place_if_named(rules, &entry.a)),
-        b: half_rule_at(rules, place_if_named(rules, &entry.b)),
+        a: half_rule_at(rules, number_if_named(rules, &entry.a)),
+        b: half_rule_at(rules, number_if_named(rules, &entry.b)),
         grid: entry.grid,
         phase: phase_of(entry.phase),
     }
 }
 
-/// The rule at a place with what it is written for, if there is a place and a rule at it.
-fn half_rule_at(rules: &IndexMap<String, KeptRule>, place: Option<usize>) -> Option<HalfRule>
-    ensures { result ≡ half_rule_at (rules_of rules.now.entries) place }
+/// The rule at a number with what it is written for, if there is a number and a rule at it.
+fn half_rule_at(rules: &IndexMap<String, KeptRule>, number: Option<usize>) -> Option<HalfRule>
+    ensures { result ≡ half_rule_at (rules_of rules.now.entries) number }
 {
-    let number = place?;
-    let wiring = wiring_at(rules, place)?;
+    let wiring = wiring_at(rules, number)?;
     Some(HalfRule {
-        number,
+        number: number?,
         hood: wiring.hood,
         minor: wiring.minor,
     })
 }
 
-/// The place of the rule with this name, if there is a name and such a rule.
-fn place_if_named(rules: &IndexMap<String, KeptRule>, name: &Option<Text>) -> Option<usize>
-    ensures { result ≡ place_if_named (rules_of rules.now.entries) name.now }
+/// The number of the rule with this name, if there is a name and such a rule.
+fn number_if_named(rules: &IndexMap<String, KeptRule>, name: &Option<Text>) -> Option<usize>
+    ensures { result ≡ number_if_named (rules_of rules.now.entries) name.now }
 {
     match name {
-        Some(name) => place_of(rules, name),
+        Some(name) => rule_number(rules, name),
         None => None,
     }
 }

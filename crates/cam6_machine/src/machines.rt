@@ -8,7 +8,7 @@ ghost use Rattle.cam6_machine.specs.Effects.{plane_rows};
 ghost use Rattle.cam6_machine.specs.Internal.Ways.{reply_at};
 
 use crate::commands::{Command, NamedEntries};
-use crate::cycles::{closed_cycle, entries_of, placed_cycle};
+use crate::cycles::{closed_cycle, entries_of, numbered_cycle};
 use crate::refusals::{
     colours_refusal, colours_within, count_refusal, cycle_refusal, droppable, plane_refusal,
     row_refusal, rule_refusal, run_refusal, set_refusal, side_within,
@@ -37,7 +37,7 @@ pub struct Machine {
     /// The planes. They are away only in the midst of a run.
     image: Option<AtRest>,
     rules: IndexMap<String, KeptRule>,
-    /// With the places of its rules.
+    /// With the numbers of its rules.
     cycle: Option<Cycle>,
     position: usize,
     colours: [u8; 16],
@@ -51,13 +51,13 @@ pub struct Machine {
 
 impl Model for Machine {
     ghost use Rattle.std.specs.Prelude.{◌≡◌, ◌*◌, vec_len, IsSome};
-    ghost use Rattle.cam6_machine.specs.Limits.{max_entries};
+    ghost use Rattle.cam6_cycle.specs.Limits.{max_entries};
     ghost use Rattle.cam6_machine.specs.Stored.{StoredMachine};
     ghost use Rattle.cam6_machine.specs.Machine.{machine_of};
     ghost use Rattle.cam6_machine.specs.Always.{IsMachine};
     ghost use Rattle.cam6_machine.specs.Internal.Images.{planes_of};
-    ghost use Rattle.cam6_machine.specs.Numbers.{ArePlaced};
-    ghost use Rattle.cam6_machine.specs.Internal.Places.{rules_of, entries_of, stored};
+    ghost use Rattle.cam6_machine.specs.Numbers.{AreNumbered};
+    ghost use Rattle.cam6_machine.specs.Internal.Numbered.{rules_of, entries_of, stored};
 
     ghost Value = { StoredMachine };
 
@@ -69,7 +69,7 @@ impl Model for Machine {
         IsMachine (machine_of
         (stored (planes_of m.image) (rules_of m.rules.entries) (entries_of m.cycle) m.position
         m.colours))
-        × ArePlaced (rules_of m.rules.entries) (entries_of m.cycle)
+        × AreNumbered (rules_of m.rules.entries) (entries_of m.cycle)
         × (vec_len m.tables ≡ 2 * max_entries)
         × IsSome m.image };
 }
@@ -82,8 +82,8 @@ impl Machine {
     ghost use Rattle.cam6_forth.specs.declared.faults.TextFault.{TextFault};
     ghost use Rattle.cam6_forth.specs.Reading.{keeps};
     ghost use Rattle.cam6_machine.specs.Alone.{reply, after, work_of, command_of};
-    ghost use Rattle.cam6_machine.specs.AtOnce.{work_left, IsReplyTo, machine_after};
-    ghost use Rattle.cam6_machine.specs.AtOnce.{IsLeftBy, Leaves, may_want_memory, CanWork};
+    ghost use Rattle.cam6_machine.specs.AtOnce.{work_in, IsReplyTo, machine_then};
+    ghost use Rattle.cam6_machine.specs.AtOnce.{StaysAfter, StaysUnless, may_want_memory, CanWork};
     ghost use Rattle.cam6_machine.specs.Always.{IsMachine};
 
     /// A machine with blank planes, no rules and no cycle, whose side is the lesser of 256 and the
@@ -124,11 +124,11 @@ impl Machine {
     /// taken here.
     pub fn now(&mut self, command: Command) -> Result<Now, NoMemory>
         // Steps are left exactly where the command does some.
-        ensures work { IfOk result (λ now. work_left now ≡ work_of (machine_of self.old) command) }
+        ensures work { IfOk result (λ now. work_in now ≡ work_of (machine_of self.old) command) }
         ensures reply { IfOk result (λ now. IsReplyTo now (machine_of self.old) command) }
         ensures machine { IfOk result (λ now.
-            machine_of self.new ≡ machine_after now (machine_of self.old) command) }
-        ensures left { IfOk result (λ now. Leaves now self.old self.new) }
+            machine_of self.new ≡ machine_then now (machine_of self.old) command) }
+        ensures others { IfOk result (λ now. StaysUnless now self.old self.new) }
         ensures ready { IfOk result (λ now. CanWork now (machine_of self.new)) }
         ensures err { OnErr result (self.new ≡ self.old) }
         // Memory is wanted for what is kept of a rule and for the lists of a reply alone; neither
@@ -168,7 +168,7 @@ impl Machine {
         ensures reply { result ≡ reply (machine_of self.old) (Command.Set plane row bits.now) }
         ensures machine { machine_of self.new
             ≡ after (machine_of self.old) (Command.Set plane row bits.now) }
-        ensures left { IsLeftBy result self.old self.new }
+        ensures others { StaysAfter result self.old self.new }
     {
         let Some(image) = &mut self.image else {
             unreachable!()
@@ -186,7 +186,7 @@ impl Machine {
         ensures reply { result ≡ reply (machine_of self.old) (Command.Clear plane) }
         ensures machine { machine_of self.new
             ≡ after (machine_of self.old) (Command.Clear plane) }
-        ensures left { IsLeftBy result self.old self.new }
+        ensures others { StaysAfter result self.old self.new }
     {
         if let Some(fault) = plane_refusal(plane) {
             return Reply::Fault(fault);
@@ -202,7 +202,7 @@ impl Machine {
         ensures reply { result ≡ reply (machine_of self.old) (Command.Side number) }
         ensures machine { machine_of self.new
             ≡ after (machine_of self.old) (Command.Side number) }
-        ensures left { IsLeftBy result self.old self.new }
+        ensures others { StaysAfter result self.old self.new }
     {
         let Some(image) = &mut self.image else {
             unreachable!()
@@ -223,7 +223,7 @@ impl Machine {
             r ≡ reply (machine_of self.old) (Command.Rule name wiring text)) }
         ensures machine { IfOk result (λ r.
             machine_of self.new ≡ after (machine_of self.old) (Command.Rule name wiring text)) }
-        ensures left { IfOk result (λ r. IsLeftBy r self.old self.new) }
+        ensures others { IfOk result (λ r. StaysAfter r self.old self.new) }
         ensures err { OnErr result (self.new ≡ self.old) }
         ensures refused { (fault : Fault) →
             refusal (machine_of self.old) (Command.Rule name wiring text)
@@ -250,12 +250,12 @@ impl Machine {
         ensures reply { result ≡ reply (machine_of self.old) (Command.Drop name.now) }
         ensures machine { machine_of self.new
             ≡ after (machine_of self.old) (Command.Drop name.now) }
-        ensures left { IsLeftBy result self.old self.new }
+        ensures others { StaysAfter result self.old self.new }
     {
         let cycle = entries_of(&self.cycle);
         match droppable(&self.rules, cycle, name) {
-            Ok(place) => {
-                self.cycle = closed_cycle(cycle, place);
+            Ok(number) => {
+                self.cycle = closed_cycle(cycle, number);
                 remove(&mut self.rules, name);
                 Reply::Drop
             }
@@ -266,7 +266,7 @@ impl Machine {
     fn list_rules(&self) -> Result<Reply, NoMemory>
         ensures reply { IfOk result (λ r. r ≡ reply (machine_of self.now) Command.Rules) }
         ensures machine { machine_of self.now ≡ after (machine_of self.now) Command.Rules }
-        ensures left { IfOk result (λ r. IsLeftBy r self.now self.now) }
+        ensures others { IfOk result (λ r. StaysAfter r self.now self.now) }
         ensures none { (machine_of self.now).rules ≡ [] → IsOk result }
     {
         let names = Names::new(names_of(self.alloc, &self.rules)?);
@@ -277,7 +277,7 @@ impl Machine {
         ensures reply { result ≡ reply (machine_of self.old) (Command.Map colours.now) }
         ensures machine { machine_of self.new
             ≡ after (machine_of self.old) (Command.Map colours.now) }
-        ensures left { IsLeftBy result self.old self.new }
+        ensures others { StaysAfter result self.old self.new }
     {
         match colours_within(colours) {
             Ok(kept) => {
@@ -292,23 +292,23 @@ impl Machine {
         ensures reply { result ≡ reply (machine_of self.old) (Command.Cycle entries.now) }
         ensures machine { machine_of self.new
             ≡ after (machine_of self.old) (Command.Cycle entries.now) }
-        ensures left { IsLeftBy result self.old self.new }
+        ensures others { StaysAfter result self.old self.new }
     {
         if let Some(fault) = cycle_refusal(&self.rules, entries) {
             return Reply::Fault(fault);
         }
-        self.cycle = placed_cycle(&self.rules, entries.as_slice());
+        self.cycle = numbered_cycle(&self.rules, entries.as_slice());
         self.position = 0;
         Reply::Cycle
     }
 
     /// The steps that a run has to do, or the reply where there are none.
     fn work_of_run(&self, n: u64) -> Now
-        ensures work { work_left result ≡ work_of (machine_of self.now) (Command.Run n) }
+        ensures work { work_in result ≡ work_of (machine_of self.now) (Command.Run n) }
         ensures reply { IsReplyTo result (machine_of self.now) (Command.Run n) }
         ensures machine { machine_of self.now
-            ≡ machine_after result (machine_of self.now) (Command.Run n) }
-        ensures left { Leaves result self.now self.now }
+            ≡ machine_then result (machine_of self.now) (Command.Run n) }
+        ensures others { StaysUnless result self.now self.now }
         ensures ready { CanWork result (machine_of self.now) }
     {
         if let Some(fault) = run_refusal(entries_of(&self.cycle), n) {
@@ -324,11 +324,11 @@ impl Machine {
 
     /// The steps that have to be undone, or the reply where there are none.
     fn work_of_back(&mut self, n: u64) -> Now
-        ensures work { work_left result ≡ work_of (machine_of self.old) (Command.Back n) }
+        ensures work { work_in result ≡ work_of (machine_of self.old) (Command.Back n) }
         ensures reply { IsReplyTo result (machine_of self.old) (Command.Back n) }
         ensures machine { machine_of self.new
-            ≡ machine_after result (machine_of self.old) (Command.Back n) }
-        ensures left { Leaves result self.old self.new }
+            ≡ machine_then result (machine_of self.old) (Command.Back n) }
+        ensures others { StaysUnless result self.old self.new }
         ensures ready { CanWork result (machine_of self.new) }
     {
         let entries = entries_of(&self.cycle);
@@ -355,7 +355,7 @@ impl Machine {
         ensures reply { result ≡ reply (machine_of self.now) (Command.Row plane row) }
         ensures machine { machine_of self.now
             ≡ after (machine_of self.now) (Command.Row plane row) }
-        ensures left { IsLeftBy result self.now self.now }
+        ensures others { StaysAfter result self.now self.now }
     {
         let Some(image) = &self.image else {
             unreachable!()
@@ -372,7 +372,7 @@ impl Machine {
         ensures reply { IfOk result (λ r.
             r ≡ reply (machine_of self.now) (Command.Plane plane)) }
         ensures machine { machine_of self.now ≡ after (machine_of self.now) (Command.Plane plane) }
-        ensures left { IfOk result (λ r. IsLeftBy r self.now self.now) }
+        ensures others { IfOk result (λ r. StaysAfter r self.now self.now) }
         ensures refused { (fault : Fault) →
             refusal (machine_of self.now) (Command.Plane plane)
             ≡ Some (Reply.Fault fault) → IsOk result }
@@ -391,7 +391,7 @@ impl Machine {
     fn show_colours(&self, row: u64) -> Reply
         ensures reply { result ≡ reply (machine_of self.now) (Command.Colours row) }
         ensures machine { machine_of self.now ≡ after (machine_of self.now) (Command.Colours row) }
-        ensures left { IsLeftBy result self.now self.now }
+        ensures others { StaysAfter result self.now self.now }
     {
         let Some(image) = &self.image else {
             unreachable!()
@@ -406,7 +406,7 @@ impl Machine {
     fn count_cells(&self, mask: u64) -> Reply
         ensures reply { result ≡ reply (machine_of self.now) (Command.Count mask) }
         ensures machine { machine_of self.now ≡ after (machine_of self.now) (Command.Count mask) }
-        ensures left { IsLeftBy result self.now self.now }
+        ensures others { StaysAfter result self.now self.now }
     {
         if let Some(fault) = count_refusal(mask) {
             return Reply::Fault(fault);

@@ -8,11 +8,11 @@ ghost use Rattle.cam6_planes.specs.Side.{side_number, side_of};
 ghost use Rattle.cam6_machine.specs.declared.commands.TheConstants.{MAX_STEPS, MAX_MASK};
 ghost use Rattle.cam6_cycle.specs.declared.cycles.TheConstants.{MAX_ENTRIES};
 ghost use Rattle.cam6_machine.specs.Rules.{Rule};
-ghost use Rattle.cam6_machine.specs.Numbers.{named_entries, place_in};
-ghost use Rattle.cam6_machine.specs.Internal.Places.{rules_of, uses_place, is_place, place_of};
+ghost use Rattle.cam6_machine.specs.Numbers.{named_entries, number_in};
+ghost use Rattle.cam6_machine.specs.Internal.Numbered.{rules_of, uses_number, is_number, rule_number};
 ghost use Rattle.cam6_machine.specs.Refusals.{set_refusal, row_refusal, plane_refusal};
 ghost use Rattle.cam6_machine.specs.Refusals.{run_refusal, side_refusal};
-ghost use Rattle.cam6_machine.specs.Refusals.{rule_refusal, cycle_refusal, is_cycle, have_phases};
+ghost use Rattle.cam6_machine.specs.Refusals.{rule_refusal, cycle_refusal, is_named_cycle, have_phases};
 ghost use Rattle.cam6_machine.specs.Refusals.{first_refusal, entry_refusal, half_refusal};
 ghost use Rattle.cam6_machine.specs.Refusals.{drop_refusal, map_refusal, colours_refusal};
 ghost use Rattle.cam6_machine.specs.Refusals.{count_refusal};
@@ -20,7 +20,7 @@ ghost use Rattle.cam6_machine.specs.Always.{HaveOwnNames};
 
 use crate::commands::{MAX_COLOUR, MAX_MASK, MAX_STEPS, NamedEntries, NamedEntry};
 use crate::faults::Fault;
-use crate::rules::{KeptRule, MAX_RULES, is_rule_name, place_of, wiring_of};
+use crate::rules::{KeptRule, MAX_RULES, is_rule_name, rule_number, wiring_of};
 use crate::texts::Text;
 use cam6_cycle::{Entry, HalfRule, MAX_ENTRIES};
 use cam6_planes::Side;
@@ -101,7 +101,7 @@ pub(crate) fn plane_refusal(plane: u64) -> Option<Fault>
 
 /// At most 65,535 steps, and then a cycle.
 pub(crate) fn run_refusal(cycle: &[Entry], n: u64) -> Option<Fault>
-    // Whatever rules the places are of.
+    // Whatever rules the numbers are of.
     ensures refusal { (rules : List Rule) →
         result ≡ run_refusal (named_entries rules cycle.now) n }
     ensures within { IfNone result (n ≤ MAX_STEPS) }
@@ -127,15 +127,15 @@ pub(crate) fn rule_refusal(
     if !is_rule_name(name) {
         return Some(Fault::OutOfRange);
     }
-    match place_of(rules, name) {
-        Some(place) if is_used(cycle, place) => Some(Fault::RuleInUse),
+    match rule_number(rules, name) {
+        Some(number) if is_used(cycle, number) => Some(Fault::RuleInUse),
         Some(_) => None,
         None if rules.len() >= MAX_RULES => Some(Fault::TooManyRules),
         None => None,
     }
 }
 
-/// The place of the rule that has the name, where it can be dropped: it is there, and the cycle
+/// The number of the rule that has the name, where it can be dropped: it is there, and the cycle
 /// doesn't use it.
 pub(crate) fn droppable(
     rules: &IndexMap<String, KeptRule>,
@@ -143,17 +143,17 @@ pub(crate) fn droppable(
     name: &Text,
 ) -> Result<usize, Fault>
     requires names { HaveOwnNames (rules_of rules.now.entries) }
-    ensures place { IfOk result (λ place.
-        place_of name.now (rules_of rules.now.entries) ≡ Some place) }
-    ensures unused { IfOk result (λ place. list_any (uses_place place) cycle.now ≡ false) }
+    ensures number { IfOk result (λ number.
+        rule_number name.now (rules_of rules.now.entries) ≡ Some number) }
+    ensures unused { IfOk result (λ number. list_any (uses_number number) cycle.now ≡ false) }
     ensures ok { IfOk result (λ _. drop_refusal (rules_of rules.now.entries)
         (named_entries (rules_of rules.now.entries) cycle.now) name.now ≡ None) }
     ensures err { IfErr result (λ fault. drop_refusal (rules_of rules.now.entries)
         (named_entries (rules_of rules.now.entries) cycle.now) name.now ≡ Some fault) }
 {
-    match place_of(rules, name) {
-        Some(place) if is_used(cycle, place) => Err(Fault::RuleInUse),
-        Some(place) => Ok(place),
+    match rule_number(rules, name) {
+        Some(number) if is_used(cycle, number) => Err(Fault::RuleInUse),
+        Some(number) => Ok(number),
         None => Err(Fault::NoRule),
     }
 }
@@ -175,25 +175,25 @@ pub(crate) fn colours_within(colours: &[u64; 16]) -> Result<[u8; 16], Fault>
     Ok(kept)
 }
 
-/// Whether an entry of the cycle has the rule at this place.
-pub(crate) fn is_used(cycle: &[Entry], place: usize) -> bool
-    ensures { result ≡ list_any (uses_place place) cycle.now }
+/// Whether an entry of the cycle has the rule at this number.
+pub(crate) fn is_used(cycle: &[Entry], number: usize) -> bool
+    ensures { result ≡ list_any (uses_number number) cycle.now }
 {
-    cycle.iter().any(|entry| uses_place(*entry, place))
+    cycle.iter().any(|entry| uses_number(*entry, number))
 }
 
-fn uses_place(entry: Entry, place: usize) -> bool
-    ensures { result ≡ uses_place place entry }
+fn uses_number(entry: Entry, number: usize) -> bool
+    ensures { result ≡ uses_number number entry }
 {
-    is_place(place, entry.a) || is_place(place, entry.b)
+    is_number(number, entry.a) || is_number(number, entry.b)
 }
 
-/// Whether a half's rule stands at this place.
-fn is_place(place: usize, rule: Option<HalfRule>) -> bool
-    ensures { result ≡ is_place place (place_in rule) }
+/// Whether a half's rule stands at this number.
+fn is_number(number: usize, rule: Option<HalfRule>) -> bool
+    ensures { result ≡ is_number number (number_in rule) }
 {
     match rule {
-        Some(rule) => rule.number == place,
+        Some(rule) => rule.number == number,
         None => false,
     }
 }
@@ -206,15 +206,15 @@ pub(crate) fn cycle_refusal(
     ensures within { IfNone result (length entries.now ≤ MAX_ENTRIES) }
 {
     let entries = entries.as_slice();
-    if is_cycle(entries) {
+    if is_named_cycle(entries) {
         first_refusal(rules, entries)
     } else {
         Some(Fault::OutOfRange)
     }
 }
 
-fn is_cycle(entries: &[NamedEntry]) -> bool
-    ensures value { result ≡ is_cycle entries.now }
+fn is_named_cycle(entries: &[NamedEntry]) -> bool
+    ensures value { result ≡ is_named_cycle entries.now }
     ensures within { OnTrue result (length entries.now ≤ MAX_ENTRIES) }
 {
     !entries.is_empty() && entries.len() <= MAX_ENTRIES && have_phases(entries)

@@ -6,7 +6,7 @@ ghost use Rattle.cam6_forth.specs.declared.faults.TextFault.{TextFault};
 ghost use Rattle.cam6_machine.specs.Effects.{with_rule, without_rule};
 ghost use Rattle.cam6_machine.specs.Refusals.{text_refusal};
 ghost use Rattle.cam6_machine.specs.Rules.{wiring_of, is_rule_name, is_name_byte};
-ghost use Rattle.cam6_machine.specs.Internal.Places.{rules_of, place_of, wiring_at};
+ghost use Rattle.cam6_machine.specs.Internal.Numbered.{rules_of, rule_number, wiring_at};
 ghost use Rattle.cam6_machine.specs.Internal.Verdicts.{IsVerdict};
 ghost use Rattle.cam6_machine.specs.declared.replies.Reply.{Reply};
 
@@ -37,7 +37,7 @@ pub(crate) struct KeptRule {
 
 impl Model for KeptRule {
     ghost use Rattle.cam6_table.specs.RuleTexts.{IsCodeFor};
-    ghost use Rattle.cam6_machine.specs.Internal.Places.{Compiled};
+    ghost use Rattle.cam6_machine.specs.Internal.Numbered.{Compiled};
 
     ghost Value = { Compiled };
 
@@ -146,9 +146,9 @@ fn is_name_byte(byte: u8) -> bool
     matches!(byte, 0x21..=0x7E) && byte != b'"' && byte != b'\\'
 }
 
-/// The place of the rule that has the name.
-pub(crate) fn place_of(rules: &IndexMap<String, KeptRule>, name: &Text) -> Option<usize>
-    ensures { result ≡ place_of name.now (rules_of rules.now.entries) }
+/// The number of the rule that has the name.
+pub(crate) fn rule_number(rules: &IndexMap<String, KeptRule>, name: &Text) -> Option<usize>
+    ensures { result ≡ rule_number name.now (rules_of rules.now.entries) }
 {
     rules.get_index_of(name.as_str())
 }
@@ -163,11 +163,11 @@ pub(crate) fn wiring_of(rules: &IndexMap<String, KeptRule>, name: &Text) -> Opti
     }
 }
 
-/// What the rule at a place is written for, if there is a place and a rule at it.
-pub(crate) fn wiring_at(rules: &IndexMap<String, KeptRule>, place: Option<usize>) -> Option<Wiring>
-    ensures { result ≡ wiring_at (rules_of rules.now.entries) place }
+/// What the rule at a number is written for, if there is a number and a rule at it.
+pub(crate) fn wiring_at(rules: &IndexMap<String, KeptRule>, number: Option<usize>) -> Option<Wiring>
+    ensures { result ≡ wiring_at (rules_of rules.now.entries) number }
 {
-    let (_, rule) = rules.get_index(place?)?;
+    let (_, rule) = rules.get_index(number?)?;
     Some(rule.wiring())
 }
 
@@ -189,8 +189,8 @@ pub(crate) fn names_of(
     ensures none { rules_of rules.now.entries ≡ [] → IsOk result }
 {
     let mut names = Vec::with_capacity(alloc, rules.len())?;
-    for place in 0..rules.len() {
-        let Some((name, _)) = rules.get_index(place) else {
+    for number in 0..rules.len() {
+        let Some((name, _)) = rules.get_index(number) else {
             unreachable!()
         };
         names.push(Text::new(String::from_str(alloc, name.as_str())?))?;
@@ -198,7 +198,7 @@ pub(crate) fn names_of(
     Ok(names)
 }
 
-/// Keeps a rule under a name, in place of the one that has it.
+/// Keeps a rule under a name, in number of the one that has it.
 pub(crate) fn put(
     rules: &mut IndexMap<String, KeptRule>,
     name: Text,

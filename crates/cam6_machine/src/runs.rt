@@ -4,9 +4,9 @@ ghost use Rattle.cam6_cycle.specs.Tables.{tables_needed};
 ghost use Rattle.cam6_cycle.specs.declared.tables.Direction.TheVariants.{Forward, Backward};
 ghost use Rattle.cam6_cycle.specs.declared.tables.TheConstants.{MAX_TABLES};
 ghost use Rattle.cam6_machine.specs.Rules.{Rule};
-ghost use Rattle.cam6_machine.specs.Machine.{steps, unsteps, machine_of, IsUndoableCycle};
-ghost use Rattle.cam6_machine.specs.Numbers.{ArePlaced, AreTables};
-ghost use Rattle.cam6_machine.specs.Internal.Places.{stored};
+ghost use Rattle.cam6_machine.specs.Machine.{steps, unsteps, machine_of, IsReversibleCycle};
+ghost use Rattle.cam6_machine.specs.Numbers.{AreNumbered, AreTables};
+ghost use Rattle.cam6_machine.specs.Internal.Numbered.{stored};
 ghost use Rattle.cam6_machine.specs.Internal.Ways.{moved, CanMove};
 ghost use Rattle.cam6_machine.specs.Always.{HaveOwnNames};
 
@@ -29,7 +29,7 @@ pub(crate) fn go_along(
     ensures position { result.1 < length cycle.now }
     // By whatever rules these are the tables of.
     ensures steps { (rules : List Rule) (colours : List ℕ) → HaveOwnNames rules →
-        ArePlaced rules cycle.now →
+        AreNumbered rules cycle.now →
         (let needed = tables_needed direction cycle.now in
         AreTables direction (length needed) rules needed tables.now) →
         let m = machine_of (stored image.planes rules cycle.now position colours) in
@@ -57,7 +57,7 @@ fn run_along(
     ensures position { result.1 < length cycle.now }
     // By whatever rules these are the tables of.
     ensures steps { (rules : List Rule) (colours : List ℕ) → HaveOwnNames rules →
-        ArePlaced rules cycle.now →
+        AreNumbered rules cycle.now →
         (let needed = tables_needed Forward cycle.now in
         AreTables Forward (length needed) rules needed tables.now) →
         machine_of (stored result.0.planes rules cycle.now result.1 colours)
@@ -86,11 +86,11 @@ fn back_along(
     ensures position { result.1 < length cycle.now }
     // By whatever rules these are the tables of that undo them.
     ensures steps { (rules : List Rule) (colours : List ℕ) → HaveOwnNames rules →
-        ArePlaced rules cycle.now →
+        AreNumbered rules cycle.now →
         (let needed = tables_needed Backward cycle.now in
         AreTables Backward (length needed) rules needed tables.now) →
         let m = machine_of (stored image.planes rules cycle.now position colours) in
-        IsUndoableCycle m →
+        IsReversibleCycle m →
         machine_of (stored result.0.planes rules cycle.now result.1 colours) ≡ unsteps n m }
 {
     let mut image = image;

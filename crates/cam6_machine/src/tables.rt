@@ -7,7 +7,7 @@ ghost use Rattle.cam6_block.specs.Inverted.{IsInverted};
 ghost use Rattle.cam6_cycle.specs.Tables.{tables_needed};
 ghost use Rattle.cam6_cycle.specs.declared.tables.TheConstants.{MAX_TABLES};
 ghost use Rattle.cam6_machine.specs.Numbers.{rule_at, AreTables};
-ghost use Rattle.cam6_machine.specs.Internal.Places.{rules_of, kept_reading};
+ghost use Rattle.cam6_machine.specs.Internal.Numbered.{rules_of, kept_reading};
 ghost use Rattle.cam6_machine.specs.Internal.Uses.{IsUse};
 ghost use Rattle.cam6_machine.specs.TrueTables.{IsTableFor};
 
@@ -53,33 +53,33 @@ fn fill_use(
     ensures tables { AreTables direction (index + 1) (rules_of rules.now.entries) needed.now tables.new }
     ensures room { length tables.new ≡ length tables.old }
 {
-    let place = needed[index].rule.number;
+    let number = needed[index].rule.number;
     let (before, rest) = tables.split_at_mut(index);
-    match first_use(&needed[..index], place) {
+    match first_use(&needed[..index], number) {
         Some(first) => rest[0].copy_from(&before[first]),
-        None => fill_table(rules, place, direction, straight, &mut rest[0]),
+        None => fill_table(rules, number, direction, straight, &mut rest[0]),
     }
 }
 
-/// The index of the first use of the rule at a place.
-fn first_use(needed: &[NeededTable], place: usize) -> Option<usize>
-    ensures { IfSome result (λ first. IsUse place (slice_get needed.now first)) }
+/// The index of the first use of the rule at a number.
+fn first_use(needed: &[NeededTable], number: usize) -> Option<usize>
+    ensures { IfSome result (λ first. IsUse number (slice_get needed.now first)) }
 {
-    needed.iter().position(|table| table.rule.number == place)
+    needed.iter().position(|table| table.rule.number == number)
 }
 
-/// Fills the table of the rule at this place, if there is one, and if it can be undone where it is
+/// Fills the table of the rule at this number, if there is one, and if it can be undone where it is
 /// to be undone.
 fn fill_table(
     rules: &IndexMap<String, KeptRule>,
-    place: usize,
+    number: usize,
     direction: Direction,
     straight: &mut Table,
     table: &mut Table,
 )
-    ensures { IsTableFor direction (rule_at (rules_of rules.now.entries) (Some place)) table.new }
+    ensures { IsTableFor direction (rule_at (rules_of rules.now.entries) (Some number)) table.new }
 {
-    if let Some((_, rule)) = rules.get_index(place) {
+    if let Some((_, rule)) = rules.get_index(number) {
         match direction {
             Direction::Forward => rule.fill(table),
             Direction::Backward => fill_inverse(rule, straight, table),

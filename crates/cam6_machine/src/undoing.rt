@@ -5,8 +5,8 @@ ghost use Rattle.cam6_block.specs.Inverted.{IsInverted};
 ghost use Rattle.cam6_block.specs.Refusals.{cause_of};
 ghost use Rattle.cam6_machine.specs.Refusals.{rule_cause, first_cause};
 ghost use Rattle.cam6_machine.specs.Always.{HaveOwnNames};
-ghost use Rattle.cam6_machine.specs.Numbers.{rule_at, place_in, named_entries};
-ghost use Rattle.cam6_machine.specs.Internal.Places.{rules_of, kept_reading};
+ghost use Rattle.cam6_machine.specs.Numbers.{rule_at, number_in, named_entries};
+ghost use Rattle.cam6_machine.specs.Internal.Numbered.{rules_of, kept_reading};
 ghost use Rattle.cam6_machine.specs.Internal.Uses.{HasNoCause};
 
 use crate::refusals::is_used;
@@ -59,7 +59,7 @@ fn new_cause(
     inverse: &mut Table,
 ) -> Option<NotReversible>
     requires before { AllByRecursion (HasNoCause (rules_of rules.now.entries)) before.now }
-    ensures { result ≡ rule_cause (rule_at (rules_of rules.now.entries) (place_in rule)) }
+    ensures { result ≡ rule_cause (rule_at (rules_of rules.now.entries) (number_in rule)) }
 {
     if is_used(before, rule?.number) {
         return None;
@@ -67,14 +67,14 @@ fn new_cause(
     rule_cause(rules, rule, straight, inverse)
 }
 
-/// Why the rule at a half's place can't be undone, if there is one there and it can't.
+/// Why the rule at a half's number can't be undone, if there is one there and it can't.
 fn rule_cause(
     rules: &IndexMap<String, KeptRule>,
     rule: Option<HalfRule>,
     straight: &mut Table,
     inverse: &mut Table,
 ) -> Option<NotReversible>
-    ensures { result ≡ rule_cause (rule_at (rules_of rules.now.entries) (place_in rule)) }
+    ensures { result ≡ rule_cause (rule_at (rules_of rules.now.entries) (number_in rule)) }
 {
     let (_, rule) = rules.get_index(rule?.number)?;
     invert_rule(rule, straight, inverse).err()

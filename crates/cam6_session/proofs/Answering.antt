@@ -8,11 +8,11 @@ use Rattle.cam6_machine.specs.declared.commands.Command.{Command}
 use Rattle.cam6_wire.specs.declared.faults.LineFault.{LineFault}
 use Rattle.cam6_wire.specs.Commands.{command}
 use Rattle.cam6_session.specs.Answering.{Answering, answers, after_lines}
-use Rattle.cam6_session.specs.Answers.{text_to, machine_after, by_machine, commands, texts_of}
+use Rattle.cam6_session.specs.Answers.{text_to, after_line, by_machine, commands, texts_of}
 use Rattle.cam6_session.specs.Laws.{AnswersAreReplies, AnswersGoOn}
 
 module _ {S : Type 0} (by : Answering S) where
-  -- lines are answered as those before them left what is asked
+  -- lines are answered as those before them unread what is asked
   pub answers_to_both : (s : S) (done later : List (List ℕ))
       → answers by s (done ++ later) ≡ answers by s done ++ answers by (after_lines by s done) later
   answers_to_both s [] later = refl
@@ -45,13 +45,13 @@ texts_go_on : (m : Machine) (said : Result Command LineFault)
     (later : List (Result Command LineFault))
     → texts_of (said ∷ later) (replies m (commands (said ∷ later)))
     ≡ (text_to m said ++ 10 ∷ [])
-    ++ texts_of later (replies (machine_after m said) (commands later))
+    ++ texts_of later (replies (after_line m said) (commands later))
 texts_go_on m (Ok c) later = sym (append_assoc (text_to m (Ok c)) (10 ∷ []) _)
 texts_go_on m (Err fault) later = sym (append_assoc (text_to m (Err fault)) (10 ∷ []) _)
 
 machine_goes_on : (m : Machine) (said : Result Command LineFault)
     (later : List (Result Command LineFault))
-    → after_all m (commands (said ∷ later)) ≡ after_all (machine_after m said) (commands later)
+    → after_all m (commands (said ∷ later)) ≡ after_all (after_line m said) (commands later)
 machine_goes_on m (Ok c) later = refl
 machine_goes_on m (Err fault) later = refl
 

@@ -28,14 +28,14 @@ module _ {S : Type 0} (by : Answering S) where
   -- a session so far, where the reader and the writer tell their bytes
   abbrev pub Runs : Option (List ℕ) → Option (List ℕ) → Option (List ℕ) → Option (List ℕ)
       → S → S → Type 0
-  Runs read unread old new s t = IfKnown read old (λ all out. HasRun by s all out unread new t)
+  Runs read remaining old new s t = IfKnown read old (λ all out. HasRun by s all out remaining new t)
 
   pub runs_at_first : (read old : Option (List ℕ)) (s : S) → Runs read read old old s s
   runs_at_first None old s = tt
   runs_at_first (Some all) None s = tt
   runs_at_first (Some all) (Some out) s = record {
     done = [];
-    left = all;
+    unread = all;
     free = All-nil HasNoLf;
     taken = refl;
     leaves = refl;

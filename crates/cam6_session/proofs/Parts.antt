@@ -37,12 +37,12 @@ some_line [] false line holds e none = true≢false e
 some_line (x ∷ bytes) false line holds e none = let same = holds.0 ∙ none in cc
 
 -- the input ended behind a line that isn't empty, or where a line would begin
-last_or_none : (kept : Held) (e : Bool) (line all left : List ℕ) → is_empty kept ≡ e
-    → Holds kept line → HasNoLf line → left ≡ [] → all ≡ line ++ left
-    → ReadsLine (cond e EndOfInput Last) all left kept
-last_or_none kept true line all left e holds free none is =
-    (is ∙ ap (λ l. l ++ left) (empty_line kept.bytes kept.is_long line holds e) ∙ none, none)
-last_or_none kept false line all left e holds free none is = (
+last_or_none : (kept : Held) (e : Bool) (line all unread : List ℕ) → is_empty kept ≡ e
+    → Holds kept line → HasNoLf line → unread ≡ [] → all ≡ line ++ unread
+    → ReadsLine (cond e EndOfInput Last) all unread kept
+last_or_none kept true line all unread e holds free none is =
+    (is ∙ ap (λ l. l ++ unread) (empty_line kept.bytes kept.is_long line holds e) ∙ none, none)
+last_or_none kept false line all unread e holds free none is = (
   line,
   free,
   some_line kept.bytes kept.is_long line holds e,
@@ -65,18 +65,18 @@ pub line_is_ended : (old now new : Option (List ℕ)) (held kept : Held) → Has
     → TakesPart Newline now new held kept → Reads Ended old new kept
 line_is_ended None now new held kept read look = tt
 line_is_ended (Some all) None new held kept read look = absurd read.taken
-line_is_ended (Some all) (Some unread) None held kept read look = absurd look.taken
-line_is_ended (Some all) (Some unread) (Some left) held kept read look =
+line_is_ended (Some all) (Some remaining) None held kept read look = absurd look.taken
+line_is_ended (Some all) (Some remaining) (Some unread) held kept read look =
     let line = read.part ++ look.part in
-    let is : all ≡ (line ++ 10 ∷ []) ++ left =
-    Consumes-trans (Some all) (Some unread) (Some left) _ _ read.taken look.taken
-    ∙ ap (λ l. l ++ left) (sym (append_assoc read.part look.part (10 ∷ []))) in (
-      left,
+    let is : all ≡ (line ++ 10 ∷ []) ++ unread =
+    Consumes-trans (Some all) (Some remaining) (Some unread) _ _ read.taken look.taken
+    ∙ ap (λ l. l ++ unread) (sym (append_assoc read.part look.part (10 ∷ []))) in (
+      unread,
       refl,
       (
         line,
         All-append (λ x. x ≢ 10) _ _ read.free look.free,
-        is ∙ append_assoc line (10 ∷ []) left,
+        is ∙ append_assoc line (10 ∷ []) unread,
         look.grows read.part read.holds,
       ),
     )
@@ -85,29 +85,29 @@ pub input_is_ended : (old now new : Option (List ℕ)) (held kept : Held) → Ha
     → TakesPart AtEnd now new held kept → Reads (cond (is_empty kept) EndOfInput Last) old new kept
 input_is_ended None now new held kept read look = tt
 input_is_ended (Some all) None new held kept read look = absurd read.taken
-input_is_ended (Some all) (Some unread) None held kept read look = absurd look.taken
-input_is_ended (Some all) (Some unread) (Some left) held kept read look =
+input_is_ended (Some all) (Some remaining) None held kept read look = absurd look.taken
+input_is_ended (Some all) (Some remaining) (Some unread) held kept read look =
     let end = look.at_end refl in
-    let same : unread ≡ left = look.taken ∙ ap (λ l. (l ++ []) ++ left) end.0 in
-    let none : left ≡ [] = sym same ∙ end.1 in
+    let same : remaining ≡ unread = look.taken ∙ ap (λ l. (l ++ []) ++ unread) end.0 in
+    let none : unread ≡ [] = sym same ∙ end.1 in
     let nothing_new = ap (λ l. read.part ++ l) end.0 ∙ append-nil read.part in
     let holds : Holds kept read.part =
     subst (Holds kept) nothing_new (look.grows read.part read.holds) in
     let is = read.taken ∙ ap (λ l. read.part ++ l) same in
-    (left, refl, last_or_none kept (is_empty kept) read.part all left refl holds read.free none is)
+    (unread, refl, last_or_none kept (is_empty kept) read.part all unread refl holds read.free none is)
 
 pub reading_failed : (old now new : Option (List ℕ)) (held kept : Held) → HasRead old now held
     → TakesPart Fault now new held kept → Reads ReadFault old new kept
 reading_failed None now new held kept read look = tt
 reading_failed (Some all) None new held kept read look = absurd read.taken
-reading_failed (Some all) (Some unread) None held kept read look = absurd look.taken
-reading_failed (Some all) (Some unread) (Some left) held kept read look =
-    let taken = subst (Consumes (Some unread) (Some left)) (append-nil look.part) look.taken in (
-      left,
+reading_failed (Some all) (Some remaining) None held kept read look = absurd look.taken
+reading_failed (Some all) (Some remaining) (Some unread) held kept read look =
+    let taken = subst (Consumes (Some remaining) (Some unread)) (append-nil look.part) look.taken in (
+      unread,
       refl,
       (
         read.part ++ look.part,
         All-append (λ x. x ≢ 10) _ _ read.free look.free,
-        Consumes-trans (Some all) (Some unread) (Some left) _ _ read.taken taken,
+        Consumes-trans (Some all) (Some remaining) (Some unread) _ _ read.taken taken,
       ),
     )

@@ -35,24 +35,24 @@ kept (Some b) (Some c) bytes e keeps = ap Some keeps ∙ e
 module _ {S : Type 0} (by : Answering S) where
   -- of a reader with all these bytes some lines have been taken, and a writer with these bytes has
   -- their answers behind them
-  pub record HasRun (s : S) (all out : List ℕ) (unread new : Option (List ℕ)) (t : S)
+  pub record HasRun (s : S) (all out : List ℕ) (remaining new : Option (List ℕ)) (t : S)
       : Type 0 where
     pub done : List (List ℕ)
-    pub left : List ℕ
+    pub unread : List ℕ
     pub free : All HasNoLf done
-    pub taken : all ≡ joined done ++ left
-    pub leaves : unread ≡ Some left
+    pub taken : all ≡ joined done ++ unread
+    pub leaves : remaining ≡ Some unread
     pub writes : new ≡ Some (out ++ answers by s done)
     pub stands : t ≡ after_lines by s done
 
   -- one more whole line has been taken, which isn't answered
-  pub record HasTaken (s : S) (all out : List ℕ) (unread new : Option (List ℕ)) (t : S)
+  pub record HasTaken (s : S) (all out : List ℕ) (remaining new : Option (List ℕ)) (t : S)
       (held : Held) : Type 0 where
     pub taken : List ℕ
-    pub left : List ℕ
-    pub is : all ≡ taken ++ left
-    pub leaves : unread ≡ Some left
-    pub stop : StopsAt taken left
+    pub unread : List ℕ
+    pub is : all ≡ taken ++ unread
+    pub leaves : remaining ≡ Some unread
+    pub stop : StopsAt taken unread
     pub writes : new ≡ Some (out ++ answers by s stop.done)
     pub stands : t ≡ after_lines by s stop.done
     pub holds : Holds held stop.line
@@ -63,13 +63,13 @@ module _ {S : Type 0} (by : Answering S) where
   RespondsTo result held old new s t =
       (line : List ℕ) → Holds held line → Responds by result line old new s t
 
-  module _ (s : S) (all out : List ℕ) (unread after new : Option (List ℕ)) (t : S)
-      (held : Held) (run : HasRun s all out unread new t) where
+  module _ (s : S) (all out : List ℕ) (remaining after new : Option (List ℕ)) (t : S)
+      (held : Held) (run : HasRun s all out remaining new t) where
     lines_done : (rest : List ℕ) → lines (joined run.done ++ rest) ≡ run.done ++ lines rest
     lines_done rest = split.lines_joined run.done rest run.free
 
     -- the reader ended, or failed, or the turns ran out
-    pub ends_input : Reads read.EndOfInput unread after held
+    pub ends_input : Reads read.EndOfInput remaining after held
         → AnswersReader by end.EndOfInput (Some all) after (Some out) new s t
     ends_input reads =
         let at = subst (λ u. Reads read.EndOfInput u after held) run.leaves reads in
@@ -85,37 +85,37 @@ module _ {S : Type 0} (by : Answering S) where
           (refl, (ap (answers by s) are, run.stands ∙ ap (after_lines by s) are)),
         )
 
-    pub gives_up : (left part : List ℕ) → after ≡ Some left → HasNoLf part
-        → run.left ≡ part ++ left
+    pub gives_up : (unread part : List ℕ) → after ≡ Some unread → HasNoLf part
+        → run.unread ≡ part ++ unread
         → AnswersReader by end.ReadFault (Some all) after (Some out) new s t
-    gives_up left part leaves free is =
+    gives_up unread part leaves free is =
         let are : run.done ≡ ended_lines (joined run.done ++ part) =
         sym (append-nil run.done) ∙ ap (λ ls. run.done ++ ls) (sym (split.no_ended_line part free))
         ∙ sym (split.ended_lines_joined run.done part run.free) in (
           joined run.done ++ part,
-          left,
+          unread,
           answers by s run.done,
           run.taken ∙ ap (λ l. joined run.done ++ l) is
-              ∙ sym (append_assoc (joined run.done) part left),
+              ∙ sym (append_assoc (joined run.done) part unread),
           leaves,
           run.writes,
           (ap (answers by s) are, run.stands ∙ ap (after_lines by s) are),
         )
 
-    pub fails_reading : Reads read.ReadFault unread after held
+    pub fails_reading : Reads read.ReadFault remaining after held
         → AnswersReader by end.ReadFault (Some all) after (Some out) new s t
     fails_reading reads =
         let at = subst (λ u. Reads read.ReadFault u after held) run.leaves reads in
         gives_up at.0 at.2.0 at.1 at.2.1 at.2.2
 
-    pub meets_bound : Reads read.TurnBound unread after held
+    pub meets_bound : Reads read.TurnBound remaining after held
         → AnswersReader by end.TurnBound (Some all) after (Some out) new s t
     meets_bound reads =
         let at = subst (λ u. Reads read.TurnBound u after held) run.leaves reads in
         gives_up at.0 at.2.0 at.1 at.2.1 at.2.2
 
     -- a line was taken with its LF
-    pub takes_ended : Reads read.Ended unread after held → HasTaken s all out after new t held
+    pub takes_ended : Reads read.Ended remaining after held → HasTaken s all out after new t held
     takes_ended reads =
         let at = subst (λ u. Reads read.Ended u after held) run.leaves reads in
         let line = at.2.0 in
@@ -132,7 +132,7 @@ module _ {S : Type 0} (by : Answering S) where
         ∙ append-nil (run.done ++ line ∷ []) in
         record {
           taken = taken;
-          left = at.0;
+          unread = at.0;
           is = run.taken ∙ ap (λ l. joined run.done ++ l) at.2.2
               ∙ sym (append_assoc (joined run.done) (line ++ 10 ∷ []) at.0
               ∙ ap (λ l. joined run.done ++ l) (append_assoc line (10 ∷ []) at.0));
@@ -149,8 +149,8 @@ module _ {S : Type 0} (by : Answering S) where
         }
 
     -- the last line was taken, which none ends
-    pub takes_last : Reads read.Last unread after held
-        → (took : HasTaken s all out after new t held) × (took.left ≡ [])
+    pub takes_last : Reads read.Last remaining after held
+        → (took : HasTaken s all out after new t held) × (took.unread ≡ [])
     takes_last reads =
         let at = subst (λ u. Reads read.Last u after held) run.leaves reads in
         let line = at.2.0 in
@@ -159,7 +159,7 @@ module _ {S : Type 0} (by : Answering S) where
         ∙ ap (λ ls. run.done ++ ls) (split.only_line line at.2.1 at.2.2) in (
           record {
             taken = taken;
-            left = [];
+            unread = [];
             is = run.taken ∙ ap (λ l. joined run.done ++ l) at.2.3 ∙ sym (append-nil taken);
             leaves = at.1 ∙ ap Some at.2.4;
             stop = record {
@@ -176,7 +176,7 @@ module _ {S : Type 0} (by : Answering S) where
         )
 
     -- a line was answered, and the session goes on
-    pub goes_on : (then : Option (List ℕ)) (u : S) → Reads read.Ended unread after held
+    pub goes_on : (then : Option (List ℕ)) (u : S) → Reads read.Ended remaining after held
         → RespondsTo (Ok tt) held new then t u → HasRun s all out after then u
     goes_on then u reads responds =
         let at = subst (λ u. Reads read.Ended u after held) run.leaves reads in
@@ -185,7 +185,7 @@ module _ {S : Type 0} (by : Answering S) where
         let written = subst (λ x. Appends new then (by.answer x line)) run.stands done.0 in
         record {
           done = run.done ++ line ∷ [];
-          left = at.0;
+          unread = at.0;
           free = All-push HasNoLf run.done line run.free at.2.1;
           taken = run.taken ∙ ap (λ l. joined run.done ++ l) at.2.2
               ∙ sym (split.joined_more run.done line at.0);
@@ -206,9 +206,9 @@ module _ {S : Type 0} (by : Answering S) where
         ∙ sym (after_more by s took.stop.done took.stop.line)
 
     served : (e : End) (written : List ℕ) → then ≡ Some (out ++ written)
-        → AnswersUntil by e s took.taken took.left written u
+        → AnswersUntil by e s took.taken took.unread written u
         → AnswersReader by e (Some all) after (Some out) then s u
-    served e written is serves = (took.taken, took.left, written, took.is, took.leaves, is, serves)
+    served e written is serves = (took.taken, took.unread, written, took.is, took.leaves, is, serves)
 
     fails_writing : RespondsTo (Err stop.WriteFault) held new then t u
         → AnswersReader by end.WriteFault (Some all) after (Some out) then s u
@@ -242,8 +242,8 @@ module _ {S : Type 0} (by : Answering S) where
     stops (stop.NoMemory true) responds = finds_none_done responds
     stops (stop.NoMemory false) responds = finds_none_undone responds
 
-    -- or nothing is left behind it
-    pub answers_last : took.left ≡ [] → RespondsTo (Ok tt) held new then t u
+    -- or nothing is unread behind it
+    pub answers_last : took.unread ≡ [] → RespondsTo (Ok tt) held new then t u
         → AnswersReader by end.EndOfInput (Some all) after (Some out) then s u
     answers_last none responds =
         let at = responds took.stop.line took.holds in

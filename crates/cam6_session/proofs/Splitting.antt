@@ -75,12 +75,12 @@ first_begins b true all ended more are = (more, ap (λ ls. [] ∷ ls) are)
 first_begins b false all ended more are =
     let begun = begin_lines b ended more in (begun.0, ap (begin_line b) are ∙ begun.1)
 
-pub ended_lines_are_first : (taken left : List ℕ)
-    → (more : List (List ℕ)) × (lines (taken ++ left) ≡ ended_lines taken ++ more)
-ended_lines_are_first [] left = (lines left, refl)
-ended_lines_are_first (b ∷ taken) left =
-    let rest = ended_lines_are_first taken left in
-    first_begins b (b == 10) (lines (taken ++ left)) (ended_lines taken) rest.0 rest.1
+pub ended_lines_are_first : (taken unread : List ℕ)
+    → (more : List (List ℕ)) × (lines (taken ++ unread) ≡ ended_lines taken ++ more)
+ended_lines_are_first [] unread = (lines unread, refl)
+ended_lines_are_first (b ∷ taken) unread =
+    let rest = ended_lines_are_first taken unread in
+    first_begins b (b == 10) (lines (taken ++ unread)) (ended_lines taken) rest.0 rest.1
 
 pub lines_are_found : LinesAreFound
 lines_are_found done free = (

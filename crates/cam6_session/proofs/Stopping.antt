@@ -7,7 +7,7 @@ use Rattle.cam6_machine.specs.Alone.{reply, after}
 use Rattle.cam6_machine.specs.declared.commands.Command.{Command}
 use Rattle.cam6_wire.specs.Commands.{command}
 use Rattle.cam6_wire.specs.Replies.{reply_bytes}
-use Rattle.cam6_session.specs.Answers.{text_to, machine_after, by_machine}
+use Rattle.cam6_session.specs.Answers.{text_to, after_line, by_machine}
 use Rattle.cam6_session.specs.Front.{WritesSome}
 use Rattle.cam6_session.specs.Responding.{Responds}
 use Rattle.cam6_session.specs.declared.sessions.Stop.{Stop}
@@ -23,6 +23,6 @@ stops_at_reply (Ok done) line c text old new m n failed said is stands front = a
 stops_at_reply (Err WriteFault) line c text old new m n failed said is stands front =
     let answered : text ++ 10 ∷ [] ≡ by_machine.answer m line =
     ap (λ l. l ++ 10 ∷ []) (is ∙ ap (text_to m) (sym said)) in
-    (subst (WritesSome old new) answered front, stands ∙ ap (machine_after m) (sym said))
+    (subst (WritesSome old new) answered front, stands ∙ ap (after_line m) (sym said))
 stops_at_reply (Err (NoMemory done)) line c text old new m n failed said is stands front =
     let never : ⊥ = cc in absurd never

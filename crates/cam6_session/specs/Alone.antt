@@ -9,5 +9,5 @@ use Rattle.cam6_session.specs.declared.sessions.End.{End}
 -- the session ends as one over a blank machine of this limit does, at some machine
 abbrev pub AnswersReaderAlone : Side → End → Option (List ℕ) → Option (List ℕ)
     → Option (List ℕ) → Option (List ℕ) → Type 0
-AnswersReaderAlone limit end read unread old new =
-    (n : Machine) × AnswersReader by_machine end read unread old new (blank limit) n
+AnswersReaderAlone limit end read remaining old new =
+    (n : Machine) × AnswersReader by_machine end read remaining old new (blank limit) n

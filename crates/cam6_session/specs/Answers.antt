@@ -15,15 +15,15 @@ text_to m (Ok c) = reply_bytes (reply m c)
 text_to m (Err fault) = fault_bytes fault
 
 -- the machine after it; a fault leaves it
-abbrev pub machine_after : Machine → Result Command LineFault → Machine
-machine_after m (Ok c) = after m c
-machine_after m (Err fault) = m
+abbrev pub after_line : Machine → Result Command LineFault → Machine
+after_line m (Ok c) = after m c
+after_line m (Err fault) = m
 
 -- the machine answers what a line says, and does the command that it says
 abbrev pub by_machine : Answering Machine
 by_machine = record {
   answer = λ m line. text_to m (command line) ++ 10 ∷ [];
-  after_line = λ m line. machine_after m (command line);
+  after_line = λ m line. after_line m (command line);
   says = λ line. is_ok (command line);
 }
 

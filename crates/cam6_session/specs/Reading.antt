@@ -11,37 +11,37 @@ use Rattle.cam6_session.specs.declared.lines.Line.TheVariants.{Ended, Last, EndO
 use Rattle.cam6_session.specs.declared.lines.Line.TheVariants.{ReadFault, TurnBound}
 
 -- what a look takes behind its part of the line
-abbrev pub mark : Part → List ℕ
-mark More = []
-mark Newline = 10 ∷ []
-mark AtEnd = []
-mark Fault = []
+abbrev pub ending : Part → List ℕ
+ending More = []
+ending Newline = 10 ∷ []
+ending AtEnd = []
+ending Fault = []
 
 -- one look at the reader took this part of a line
 pub record TakesPart (result : Part) (old new : Option (List ℕ)) (held kept : Held) : Type 0 where
   pub part : List ℕ
   pub free : HasNoLf part
   pub grows : Grows held kept part
-  pub taken : Consumes old new (part ++ mark result)
+  pub taken : Consumes old new (part ++ ending result)
   pub more : result ≡ More → 0 < length part
   pub at_end : result ≡ AtEnd → (part ≡ []) × IsAtEnd old
 
--- of these bytes a line was taken, or a part of one, and those are left
+-- of these bytes a line was taken, or a part of one, and those are unread
 abbrev pub ReadsLine : Line → List ℕ → List ℕ → Held → Type 0
-ReadsLine Ended all left held =
-    (line : List ℕ) × HasNoLf line × (all ≡ line ++ 10 ∷ left) × Holds held line
-ReadsLine Last all left held =
-    (line : List ℕ) × HasNoLf line × (line ≢ []) × (all ≡ line) × (left ≡ []) × Holds held line
-ReadsLine EndOfInput all left held = (all ≡ []) × (left ≡ [])
-ReadsLine ReadFault all left held = (part : List ℕ) × HasNoLf part × (all ≡ part ++ left)
-ReadsLine TurnBound all left held = (part : List ℕ) × HasNoLf part × (all ≡ part ++ left)
+ReadsLine Ended all unread held =
+    (line : List ℕ) × HasNoLf line × (all ≡ line ++ 10 ∷ unread) × Holds held line
+ReadsLine Last all unread held =
+    (line : List ℕ) × HasNoLf line × (line ≢ []) × (all ≡ line) × (unread ≡ []) × Holds held line
+ReadsLine EndOfInput all unread held = (all ≡ []) × (unread ≡ [])
+ReadsLine ReadFault all unread held = (part : List ℕ) × HasNoLf part × (all ≡ part ++ unread)
+ReadsLine TurnBound all unread held = (part : List ℕ) × HasNoLf part × (all ≡ part ++ unread)
 
--- the same where the reader tells its bytes; then it tells those that are left
+-- the same where the reader tells its bytes; then it tells those that are unread
 abbrev pub Reads : Line → Option (List ℕ) → Option (List ℕ) → Held → Type 0
 Reads result old new held =
-    IfSome old (λ all. (left : List ℕ) × (new ≡ Some left) × ReadsLine result all left held)
+    IfSome old (λ all. (unread : List ℕ) × (new ≡ Some unread) × ReadsLine result all unread held)
 
--- a line takes a turn or more, and the bound is met where none is left
+-- a line takes a turn or more, and the bound is met where none is unread
 abbrev pub Turns : Line → ℕ → ℕ → Type 0
 Turns Ended old new = new < old
 Turns Last old new = new < old

@@ -12,49 +12,49 @@ use Rattle.cam6_session.specs.declared.sessions.End.TheVariants.{WriteFault, NoM
 abbrev pub AreAnswered : {S : Type 0} → Answering S → S → List (List ℕ) → List ℕ → S → Type 0
 AreAnswered by s done written t = (written ≡ answers by s done) × (t ≡ after_lines by s done)
 
--- whole lines were taken, the last of them the one at which serving stops; the others are left
-pub record StopsAt (taken left : List ℕ) : Type 0 where
+-- whole lines were taken, the last of them the one at which serving stops; the others are unread
+pub record StopsAt (taken unread : List ℕ) : Type 0 where
   pub done : List (List ℕ)
   pub line : List ℕ
   pub are : lines taken ≡ done ++ line ∷ []
-  pub whole : lines (taken ++ left) ≡ lines taken ++ lines left
+  pub whole : lines (taken ++ unread) ≡ lines taken ++ lines unread
 
 -- the lines before it were answered, and a front of its answer was written; what it says is done
 abbrev pub StopsWriting : {S : Type 0} → Answering S → S → List ℕ → List ℕ → List ℕ → S → Type 0
-StopsWriting by s taken left written t =
-    (stop : StopsAt taken left) × (front rest : List ℕ) ×
+StopsWriting by s taken unread written t =
+    (stop : StopsAt taken unread) × (front rest : List ℕ) ×
     (by.answer (after_lines by s stop.done) stop.line ≡ front ++ rest) ×
     (written ≡ answers by s stop.done ++ front) ×
     (t ≡ after_lines by s (stop.done ++ stop.line ∷ []))
 
 -- the lines before it were answered, and it says something to be done, which is done
 abbrev pub StopsDone : {S : Type 0} → Answering S → S → List ℕ → List ℕ → List ℕ → S → Type 0
-StopsDone by s taken left written t =
-    (stop : StopsAt taken left) × (written ≡ answers by s stop.done) ×
+StopsDone by s taken unread written t =
+    (stop : StopsAt taken unread) × (written ≡ answers by s stop.done) ×
     (t ≡ after_lines by s (stop.done ++ stop.line ∷ [])) × (by.says stop.line ≡ true)
 
 -- the lines before it were answered, and memory is taken for it, but what it says isn't done; or no
 -- line was taken
 abbrev pub StopsUndone : {S : Type 0} → Answering S → S → List ℕ → List ℕ → List ℕ → S → Type 0
-StopsUndone by s taken left written t =
+StopsUndone by s taken unread written t =
     ((taken ≡ []) × AreAnswered by s [] written t) ⊎
-    ((stop : StopsAt taken left) × AreAnswered by s stop.done written t × TakesMemory stop.line)
+    ((stop : StopsAt taken unread) × AreAnswered by s stop.done written t × TakesMemory stop.line)
 
--- for each end, by the bytes taken, those that are left, and those written
+-- for each end, by the bytes taken, those that are unread, and those written
 abbrev pub AnswersUntil : {S : Type 0} → Answering S → End → S → List ℕ → List ℕ → List ℕ → S
     → Type 0
-AnswersUntil by EndOfInput s taken left written t =
-    (left ≡ []) × AreAnswered by s (lines taken) written t
-AnswersUntil by ReadFault s taken left written t = AreAnswered by s (ended_lines taken) written t
-AnswersUntil by TurnBound s taken left written t = AreAnswered by s (ended_lines taken) written t
-AnswersUntil by WriteFault s taken left written t = StopsWriting by s taken left written t
-AnswersUntil by (NoMemory true) s taken left written t = StopsDone by s taken left written t
-AnswersUntil by (NoMemory false) s taken left written t = StopsUndone by s taken left written t
+AnswersUntil by EndOfInput s taken unread written t =
+    (unread ≡ []) × AreAnswered by s (lines taken) written t
+AnswersUntil by ReadFault s taken unread written t = AreAnswered by s (ended_lines taken) written t
+AnswersUntil by TurnBound s taken unread written t = AreAnswered by s (ended_lines taken) written t
+AnswersUntil by WriteFault s taken unread written t = StopsWriting by s taken unread written t
+AnswersUntil by (NoMemory true) s taken unread written t = StopsDone by s taken unread written t
+AnswersUntil by (NoMemory false) s taken unread written t = StopsUndone by s taken unread written t
 
 -- the same of a reader and a writer that tell their bytes, those before and those after
 abbrev pub AnswersReader : {S : Type 0} → Answering S → End → Option (List ℕ) → Option (List ℕ)
     → Option (List ℕ) → Option (List ℕ) → S → S → Type 0
-AnswersReader by end read unread old new s t =
+AnswersReader by end read remaining old new s t =
     IfSome read (λ all. IfSome old (λ out.
-    (taken left written : List ℕ) × (all ≡ taken ++ left) × (unread ≡ Some left) ×
-    (new ≡ Some (out ++ written)) × AnswersUntil by end s taken left written t))
+    (taken unread written : List ℕ) × (all ≡ taken ++ unread) × (remaining ≡ Some unread) ×
+    (new ≡ Some (out ++ written)) × AnswersUntil by end s taken unread written t))

@@ -5,21 +5,21 @@ use Rattle.cam6_session.specs.declared.lines.Line.TheVariants as line
 use Rattle.cam6_session.specs.declared.sessions.End.{End}
 use Rattle.cam6_session.specs.declared.sessions.End.TheVariants.{TurnBound}
 
--- as many bytes were taken of the reader as there were turns until so many were left, or more
+-- as many bytes were taken of the reader as there were turns until so many were unread, or more
 abbrev pub TookAsMany : ℕ → ℕ → Option (List ℕ) → Option (List ℕ) → Type 0
-TookAsMany before after read unread =
-    IfSome read (λ all. IfSome unread (λ left. before + length left ≤ after + length all))
+TookAsMany before after read remaining =
+    IfSome read (λ all. IfSome remaining (λ unread. before + length unread ≤ after + length all))
 
 -- each turn took a byte at least, where the bound is met or a line was ended
 abbrev pub TakesAByteEach : Line → ℕ → ℕ → Option (List ℕ) → Option (List ℕ) → Type 0
-TakesAByteEach line.Ended before after read unread = TookAsMany before after read unread
-TakesAByteEach line.Last before after read unread = ⊤
-TakesAByteEach line.EndOfInput before after read unread = ⊤
-TakesAByteEach line.ReadFault before after read unread = ⊤
-TakesAByteEach line.TurnBound before after read unread = TookAsMany before after read unread
+TakesAByteEach line.Ended before after read remaining = TookAsMany before after read remaining
+TakesAByteEach line.Last before after read remaining = ⊤
+TakesAByteEach line.EndOfInput before after read remaining = ⊤
+TakesAByteEach line.ReadFault before after read remaining = ⊤
+TakesAByteEach line.TurnBound before after read remaining = TookAsMany before after read remaining
 
 -- serving ends for want of turns only where as many bytes were taken of the reader as there were
 -- turns
 abbrev pub SpendsItsTurns : End → ℕ → Option (List ℕ) → Option (List ℕ) → Type 0
-SpendsItsTurns end turns read unread =
-    end ≡ TurnBound → IfSome read (λ all. IfSome unread (λ left. turns + length left ≤ length all))
+SpendsItsTurns end turns read remaining =
+    end ≡ TurnBound → IfSome read (λ all. IfSome remaining (λ unread. turns + length unread ≤ length all))

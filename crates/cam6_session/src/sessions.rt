@@ -92,9 +92,9 @@ pub fn serve<R: BufRead, W: Write, D: Ask>(
     let Ok(mut line) = LineBuf::new(alloc) else {
         return End::NoMemory { done: false };
     };
-    let mut left = turns;
+    let mut turns_left = turns;
     loop {
-        match next_line(reader, &mut line, &mut left) {
+        match next_line(reader, &mut line, &mut turns_left) {
             Line::EndOfInput => return End::EndOfInput,
             Line::ReadFault => return End::ReadFault,
             Line::TurnBound => return End::TurnBound,

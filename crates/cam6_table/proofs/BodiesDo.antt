@@ -47,7 +47,7 @@ module _ (wiring : Wiring) (sees : Sees) (shows : Lines) (agree : Agree wiring s
         on_next (with_stack s (on_stack stack s.stack)) (runs shows later)
     word_is token (single.Output target) size is later s =
         on_next (written target s) (runs shows later)
-    word_is token (single.Defined place) size is later s = codes_are place later s
+    word_is token (single.Defined position) size is later s = codes_are position later s
 
     said_is : (token : Token) (result : Result (SingleWord × ℕ) ℕ) →
         word_at wiring known token ≡ result → IsOk result →
@@ -163,12 +163,12 @@ module _ (wiring : Wiring) (sees : Sees) (shows : Lines) (agree : Agree wiring s
       length codes ≡ length done → AreCodes shows codes done → IsCode shows c m →
       AreCodes shows (codes ++ c ∷ []) (done ++ m ∷ [])
   more_codes [] [] c m e all is zero = is
-  more_codes [] [] c m e all is (suc place) = all place
-  more_codes [] (n ∷ done) c m e all is place = absurd (omega arith)
-  more_codes (d ∷ codes) [] c m e all is place = absurd (omega arith)
+  more_codes [] [] c m e all is (suc position) = all position
+  more_codes [] (n ∷ done) c m e all is position = absurd (omega arith)
+  more_codes (d ∷ codes) [] c m e all is position = absurd (omega arith)
   more_codes (d ∷ codes) (n ∷ done) c m e all is zero = all zero
-  more_codes (d ∷ codes) (n ∷ done) c m e all is (suc place) =
-      more_codes codes done c m (omega arith) (λ j. all (suc j)) is place
+  more_codes (d ∷ codes) (n ∷ done) c m e all is (suc position) =
+      more_codes codes done c m (omega arith) (λ j. all (suc j)) is position
 
   -- the codes of a tree's definitions do what they mean
   pub codes_do : (parts : List Part) (known : List Defined) (codes : List Instructions)

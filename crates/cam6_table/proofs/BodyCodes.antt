@@ -64,7 +64,7 @@ IsCode shows code meaning =
 -- each definition's code does what the definition means
 abbrev pub AreCodes : Lines → List Instructions → List Meaning → Type 0
 AreCodes shows codes meanings =
-    (place : ℕ) → IsCode shows (code_at codes place) (meaning_at meanings place)
+    (position : ℕ) → IsCode shows (code_at codes position) (meaning_at meanings position)
 
 -- lines and names show the same
 abbrev pub Agree : Wiring → Sees → Lines → Type 0

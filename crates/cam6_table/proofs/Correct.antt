@@ -11,7 +11,7 @@ use Rattle.cam6_wiring.proofs.LinesOfNames.{line_of-center, line_of-center_upper
 use Rattle.cam6_forth.specs.Tree.{Part, IsRule}
 use Rattle.cam6_table.specs.declared.faults.RuleFault.{RuleFault}
 use Rattle.cam6_table.specs.declared.outputs.State.{State}
-use Rattle.cam6_table.specs.Outputs.{begin, entry_of, is_odd}
+use Rattle.cam6_table.specs.Outputs.{untouched, entry_of, is_odd}
 use Rattle.cam6_table.specs.Meaning.{meaning_at, meanings, last_meaning}
 use Rattle.cam6_table.specs.Meaning.{entry_in, meaning, at_address}
 use Rattle.cam6_table.specs.Codes.{Lines, exec, entry_at, result_at}
@@ -44,18 +44,18 @@ entry-same wiring sees shows agree (Err fault) = refl
 -- the code answers as the rule does, whatever lines and names show
 pub tree_does : (wiring : Wiring) (parts : List Part) (sees : Sees) (shows : Lines) →
     IsRule wiring parts → Agree wiring sees shows →
-    entry_by shows (exec shows (tree_code wiring parts) 0 None begin) ≡ meaning wiring parts sees
+    entry_by shows (exec shows (tree_code wiring parts) 0 None untouched) ≡ meaning wiring parts sees
 unfolding meaning
 tree_does wiring parts sees shows rule agree =
     let codes = tree_codes wiring [] [] parts in
     let all = meanings sees wiring [] [] parts in
     let (are, long) = codes_do wiring sees shows agree parts [] [] [] rule.each refl
-    (λ place later s. refl) in
-    let last : meaning_at all (length codes - 1) begin ≡ last_meaning all begin =
-    ap (λ n. meaning_at all (n - 1) begin) long in
-    ap (λ c. entry_by shows (exec shows c 0 None begin)) (sym (append-nil (last_code codes))) ∙
-    ap (entry_by shows) (are (length codes - 1) [] begin ∙ then_do-ok _ ∙ last) ∙
-    entry-same wiring sees shows agree (last_meaning all begin)
+    (λ position later s. refl) in
+    let last : meaning_at all (length codes - 1) untouched ≡ last_meaning all untouched =
+    ap (λ n. meaning_at all (n - 1) untouched) long in
+    ap (λ c. entry_by shows (exec shows c 0 None untouched)) (sym (append-nil (last_code codes))) ∙
+    ap (entry_by shows) (are (length codes - 1) [] untouched ∙ then_do-ok _ ∙ last) ∙
+    entry-same wiring sees shows agree (last_meaning all untouched)
 
 -- an address shows the same on a line and under the line's name
 pub agrees : (wiring : Wiring) (address : ℕ) →
@@ -74,6 +74,6 @@ entry-at address (Err fault) = refl
 pub answers_rule : (wiring : Wiring) (parts : List Part) (address : ℕ) → IsRule wiring parts →
     result_at (tree_code wiring parts) address ≡ at_address wiring parts address
 answers_rule wiring parts address rule =
-    entry-at address (exec (shown address) (tree_code wiring parts) 0 None begin) ∙
+    entry-at address (exec (shown address) (tree_code wiring parts) 0 None untouched) ∙
     tree_does wiring parts (environment wiring.hood wiring.minor address) (shown address) rule
     (agrees wiring address)

@@ -16,14 +16,14 @@ pub last-before : (kept code : List Instruction) (behind : ℕ) (i : Instruction
     last_of (behind + 1) code ≡ i ∷ last_of behind code
 last-before kept code behind i view within is =
     let all : length code ≡ length kept = sym (ap length view) ∙ length-reverse kept in
-    let place = length code - (behind + 1) in
-    let below : place < length code = omega arith in
-    let mirrored : length kept - 1 - place ≡ behind = omega arith in
-    let next : suc place ≡ length code - behind = omega arith in
-    let here : get_or code place i ≡ i =
-    (ap (λ c. get_or c place i) (sym view) ∙ get_or-reverse kept place i (omega arith) ∙
+    let position = length code - (behind + 1) in
+    let below : position < length code = omega arith in
+    let mirrored : length kept - 1 - position ≡ behind = omega arith in
+    let next : suc position ≡ length code - behind = omega arith in
+    let here : get_or code position i ≡ i =
+    (ap (λ c. get_or c position i) (sym view) ∙ get_or-reverse kept position i (omega arith) ∙
     ap (λ k. get_or kept k i) mirrored ∙ sym is) in
-    drop-cons code place i below ∙ ap (λ x. x ∷ drop (suc place) code) here ∙
+    drop-cons code position i below ∙ ap (λ x. x ∷ drop (suc position) code) here ∙
     ap (λ k. i ∷ drop k code) next
 
 -- fewer of the last ones

@@ -27,7 +27,7 @@ AreFit (definition ∷ known) (code ∷ codes) =
     (length code ≤ definition.size) × (definition.size ≤ max_size) × AreFit known codes
 AreFit _ _ = ⊥
 
--- the code at the place of a definition
+-- the code at the position of a definition
 fit-at : (before : List Defined) (definition : Defined) (later : List Defined)
     (codes : List Instructions) → AreFit (before ++ definition ∷ later) codes →
     length (code_at codes (length before)) ≤ definition.size
@@ -48,13 +48,13 @@ fit-more (first ∷ known) (head ∷ codes) definition code fit short small =
     (fit.0, fit.1, fit-more known codes definition code fit.2 short small)
 
 -- no code is too long
-fit-length : (known : List Defined) (codes : List Instructions) (place : ℕ) →
-    AreFit known codes → length (code_at codes place) ≤ max_size
-fit-length [] [] place fit = omega arith
-fit-length [] (code ∷ codes) place fit = absurd fit
-fit-length (definition ∷ known) [] place fit = absurd fit
+fit-length : (known : List Defined) (codes : List Instructions) (position : ℕ) →
+    AreFit known codes → length (code_at codes position) ≤ max_size
+fit-length [] [] position fit = omega arith
+fit-length [] (code ∷ codes) position fit = absurd fit
+fit-length (definition ∷ known) [] position fit = absurd fit
 fit-length (definition ∷ known) (code ∷ codes) zero fit = omega (arith, fit.0, fit.1)
-fit-length (definition ∷ known) (code ∷ codes) (suc place) fit = fit-length known codes place fit.2
+fit-length (definition ∷ known) (code ∷ codes) (suc position) fit = fit-length known codes position fit.2
 
 module _ (wiring : Wiring) (known : List Defined) (codes : List Instructions)
     (fit : AreFit known codes) where
@@ -66,7 +66,7 @@ module _ (wiring : Wiring) (known : List Defined) (codes : List Instructions)
       omega (arith, line-length (line_of wiring.hood wiring.minor name), is.2)
   word-length token (single.Stack stack) size is = omega (arith, is.1)
   word-length token (single.Output target) size is = omega (arith, is.1)
-  word-length token (single.Defined place) size is =
+  word-length token (single.Defined position) size is =
       let (before, definition, later, split, at, named, none, sized) = is in
       let fits = fit-at before definition later codes (subst (λ l. AreFit l codes) split fit) in
       let short = subst (λ i. length (code_at codes i) ≤ definition.size) (sym at) fits in
@@ -134,8 +134,8 @@ tree-fit wiring (part ∷ parts) known codes each fit =
     each.0.size)
 
 -- the code of a rule's definition is at most 4,096 instructions
-pub code_length : (wiring : Wiring) (parts : List Part) (place : ℕ) → IsRule wiring parts →
-    length (code_at (tree_codes wiring [] [] parts) place) ≤ 4096
-code_length wiring parts place rule =
-    fit-length (meant wiring [] parts) (tree_codes wiring [] [] parts) place
+pub code_length : (wiring : Wiring) (parts : List Part) (position : ℕ) → IsRule wiring parts →
+    length (code_at (tree_codes wiring [] [] parts) position) ≤ 4096
+code_length wiring parts position rule =
+    fit-length (meant wiring [] parts) (tree_codes wiring [] [] parts) position
     (tree-fit wiring parts [] [] rule.each tt)

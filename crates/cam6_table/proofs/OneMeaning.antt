@@ -6,7 +6,7 @@ use Rattle.cam6_wiring.proofs.LinesOfNames.{shows_what_is_seen}
 use Rattle.cam6_forth.specs.Tree.{Part, IsRule, rule_of}
 use Rattle.cam6_table.specs.Internal.Emitting.{all_codes}
 use Rattle.cam6_table.specs.Laws.{TreesMeanTheSame}
-use Rattle.cam6_table.specs.Outputs.{begin}
+use Rattle.cam6_table.specs.Outputs.{untouched}
 use Rattle.cam6_table.specs.Codes.{exec}
 use Rattle.cam6_table.proofs.BodyCodes.{Agree}
 use Rattle.cam6_table.proofs.Emission.{rule_codes}
@@ -26,5 +26,5 @@ trees_mean_the_same wiring first second sees first_is second_is same =
     ap (λ r. last_code (all_codes wiring [] r.definitions)) same ∙
     sym (code_is wiring second second_is) in
     sym (tree_does wiring first sees shows first_is agree) ∙
-    ap (λ code. entry_by shows (exec shows code 0 None begin)) one ∙
+    ap (λ code. entry_by shows (exec shows code 0 None untouched)) one ∙
     tree_does wiring second sees shows second_is agree

@@ -4,11 +4,11 @@ use Rattle.std.proofs.Common.{Result, Ok, Err, IsOk, refl, sym, ap, ◌∙◌, a
 use Rattle.std.proofs.lemmas.Bool.Decides.{eqb_tells}
 use Rattle.cam6_table.specs.declared.faults.RuleFault.{RuleFault}
 use Rattle.cam6_table.specs.Laws.{LeastIsFound, NoneIsFound}
-use Rattle.cam6_table.specs.Tables.{Results, or_later, first_stop, least_stop}
+use Rattle.cam6_table.specs.Tables.{Results, or_at_later_address, first_stop, least_stop}
 
 -- an entry here leaves the search to the later addresses
 goes_on : (said : Result ℕ RuleFault) (address : ℕ) (later : Option (ℕ × RuleFault)) →
-    IsOk said → or_later said address later ≡ later
+    IsOk said → or_at_later_address said address later ≡ later
 goes_on (Ok entry) address later ok = refl
 goes_on (Err fault) address later ok = cc
 
@@ -28,7 +28,7 @@ least_found results fault zero from before within stops least =
     let never : ⊥ = omega (arith, within) in absurd never
 least_found results fault (suc n) from zero within stops least =
     let here : from + 0 ≡ from = omega arith in
-    ap (λ said. or_later said from (first_stop results n (suc from)))
+    ap (λ said. or_at_later_address said from (first_stop results n (suc from)))
     (sym (ap results here) ∙ stops) ∙
     ap (λ i. Some (i, fault)) (sym here)
 least_found results fault (suc n) from (suc before) within stops least =
@@ -61,7 +61,7 @@ all_run results (suc n) from address none low high =
     (λ none low. all_run results n (suc from) address none low (omega (arith, high)))
   where
     at_first : (said : Result ℕ RuleFault) → results from ≡ said →
-        or_later said from (first_stop results n (suc from)) ≡ None →
+        or_at_later_address said from (first_stop results n (suc from)) ≡ None →
         (first_stop results n (suc from) ≡ None → suc from ≤ address → IsOk (results address)) →
         IsOk (results address)
     at_first (Err fault) is none rest = cc none

@@ -14,7 +14,7 @@ use Rattle.cam6_table.specs.declared.faults.RuleFault.{RuleFault}
 use Rattle.cam6_table.specs.declared.faults.RuleFault.TheVariants.{CaseIndex}
 use Rattle.cam6_table.specs.declared.outputs.State.{State}
 use Rattle.cam6_table.specs.Words.{pushed, on_stack}
-use Rattle.cam6_table.specs.Outputs.{begin, written, entry_of, is_odd}
+use Rattle.cam6_table.specs.Outputs.{untouched, written, entry_of, is_odd}
 use Rattle.cam6_table.specs.Meaning.{then_do, with_stack, with_top, at_zero, at_address}
 
 -- the last so many instructions
@@ -82,11 +82,11 @@ entry_at address (Err fault) = Err fault
 
 -- the code's result at an address
 abbrev pub result_at : List Instruction → ℕ → Result ℕ RuleFault
-result_at code address = entry_at address (exec (shown address) code 0 None begin)
+result_at code address = entry_at address (exec (shown address) code 0 None untouched)
 
 -- how many instructions it does there
 abbrev pub turns_at : List Instruction → ℕ → ℕ
-turns_at code address = turns_of (shown address) code 0 None begin
+turns_at code address = turns_of (shown address) code 0 None untouched
 
 -- the code of a rule: at each address it answers what the rule means there, whichever tree of the
 -- rule is read

@@ -16,7 +16,7 @@ use Rattle.cam6_table.specs.declared.faults.RuleFault.{RuleFault}
 use Rattle.cam6_table.specs.declared.faults.RuleFault.TheVariants.{MissingValue, CaseIndex}
 use Rattle.cam6_table.specs.declared.outputs.State.{State}
 use Rattle.cam6_table.specs.Words.{Values, pushed, on_stack}
-use Rattle.cam6_table.specs.Outputs.{begin, written, entry_of}
+use Rattle.cam6_table.specs.Outputs.{untouched, written, entry_of}
 
 -- what words make of a state: another one, or the first fault
 abbrev pub Meaning : Type 0
@@ -44,11 +44,11 @@ abbrev pub at_zero : {A : Type 0} → ℕ → A → A → A
 at_zero zero a b = a
 at_zero (suc v) a b = b
 
--- the meaning at a place
+-- the meaning at a position
 abbrev pub meaning_at : List Meaning → ℕ → Meaning
-meaning_at [] place = Ok
+meaning_at [] position = Ok
 meaning_at (first ∷ later) zero = first
-meaning_at (first ∷ later) (suc place) = meaning_at later place
+meaning_at (first ∷ later) (suc position) = meaning_at later position
 
 -- a single word; a defined name means what its definition means
 abbrev pub word_means : Sees → List Meaning → SingleWord → Meaning
@@ -56,7 +56,7 @@ word_means sees done (single.Literal v) s = with_stack s (pushed v s.stack)
 word_means sees done (single.Name name) s = with_stack s (pushed (bit_number (sees name)) s.stack)
 word_means sees done (single.Stack stack) s = with_stack s (on_stack stack s.stack)
 word_means sees done (single.Output target) s = written target s
-word_means sees done (single.Defined place) s = meaning_at done place s
+word_means sees done (single.Defined position) s = meaning_at done position s
 
 -- what a token means; one that says no word means nothing
 abbrev pub token_means : Sees → List Meaning → Result (SingleWord × ℕ) ℕ → Meaning
@@ -109,7 +109,7 @@ entry_in sees (Err fault) = Err fault
 
 -- a rule as a function of what its names mean: the two new bits, or the first fault
 unfoldable pub meaning : Wiring → List Part → Sees → Result ℕ RuleFault
-meaning wiring parts sees = entry_in sees (last_meaning (meanings sees wiring [] [] parts) begin)
+meaning wiring parts sees = entry_in sees (last_meaning (meanings sees wiring [] [] parts) untouched)
 
 -- a rule at an address; a line without a name is ignored
 abbrev pub at_address : Wiring → List Part → ℕ → Result ℕ RuleFault

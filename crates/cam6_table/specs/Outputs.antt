@@ -9,8 +9,8 @@ use Rattle.cam6_table.specs.declared.faults.RuleFault.TheVariants.{MissingValue}
 use Rattle.cam6_table.specs.declared.outputs.State.{State}
 
 -- an empty stack, and no plane written
-abbrev pub begin : State
-begin = record { stack = []; lower = None; upper = None }
+abbrev pub untouched : State
+untouched = record { stack = []; lower = None; upper = None }
 
 abbrev pub is_odd : ℕ → Bool
 is_odd v = v % 2 == 1

@@ -26,16 +26,16 @@ pub record IsLeastStop (results : Results) (address : ℕ) (fault : RuleFault) :
 abbrev pub IsTrueTable : Wiring → List Part → List ℕ → Type 0
 IsTrueTable wiring parts entries = AreEntries (at_address wiring parts) entries
 
-abbrev pub or_later :
+abbrev pub or_at_later_address :
     Result ℕ RuleFault → ℕ → Option (ℕ × RuleFault) → Option (ℕ × RuleFault)
-or_later (Ok entry) address later = later
-or_later (Err fault) address later = Some (address, fault)
+or_at_later_address (Ok entry) address later = later
+or_at_later_address (Err fault) address later = Some (address, fault)
 
 -- the first of so many addresses, from one on, at which any fault comes, with the fault there
 abbrev pub first_stop : Results → ℕ → ℕ → Option (ℕ × RuleFault)
 first_stop results zero address = None
 first_stop results (suc n) address =
-    or_later (results address) address (first_stop results n (suc address))
+    or_at_later_address (results address) address (first_stop results n (suc address))
 
 -- the least address at which any fault comes, if there is one
 unfoldable pub least_stop : Results → Option (ℕ × RuleFault)

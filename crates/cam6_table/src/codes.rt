@@ -7,7 +7,7 @@ use cam6_planes::NoMemory;
 use std::alloc::Global;
 use std::marker::Model;
 
-/// What code does at one place. Where it goes on further ahead, the place says by how many.
+/// What code does at one position. Where it goes on further ahead, the position says by how many.
 #[derive(Clone, Copy, Debug, PartialEq, Eq)]
 pub enum Instruction {
     /// Puts a number on the stack.

@@ -215,7 +215,7 @@ impl Emitter {
             },
             SingleWord::Stack(word) => self.code.put(Instruction::Stack(word)),
             SingleWord::Output(target) => self.code.put(Instruction::Output(target)),
-            SingleWord::Defined(place) => match codes.get(place) {
+            SingleWord::Defined(position) => match codes.get(position) {
                 Some(code) => self.code.put_all(code),
                 None => Ok(()),
             },

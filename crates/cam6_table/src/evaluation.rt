@@ -9,7 +9,7 @@ ghost use Rattle.cam6_table.specs.Codes.{act, exec, turns_of, result_at, turns_a
 
 use crate::codes::{Code, Instruction, Instructions};
 use crate::faults::RuleFault;
-use crate::outputs::{State, begin, entry_of, write};
+use crate::outputs::{State, untouched, entry_of, write};
 
 /// Turns that a rule can take, one for each instruction.
 pub const MAX_TURNS: u32 = 4096;
@@ -24,7 +24,7 @@ pub fn eval(code: &Code, address: u16, turns: &mut u32) -> Result<u8, RuleFault>
     ensures limit { turns.old ≤ turns.new + max_turns }
     ensures constant { MAX_TURNS ≡ max_turns }
 {
-    let mut state = begin();
+    let mut state = untouched();
     run(code.instructions(), address, &mut state, turns)?;
     Ok(entry_of(&state, address))
 }

@@ -4,7 +4,7 @@
 //! (`specs/Meaning.antt`), the two new bits or the first fault. `eval` gives that result in at most
 //! 4,096 turns, one instruction each; `fill` leaves the table of all results, or names the least
 //! address at which any fault comes, with the fault there, also where no cell shows the address. A
-//! table gives the new rows of a row's lines (`Table::put_rows`), and is seen as its entries alone.
+//! table gives the new rows of a row's lines (`Table::look_up`), and is seen as its entries alone.
 //!
 //! What a rule means is defined by recursion on its tree, as a function of what its names mean. The
 //! laws: a true table, read at the address of what is seen, is the rule as a function of what is
@@ -13,7 +13,7 @@
 //! stops for want of values exactly where there are fewer than it wants; code of the rule that a
 //! text was accepted as, which filled a table, is the text's code, and the table the text's table.
 //!
-//! Stands on: `cam6_planes`, `cam6_wiring`, `cam6_exchange` and `cam6_forth`.
+//! Stands on: `cam6_planes`, `cam6_wiring`, `cam6_lookup` and `cam6_forth`.
 //!
 //! Read next: `stacks`, what a word does; `outputs`; `codes`, the instructions; `emitter`, how a
 //! rule becomes code; `evaluation`; `tables`; then `laws`.

@@ -1,7 +1,7 @@
 //! The state of a rule that runs: its stack, and the last write to each plane.
 ghost use Rattle.std.specs.Prelude.{◌≡◌, ◌<◌, ◌/◌, ℕ, Bool, None};
 ghost use Rattle.cam6_table.specs.Words.{IsOutcome};
-ghost use Rattle.cam6_table.specs.Outputs.{begin, written, is_odd, entry_of};
+ghost use Rattle.cam6_table.specs.Outputs.{untouched, written, is_odd, entry_of};
 
 use crate::faults::RuleFault;
 use crate::stacks::Stack;
@@ -16,8 +16,8 @@ pub struct State {
 }
 
 /// The state in which a rule begins.
-pub fn begin() -> State
-    ensures { result ≡ begin }
+pub fn untouched() -> State
+    ensures { result ≡ untouched }
 {
     State {
         stack: Stack::new(),

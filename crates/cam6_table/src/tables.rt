@@ -7,7 +7,7 @@ ghost use Rattle.cam6_table.specs.Codes.{result_at};
 use crate::codes::Code;
 use crate::evaluation::{MAX_TURNS, eval};
 use crate::faults::RuleFault;
-use cam6_exchange::put_rows;
+use cam6_lookup::look_up_rows;
 use cam6_planes::{NoMemory, Row, Side};
 use cam6_wiring::Lines;
 use std::alloc::Global;
@@ -72,19 +72,19 @@ impl Table {
         requires { address < ENTRIES }
         ensures { self.new ≡ slice_set self.old address entry }
     {
-        let place = usize::from(address);
-        self.entries[place] = entry;
+        let position = usize::from(address);
+        self.entries[position] = entry;
     }
 
     /// Writes both planes' new rows of a row's lines: at each column that bit of the entry at the
     /// address which the lines show there. Of words past the side nothing is said.
-    pub fn put_rows(&self, lower: &mut Row, upper: &mut Row, lines: &Lines, side: Side)
+    pub fn look_up(&self, lower: &mut Row, upper: &mut Row, lines: &Lines, side: Side)
         ensures lower { (x : ℕ) → x < side_number side → column_bit lower.new x
             ≡ bit_for Lower (slice_index self.now (address_in lines.now x)) }
         ensures upper { (x : ℕ) → x < side_number side → column_bit upper.new x
             ≡ bit_for Upper (slice_index self.now (address_in lines.now x)) }
     {
-        put_rows(lower, upper, lines, side, &self.entries);
+        look_up_rows(lower, upper, lines, side, &self.entries);
     }
 
     /// Makes the table a copy of another one. It takes no memory.

@@ -1,9 +1,9 @@
-//! Corners of blocks, turns in them, and addresses round a lone cell, worked out by hand.
+//! Corners of blocks, rotations in them, and addresses round a lone cell, worked out by hand.
 
 use crate::within::address_of;
 use cam6_planes::{NoMemory, Planes, Side};
 use cam6_wiring::{
-    Compass, Corner, Grid, Half, Hood, Level, Minor, Name, Phase, Setting, Turn, address_at,
+    Compass, Corner, Grid, Half, Hood, Level, Minor, Name, Phase, Setting, Rotation, address_at,
     corner_of, in_block, seen,
 };
 use std::test::Fail;
@@ -27,8 +27,8 @@ fn corners_of_cells(rt: HostRuntime) {
 
 // From the picture of a block: the places run clockwise from the upper left one.
 #[test]
-fn turns_in_a_block(rt: HostRuntime) {
-    let turns = [Turn::Clockwise, Turn::Opposite, Turn::CounterClockwise];
+fn rotations_in_a_block(rt: HostRuntime) {
+    let rotations = [Rotation::Clockwise, Rotation::Opposite, Rotation::CounterClockwise];
     for (corner, places) in [
         (
             Corner::UpperLeft,
@@ -47,8 +47,8 @@ fn turns_in_a_block(rt: HostRuntime) {
             [Compass::North, Compass::NorthEast, Compass::East],
         ),
     ] {
-        for (turn, want) in turns.into_iter().zip(places) {
-            assert_eq!(rt; in_block(corner, turn), want, "{corner:?} {turn:?}");
+        for (rotation, want) in rotations.into_iter().zip(places) {
+            assert_eq!(rt; in_block(corner, rotation), want, "{corner:?} {rotation:?}");
         }
     }
 }

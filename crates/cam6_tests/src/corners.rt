@@ -4,7 +4,7 @@
 use crate::rows::lone;
 use crate::within::{seen_at, set_row};
 use cam6_planes::{NoMemory, Planes, Side, WORDS};
-use cam6_wiring::{Compass, Grid, Half, Level, Name, Phase, Setting, Turn};
+use cam6_wiring::{Compass, Grid, Half, Level, Name, Phase, Setting, Rotation};
 use std::alloc::Global;
 use std::process::Abort;
 use std::test::Fail;
@@ -44,10 +44,10 @@ fn beside(compass: Compass) -> [Name; 2] {
     ]
 }
 
-fn turned(turn: Turn) -> [Name; 2] {
+fn rotated(rotation: Rotation) -> [Name; 2] {
     [
-        Name::InBlock(turn, Level::Lower),
-        Name::InBlock(turn, Level::Upper),
+        Name::InBlock(rotation, Level::Lower),
+        Name::InBlock(rotation, Level::Upper),
     ]
 }
 
@@ -127,25 +127,25 @@ fn places_beside(rt: HostRuntime) -> Result<(), Fail> {
 #[test]
 fn places_in_blocks(rt: HostRuntime) -> Result<(), Fail> {
     let mut planes = blank_planes(rt.alloc())?;
-    for (turn, even, odd) in [
+    for (rotation, even, odd) in [
         (
-            Turn::Clockwise,
+            Rotation::Clockwise,
             [(1, 0), (255, 1), (0, 254), (254, 255)],
             [(255, 0), (255, 255), (0, 0), (0, 255)],
         ),
         (
-            Turn::Opposite,
+            Rotation::Opposite,
             [(1, 1), (254, 1), (1, 254), (254, 254)],
             [(255, 255), (0, 255), (255, 0), (0, 0)],
         ),
         (
-            Turn::CounterClockwise,
+            Rotation::CounterClockwise,
             [(0, 1), (254, 0), (1, 255), (255, 254)],
             [(0, 255), (0, 0), (255, 255), (255, 0)],
         ),
     ] {
-        check_names(&rt, &mut planes, Grid::Even, turned(turn), even);
-        check_names(&rt, &mut planes, Grid::Odd, turned(turn), odd);
+        check_names(&rt, &mut planes, Grid::Even, rotated(rotation), even);
+        check_names(&rt, &mut planes, Grid::Odd, rotated(rotation), odd);
     }
     Ok(())
 }

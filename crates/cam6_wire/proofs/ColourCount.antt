@@ -6,7 +6,7 @@ use Rattle.std.proofs.Common.{Some, None, IfSome, option_and_then, refl, sym, ap
 use Rattle.std.proofs.lemmas.Bool.{eqb-true}
 use Rattle.serde_json.specs.View.{view, items_view}
 use Rattle.serde_json.specs.declared.value.Value.{Value}
-use Rattle.cam6_machine.specs.Limits.{states}
+use Rattle.cam6_machine.specs.Limits.{cell_states}
 use Rattle.cam6_wire.specs.Fields.{number_in, numbers_of, of_states, ◌>>=◌}
 use Rattle.cam6_wire.proofs.Steps.{of_step}
 
@@ -32,12 +32,12 @@ pub no_colours : (values : List Value) → (length values ≡ 16 → ⊥) →
 no_colours values other = by_numbers (numbers_of (items_view values)) (as_many values)
   where
     by_count : (numbers : List ℕ) (b : Bool) → length numbers ≡ length values →
-        (length numbers == states) ≡ b → cond b (Some numbers) None ≡ None
+        (length numbers == cell_states) ≡ b → cond b (Some numbers) None ≡ None
     by_count numbers true many is =
-        absurd (other (sym many ∙ eqb-true (length numbers) states is))
+        absurd (other (sym many ∙ eqb-true (length numbers) cell_states is))
     by_count numbers false many is = refl
 
     by_numbers : (o : Option (List ℕ)) → IfSome o (λ numbers. length numbers ≡ length values) →
         option_and_then of_states o ≡ None
     by_numbers None given = refl
-    by_numbers (Some numbers) many = by_count numbers (length numbers == states) many refl
+    by_numbers (Some numbers) many = by_count numbers (length numbers == cell_states) many refl

@@ -5,7 +5,7 @@ use Rattle.std.proofs.lemmas.Bool.{eq-eqb, eqb-true}
 use Rattle.serde_json.specs.Data.{Data, null, boolean, number, string, array, object}
 use Rattle.serde_json.specs.Data.{Items, no_items, item}
 use Rattle.serde_json.specs.Find.{get, as_array}
-use Rattle.cam6_machine.specs.Limits.{states}
+use Rattle.cam6_machine.specs.Limits.{cell_states}
 use Rattle.cam6_wire.specs.Fields.{number_in, numbers_of, of_states, colours_at, ◌>>=◌}
 use Rattle.cam6_wire.specs.Replies.{natural, naturals}
 use Rattle.cam6_wire.proofs.Steps.{of_step, of_test}
@@ -26,7 +26,7 @@ numbers_shown (item d items) =
 -- sixteen colours that stand at a key
 abbrev pub HasColours : List ℕ → Data → List ℕ → Type 0
 HasColours key d colours =
-    (length colours ≡ states) × (get key d ≡ Some (array (naturals colours)))
+    (length colours ≡ cell_states) × (get key d ≡ Some (array (naturals colours)))
 
 colours_in : (key : List ℕ) (d found : Data) → get key d ≡ Some found →
     IfSome (as_array found >>= λ items. numbers_of items >>= λ numbers. of_states numbers)
@@ -39,8 +39,8 @@ colours_in key d (object held) at = tt
 colours_in key d (array items) at =
     of_step (λ numbers. items ≡ naturals numbers) (HasColours key d) of_states
     (λ numbers are.
-    of_test (HasColours key d) (length numbers == states) (Some numbers) None
-    (λ is. (eqb-true (length numbers) states is, at ∙ ap (λ i. Some (array i)) are)) tt)
+    of_test (HasColours key d) (length numbers == cell_states) (Some numbers) None
+    (λ is. (eqb-true (length numbers) cell_states is, at ∙ ap (λ i. Some (array i)) are)) tt)
     (numbers_of items) (numbers_shown items)
 
 and_is : (o : Option Data) → IfSome o (λ d. o ≡ Some d)
@@ -58,8 +58,8 @@ numbers_said [] = refl
 numbers_said (n ∷ numbers) =
     ap (λ o. o >>= λ numbers. Some (n ∷ numbers)) (numbers_said numbers)
 
-pub colours_said : (colours : List ℕ) → length colours ≡ states →
+pub colours_said : (colours : List ℕ) → length colours ≡ cell_states →
     (numbers_of (naturals colours) >>= λ numbers. of_states numbers) ≡ Some colours
 colours_said colours sixteen =
     ap (λ o. o >>= λ numbers. of_states numbers) (numbers_said colours) ∙
-    ap (λ b. cond b (Some colours) None) (eq-eqb (length colours) states sixteen)
+    ap (λ b. cond b (Some colours) None) (eq-eqb (length colours) cell_states sixteen)

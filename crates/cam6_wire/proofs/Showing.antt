@@ -28,7 +28,7 @@ use Rattle.cam6_wire.specs.Commands.{set_fields, set_of, rule_fields, rule_of, c
 use Rattle.cam6_wire.specs.Commands.{back_of}
 use Rattle.cam6_wire.specs.Commands.{row_fields, row_of, plane_of, side_of, by_word, shown_in}
 use Rattle.cam6_wire.specs.Commands.{from_value, value_of, command, clear_of, drop_of}
-use Rattle.cam6_wire.specs.Commands.{rules_of, map_of, colours_of, count_of}
+use Rattle.cam6_wire.specs.Commands.{listing_of, map_of, colours_of, count_of}
 use Rattle.cam6_wire.specs.Shown.{Shows}
 use Rattle.cam6_wire.specs.Laws.{SaidIsShown}
 use Rattle.cam6_wire.proofs.Steps.{of_map, of_step, of_value, of_test, of_two, of_three}
@@ -230,8 +230,8 @@ rules_held held same given =
     these (member (codes "do") (string (codes "rules")) no_members) held (tt, tt) same given.0
     (given.1, tt)
 
-rules_shown : (d : Data) → HasWord (codes "rules") d → IfSome (rules_of d) (Shows d)
-unfolding rules_of
+rules_shown : (d : Data) → HasWord (codes "rules") d → IfSome (listing_of d) (Shows d)
+unfolding listing_of
 rules_shown d given =
     of_object 1 (λ x. Some Rules) (HasWord (codes "rules")) Shows rules_held d given
 
@@ -339,7 +339,7 @@ word_shown word d ordered at =
     (of_word word (codes "clear") d (clear_of d) _ ordered at (clear_shown d)
     (of_word word (codes "rule") d (rule_of d) _ ordered at (rule_shown d)
     (of_word word (codes "drop") d (drop_of d) _ ordered at (drop_shown d)
-    (of_word word (codes "rules") d (rules_of d) _ ordered at (rules_shown d)
+    (of_word word (codes "rules") d (listing_of d) _ ordered at (rules_shown d)
     (of_word word (codes "cycle") d (cycle_of d) _ ordered at (cycle_shown d)
     (of_word word (codes "run") d (run_of d) _ ordered at (run_shown d)
     (of_word word (codes "back") d (back_of d) _ ordered at (back_shown d)

@@ -12,7 +12,7 @@ use Rattle.cam6_machine.specs.declared.commands.NamedEntry.{NamedEntry}
 use Rattle.cam6_wire.specs.Fields.{count, number_at, text_at, ◌>>=◌}
 use Rattle.cam6_wire.specs.Replies.{natural}
 use Rattle.cam6_wire.specs.Wirings.{grid_text, grid_named}
-use Rattle.cam6_wire.specs.Entries.{rule_named, entry_fields, entry_of, entries_of, entries_at}
+use Rattle.cam6_wire.specs.Entries.{rule_name_in, entry_fields, entry_in, entries_in, entries_at}
 use Rattle.cam6_wire.specs.Shown.{ShowsEntry, ShowsEntries}
 use Rattle.cam6_wire.proofs.Steps.{of_step, of_four}
 use Rattle.cam6_wire.proofs.Ordered.{IsOrdered, AreOrdered, HaveOrder}
@@ -21,7 +21,7 @@ use Rattle.cam6_wire.proofs.Found.{number_found, text_found, grid_found, of_obje
 
 abbrev entry_in : List ℕ → List ℕ → Grid → ℕ → NamedEntry
 entry_in a b grid phase =
-    record { a = rule_named a; b = rule_named b; grid = grid; phase = phase }
+    record { a = rule_name_in a; b = rule_name_in b; grid = grid; phase = phase }
 
 entry_held : (held : Members) → count held ≡ 4 → IsOrdered (object held) →
     IfSome (entry_fields (object held)) (ShowsEntry (object held))
@@ -50,20 +50,20 @@ entry_held held same given =
     (text_found (codes "a") (object held)) (text_found (codes "b") (object held))
     (grid_found (codes "grid") (object held)) (number_found (codes "phase") (object held))
 
-entry_shown : (d : Data) → IsOrdered d → IfSome (entry_of d) (ShowsEntry d)
-unfolding entry_of
+entry_shown : (d : Data) → IsOrdered d → IfSome (entry_in d) (ShowsEntry d)
+unfolding entry_in
 entry_shown d given = of_object 4 entry_fields IsOrdered ShowsEntry entry_held d given
 
 entries_shown : (items : Items) → AreOrdered items →
-    IfSome (entries_of items) (ShowsEntries items)
+    IfSome (entries_in items) (ShowsEntries items)
 entries_shown no_items given = tt
 entries_shown (item d items) given =
     of_step (ShowsEntry d) (ShowsEntries (item d items))
-    (λ entry. entries_of items >>= λ entries. Some (entry ∷ entries))
+    (λ entry. entries_in items >>= λ entries. Some (entry ∷ entries))
     (λ entry shows.
     of_step (ShowsEntries items) (ShowsEntries (item d items)) (λ entries. Some (entry ∷ entries))
-    (λ entries show. (shows, show)) (entries_of items) (entries_shown items given.1))
-    (entry_of d) (entry_shown d given.0)
+    (λ entries show. (shows, show)) (entries_in items) (entries_shown items given.1))
+    (entry_in d) (entry_shown d given.0)
 
 ordered_or : (o : Ordering) (x : Option Data) (e : Data) → IfSome x IsOrdered → IsOrdered e →
     IfSome (match_ordering o x (Some e) x) IsOrdered
@@ -89,7 +89,7 @@ HasEntries d entries =
     (get (codes "entries") d ≡ Some (array items))
 
 entries_in : (found : Option Data) (d : Data) → (found ≡ Some d) × IsOrdered d →
-    IfSome (as_array d >>= λ items. entries_of items)
+    IfSome (as_array d >>= λ items. entries_in items)
     (λ entries. (items : Items) × ShowsEntries items entries × (found ≡ Some (array items)))
 entries_in found null given = tt
 entries_in found (boolean b) given = tt
@@ -97,14 +97,14 @@ entries_in found (number n) given = tt
 entries_in found (string s) given = tt
 entries_in found (object held) given = tt
 entries_in found (array items) given =
-    IfSome_then (entries_of items) (entries_shown items given.1)
+    IfSome_then (entries_in items) (entries_shown items given.1)
     (λ entries show. (items, show, given.0))
 
 pub entries_found : (held : Members) → HaveOrder held →
     IfSome (entries_at (codes "entries") (object held)) (HasEntries (object held))
 entries_found held given =
     of_step (λ d. (get_member (codes "entries") held ≡ Some d) × IsOrdered d)
-    (HasEntries (object held)) (λ d. as_array d >>= λ items. entries_of items)
+    (HasEntries (object held)) (λ d. as_array d >>= λ items. entries_in items)
     (λ d given. entries_in (get_member (codes "entries") held) d given)
     (get_member (codes "entries") held)
     (and_is (get_member (codes "entries") held) (ordered_at (codes "entries") held given))

@@ -26,18 +26,18 @@ use Rattle.cam6_machine.specs.declared.commands.Command.TheVariants.{Row, Plane,
 use Rattle.cam6_machine.specs.declared.commands.Command.TheVariants.{Drop as DropRule, Rules, Map}
 use Rattle.cam6_machine.specs.declared.commands.Command.TheVariants.{Side as SetSide, Colours}
 use Rattle.cam6_machine.specs.declared.commands.Command.TheVariants.{Count}
-use Rattle.cam6_machine.specs.Limits.{states}
+use Rattle.cam6_machine.specs.Limits.{cell_states}
 use Rattle.cam6_machine.specs.declared.commands.NamedEntry.{NamedEntry}
 use Rattle.cam6_wire.specs.declared.faults.LineFault.TheVariants.{NoCommand}
 use Rattle.cam6_wire.specs.Fields.{bits_of, text_at, ◌>>=◌}
 use Rattle.cam6_wire.specs.Replies.{natural, naturals}
 use Rattle.cam6_wire.specs.Wirings.{half_text, hood_text, minor_text, grid_text}
 use Rattle.cam6_wire.specs.Wirings.{half_named, hood_named, minor_named, grid_named, wiring_in}
-use Rattle.cam6_wire.specs.Entries.{rule_named, entry_of, entries_of}
+use Rattle.cam6_wire.specs.Entries.{rule_name_in, entry_in, entries_in}
 use Rattle.cam6_wire.specs.Commands.{set_of, rule_of, cycle_of, run_of, back_of, plane_of}
 use Rattle.cam6_wire.specs.Commands.{side_of}
 use Rattle.cam6_wire.specs.Commands.{row_of, by_word, shown_in, from_value, clear_of}
-use Rattle.cam6_wire.specs.Commands.{drop_of, rules_of, map_of, colours_of, count_of}
+use Rattle.cam6_wire.specs.Commands.{drop_of, listing_of, map_of, colours_of, count_of}
 use Rattle.cam6_wire.specs.Shown.{ShowsEntries, Shows}
 use Rattle.cam6_wire.specs.Laws.{ShownIsSaid}
 use Rattle.cam6_wire.proofs.Saying.{short_line}
@@ -132,38 +132,38 @@ unfolding rule_of
 rule_said wiring name text =
     ap (option_and_then (λ wiring. Some (Rule name wiring text))) (wiring_said wiring name text)
 
-entry_said : (entry : NamedEntry) (a b : List ℕ) → rule_named a ≡ entry.a →
-    rule_named b ≡ entry.b →
-    entry_of
+entry_said : (entry : NamedEntry) (a b : List ℕ) → rule_name_in a ≡ entry.a →
+    rule_name_in b ≡ entry.b →
+    entry_in
     (object
     (member (codes "a") (string a)
     (member (codes "b") (string b)
     (member (codes "grid") (string (grid_text entry.grid))
     (member (codes "phase") (natural entry.phase) no_members)))))
     ≡ Some entry
-unfolding entry_of
+unfolding entry_in
 entry_said entry a b is_a is_b =
     ap
     (option_and_then
     (λ grid.
-    Some (record { a = rule_named a; b = rule_named b; grid = grid; phase = entry.phase })))
+    Some (record { a = rule_name_in a; b = rule_name_in b; grid = grid; phase = entry.phase })))
     (grid_of_text entry.grid) ∙
     ap
-    (λ name. Some (record { a = name; b = rule_named b; grid = entry.grid; phase = entry.phase }))
+    (λ name. Some (record { a = name; b = rule_name_in b; grid = entry.grid; phase = entry.phase }))
     is_a ∙
     ap
     (λ name. Some (record { a = entry.a; b = name; grid = entry.grid; phase = entry.phase }))
     is_b
 
 entries_said : (items : Items) (entries : List NamedEntry) → ShowsEntries items entries →
-    entries_of items ≡ Some entries
+    entries_in items ≡ Some entries
 entries_said no_items [] show = refl
 entries_said (item d items) [] show = absurd show
 entries_said no_items (entry ∷ entries) show = absurd show
 entries_said (item d items) (entry ∷ entries) show =
-    ap (λ x. entry_of x >>= λ entry. entries_of items >>= λ entries. Some (entry ∷ entries))
+    ap (λ x. entry_in x >>= λ entry. entries_in items >>= λ entries. Some (entry ∷ entries))
     show.0.4 ∙
-    ap (λ x. x >>= λ entry. entries_of items >>= λ entries. Some (entry ∷ entries))
+    ap (λ x. x >>= λ entry. entries_in items >>= λ entries. Some (entry ∷ entries))
     (entry_said entry show.0.0 show.0.1 show.0.2 show.0.3) ∙
     ap (λ x. x >>= λ entries. Some (entry ∷ entries)) (entries_said items entries show.1)
 
@@ -238,11 +238,11 @@ drop_said : (name : List ℕ) →
 unfolding drop_of
 drop_said name = refl
 
-rules_said : rules_of (object (member (codes "do") (string (codes "rules")) no_members)) ≡ Some Rules
-unfolding rules_of
+rules_said : listing_of (object (member (codes "do") (string (codes "rules")) no_members)) ≡ Some Rules
+unfolding listing_of
 rules_said = refl
 
-map_said : (colours : List ℕ) → length colours ≡ states →
+map_said : (colours : List ℕ) → length colours ≡ cell_states →
     map_of
     (object
     (member (codes "colours") (array (naturals colours))

@@ -55,8 +55,8 @@ unfoldable pub drop_of : Data → Option Command
 drop_of d = if has_size 2 d then option_map DropRule (text_at (codes "name") d) else None
 
 -- {"do":"rules"}
-unfoldable pub rules_of : Data → Option Command
-rules_of d = if has_size 1 d then Some Rules else None
+unfoldable pub listing_of : Data → Option Command
+listing_of d = if has_size 1 d then Some Rules else None
 
 -- {"do":"cycle","entries":[{"a":n,"b":n,"grid":g,"phase":f},..]}
 unfoldable pub cycle_of : Data → Option Command
@@ -108,7 +108,7 @@ by_word word d =
     else if bytes_eq word (codes "clear") then clear_of d
     else if bytes_eq word (codes "rule") then rule_of d
     else if bytes_eq word (codes "drop") then drop_of d
-    else if bytes_eq word (codes "rules") then rules_of d
+    else if bytes_eq word (codes "rules") then listing_of d
     else if bytes_eq word (codes "cycle") then cycle_of d
     else if bytes_eq word (codes "run") then run_of d
     else if bytes_eq word (codes "back") then back_of d

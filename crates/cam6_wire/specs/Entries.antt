@@ -8,8 +8,8 @@ use Rattle.cam6_wire.specs.Fields.{has_size, number_at, text_at, ◌>>=◌}
 use Rattle.cam6_wire.specs.Wirings.{grid_named}
 
 -- `-` names no rule
-abbrev pub rule_named : List ℕ → Option (List ℕ)
-rule_named text = if bytes_eq text (codes "-") then None else Some text
+abbrev pub rule_name_in : List ℕ → Option (List ℕ)
+rule_name_in text = if bytes_eq text (codes "-") then None else Some text
 
 -- the entry of the keys a, b, grid and phase
 abbrev pub entry_fields : Data → Option NamedEntry
@@ -18,18 +18,18 @@ entry_fields d = do
   b ← text_at (codes "b") d
   grid ← text_at (codes "grid") d >>= grid_named
   phase ← number_at (codes "phase") d
-  Some (record { a = rule_named a; b = rule_named b; grid = grid; phase = phase })
+  Some (record { a = rule_name_in a; b = rule_name_in b; grid = grid; phase = phase })
 
 -- {"a":n,"b":n,"grid":g,"phase":f}
-unfoldable pub entry_of : Data → Option NamedEntry
-entry_of d = if has_size 4 d then entry_fields d else None
+unfoldable pub entry_in : Data → Option NamedEntry
+entry_in d = if has_size 4 d then entry_fields d else None
 
 -- a list of entries, each of which is one
-abbrev pub entries_of : Items → Option (List NamedEntry)
-entries_of no_items = Some []
-entries_of (item d ds) = do
-  entry ← entry_of d
-  entries ← entries_of ds
+abbrev pub entries_in : Items → Option (List NamedEntry)
+entries_in no_items = Some []
+entries_in (item d ds) = do
+  entry ← entry_in d
+  entries ← entries_in ds
   Some (entry ∷ entries)
 
 -- the entries at a key
@@ -37,4 +37,4 @@ abbrev pub entries_at : List ℕ → Data → Option (List NamedEntry)
 entries_at key d = do
   found ← get key d
   items ← as_array found
-  entries_of items
+  entries_in items

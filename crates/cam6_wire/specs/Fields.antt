@@ -8,7 +8,7 @@ use Rattle.hex.specs.Hex.{decode_sized}
 use Rattle.cam6_planes.specs.Side.{side_number, side_of}
 use Rattle.serde_json.specs.Data.{Data, Items, no_items, item, Members, no_members, member}
 use Rattle.serde_json.specs.Find.{get, as_number, as_u64, as_str, as_array, as_object}
-use Rattle.cam6_machine.specs.Limits.{states}
+use Rattle.cam6_machine.specs.Limits.{cell_states}
 
 -- the second step, if the first gave a value
 infixl 10 ◌>>=◌
@@ -40,9 +40,9 @@ numbers_of (item d ds) = do
   numbers ← numbers_of ds
   Some (n ∷ numbers)
 
--- a colour for each of the sixteen states
+-- a colour for each of the sixteen cell_states
 abbrev pub of_states : List ℕ → Option (List ℕ)
-of_states numbers = if length numbers == states then Some numbers else None
+of_states numbers = if length numbers == cell_states then Some numbers else None
 
 -- the colours at a key
 abbrev pub colours_at : List ℕ → Data → Option (List ℕ)

@@ -11,16 +11,16 @@ use Rattle.cam6_machine.specs.declared.commands.Command.TheVariants.{Row, Plane,
 use Rattle.cam6_machine.specs.declared.commands.Command.TheVariants.{Drop as DropRule, Rules, Map}
 use Rattle.cam6_machine.specs.declared.commands.Command.TheVariants.{Side as SetSide, Colours}
 use Rattle.cam6_machine.specs.declared.commands.Command.TheVariants.{Count}
-use Rattle.cam6_machine.specs.Limits.{states}
+use Rattle.cam6_machine.specs.Limits.{cell_states}
 use Rattle.cam6_machine.specs.declared.commands.NamedEntry.{NamedEntry}
 use Rattle.cam6_wire.specs.Replies.{natural, naturals}
 use Rattle.cam6_wire.specs.Wirings.{half_text, hood_text, minor_text, grid_text}
-use Rattle.cam6_wire.specs.Entries.{rule_named}
+use Rattle.cam6_wire.specs.Entries.{rule_name_in}
 
 -- {"a":n,"b":n,"grid":g,"phase":f}
 abbrev pub ShowsEntry : Data → NamedEntry → Type 0
 ShowsEntry d entry =
-    (a b : List ℕ) × (rule_named a ≡ entry.a) × (rule_named b ≡ entry.b) ×
+    (a b : List ℕ) × (rule_name_in a ≡ entry.a) × (rule_name_in b ≡ entry.b) ×
     (d
     ≡ object
     (member (codes "a") (string a)
@@ -122,7 +122,7 @@ Shows d (SetSide n) =
     no_members))
 -- {"colours":[16 numbers],"do":"map"}
 Shows d (Map colours) =
-    (length colours ≡ states) ×
+    (length colours ≡ cell_states) ×
     (d
     ≡ object
     (member (codes "colours") (array (naturals colours))

@@ -6,7 +6,7 @@ ghost use Rattle.serde_json.specs.View.{view};
 ghost use Rattle.cam6_machine.specs.Always.{HasText};
 ghost use Rattle.cam6_wire.specs.Commands.{set_of, rule_of, cycle_of, run_of, back_of, row_of};
 ghost use Rattle.cam6_wire.specs.Commands.{plane_of, side_of, by_word, clear_of, drop_of};
-ghost use Rattle.cam6_wire.specs.Commands.{rules_of, map_of, colours_of, count_of};
+ghost use Rattle.cam6_wire.specs.Commands.{listing_of, map_of, colours_of, count_of};
 ghost use Rattle.cam6_wire.specs.Commands.{shown_in, command, IsSaid};
 ghost use Rattle.cam6_wire.specs.Commands.{keeps_text, takes_text};
 ghost use Rattle.cam6_wire.specs.Limits.{max_line};
@@ -95,7 +95,7 @@ fn by_word(alloc: Global, word: &str, value: &Value) -> Result<Option<Command>, 
         "clear" => Ok(clear_of(value)),
         "rule" => rule_of(alloc, value),
         "drop" => drop_of(alloc, value),
-        "rules" => Ok(rules_of(value)),
+        "rules" => Ok(listing_of(value)),
         "cycle" => cycle_of(alloc, value),
         "run" => Ok(run_of(value)),
         "back" => Ok(back_of(value)),
@@ -175,9 +175,9 @@ fn drop_of(alloc: Global, value: &Value) -> Result<Option<Command>, AllocError>
     }))
 }
 
-#[tactic(auto, unfolding(crate::specs::Commands::rules_of))]
-fn rules_of(value: &Value) -> Option<Command>
-    ensures { result ≡ rules_of (view value.now) }
+#[tactic(auto, unfolding(crate::specs::Commands::listing_of))]
+fn listing_of(value: &Value) -> Option<Command>
+    ensures { result ≡ listing_of (view value.now) }
 {
     if !has_size(value, 1) {
         return None;

@@ -3,7 +3,7 @@ ghost use Rattle.std.specs.Prelude.{◌≡◌, false, IfOk, IsOk, is_some, optio
 ghost use Rattle.std.specs.Option.{option_map_or};
 ghost use Rattle.serde_json.specs.View.{view, items_view};
 ghost use Rattle.cam6_wire.specs.Commands.{are_some};
-ghost use Rattle.cam6_wire.specs.Entries.{rule_named, entry_of, entries_of, entries_at};
+ghost use Rattle.cam6_wire.specs.Entries.{rule_name_in, entry_in, entries_in, entries_at};
 
 use crate::fields::{has_size, number_at, text_at};
 use crate::wirings::grid_named;
@@ -23,14 +23,14 @@ pub(crate) fn entries_at(
         → IsOk result }
 {
     match value.get(key).and_then(Value::as_array) {
-        Some(values) => entries_of(alloc, values),
+        Some(values) => entries_in(alloc, values),
         None => Ok(None),
     }
 }
 
-fn entries_of(alloc: Global, values: &[Value]) -> Result<Option<NamedEntries>, AllocError>
-    ensures entries { IfOk result (λ entries. entries ≡ entries_of (items_view values.now)) }
-    ensures memory { option_map_or are_some (entries_of (items_view values.now)) false ≡ false
+fn entries_in(alloc: Global, values: &[Value]) -> Result<Option<NamedEntries>, AllocError>
+    ensures entries { IfOk result (λ entries. entries ≡ entries_in (items_view values.now)) }
+    ensures memory { option_map_or are_some (entries_in (items_view values.now)) false ≡ false
         → IsOk result }
 {
     if !are_entries(values) {
@@ -38,7 +38,7 @@ fn entries_of(alloc: Global, values: &[Value]) -> Result<Option<NamedEntries>, A
     }
     let mut entries = Vec::new(alloc);
     for value in values {
-        let Some(entry) = entry_of(alloc, value)? else {
+        let Some(entry) = entry_in(alloc, value)? else {
             unreachable!()
         };
         entries.push(entry)?;
@@ -48,7 +48,7 @@ fn entries_of(alloc: Global, values: &[Value]) -> Result<Option<NamedEntries>, A
 
 /// Whether each value is an entry.
 fn are_entries(values: &[Value]) -> bool
-    ensures { result ≡ is_some (entries_of (items_view values.now)) }
+    ensures { result ≡ is_some (entries_in (items_view values.now)) }
 {
     for value in values {
         if !is_entry(value) {
@@ -58,9 +58,9 @@ fn are_entries(values: &[Value]) -> bool
     true
 }
 
-#[tactic(auto, unfolding(crate::specs::Entries::entry_of))]
+#[tactic(auto, unfolding(crate::specs::Entries::entry_in))]
 fn is_entry(value: &Value) -> bool
-    ensures { result ≡ is_some (entry_of (view value.now)) }
+    ensures { result ≡ is_some (entry_in (view value.now)) }
 {
     has_size(value, 4)
         && text_at(value, "a").is_some()
@@ -69,9 +69,9 @@ fn is_entry(value: &Value) -> bool
         && number_at(value, "phase").is_some()
 }
 
-#[tactic(auto, unfolding(crate::specs::Entries::entry_of))]
-fn entry_of(alloc: Global, value: &Value) -> Result<Option<NamedEntry>, AllocError>
-    ensures { IfOk result (λ entry. entry ≡ entry_of (view value.now)) }
+#[tactic(auto, unfolding(crate::specs::Entries::entry_in))]
+fn entry_in(alloc: Global, value: &Value) -> Result<Option<NamedEntry>, AllocError>
+    ensures { IfOk result (λ entry. entry ≡ entry_in (view value.now)) }
 {
     if !has_size(value, 4) {
         return Ok(None);
@@ -88,14 +88,14 @@ fn entry_of(alloc: Global, value: &Value) -> Result<Option<NamedEntry>, AllocErr
     let Some(phase) = number_at(value, "phase") else {
         return Ok(None);
     };
-    let a = rule_named(alloc, a)?;
-    let b = rule_named(alloc, b)?;
+    let a = rule_name_in(alloc, a)?;
+    let b = rule_name_in(alloc, b)?;
     Ok(Some(NamedEntry { a, b, grid, phase }))
 }
 
 /// The rule that an entry names for a half; `-` names none.
-fn rule_named(alloc: Global, text: &str) -> Result<Option<Text>, AllocError>
-    ensures { IfOk result (λ name. name ≡ rule_named text.now) }
+fn rule_name_in(alloc: Global, text: &str) -> Result<Option<Text>, AllocError>
+    ensures { IfOk result (λ name. name ≡ rule_name_in text.now) }
 {
     if text == "-" {
         return Ok(None);

@@ -4,8 +4,8 @@
 pub mod Numbers
 -- The lines of names, and what an address shows on them.
 pub mod LinesOfNames
--- Turns round a block, by the sides of the block on which cells lie.
-pub mod Turning
+-- Rotations round a block, by the sides of the block on which cells lie.
+pub mod Rotating
 -- Each name stands on one line, so its line and the lines' names say the same.
 pub mod Named
 -- Rows that are the same in each word, or mixed by their columns.

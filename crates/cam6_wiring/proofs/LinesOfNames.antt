@@ -5,15 +5,15 @@ use Rattle.std.specs.List.{position_from}
 use Rattle.std.proofs.lemmas.Option.{same_Some}
 use Rattle.cam6_planes.specs.Row.{bit_number}
 use Rattle.cam6_wiring.specs.Laws.{ShowsWhatIsSeen, ShowsNothingElse}
-use Rattle.cam6_wiring.specs.Name.{is_same_level, is_same_turn, is_same_compass, is_same_name}
+use Rattle.cam6_wiring.specs.Name.{is_same_level, is_same_rotation, is_same_compass, is_same_name}
 use Rattle.cam6_wiring.specs.Seen.{Sees, line_shows, address_of}
 use Rattle.cam6_wiring.specs.Wiring.{is_at, line_of, names_of}
 use Rattle.cam6_wiring.specs.declared.names.Compass.{Compass}
 use Rattle.cam6_wiring.specs.declared.names.Compass.TheVariants.{Center, North, South, West}
 use Rattle.cam6_wiring.specs.declared.names.Compass.TheVariants.{East, NorthWest, NorthEast}
 use Rattle.cam6_wiring.specs.declared.names.Compass.TheVariants.{SouthWest, SouthEast}
-use Rattle.cam6_wiring.specs.declared.names.Turn.{Turn}
-use Rattle.cam6_wiring.specs.declared.names.Turn.TheVariants.{Clockwise, Opposite, CounterClockwise}
+use Rattle.cam6_wiring.specs.declared.names.Rotation.{Rotation}
+use Rattle.cam6_wiring.specs.declared.names.Rotation.TheVariants.{Clockwise, Opposite, CounterClockwise}
 use Rattle.cam6_wiring.specs.declared.names.Level.{Level}
 use Rattle.cam6_wiring.specs.declared.names.Level.TheVariants.{Lower, Upper}
 use Rattle.cam6_wiring.specs.declared.names.Name.{Name}
@@ -31,11 +31,11 @@ same_level Lower Lower e = refl
 same_level Upper Upper e = refl
 same_level _ _ e = cc
 
-same_turn : (c d : Turn) → is_same_turn c d ≡ true → c ≡ d
-same_turn Clockwise Clockwise e = refl
-same_turn Opposite Opposite e = refl
-same_turn CounterClockwise CounterClockwise e = refl
-same_turn _ _ e = cc
+same_rotation : (c d : Rotation) → is_same_rotation c d ≡ true → c ≡ d
+same_rotation Clockwise Clockwise e = refl
+same_rotation Opposite Opposite e = refl
+same_rotation CounterClockwise CounterClockwise e = refl
+same_rotation _ _ e = cc
 
 same_place : (c d : Compass) → is_same_compass c d ≡ true → c ≡ d
 same_place Center Center e = refl
@@ -62,8 +62,8 @@ same_name (Beside c l) (Beside d m) e =
     ap (λ place. Beside place l) (same_place c d (left_true _ _ e)) ∙
     ap (λ level. Beside d level) (same_level l m (right_true (is_same_compass c d) _ e))
 same_name (InBlock c l) (InBlock d m) e =
-    ap (λ turn. InBlock turn l) (same_turn c d (left_true _ _ e)) ∙
-    ap (λ level. InBlock d level) (same_level l m (right_true (is_same_turn c d) _ e))
+    ap (λ rotation. InBlock rotation l) (same_rotation c d (left_true _ _ e)) ∙
+    ap (λ level. InBlock d level) (same_level l m (right_true (is_same_rotation c d) _ e))
 same_name (Phase l) (Phase m) e = ap Phase (same_level l m e)
 same_name Horz Horz e = refl
 same_name Vert Vert e = refl

@@ -3,15 +3,15 @@ use Rattle.std.proofs.Common.{◌≡◌, ℕ, zero, suc, ◌+◌, Bool, true, fa
 use Rattle.std.proofs.Common.{◌∷◌, map, get_or, Option, Some, None, cond, refl, sym, ◌∙◌, ap, arith}
 use Rattle.std.specs.List.{position_from, list_any}
 use Rattle.cam6_wiring.specs.Laws.{LinesAreNamed, IsItselfAlone}
-use Rattle.cam6_wiring.specs.Name.{is_same_level, is_same_turn, is_same_compass, is_same_name}
+use Rattle.cam6_wiring.specs.Name.{is_same_level, is_same_rotation, is_same_compass, is_same_name}
 use Rattle.cam6_wiring.specs.Seen.{Sees, line_shows}
 use Rattle.cam6_wiring.specs.Wiring.{is_at, line_of, names_of}
 use Rattle.cam6_wiring.specs.declared.names.Compass.{Compass}
 use Rattle.cam6_wiring.specs.declared.names.Compass.TheVariants.{Center, North, South, West}
 use Rattle.cam6_wiring.specs.declared.names.Compass.TheVariants.{East, NorthWest, NorthEast}
 use Rattle.cam6_wiring.specs.declared.names.Compass.TheVariants.{SouthWest, SouthEast}
-use Rattle.cam6_wiring.specs.declared.names.Turn.{Turn}
-use Rattle.cam6_wiring.specs.declared.names.Turn.TheVariants.{Clockwise, Opposite, CounterClockwise}
+use Rattle.cam6_wiring.specs.declared.names.Rotation.{Rotation}
+use Rattle.cam6_wiring.specs.declared.names.Rotation.TheVariants.{Clockwise, Opposite, CounterClockwise}
 use Rattle.cam6_wiring.specs.declared.names.Level.{Level}
 use Rattle.cam6_wiring.specs.declared.names.Level.TheVariants.{Lower, Upper}
 use Rattle.cam6_wiring.specs.declared.names.Name.{Name}
@@ -29,10 +29,10 @@ level_itself : (l : Level) → is_same_level l l ≡ true
 level_itself Lower = refl
 level_itself Upper = refl
 
-turn_itself : (c : Turn) → is_same_turn c c ≡ true
-turn_itself Clockwise = refl
-turn_itself Opposite = refl
-turn_itself CounterClockwise = refl
+rotation_itself : (c : Rotation) → is_same_rotation c c ≡ true
+rotation_itself Clockwise = refl
+rotation_itself Opposite = refl
+rotation_itself CounterClockwise = refl
 
 place_itself : (c : Compass) → is_same_compass c c ≡ true
 place_itself Center = refl
@@ -47,7 +47,7 @@ place_itself SouthEast = refl
 
 itself : (name : Name) → is_same_name name name ≡ true
 itself (Beside c l) = ap (λ b. b && is_same_level l l) (place_itself c) ∙ level_itself l
-itself (InBlock c l) = ap (λ b. b && is_same_level l l) (turn_itself c) ∙ level_itself l
+itself (InBlock c l) = ap (λ b. b && is_same_level l l) (rotation_itself c) ∙ level_itself l
 itself (Phase l) = level_itself l
 itself Horz = refl
 itself Vert = refl

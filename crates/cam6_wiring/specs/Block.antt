@@ -12,8 +12,8 @@ use Rattle.cam6_wiring.specs.declared.names.Compass.{Compass}
 use Rattle.cam6_wiring.specs.declared.names.Compass.TheVariants.{North, South, West, East}
 use Rattle.cam6_wiring.specs.declared.names.Compass.TheVariants.{NorthWest, NorthEast}
 use Rattle.cam6_wiring.specs.declared.names.Compass.TheVariants.{SouthWest, SouthEast}
-use Rattle.cam6_wiring.specs.declared.names.Turn.{Turn}
-use Rattle.cam6_wiring.specs.declared.names.Turn.TheVariants.{Clockwise, Opposite, CounterClockwise}
+use Rattle.cam6_wiring.specs.declared.names.Rotation.{Rotation}
+use Rattle.cam6_wiring.specs.declared.names.Rotation.TheVariants.{Clockwise, Opposite, CounterClockwise}
 
 -- the coordinate at which the first whole block of the grid begins
 abbrev pub origin_of : Grid → ℕ
@@ -36,7 +36,7 @@ abbrev pub corner_of : Grid → ℕ → ℕ → Corner
 corner_of grid x y = corner_at (side_in_block grid x) (side_in_block grid y)
 
 -- where the cell one, two or three corners further clockwise lies, seen from a corner
-abbrev pub in_block : Corner → Turn → Compass
+abbrev pub in_block : Corner → Rotation → Compass
 in_block UpperLeft Clockwise = East
 in_block UpperLeft Opposite = SouthEast
 in_block UpperLeft CounterClockwise = South
@@ -58,10 +58,10 @@ clockwise LowerRight = LowerLeft
 clockwise LowerLeft = UpperLeft
 
 -- the corner one, two or three corners further clockwise
-abbrev pub turned : Turn → Corner → Corner
-turned Clockwise corner = clockwise corner
-turned Opposite corner = clockwise (clockwise corner)
-turned CounterClockwise corner = clockwise (clockwise (clockwise corner))
+abbrev pub rotated : Rotation → Corner → Corner
+rotated Clockwise corner = clockwise corner
+rotated Opposite corner = clockwise (clockwise corner)
+rotated CounterClockwise corner = clockwise (clockwise (clockwise corner))
 
 -- the coordinate at which the block begins in which a column or a row lies
 abbrev pub block_of : ℕ → Grid → ℕ → ℕ

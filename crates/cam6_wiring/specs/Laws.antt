@@ -1,10 +1,10 @@
--- The laws that tie what is seen to the address that it makes, and the table of turns to the block.
+-- The laws that tie what is seen to the address that it makes, and the table of rotations to the block.
 use Rattle.std.specs.Prelude.{◌≡◌, ◌<◌, ℕ, ◌*◌, true, false, Some, None, get_or}
 use Rattle.cam6_planes.specs.Cells.{Cells}
-use Rattle.cam6_wiring.specs.Block.{corner_of, in_block, turned, block_of}
+use Rattle.cam6_wiring.specs.Block.{corner_of, in_block, rotated, block_of}
 use Rattle.cam6_wiring.specs.declared.blocks.Grid.{Grid}
 use Rattle.cam6_wiring.specs.declared.names.Name.{Name}
-use Rattle.cam6_wiring.specs.declared.names.Turn.{Turn}
+use Rattle.cam6_wiring.specs.declared.names.Rotation.{Rotation}
 use Rattle.cam6_wiring.specs.declared.wirings.Hood.{Hood}
 use Rattle.cam6_wiring.specs.declared.wirings.Minor.{Minor}
 use Rattle.cam6_wiring.specs.Name.{is_same_name}
@@ -41,13 +41,13 @@ IsItselfAlone =
 
 -- the cell that a cell sees one, two or three corners further clockwise lies in the same block, so
 -- many corners further clockwise; the torus has an even side
-abbrev pub TurnsInTheBlock : Type 0
-TurnsInTheBlock =
-    (half_side : ℕ) (f : Cells) (grid : Grid) (turn : Turn) (p x y : ℕ) → 0 < half_side →
+abbrev pub RotationsInTheBlock : Type 0
+RotationsInTheBlock =
+    (half_side : ℕ) (f : Cells) (grid : Grid) (rotation : Rotation) (p x y : ℕ) → 0 < half_side →
     let s = 2 * half_side in
-    let there = in_block (corner_of grid x y) turn in
+    let there = in_block (corner_of grid x y) rotation in
     let column = column_beside s there x in
     let row = row_beside s there y in
-    (seen_in_block s f grid turn p x y ≡ f p column row) ×
-    (corner_of grid column row ≡ turned turn (corner_of grid x y)) ×
+    (seen_in_block s f grid rotation p x y ≡ f p column row) ×
+    (corner_of grid column row ≡ rotated rotation (corner_of grid x y)) ×
     (block_of s grid column ≡ block_of s grid x) × (block_of s grid row ≡ block_of s grid y)

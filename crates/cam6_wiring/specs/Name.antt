@@ -4,8 +4,8 @@ use Rattle.cam6_wiring.specs.declared.names.Compass.{Compass}
 use Rattle.cam6_wiring.specs.declared.names.Compass.TheVariants.{Center, North, South, West}
 use Rattle.cam6_wiring.specs.declared.names.Compass.TheVariants.{East, NorthWest, NorthEast}
 use Rattle.cam6_wiring.specs.declared.names.Compass.TheVariants.{SouthWest, SouthEast}
-use Rattle.cam6_wiring.specs.declared.names.Turn.{Turn}
-use Rattle.cam6_wiring.specs.declared.names.Turn.TheVariants.{Clockwise, Opposite, CounterClockwise}
+use Rattle.cam6_wiring.specs.declared.names.Rotation.{Rotation}
+use Rattle.cam6_wiring.specs.declared.names.Rotation.TheVariants.{Clockwise, Opposite, CounterClockwise}
 use Rattle.cam6_wiring.specs.declared.names.Half.{Half}
 use Rattle.cam6_wiring.specs.declared.names.Half.TheVariants.{A, B}
 use Rattle.cam6_wiring.specs.declared.names.Level.{Level}
@@ -62,11 +62,11 @@ is_same_level Lower Upper = false
 is_same_level Upper Lower = false
 is_same_level Upper Upper = true
 
-abbrev pub is_same_turn : Turn → Turn → Bool
-is_same_turn Clockwise Clockwise = true
-is_same_turn Opposite Opposite = true
-is_same_turn CounterClockwise CounterClockwise = true
-is_same_turn _ _ = false
+abbrev pub is_same_rotation : Rotation → Rotation → Bool
+is_same_rotation Clockwise Clockwise = true
+is_same_rotation Opposite Opposite = true
+is_same_rotation CounterClockwise CounterClockwise = true
+is_same_rotation _ _ = false
 
 abbrev pub is_same_compass : Compass → Compass → Bool
 is_same_compass Center Center = true
@@ -83,7 +83,7 @@ is_same_compass _ _ = false
 -- whether two names are one
 abbrev pub is_same_name : Name → Name → Bool
 is_same_name (name.Beside c l) (name.Beside d m) = is_same_compass c d && is_same_level l m
-is_same_name (name.InBlock c l) (name.InBlock d m) = is_same_turn c d && is_same_level l m
+is_same_name (name.InBlock c l) (name.InBlock d m) = is_same_rotation c d && is_same_level l m
 is_same_name (name.Phase l) (name.Phase m) = is_same_level l m
 is_same_name name.Horz name.Horz = true
 is_same_name name.Vert name.Vert = true

@@ -17,7 +17,7 @@ use Rattle.cam6_wiring.specs.declared.names.Compass.{Compass}
 use Rattle.cam6_wiring.specs.declared.names.Compass.TheVariants.{Center, North, South, West}
 use Rattle.cam6_wiring.specs.declared.names.Compass.TheVariants.{East, NorthWest, NorthEast}
 use Rattle.cam6_wiring.specs.declared.names.Compass.TheVariants.{SouthWest, SouthEast}
-use Rattle.cam6_wiring.specs.declared.names.Turn.{Turn}
+use Rattle.cam6_wiring.specs.declared.names.Rotation.{Rotation}
 
 -- the column of the cell that lies there, seen from column x
 abbrev pub column_beside : ℕ → Compass → ℕ → ℕ
@@ -48,15 +48,15 @@ abbrev pub seen_beside : ℕ → Cells → Compass → Cells
 seen_beside s f compass p x y = f p (column_beside s compass x) (row_beside s compass y)
 
 -- the bit of plane p that it sees in its block
-abbrev pub seen_in_block : ℕ → Cells → Grid → Turn → Cells
-seen_in_block s f grid turn p x y = seen_beside s f (in_block (corner_of grid x y) turn) p x y
+abbrev pub seen_in_block : ℕ → Cells → Grid → Rotation → Cells
+seen_in_block s f grid rotation p x y = seen_beside s f (in_block (corner_of grid x y) rotation) p x y
 
 -- the bit that a name means to the cell at column x of row y
 abbrev pub seen : ℕ → Cells → Setting → Name → ℕ → ℕ → Bool
 seen s f setting (name.Beside compass level) x y =
     seen_beside s f compass (plane_of setting.half level) x y
-seen s f setting (name.InBlock turn level) x y =
-    seen_in_block s f setting.grid turn (plane_of setting.half level) x y
+seen s f setting (name.InBlock rotation level) x y =
+    seen_in_block s f setting.grid rotation (plane_of setting.half level) x y
 seen s f setting (name.Phase level) x y = phase_bit setting.phase level
 seen s f setting name.Horz x y = side_in_block setting.grid x == 1
 seen s f setting name.Vert x y = side_in_block setting.grid y == 1

@@ -2,7 +2,7 @@
 ghost use Rattle.std.specs.Prelude.{◌≡◌};
 ghost use Rattle.cam6_wiring.specs.Block.{corner_of, in_block, side_in_block};
 
-use crate::names::{Compass, Turn};
+use crate::names::{Compass, Rotation};
 
 /// Where a block's upper left cell lies: at even coordinates, or at odd ones. The last blocks of
 /// the odd grid join the last column with column 0, and the last row with row 0.
@@ -33,23 +33,23 @@ pub fn corner_of(grid: Grid, x: usize, y: usize) -> Corner
     }
 }
 
-/// Where the block's cell at this turn lies, seen from a corner.
-pub fn in_block(corner: Corner, turn: Turn) -> Compass
-    ensures { result ≡ in_block corner turn }
+/// Where the block's cell at this rotation lies, seen from a corner.
+pub fn in_block(corner: Corner, rotation: Rotation) -> Compass
+    ensures { result ≡ in_block corner rotation }
 {
-    match (corner, turn) {
-        (Corner::UpperLeft, Turn::Clockwise) => Compass::East,
-        (Corner::UpperLeft, Turn::Opposite) => Compass::SouthEast,
-        (Corner::UpperLeft, Turn::CounterClockwise) => Compass::South,
-        (Corner::UpperRight, Turn::Clockwise) => Compass::South,
-        (Corner::UpperRight, Turn::Opposite) => Compass::SouthWest,
-        (Corner::UpperRight, Turn::CounterClockwise) => Compass::West,
-        (Corner::LowerRight, Turn::Clockwise) => Compass::West,
-        (Corner::LowerRight, Turn::Opposite) => Compass::NorthWest,
-        (Corner::LowerRight, Turn::CounterClockwise) => Compass::North,
-        (Corner::LowerLeft, Turn::Clockwise) => Compass::North,
-        (Corner::LowerLeft, Turn::Opposite) => Compass::NorthEast,
-        (Corner::LowerLeft, Turn::CounterClockwise) => Compass::East,
+    match (corner, rotation) {
+        (Corner::UpperLeft, Rotation::Clockwise) => Compass::East,
+        (Corner::UpperLeft, Rotation::Opposite) => Compass::SouthEast,
+        (Corner::UpperLeft, Rotation::CounterClockwise) => Compass::South,
+        (Corner::UpperRight, Rotation::Clockwise) => Compass::South,
+        (Corner::UpperRight, Rotation::Opposite) => Compass::SouthWest,
+        (Corner::UpperRight, Rotation::CounterClockwise) => Compass::West,
+        (Corner::LowerRight, Rotation::Clockwise) => Compass::West,
+        (Corner::LowerRight, Rotation::Opposite) => Compass::NorthWest,
+        (Corner::LowerRight, Rotation::CounterClockwise) => Compass::North,
+        (Corner::LowerLeft, Rotation::Clockwise) => Compass::North,
+        (Corner::LowerLeft, Rotation::Opposite) => Compass::NorthEast,
+        (Corner::LowerLeft, Rotation::CounterClockwise) => Compass::East,
     }
 }
 

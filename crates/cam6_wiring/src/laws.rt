@@ -1,7 +1,7 @@
-//! Laws that tie what is seen to the address that it makes, and turns to the block. Each is the
+//! Laws that tie what is seen to the address that it makes, and rotations to the block. Each is the
 //! contract of a function that does nothing.
 ghost use Rattle.cam6_wiring.specs.Laws.{ShowsWhatIsSeen, ShowsNothingElse};
-ghost use Rattle.cam6_wiring.specs.Laws.{LinesAreNamed, IsItselfAlone, TurnsInTheBlock};
+ghost use Rattle.cam6_wiring.specs.Laws.{LinesAreNamed, IsItselfAlone, RotationsInTheBlock};
 
 /// The address of what is seen shows, on the line of each name, what is seen under the name.
 pub fn an_address_shows_what_is_seen()
@@ -25,6 +25,6 @@ pub fn a_name_is_itself_alone()
 
 /// What a cell sees one, two or three corners further clockwise is a cell of its own block, so
 /// many corners further clockwise.
-pub fn turns_stay_in_the_block()
-    ensures law { TurnsInTheBlock }
+pub fn rotations_stay_in_the_block()
+    ensures law { RotationsInTheBlock }
 {}

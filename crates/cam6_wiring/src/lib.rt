@@ -30,7 +30,7 @@ mod wirings;
 
 pub use blocks::{Corner, Grid, corner_of, in_block};
 pub use lines::{Lines, lines_of_row, put_lines};
-pub use names::{Compass, Half, Level, Name, Phase, Turn};
+pub use names::{Compass, Half, Level, Name, Phase, Rotation};
 pub use neighbours::{Setting, address_at, seen};
 pub use rows::Rows;
 pub use wirings::{Hood, LINES, Minor, Wiring, line_of};

@@ -16,9 +16,9 @@ pub enum Compass {
     SouthEast,
 }
 
-/// Another cell of the block, by the turn round the block that leads to it.
+/// Another cell of the block, by the rotation round the block that leads to it.
 #[derive(Clone, Copy, Debug, PartialEq, Eq)]
-pub enum Turn {
+pub enum Rotation {
     Clockwise,
     Opposite,
     CounterClockwise,
@@ -55,7 +55,7 @@ pub enum Name {
     /// neighbours have no primed name.
     Beside(Compass, Level),
     /// CW, OPP and CCW; with a prime at the upper level.
-    InBlock(Turn, Level),
+    InBlock(Rotation, Level),
     /// PHASE, and PHASE' for the high bit.
     Phase(Level),
     Horz,

@@ -9,7 +9,7 @@ ghost use Rattle.cam6_wiring.specs.Seen.{seen, seen_beside, seen_in_block, line_
 ghost use Rattle.cam6_wiring.specs.Seen.{column_beside, row_beside};
 
 use crate::blocks::{Grid, corner_of, in_block, side_in_block};
-use crate::names::{Compass, Half, Name, Phase, Turn};
+use crate::names::{Compass, Half, Name, Phase, Rotation};
 use crate::wirings::{Hood, LINES, Minor, names_of};
 use cam6_planes::{Planes, Side};
 
@@ -71,7 +71,7 @@ pub fn seen(planes: &Planes, setting: Setting, name: Name, x: usize, y: usize) -
     let Setting { half, grid, phase } = setting;
     match name {
         Name::Beside(compass, level) => seen_beside(planes, compass, half.plane(level), x, y),
-        Name::InBlock(turn, level) => seen_in_block(planes, grid, turn, half.plane(level), x, y),
+        Name::InBlock(rotation, level) => seen_in_block(planes, grid, rotation, half.plane(level), x, y),
         Name::MinorCenter(level) => {
             seen_beside(planes, Compass::Center, half.other().plane(level), x, y)
         }
@@ -141,12 +141,12 @@ pub(crate) fn east_of(side: Side, x: usize) -> usize
 }
 
 /// The bit of plane `p` that the cell sees in its block.
-fn seen_in_block(planes: &Planes, grid: Grid, turn: Turn, p: usize, x: usize, y: usize) -> bool
+fn seen_in_block(planes: &Planes, grid: Grid, rotation: Rotation, p: usize, x: usize, y: usize) -> bool
     requires plane { p < 4 }
     requires column { x < width planes.now }
     requires row { y < width planes.now }
-    ensures { result ≡ seen_in_block (width planes.now) (cells planes.now) grid turn p x y }
+    ensures { result ≡ seen_in_block (width planes.now) (cells planes.now) grid rotation p x y }
 {
-    let compass = in_block(corner_of(grid, x, y), turn);
+    let compass = in_block(corner_of(grid, x, y), rotation);
     seen_beside(planes, compass, p, x, y)
 }

@@ -11,7 +11,7 @@ ghost use Rattle.cam6_wiring.specs.Seen.{seen_beside, seen_in_block, column_besi
 
 use crate::blocks::{Grid, corner_of, in_block, side_in_block};
 use crate::columns::{put_odd_columns, right_columns, row_of};
-use crate::names::{Compass, Name, Turn};
+use crate::names::{Compass, Name, Rotation};
 use crate::neighbours::{Setting, east_of, west_of};
 use cam6_planes::{CellRow, Planes, Row, Side, WORDS, put_east, put_west};
 
@@ -51,7 +51,7 @@ pub(crate) fn put_seen(line: &mut Row, setting: Setting, name: Name, y: usize, r
     let Setting { half, grid, phase } = setting;
     match name {
         Name::Beside(compass, level) => put_beside(line, compass, half.plane(level), rows),
-        Name::InBlock(turn, level) => put_in_block(line, grid, turn, half.plane(level), y, rows),
+        Name::InBlock(rotation, level) => put_in_block(line, grid, rotation, half.plane(level), y, rows),
         Name::MinorCenter(level) => {
             put_beside(line, Compass::Center, half.other().plane(level), rows)
         }
@@ -63,16 +63,16 @@ pub(crate) fn put_seen(line: &mut Row, setting: Setting, name: Name, y: usize, r
 
 /// Writes what the cells of row `y` see of plane `p` in their blocks: from one corner in the even
 /// columns, and from another in the odd ones.
-fn put_in_block(line: &mut Row, grid: Grid, turn: Turn, p: usize, y: usize, rows: &Rows)
+fn put_in_block(line: &mut Row, grid: Grid, rotation: Rotation, p: usize, y: usize, rows: &Rows)
     requires plane { p < 4 }
     requires row { y < side_number rows.now.side }
     ensures { (f : Cells) → AreRowsAround f y rows.now →
         (x : ℕ) → x < side_number rows.now.side → let s = side_number rows.now.side in
-        column_bit line.new x ≡ seen_in_block s (torus s f) grid turn p x y }
+        column_bit line.new x ≡ seen_in_block s (torus s f) grid rotation p x y }
 {
     let mut odd = [0; WORDS];
-    put_beside(&mut odd, in_block(corner_of(grid, 1, y), turn), p, rows);
-    put_beside(line, in_block(corner_of(grid, 0, y), turn), p, rows);
+    put_beside(&mut odd, in_block(corner_of(grid, 1, y), rotation), p, rows);
+    put_beside(line, in_block(corner_of(grid, 0, y), rotation), p, rows);
     put_odd_columns(line, &odd);
 }
 

@@ -4,7 +4,7 @@ ghost use Rattle.cam6_wiring.specs.declared.wirings.TheConstants.{LINES};
 ghost use Rattle.cam6_wiring.specs.Wiring.{lower, upper, block_names, hood_names, minor_names};
 ghost use Rattle.cam6_wiring.specs.Wiring.{names_of, is_at, line_of};
 
-use crate::names::{Compass, Half, Level, Name, Turn};
+use crate::names::{Compass, Half, Level, Name, Rotation};
 
 /// A half's neighbourhood: the names on address lines 0 to 9.
 #[derive(Clone, Copy, Debug, PartialEq, Eq)]
@@ -131,12 +131,12 @@ fn block_names(last: [Option<Name>; 2]) -> [Option<Name>; 10]
     [
         lower(Compass::Center),
         upper(Compass::Center),
-        Some(Name::InBlock(Turn::Clockwise, Level::Lower)),
-        Some(Name::InBlock(Turn::CounterClockwise, Level::Lower)),
-        Some(Name::InBlock(Turn::Opposite, Level::Lower)),
-        Some(Name::InBlock(Turn::Clockwise, Level::Upper)),
-        Some(Name::InBlock(Turn::CounterClockwise, Level::Upper)),
-        Some(Name::InBlock(Turn::Opposite, Level::Upper)),
+        Some(Name::InBlock(Rotation::Clockwise, Level::Lower)),
+        Some(Name::InBlock(Rotation::CounterClockwise, Level::Lower)),
+        Some(Name::InBlock(Rotation::Opposite, Level::Lower)),
+        Some(Name::InBlock(Rotation::Clockwise, Level::Upper)),
+        Some(Name::InBlock(Rotation::CounterClockwise, Level::Upper)),
+        Some(Name::InBlock(Rotation::Opposite, Level::Upper)),
         eighth,
         ninth,
     ]

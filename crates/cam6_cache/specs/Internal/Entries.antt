@@ -3,7 +3,7 @@ use Rattle.std.specs.Prelude.{ℕ, List, map, string_bytes}
 use Rattle.lru.specs.LruCache.{LruCache}
 use Rattle.cam6_cache.specs.declared.keys.NamedKey.{NamedKey}
 use Rattle.cam6_cache.specs.Keys.{TableKey}
-use Rattle.cam6_cache.specs.Kept.{Kept}
+use Rattle.cam6_cache.specs.Cached.{Cached}
 
 -- a key, wherever its text lies
 abbrev pub key_of : NamedKey → TableKey
@@ -19,5 +19,5 @@ abbrev pub tables_of : List (NamedKey × List ℕ) → List (TableKey × List �
 tables_of entries = map (λ e. (key_of e.0, e.1)) entries
 
 -- what a cache keeps
-abbrev pub kept_of : LruCache NamedKey (List ℕ) → Kept
-kept_of cache = record { tables = tables_of cache.entries; capacity = cache.cap }
+abbrev pub cached_of : LruCache NamedKey (List ℕ) → Cached
+cached_of cache = record { tables = tables_of cache.entries; capacity = cache.cap }

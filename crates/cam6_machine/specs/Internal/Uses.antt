@@ -7,15 +7,15 @@ use Rattle.cam6_cycle.specs.declared.tables.NeededTable.{NeededTable}
 use Rattle.cam6_machine.specs.Rules.{Rule}
 use Rattle.cam6_machine.specs.TrueTables.{IsTableFor}
 use Rattle.cam6_machine.specs.Refusals.{rule_cause}
-use Rattle.cam6_machine.specs.Numbers.{rule_at, place_in}
+use Rattle.cam6_machine.specs.Numbers.{rule_at, number_in}
 
--- a needed table is that of the rule at this place
+-- a needed table is that of the rule at this number
 abbrev pub IsUse : ℕ → Option NeededTable → Type 0
-IsUse place None = ⊥
-IsUse place (Some table) = table.rule.number ≡ place
+IsUse number None = ⊥
+IsUse number (Some table) = table.rule.number ≡ number
 
--- the rules at an entry's places, if it has any, can be undone
+-- the rules at an entry's numbers, if it has any, can be undone
 abbrev pub HasNoCause : List Rule → Entry → Type 0
 HasNoCause rules entry =
-    (rule_cause (rule_at rules (place_in entry.a)) ≡ None)
-    × (rule_cause (rule_at rules (place_in entry.b)) ≡ None)
+    (rule_cause (rule_at rules (number_in entry.a)) ≡ None)
+    × (rule_cause (rule_at rules (number_in entry.b)) ≡ None)

@@ -2,7 +2,7 @@
 use Rattle.std.specs.Prelude.{◌≡◌, ℕ, List, Some, None, Result, Ok, Err, ⊤}
 use Rattle.std.specs.Str.{IsUtf8}
 use Rattle.cam6_wiring.specs.declared.wirings.Wiring.{Wiring}
-use Rattle.cam6_machine.specs.Internal.Places.{Compiled}
+use Rattle.cam6_machine.specs.Internal.Numbered.{Compiled}
 use Rattle.cam6_machine.specs.Refusals.{words_refusal}
 use Rattle.cam6_machine.specs.declared.replies.Reply.TheVariants as reply
 use Rattle.cam6_machine.specs.declared.rules.RuleRefusal.{RuleRefusal}

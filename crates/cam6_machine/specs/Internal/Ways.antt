@@ -2,7 +2,7 @@
 use Rattle.std.specs.Prelude.{ℕ, ⊤}
 use Rattle.cam6_cycle.specs.declared.tables.Direction.{Direction}
 use Rattle.cam6_cycle.specs.declared.tables.Direction.TheVariants.{Forward, Backward}
-use Rattle.cam6_machine.specs.Machine.{Machine, steps, unsteps, IsUndoableCycle}
+use Rattle.cam6_machine.specs.Machine.{Machine, steps, unsteps, IsReversibleCycle}
 use Rattle.cam6_machine.specs.declared.replies.Reply.{Reply}
 use Rattle.cam6_machine.specs.declared.replies.Reply.TheVariants as reply
 
@@ -14,7 +14,7 @@ moved Backward n m = unsteps n m
 -- forward a machine can always go, and backward where every rule of its cycle can be undone
 abbrev pub CanMove : Direction → Machine → Type 0
 CanMove Forward m = ⊤
-CanMove Backward m = IsUndoableCycle m
+CanMove Backward m = IsReversibleCycle m
 
 -- the reply once a position is come to
 abbrev pub reply_at : Direction → ℕ → Reply

@@ -29,9 +29,9 @@ pub record Emitted : Type 0 where
 abbrev pub nothing : Emitted
 nothing = record { code = []; landings = []; case = None }
 
--- the code at a place
+-- the code at a position
 abbrev pub code_at : List Instructions → ℕ → Instructions
-code_at codes place = slice_index_or codes place []
+code_at codes position = slice_index_or codes position []
 
 -- a name becomes its line
 abbrev pub line_code : Option ℕ → Instructions
@@ -44,7 +44,7 @@ word_code wiring codes (single.Literal v) = Literal v ∷ []
 word_code wiring codes (single.Name name) = line_code (line_of wiring.hood wiring.minor name)
 word_code wiring codes (single.Stack stack) = Stack stack ∷ []
 word_code wiring codes (single.Output target) = Output target ∷ []
-word_code wiring codes (single.Defined place) = code_at codes place
+word_code wiring codes (single.Defined position) = code_at codes position
 
 abbrev pub emit_then : Emitted → Emitted
 emit_then e = record e { landings = length e.code ∷ e.landings }

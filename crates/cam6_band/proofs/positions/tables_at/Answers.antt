@@ -5,7 +5,7 @@ use Rattle.cam6_wiring.specs.declared.names.Half.TheVariants.{A}
 use Rattle.cam6_cycle.specs.Tables.{needed_for, count_before}
 use Rattle.cam6_cycle.specs.declared.tables.Direction.TheVariants.{Forward}
 use Rattle.cam6_cycle.proofs.Needed.{some-length, needed-length}
-use Rattle.cam6_band.specs.ByTables.{HalfEntries, StepTables, entries_of}
+use Rattle.cam6_band.specs.ByTables.{HalfEntries, StepTables, half_entries}
 use Rattle.cam6_band.specs.AtPosition.{half_at, tables_from}
 use Rattle.cam6_band.proofs.positions.tables_at.Goals as goal
 
@@ -51,5 +51,5 @@ returns c =
     ap (option_map (λ entry. tables_from before entry tables)) c.forward.ensures.entry ∙
     ap (λ a. by a (half_at own.b tables (before + length (needed_for Forward A own.a))))
     (ap (half_at own.a tables) (sym first) ∙ c.half_table.ensures) ∙
-    ap (by (option_map entries_of c.half_table.result))
+    ap (by (option_map half_entries c.half_table.result))
     (ap (half_at own.b tables) second ∙ c.half_table-2.ensures)

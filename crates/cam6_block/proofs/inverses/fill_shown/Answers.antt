@@ -2,35 +2,35 @@ use Rattle.std.proofs.Common.{◌≡◌, ◌∙◌, ◌+◌, ◌*◌, ℕ, List,
 use Rattle.std.proofs.Common.{slice_index_or, [], ◌∷◌}
 use Rattle.cam6_wiring.specs.declared.names.Phase.{Phase}
 use Rattle.cam6_wiring.specs.declared.names.Phase.TheVariants.{P0, P1, P2, P3}
-use Rattle.cam6_block.specs.Blocks.{place_address}
+use Rattle.cam6_block.specs.Blocks.{corner_address}
 use Rattle.cam6_block.specs.BlockMaps.{by_table, block_map}
 use Rattle.cam6_block.proofs.Filled.{IsFilledTo, next_filled, all_filled}
-use Rattle.cam6_block.proofs.Turned.{table_reads}
+use Rattle.cam6_block.proofs.Rotated.{table_reads}
 use Rattle.cam6_block.proofs.inverses.fill_shown.Goals as goal
 
 -- the phase that the loop has reached
 abbrev phase_at : ℕ → Phase
 phase_at k = slice_index_or (P0 ∷ P1 ∷ P2 ∷ P3 ∷ []) k P0
 
-pub loop-place-preserved : goal.loop-place-preserved
-loop-place-preserved c =
+pub loop-corner-preserved : goal.loop-corner-preserved
+loop-corner-preserved c =
     let a = c.args in
     let read = by_table a.hood a.minor a.table.now in
     let k = c.loop-phase.phase-index in
     let s = c.loop-state.state in
-    let now = c.loop-place in
-    let p = now.place in
+    let now = c.loop-corner in
+    let p = now.corner in
     let is = now.invariant.phase_is in
     let filled : IsFilledTo read a.hood a.minor (1024 * k + 4 * s + (p + 1))
-    (slice_set now.out c.place_address-address.result c.bits_at.result) =
+    (slice_set now.out c.corner_address-address.result c.corner_bits.result) =
     next_filled read a.hood a.minor (table_reads a.hood a.minor a.table.now) c.requires.margolus
-    c.requires.one_to_one k s p now.out c.place_address-address.result c.bits_at.result
-    c.loop-phase-test.true c.loop-state-test.true c.loop-place-test.true now.invariant.filled
-    c.place_address-address.ensures.within
-    (c.place_address-address.ensures.address ∙
-    ap (λ i. place_address a.hood a.minor (phase_at k) i p) c.image-image.ensures ∙
-    ap (λ q. place_address a.hood a.minor q (block_map read q s) p) is)
-    c.bits_at.ensures.bits in
+    c.requires.one_to_one k s p now.out c.corner_address-address.result c.corner_bits.result
+    c.loop-phase-test.true c.loop-state-test.true c.loop-corner-test.true now.invariant.filled
+    c.corner_address-address.ensures.within
+    (c.corner_address-address.ensures.address ∙
+    ap (λ i. corner_address a.hood a.minor (phase_at k) i p) c.successor-successor.ensures ∙
+    ap (λ q. corner_address a.hood a.minor q (block_map read q s) p) is)
+    c.corner_bits.ensures.bits in
     record {
       phase_is = is;
       filled =

@@ -15,9 +15,9 @@ invariant-loop-state l = record {
       (1024 * l.phase-index + 4 * l.state) l.out;
 }
 
-abbrev pub invariant-loop-place : goal.invariant-loop-place
-invariant-loop-place l = record {
+abbrev pub invariant-loop-corner : goal.invariant-loop-corner
+invariant-loop-corner l = record {
   phase_is : l.phase ≡ phase_of l.phase-index;
   filled : IsFilledTo (by_table l.hood l.minor l.table) l.hood l.minor
-      (1024 * l.phase-index + 4 * l.state + l.place) l.out;
+      (1024 * l.phase-index + 4 * l.state + l.corner) l.out;
 }

@@ -11,7 +11,7 @@ returns-in-Some-clause-some c =
     let a = c.args in
     let now = c.loop-state in
     is_meeting (block_map (by_table a.hood a.minor a.table.now) a.phase) now.state
-    c.from-image.result now.state_of_image now.invariant (c.from-image.ensures ∙ c.image.ensures)
+    c.from-successor.result now.state_of_successor now.invariant (c.from-successor.ensures ∙ c.successor.ensures)
     c.in-Some.a c.loop-state-test.true c.in-Some.is
 
 pub loop-state-preserved : goal.loop-state-preserved
@@ -19,5 +19,5 @@ loop-state-preserved c =
     let a = c.args in
     let now = c.loop-state in
     one_more (block_map (by_table a.hood a.minor a.table.now) a.phase) now.state
-    c.from-image.result now.state_of_image now.invariant (c.from-image.ensures ∙ c.image.ensures)
-    (omega (arith, c.from-image.ensures, c.image.type_inv)) c.in-None.is
+    c.from-successor.result now.state_of_successor now.invariant (c.from-successor.ensures ∙ c.successor.ensures)
+    (omega (arith, c.from-successor.ensures, c.successor.type_inv)) c.in-None.is

@@ -4,4 +4,4 @@ use Rattle.cam6_block.proofs.refusals.meeting.Given as goal
 
 abbrev pub invariant-loop-state : goal.invariant-loop-state
 invariant-loop-state l =
-    IsKept (block_map (by_table l.hood l.minor l.table) l.phase) l.state l.state_of_image
+    IsKept (block_map (by_table l.hood l.minor l.table) l.phase) l.state l.state_of_successor

@@ -3,7 +3,7 @@ use Rattle.std.specs.List.{list_all}
 use Rattle.std.proofs.lemmas.Bool.{eq-eqb}
 use Rattle.std.proofs.lemmas.Grind.{same_number_lists, get_or_default_zero}
 use Rattle.std.proofs.lemmas.List.Sums.{list_all-from_AllPass}
-use Rattle.cam6_machine.specs.Limits.{max_colour, states}
+use Rattle.cam6_machine.specs.Limits.{max_colour, cell_states}
 use Rattle.cam6_machine.specs.Refusals.{unless}
 use Rattle.cam6_machine.specs.declared.faults.Fault.TheVariants.{OutOfRange}
 use Rattle.cam6_machine.proofs.refusals.colours_within.Goals as goal
@@ -16,9 +16,9 @@ returns-clause-colours c =
 pub returns-clause-ok : goal.returns-clause-ok
 returns-clause-ok c =
     let colours = c.args.colours.now in
-    let sixteen : length colours ≡ states = omega arith in
+    let sixteen : length colours ≡ cell_states = omega arith in
     ap (λ (b : Bool). unless (b && list_all (λ colour. nat_le colour max_colour) colours) OutOfRange)
-    (eq-eqb (length colours) states sixteen) ∙
+    (eq-eqb (length colours) cell_states sixteen) ∙
     ap (λ (b : Bool). unless b OutOfRange)
     (list_all-from_AllPass (λ colour. nat_le colour max_colour) colours
     (λ k d within. ap (λ n. nat_le n max_colour) (get_or_default_zero colours k d within) ∙

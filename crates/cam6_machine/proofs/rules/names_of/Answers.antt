@@ -3,21 +3,21 @@ use Rattle.std.proofs.Math.Seq.{take-suc}
 use Rattle.std.proofs.lemmas.List.{map-append}
 use Rattle.std.proofs.lemmas.Option.{get_or_from_slice_get, slice_get_within}
 use Rattle.cam6_machine.specs.Rules.{Rule}
-use Rattle.cam6_machine.specs.Internal.Places.{rules_of}
+use Rattle.cam6_machine.specs.Internal.Numbered.{rules_of}
 use Rattle.cam6_machine.proofs.KeptRules.{listed, rule_found}
 use Rattle.cam6_machine.proofs.rules.names_of.Goals as goal
 
-pub loop-place-preserved : goal.loop-place-preserved
-loop-place-preserved c =
+pub loop-number-preserved : goal.loop-number-preserved
+loop-number-preserved c =
     let rules = rules_of c.args.rules.now.entries in
-    let n : ℕ = c.loop-place.place in
+    let n : ℕ = c.loop-number.number in
     let names : List Rule → List (List ℕ) = map (λ (rule : Rule). rule.name) in
     let here = rule_found c.args.rules.now.entries n (c.in-Some.name.now, c.in-Some.field-0-1.now)
     c.in-Some.ensures.entry in
     let more : suc n ≡ n + 1 = omega arith in
     let rule = listed (c.in-Some.name.now, c.in-Some.field-0-1.now) in
     c.in_ok-push.ensures.items ∙
-    ap (λ (l : List (List ℕ)). l ++ c.new.result ∷ []) c.loop-place.invariant ∙
+    ap (λ (l : List (List ℕ)). l ++ c.new.result ∷ []) c.loop-number.invariant ∙
     ap (λ (name : List ℕ). names (take n rules) ++ name ∷ [])
     (c.new.ensures ∙ c.in_ok-from_str.ensures.ok ∙ c.as_str.ensures.value) ∙
     sym (map-append (λ (rule : Rule). rule.name) (take n rules) (rule ∷ [])) ∙

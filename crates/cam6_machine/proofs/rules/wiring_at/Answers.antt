@@ -1,5 +1,5 @@
 use Rattle.std.proofs.Common.{◌∙◌, sym, ap, Some}
-use Rattle.cam6_machine.specs.Internal.Places.{rules_of, wiring_at}
+use Rattle.cam6_machine.specs.Internal.Numbered.{rules_of, wiring_at}
 use Rattle.cam6_machine.specs.Rules.{wiring_for}
 use Rattle.cam6_machine.proofs.KeptRules.{rule_found}
 use Rattle.cam6_machine.proofs.rules.wiring_at.Goals as goal
@@ -9,8 +9,8 @@ returns c =
     let key = c.in_ok-rule.field-0-0 in
     let rule = c.in_ok-rule.rule in
     let entries = c.args.rules.now.entries in
-    let place = c.in_ok-place.field-0 in
+    let number = c.in_ok-number.field-0 in
     ap Some c.wiring.ensures ∙
     sym (ap wiring_for
-    (rule_found entries place (key.now, rule.now) c.in_ok-rule.ensures.entry)) ∙
-    ap (wiring_at (rules_of entries)) (sym c.in_ok-place.was)
+    (rule_found entries number (key.now, rule.now) c.in_ok-rule.ensures.entry)) ∙
+    ap (wiring_at (rules_of entries)) (sym c.in_ok-number.was)

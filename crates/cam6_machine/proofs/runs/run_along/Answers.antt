@@ -11,7 +11,7 @@ use Rattle.cam6_cycle.specs.declared.entries.Entry.{Entry}
 use Rattle.cam6_cycle.specs.declared.tables.Direction.TheVariants.{Forward}
 use Rattle.cam6_machine.specs.Machine.{steps, stepped, machine_of}
 use Rattle.cam6_machine.specs.Numbers.{rules_at}
-use Rattle.cam6_machine.specs.Internal.Places.{stored}
+use Rattle.cam6_machine.specs.Internal.Numbered.{stored}
 use Rattle.cam6_machine.proofs.Along.{one_step}
 use Rattle.cam6_machine.proofs.TablesOfPositions.{tables_by_use}
 use Rattle.cam6_machine.proofs.TrueSteps.{true_step}
@@ -27,10 +27,10 @@ loop-step-preserved c =
     let s = width now.image.planes in
     record {
       position = c.forward-position.ensures.within;
-      steps = λ rules colours own placed are.
+      steps = λ rules colours own numbered are.
           let by = values_of c.tables_at.result in
           let true_tables = tables_by_use Forward rules cycle c.args.tables.now now.position entry
-          by placed are (slice_get-get_or cycle now.position past now.invariant.position)
+          by numbered are (slice_get-get_or cycle now.position past now.invariant.position)
           c.tables_at.ensures in
           let made = c.step-image.ensures.planes ∙
           true_step s (rules_at rules entry) by true_tables
@@ -41,7 +41,7 @@ loop-step-preserved c =
           colours)) c.forward-position.ensures.next ∙
           one_step now.image.planes c.step-image.result.planes rules cycle now.position colours
           past own now.invariant.position c.step-image.ensures.alike made ∙
-          ap stepped (now.invariant.steps rules colours own placed are) ∙
+          ap stepped (now.invariant.steps rules colours own numbered are) ∙
           ap (λ n. steps n
           (machine_of (stored c.args.image.planes rules cycle c.args.position colours)))
           one;

@@ -1,7 +1,7 @@
 use Rattle.std.proofs.Common.{ap, arith, subst, length}
 use Rattle.cam6_cycle.specs.Tables.{tables_needed}
 use Rattle.cam6_machine.specs.Numbers.{AreTables}
-use Rattle.cam6_machine.specs.Internal.Places.{rules_of}
+use Rattle.cam6_machine.specs.Internal.Numbered.{rules_of}
 use Rattle.cam6_machine.proofs.FilledTables.{fewer}
 use Rattle.cam6_machine.proofs.tables.fill_tables.Goals as goal
 

@@ -1,6 +1,6 @@
 use Rattle.std.proofs.Common.{◌≡◌, length}
 use Rattle.cam6_machine.specs.Numbers.{AreTables}
-use Rattle.cam6_machine.specs.Internal.Places.{rules_of}
+use Rattle.cam6_machine.specs.Internal.Numbered.{rules_of}
 use Rattle.cam6_machine.proofs.tables.fill_tables.Given as goal
 
 abbrev pub invariant-loop-index : goal.invariant-loop-index

@@ -2,7 +2,7 @@ use Rattle.std.proofs.Common.{◌≡◌, ◌<◌, ◌∙◌, [], Some, get_or, a
 use Rattle.std.proofs.lemmas.List.{get_or_default, get_or_append_left}
 use Rattle.std.proofs.lemmas.Option.{get_or_from_slice_get}
 use Rattle.cam6_machine.specs.Numbers.{rule_at, AreTables}
-use Rattle.cam6_machine.specs.Internal.Places.{rules_of}
+use Rattle.cam6_machine.specs.Internal.Numbered.{rules_of}
 use Rattle.cam6_machine.specs.TrueTables.{IsTableFor}
 use Rattle.cam6_wiring.specs.declared.names.Half.TheVariants.{A}
 use Rattle.cam6_wiring.specs.declared.wirings.Hood.TheVariants.{Moore}
@@ -28,9 +28,9 @@ returns-in-Some-clause-tables c =
     let before = parts.result.0.now in
     let first = c.in-Some.first in
     let new = c.copy_from.new.self in
-    let place = (get_or a.needed.now a.index default).rule.number in
-    let (earlier, sooner, here, of_place) =
-    used_before a.index first place a.needed.now c.in-Some.ensures in
+    let number = (get_or a.needed.now a.index default).rule.number in
+    let (earlier, sooner, here, of_number) =
+    used_before a.index first number a.needed.now c.in-Some.ensures in
     let within : first < length before = omega (arith, sooner, parts.ensures.front_len) in
     let copied : get_or a.tables.now first [] ≡ new =
     ap (λ l. get_or l first []) parts.ensures.value ∙
@@ -42,7 +42,7 @@ returns-in-Some-clause-tables c =
     (λ table found.
     subst (λ (t : NeededTable). IsTableFor a.direction (rule_at rules (Some t.rule.number)) new)
     (get_or_from_slice_get a.needed.now a.index table default found)
-    (subst (λ p. IsTableFor a.direction (rule_at rules (Some p)) new) of_place
+    (subst (λ p. IsTableFor a.direction (rule_at rules (Some p)) new) of_number
     (subst (IsTableFor a.direction (rule_at rules (Some earlier.rule.number))) copied
     (c.requires.before first earlier sooner here))))
 

@@ -3,7 +3,7 @@ use Rattle.std.specs.List.{AllByRecursion}
 use Rattle.cam6_wiring.specs.declared.blocks.Grid.TheVariants.{Even}
 use Rattle.cam6_wiring.specs.declared.names.Phase.TheVariants.{P0}
 use Rattle.cam6_cycle.specs.declared.entries.Entry.{Entry}
-use Rattle.cam6_machine.specs.Internal.Places.{rules_of}
+use Rattle.cam6_machine.specs.Internal.Numbered.{rules_of}
 use Rattle.cam6_machine.specs.Internal.Uses.{HasNoCause}
 use Rattle.cam6_machine.proofs.FirstCauses.{of_half_a, of_half_b, of_neither, causes_from}
 use Rattle.cam6_machine.proofs.FirstCauses.{all_more}

@@ -9,8 +9,8 @@ invariant-loop-line g l = record {
   runs : Runs by_machine (g.R.Read.remaining l.fn.reader) (g.R.Read.remaining l.reader)
       (g.W.Write.contents l.fn.writer) (g.W.Write.contents l.writer)
       (g.D.Ask.stands_at l.fn.desk) (g.D.Ask.stands_at l.desk);
-  spent : Spent l.fn.turns l.left (g.R.Read.remaining l.fn.reader) (g.R.Read.remaining l.reader);
+  spent : Spent l.fn.turns l.turns_left (g.R.Read.remaining l.fn.reader) (g.R.Read.remaining l.reader);
 }
 
 abbrev pub decreases-loop-line : goal.decreases-loop-line
-decreases-loop-line g l = l.left
+decreases-loop-line g l = l.turns_left

@@ -23,11 +23,11 @@ returns c = λ f around x l.
           ap (λ n. if n == 1 then column_bit odd x else column_bit even x) e ∙
           c.put_beside-2.ensures f a.y around c.requires.row x l ∙
           ap (λ k. seen_beside s (torus s f) k a.p x a.y) (c.in_block-2.ensures ∙
-          ap (λ k. in_block k a.turn) (c.corner_of-2.ensures ∙ same_corner a.grid x 0 a.y e))
+          ap (λ k. in_block k a.rotation) (c.corner_of-2.ensures ∙ same_corner a.grid x 0 a.y e))
       | Prim.no ge ↦
           let e : x % 2 ≡ 1 = omega arith in
           ap (λ n. if n == 1 then column_bit odd x else column_bit even x) e ∙
           c.put_beside.ensures f a.y around c.requires.row x l ∙
           ap (λ k. seen_beside s (torus s f) k a.p x a.y) (c.in_block.ensures ∙
-          ap (λ k. in_block k a.turn) (c.corner_of.ensures ∙ same_corner a.grid x 1 a.y e))
+          ap (λ k. in_block k a.rotation) (c.corner_of.ensures ∙ same_corner a.grid x 1 a.y e))
     ]

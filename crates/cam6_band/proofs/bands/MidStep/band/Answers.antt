@@ -5,7 +5,7 @@ use Rattle.cam6_planes.specs.Stored.{width}
 use Rattle.cam6_planes.proofs.SideNumbers.{side_least}
 use Rattle.cam6_band.specs.ByTables.{step_by, values_of}
 use Rattle.cam6_band.specs.Partway.{Partway, Mid}
-use Rattle.cam6_band.specs.Internal.KeptRows.{mid_of}
+use Rattle.cam6_band.specs.Internal.SavedRows.{mid_of}
 use Rattle.cam6_band.proofs.Further.{one_more, a_band}
 use Rattle.cam6_band.proofs.HalfPlanes.{all_stepped}
 use Rattle.cam6_band.proofs.bands.MidStep.band.Goals as goal
@@ -28,17 +28,17 @@ loop-y-preserved c =
     ) in
     record {
       alike = record {
-        side = c.put_new_row.ensures.side ∙ now.invariant.alike.side;
-        limit = c.put_new_row.ensures.limit ∙ now.invariant.alike.limit;
+        side = c.step_row.ensures.side ∙ now.invariant.alike.side;
+        limit = c.step_row.ensures.limit ∙ now.invariant.alike.limit;
       };
       partway = λ o start.
           let part = now.invariant.partway o start in
-          one_more o (step_by s tables o) now.image c.put_new_row.new.image c.self.inside.first
-          now.last c.put_new_row.new.last now.y within c.put_new_row.ensures.side part
+          one_more o (step_by s tables o) now.image c.step_row.new.image c.self.inside.first
+          now.last c.step_row.new.last now.y within c.step_row.ensures.side part
           (subst (λ n. (q x : ℕ) → q < 4 → x < width now.image →
-          cells c.put_new_row.new.image q x now.y ≡ step_by n tables o q x now.y) side
-          (c.put_new_row.ensures.new o part.kept.1.0 part.kept.0 part.old))
-          c.put_new_row.ensures.others c.put_new_row.ensures.kept;
+          cells c.step_row.new.image q x now.y ≡ step_by n tables o q x now.y) side
+          (c.step_row.ensures.new o part.saved.1.0 part.saved.0 part.old))
+          c.step_row.ensures.others c.step_row.ensures.saved;
     }
 
 pub returns-then-done-number-clause-next : goal.returns-then-done-number-clause-next

@@ -2,7 +2,7 @@ use Rattle.cam6_planes.specs.Cells.{Cells}
 use Rattle.cam6_planes.specs.Stored.{width, AreAlike}
 use Rattle.cam6_band.specs.ByTables.{step_by, values_of}
 use Rattle.cam6_band.specs.Partway.{Partway}
-use Rattle.cam6_band.specs.Internal.KeptRows.{mid_of}
+use Rattle.cam6_band.specs.Internal.SavedRows.{mid_of}
 use Rattle.cam6_band.proofs.bands.MidStep.band.Given as goal
 
 abbrev pub invariant-loop-y : goal.invariant-loop-y

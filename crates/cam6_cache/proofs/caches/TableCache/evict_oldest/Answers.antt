@@ -1,12 +1,12 @@
 use Rattle.std.proofs.Common.{◌-◌, length, ap, sym, subst, ◌∙◌, is_some}
 use Rattle.cam6_cache.specs.Internal.Entries.{tables_of}
-use Rattle.cam6_cache.proofs.KeptTables.{IsInOrder, kept_where_popped, are_true_take}
-use Rattle.cam6_cache.proofs.KeptTables.{last_unless_empty}
+use Rattle.cam6_cache.proofs.CachedTables.{IsInOrder, cached_where_popped, are_true_take}
+use Rattle.cam6_cache.proofs.CachedTables.{last_unless_empty}
 use Rattle.cam6_cache.proofs.caches.TableCache.evict_oldest.Goals as goal
 
 pub invariant_of-self : goal.invariant_of-self
 invariant_of-self c =
-    let is = kept_where_popped c.self.inside.tables c.pop_lru.new.self c.pop_lru.ensures.entries in
+    let is = cached_where_popped c.self.inside.tables c.pop_lru.new.self c.pop_lru.ensures.entries in
     let tables = tables_of c.self.inside.tables.entries in
     subst IsInOrder (sym is)
     (are_true_take (length tables - 1) tables c.self.invariant.0, c.self.invariant.1)
@@ -20,4 +20,4 @@ returns-clause-some c =
 pub returns-clause-rest : goal.returns-clause-rest
 returns-clause-rest c =
     rw (← c.self.view_is)
-    (kept_where_popped c.self.inside.tables c.pop_lru.new.self c.pop_lru.ensures.entries)
+    (cached_where_popped c.self.inside.tables c.pop_lru.new.self c.pop_lru.ensures.entries)

@@ -2,7 +2,7 @@ use Rattle.std.proofs.Common.{◌∙◌, ap, sym}
 use Rattle.cam6_machine.specs.Machine.{machine_of}
 use Rattle.cam6_machine.specs.Alone.{after}
 use Rattle.cam6_machine.specs.Internal.Images.{planes_of}
-use Rattle.cam6_machine.specs.Internal.Places.{rules_of, entries_of, stored}
+use Rattle.cam6_machine.specs.Internal.Numbered.{rules_of, entries_of, stored}
 use Rattle.cam6_machine.specs.declared.commands.Command.TheVariants.{Clear}
 use Rattle.cam6_machine.proofs.Done.{after-clear}
 use Rattle.cam6_machine.proofs.machines.Machine.clear.Goals as goal

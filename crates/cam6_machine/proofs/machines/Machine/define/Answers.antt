@@ -6,12 +6,12 @@ use Rattle.cam6_machine.specs.Alone.{after}
 use Rattle.cam6_machine.specs.Always.{IsMachine}
 use Rattle.cam6_machine.specs.Refusals.{rule_refusal}
 use Rattle.cam6_machine.specs.Internal.Images.{planes_of}
-use Rattle.cam6_machine.specs.Numbers.{named_entries, ArePlaced}
-use Rattle.cam6_machine.specs.Internal.Places.{rules_of, entries_of, stored}
+use Rattle.cam6_machine.specs.Numbers.{named_entries, AreNumbered}
+use Rattle.cam6_machine.specs.Internal.Numbered.{rules_of, entries_of, stored}
 use Rattle.cam6_machine.specs.Internal.Verdicts.{IsVerdict}
 use Rattle.cam6_machine.specs.declared.commands.Command.TheVariants.{Rule}
 use Rattle.cam6_machine.proofs.Done as done
-use Rattle.cam6_machine.proofs.Staying.{stays_machine, placed_with}
+use Rattle.cam6_machine.proofs.Staying.{stays_machine, numbered_with}
 use Rattle.cam6_machine.proofs.machines.Machine.define.Goals as goal
 
 -- what the trial of the text said
@@ -59,8 +59,8 @@ invariant_of-self-in-Ok c = (
       (rules_of c.self.inside.rules.entries) (entries_of c.self.inside.cycle) c.self.inside.position
       c.self.inside.colours))
       (Rule c.args.name c.args.wiring c.args.text) c.self.invariant.0 (verdict c).3),
-  subst (λ l. ArePlaced l (entries_of c.self.inside.cycle)) (sym (put c))
-      (placed_with _ (rules_of c.self.inside.rules.entries) (entries_of c.self.inside.cycle)
+  subst (λ l. AreNumbered l (entries_of c.self.inside.cycle)) (sym (put c))
+      (numbered_with _ (rules_of c.self.inside.rules.entries) (entries_of c.self.inside.cycle)
       c.self.invariant.0.own (sym (room c)) c.self.invariant.1),
   c.self.invariant.2,
   c.self.invariant.3,
@@ -71,8 +71,8 @@ returns-in-Ok-clause-machine c =
     after_put c ∙
     ap (λ k. after (machine_of k) (Rule c.args.name c.args.wiring c.args.text)) c.self.view_is
 
-pub returns-in-Ok-clause-left : goal.returns-in-Ok-clause-left
-returns-in-Ok-clause-left c =
+pub returns-in-Ok-clause-others : goal.returns-in-Ok-clause-others
+returns-in-Ok-clause-others c =
     let m = c.self.inside in
     done.stored-rule (planes_of m.image) (rules_of m.rules.entries) (entries_of m.cycle) m.position
     m.colours _ (rules_of c.put.new.rules.entries) c.self.invariant.1 (put c) ∙

@@ -7,27 +7,27 @@ use Rattle.cam6_machine.specs.Refusals.{drop_refusal}
 use Rattle.cam6_machine.specs.Alone.{after}
 use Rattle.cam6_machine.specs.Always.{IsMachine}
 use Rattle.cam6_machine.specs.Internal.Images.{planes_of}
-use Rattle.cam6_machine.specs.Numbers.{named_entries, ArePlaced}
-use Rattle.cam6_machine.specs.Internal.Places.{rules_of, entries_of, stored, uses_place}
-use Rattle.cam6_machine.specs.Internal.Places.{closed_entry}
+use Rattle.cam6_machine.specs.Numbers.{named_entries, AreNumbered}
+use Rattle.cam6_machine.specs.Internal.Numbered.{rules_of, entries_of, stored, uses_number}
+use Rattle.cam6_machine.specs.Internal.Numbered.{closed_entry}
 use Rattle.cam6_machine.specs.declared.commands.Command.TheVariants.{Drop}
 use Rattle.cam6_machine.proofs.Done.{after-drop, stored-drop}
-use Rattle.cam6_machine.proofs.Dropped.{placed_closed}
+use Rattle.cam6_machine.proofs.Dropped.{numbered_closed}
 use Rattle.cam6_machine.proofs.Staying.{stays_machine}
 use Rattle.cam6_machine.proofs.machines.Machine.drop_rule.Goals as goal
 
 -- the entries, which have closed up
 closed : (c : goal.After-remove) →
     entries_of c.closed_cycle-self-inside.result
-    ≡ map (closed_entry c.in-Ok.place) (entries_of c.self.inside.cycle)
+    ≡ map (closed_entry c.in-Ok.number) (entries_of c.self.inside.cycle)
 closed c =
     c.closed_cycle-self-inside.ensures ∙
-    ap (map (closed_entry c.in-Ok.place)) c.entries_of-cycle.ensures
+    ap (map (closed_entry c.in-Ok.number)) c.entries_of-cycle.ensures
 
 unused : (c : goal.After-remove) →
-    list_any (uses_place c.in-Ok.place) (entries_of c.self.inside.cycle) ≡ false
+    list_any (uses_number c.in-Ok.number) (entries_of c.self.inside.cycle) ≡ false
 unused c =
-    ap (list_any (uses_place c.in-Ok.place)) (sym c.entries_of-cycle.ensures) ∙
+    ap (list_any (uses_number c.in-Ok.number)) (sym c.entries_of-cycle.ensures) ∙
     c.in-Ok.ensures.unused
 
 accepted : (c : goal.After-remove) →
@@ -48,8 +48,8 @@ after_drop : (c : goal.After-remove) →
 after_drop c =
     let m = c.self.inside in
     after-drop (planes_of m.image) (rules_of m.rules.entries) (entries_of m.cycle) m.position
-    m.colours c.args.name.now (rules_of c.remove.new.rules.entries) c.in-Ok.place
-    (entries_of c.closed_cycle-self-inside.result) c.in-Ok.ensures.place (unused c) (accepted c)
+    m.colours c.args.name.now (rules_of c.remove.new.rules.entries) c.in-Ok.number
+    (entries_of c.closed_cycle-self-inside.result) c.in-Ok.ensures.number (unused c) (accepted c)
     c.remove.ensures (closed c)
 
 pub invariant_of-self : goal.invariant_of-self
@@ -60,10 +60,10 @@ invariant_of-self c =
       subst IsMachine (sym (after_drop c))
           (stays_machine (machine_of (stored (planes_of m.image) rules cycle m.position m.colours))
           (Drop c.args.name.now) c.self.invariant.0 tt),
-      subst (λ l. ArePlaced l (entries_of c.closed_cycle-self-inside.result))
+      subst (λ l. AreNumbered l (entries_of c.closed_cycle-self-inside.result))
           (sym c.remove.ensures)
-          (subst (ArePlaced (without_rule c.args.name.now rules)) (sym (closed c))
-          (placed_closed c.args.name.now rules c.in-Ok.place c.in-Ok.ensures.place cycle (unused c)
+          (subst (AreNumbered (without_rule c.args.name.now rules)) (sym (closed c))
+          (numbered_closed c.args.name.now rules c.in-Ok.number c.in-Ok.ensures.number cycle (unused c)
           c.self.invariant.1)),
       c.self.invariant.2,
       c.self.invariant.3,
@@ -73,11 +73,11 @@ pub returns-in-Ok-clause-machine : goal.returns-in-Ok-clause-machine
 returns-in-Ok-clause-machine c =
     after_drop c ∙ ap (λ k. after (machine_of k) (Drop c.args.name.now)) c.self.view_is
 
-pub returns-in-Ok-clause-left : goal.returns-in-Ok-clause-left
-returns-in-Ok-clause-left c =
+pub returns-in-Ok-clause-others : goal.returns-in-Ok-clause-others
+returns-in-Ok-clause-others c =
     let m = c.self.inside in
     let new = rules_of c.remove.new.rules.entries in
     stored-drop (planes_of m.image) (rules_of m.rules.entries) (entries_of m.cycle) m.position
-    m.colours c.args.name.now new c.in-Ok.place (entries_of c.closed_cycle-self-inside.result)
-    c.in-Ok.ensures.place (unused c) c.remove.ensures (closed c) ∙
+    m.colours c.args.name.now new c.in-Ok.number (entries_of c.closed_cycle-self-inside.result)
+    c.in-Ok.ensures.number (unused c) c.remove.ensures (closed c) ∙
     ap {B = StoredMachine} (λ k. record k { rules = new }) c.self.view_is

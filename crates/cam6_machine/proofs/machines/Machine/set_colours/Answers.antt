@@ -4,7 +4,7 @@ use Rattle.cam6_machine.specs.Refusals.{fault_reply}
 use Rattle.cam6_machine.specs.Alone.{after}
 use Rattle.cam6_machine.specs.Always.{IsMachine}
 use Rattle.cam6_machine.specs.Internal.Images.{planes_of}
-use Rattle.cam6_machine.specs.Internal.Places.{rules_of, entries_of, stored}
+use Rattle.cam6_machine.specs.Internal.Numbered.{rules_of, entries_of, stored}
 use Rattle.cam6_machine.specs.declared.commands.Command.TheVariants.{Map}
 use Rattle.cam6_machine.proofs.Done.{after-accepted}
 use Rattle.cam6_machine.proofs.Staying.{stays_machine}

@@ -7,8 +7,8 @@ use Rattle.cam6_cycle.specs.declared.entries.Entry.{Entry}
 use Rattle.cam6_machine.specs.Machine.{machine_of}
 use Rattle.cam6_machine.specs.Always.{IsMachine}
 use Rattle.cam6_machine.specs.Internal.Images.{planes_of}
-use Rattle.cam6_machine.specs.Numbers.{named_entry, ArePlaced, AreTables}
-use Rattle.cam6_machine.specs.Internal.Places.{rules_of, entries_of, stored}
+use Rattle.cam6_machine.specs.Numbers.{named_entry, AreNumbered, AreTables}
+use Rattle.cam6_machine.specs.Internal.Numbered.{rules_of, entries_of, stored}
 use Rattle.cam6_machine.specs.Alone.{reply, after, command_of}
 use Rattle.cam6_machine.specs.Refusals.{refusal}
 use Rattle.cam6_machine.specs.Internal.Ways.{moved, CanMove}
@@ -69,7 +69,7 @@ done c =
     CanMove way (machine_of (stored (planes_of m.image) rules entries m.position m.colours))) cycle
     (can_move old c.args.n way accepted)) in
     let made = run.ensures.steps rules m.colours c.self.invariant.0.own
-    (subst (ArePlaced rules) cycle c.self.invariant.1) are can in
+    (subst (AreNumbered rules) cycle c.self.invariant.1) are can in
     subst (λ (planes : Stored).
     machine_of (stored run.result.0.planes rules (entries_of m.cycle) run.result.1 m.colours)
     ≡ moved way c.args.n

@@ -1,3 +1,0 @@
--- What callers see of entries; then how rows of words are turned, which only this crate cites.
-pub mod Entries
-pub mod Exchanged

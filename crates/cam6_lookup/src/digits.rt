@@ -1,0 +1,78 @@
+//! The four binary digits of a number below sixteen, and the positions of a word that have them.
+ghost use Rattle.std.specs.Prelude.{◌≡◌, ◌<◌, ◌≤◌, ◌-◌, ◌+◌, ℕ};
+ghost use Rattle.std.specs.Int.{bit_at};
+ghost use Rattle.cam6_lookup.specs.Transposed.{worth, digit_of};
+
+/// A binary digit, by what it is worth.
+#[derive(Clone, Copy, Debug, PartialEq, Eq)]
+pub(crate) enum Digit {
+    One,
+    Two,
+    Four,
+    Eight,
+}
+
+impl Digit {
+    #[inline(always)]
+    pub(crate) fn worth(self) -> usize
+        ensures value { result ≡ worth self }
+        ensures some { 0 < result }
+        ensures most { result ≤ 8 }
+    {
+        match self {
+            Digit::One => 1,
+            Digit::Two => 2,
+            Digit::Four => 4,
+            Digit::Eight => 8,
+        }
+    }
+
+    /// The positions of a word that have this digit 0.
+    #[inline(always)]
+    fn zeros(self) -> u64
+        ensures { (p : ℕ) → p < 64 → bit_at result p ≡ 1 - digit_of self p }
+    {
+        match self {
+            Digit::One => 0x5555_5555_5555_5555,
+            Digit::Two => 0x3333_3333_3333_3333,
+            Digit::Four => 0x0F0F_0F0F_0F0F_0F0F,
+            Digit::Eight => 0x00FF_00FF_00FF_00FF,
+        }
+    }
+
+    /// The positions of a word that have this digit 1.
+    #[inline(always)]
+    fn ones(self) -> u64
+        ensures { (p : ℕ) → p < 64 → bit_at result p ≡ digit_of self p }
+    {
+        match self {
+            Digit::One => 0xAAAA_AAAA_AAAA_AAAA,
+            Digit::Two => 0xCCCC_CCCC_CCCC_CCCC,
+            Digit::Four => 0xF0F0_F0F0_F0F0_F0F0,
+            Digit::Eight => 0xFF00_FF00_FF00_FF00,
+        }
+    }
+
+    /// What the first of two words that swap becomes: it keeps its positions with the digit 0, and
+    /// takes to the others those of the second.
+    #[inline(always)]
+    pub(crate) fn first(self, first: u64, second: u64) -> u64
+        ensures kept { (p : ℕ) → p < 64 → digit_of self p ≡ 0 → bit_at result p ≡ bit_at first p }
+        ensures taken { (p : ℕ) → p < 64 → digit_of self p ≡ 1 →
+            bit_at result p ≡ bit_at second (p - worth self) }
+    {
+        let zeros = self.zeros();
+        first & zeros | (second & zeros) << self.worth()
+    }
+
+    /// What the second becomes: it keeps its positions with the digit 1, and takes to the others those
+    /// of the first.
+    #[inline(always)]
+    pub(crate) fn second(self, first: u64, second: u64) -> u64
+        ensures taken { (p : ℕ) → p < 64 → digit_of self p ≡ 0 →
+            bit_at result p ≡ bit_at first (p + worth self) }
+        ensures kept { (p : ℕ) → p < 64 → digit_of self p ≡ 1 → bit_at result p ≡ bit_at second p }
+    {
+        first >> self.worth() & self.zeros() | second & self.ones()
+    }
+}

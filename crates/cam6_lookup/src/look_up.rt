@@ -1,0 +1,92 @@
+//! Two rows of the bits of entries.
+ghost use Rattle.std.specs.Prelude.{◌≡◌, ◌≢◌, ◌<◌, ◌+◌, ◌-◌, ◌*◌, ◌%◌, ◌^◌, ℕ, length};
+ghost use Rattle.std.specs.Prelude.{slice_index};
+ghost use Rattle.std.specs.Int.{bit_at};
+ghost use Rattle.cam6_planes.specs.Row.{column_bit};
+ghost use Rattle.cam6_planes.specs.Side.{side_number};
+ghost use Rattle.cam6_wiring.specs.declared.wirings.TheConstants.{LINES};
+ghost use Rattle.cam6_wiring.specs.Lines.{address_in};
+ghost use Rattle.cam6_lookup.specs.Entries.{entry_bit};
+ghost use Rattle.cam6_lookup.specs.Transposed.{lane_address, shown_at};
+
+use crate::swap::{Sixteen, shown_addresses};
+use cam6_planes::{Row, Side};
+use cam6_wiring::Lines;
+
+/// Writes two rows: at each column the lowest bit, and the next, of the entry at the address that
+/// the lines show there. Of words past the side nothing is said.
+pub fn look_up_rows(lower: &mut Row, upper: &mut Row, lines: &Lines, side: Side, entries: &[u8])
+    requires { length entries.now ≡ 2 ^ LINES }
+    ensures lower { (x : ℕ) → x < side_number side →
+        column_bit lower.new x ≡ entry_bit entries.now (address_in lines.now x) 0 }
+    ensures upper { (x : ℕ) → x < side_number side →
+        column_bit upper.new x ≡ entry_bit entries.now (address_in lines.now x) 1 }
+{
+    for chunk in 0..side.number() / 128 {
+        let rows = shown_addresses(lines, 2 * chunk);
+        let (first_lower, first_upper) = words(&rows, 0, entries);
+        let (second_lower, second_upper) = words(&rows, 1, entries);
+        lower[2 * chunk] = first_lower;
+        upper[2 * chunk] = first_upper;
+        lower[2 * chunk + 1] = second_lower;
+        upper[2 * chunk + 1] = second_upper;
+    }
+}
+
+/// Word i of both rows: at each position the bits of the entry at the address that is shown there.
+fn words(rows: &Sixteen, i: usize, entries: &[u8]) -> (u64, u64)
+    requires word { i < 2 }
+    requires entries { length entries.now ≡ 2 ^ LINES }
+    ensures lower { (p : ℕ) → p < 64 →
+        bit_at result.0 p ≡ bit_at (slice_index entries.now (shown_at rows.now i p)) 0 }
+    ensures upper { (p : ℕ) → p < 64 →
+        bit_at result.1 p ≡ bit_at (slice_index entries.now (shown_at rows.now i p)) 1 }
+{
+    let mut lower = 0;
+    let mut upper = 0;
+    for pass in 0..16 {
+        let four = four_entries(rows, 15 - pass, i, entries);
+        lower = one_more(lower, four);
+        upper = one_more(upper, four >> 1);
+    }
+    (lower, upper)
+}
+
+/// The first position of each lane.
+const FIRST_POSITIONS: u64 = 0x0001_0001_0001_0001;
+
+/// Each lane with its bits one position further, and the first bit of `four`'s lane put in.
+fn one_more(word: u64, four: u64) -> u64
+    ensures first { (p : ℕ) → p < 64 → p % 16 ≡ 0 → (0 < p → bit_at word (p - 1) ≡ 0) →
+        bit_at result p ≡ bit_at four p }
+    ensures others { (p : ℕ) → p < 64 → p % 16 ≢ 0 → bit_at result p ≡ bit_at word (p - 1) }
+{
+    word << 1 | four & FIRST_POSITIONS
+}
+
+/// The entries at the addresses in the four lanes of word i of row k, each in its lane.
+fn four_entries(rows: &Sixteen, k: usize, i: usize, entries: &[u8]) -> u64
+    requires row { k < 16 }
+    requires word { i < 2 }
+    requires entries { length entries.now ≡ 2 ^ LINES }
+    ensures { (l r : ℕ) → l < 4 → r < 16 → bit_at result (16 * l + r)
+        ≡ bit_at (slice_index entries.now (lane_address rows.now k i l)) r }
+{
+    let word = rows[k][i];
+    in_lanes(
+        entries[(word & 4095) as usize],
+        entries[(word >> 16 & 4095) as usize],
+        entries[(word >> 32 & 4095) as usize],
+        entries[(word >> 48 & 4095) as usize],
+    )
+}
+
+/// Four bytes, each in a lane of sixteen bits.
+fn in_lanes(a: u8, b: u8, c: u8, d: u8) -> u64
+    ensures first { (r : ℕ) → r < 16 → bit_at result r ≡ bit_at a r }
+    ensures second { (r : ℕ) → r < 16 → bit_at result (16 + r) ≡ bit_at b r }
+    ensures third { (r : ℕ) → r < 16 → bit_at result (32 + r) ≡ bit_at c r }
+    ensures fourth { (r : ℕ) → r < 16 → bit_at result (48 + r) ≡ bit_at d r }
+{
+    u64::from(a) | u64::from(b) << 16 | u64::from(c) << 32 | u64::from(d) << 48
+}

@@ -1,0 +1,113 @@
+//! The addresses of 128 columns at once, by four rounds of swaps among sixteen rows.
+ghost use Rattle.std.specs.Prelude.{◌≡◌, ◌<◌, ◌≤◌, ◌+◌, ◌*◌, ◌/◌, ◌%◌, ℕ, slice_index};
+ghost use Rattle.std.specs.Int.{bit_at};
+ghost use Rattle.cam6_planes.specs.declared.row.TheConstants.{WORDS};
+ghost use Rattle.cam6_lookup.specs.Transposed.{ShowAddresses, cell, swapped_row, swapped_position};
+
+use crate::digits::Digit;
+use cam6_planes::Row;
+use cam6_wiring::Lines;
+
+/// Two words of a row: 128 columns.
+pub(crate) type Pair = [u64; 2];
+
+/// Sixteen rows of two words.
+pub(crate) type Sixteen = [Pair; 16];
+
+/// The addresses of 128 columns, from a word on: in its lane l of sixteen bits, row k has that of
+/// position 16 l + k of each word.
+pub(crate) fn shown_addresses(lines: &Lines, word: usize) -> Sixteen
+    requires { word + 2 ≤ WORDS }
+    ensures { ShowAddresses result lines.now word }
+{
+    transposed(&sixteen(lines, word))
+}
+
+/// The rows transposed over their diagonal, in each lane of sixteen bits.
+fn transposed(rows: &Sixteen) -> Sixteen
+    ensures { (k i p : ℕ) → k < 16 → i < 2 → p < 64 →
+        cell result k i p ≡ cell rows.now (p % 16) i (p / 16 * 16 + k) }
+{
+    let rows = round(rows, Digit::Eight);
+    let rows = round(&rows, Digit::Four);
+    let rows = round(&rows, Digit::Two);
+    round(&rows, Digit::One)
+}
+
+/// The rows with one digit of a row's number transposed for that digit of the position.
+#[inline(always)]
+fn round(rows: &Sixteen, digit: Digit) -> Sixteen
+    ensures { (k i p : ℕ) → k < 16 → i < 2 → p < 64 →
+        cell result k i p ≡ cell rows.now (swapped_row digit k p) i (swapped_position digit k p) }
+{
+    [
+        row_after(rows, 0, digit),
+        row_after(rows, 1, digit),
+        row_after(rows, 2, digit),
+        row_after(rows, 3, digit),
+        row_after(rows, 4, digit),
+        row_after(rows, 5, digit),
+        row_after(rows, 6, digit),
+        row_after(rows, 7, digit),
+        row_after(rows, 8, digit),
+        row_after(rows, 9, digit),
+        row_after(rows, 10, digit),
+        row_after(rows, 11, digit),
+        row_after(rows, 12, digit),
+        row_after(rows, 13, digit),
+        row_after(rows, 14, digit),
+        row_after(rows, 15, digit),
+    ]
+}
+
+/// Row k after the round.
+#[inline]
+fn row_after(rows: &Sixteen, k: usize, digit: Digit) -> Pair
+    requires { k < 16 }
+    ensures { (i p : ℕ) → i < 2 → p < 64 → bit_at (slice_index result i) p
+        ≡ cell rows.now (swapped_row digit k p) i (swapped_position digit k p) }
+{
+    let worth = digit.worth();
+    if k / worth % 2 == 0 {
+        let [first, next] = rows[k];
+        let [second, after] = rows[k + worth];
+        [digit.first(first, second), digit.first(next, after)]
+    } else {
+        let [first, next] = rows[k - worth];
+        let [second, after] = rows[k];
+        [digit.second(first, second), digit.second(next, after)]
+    }
+}
+
+/// Two words of each of the lines, from a word on, and four rows of zeros.
+fn sixteen(lines: &Lines, word: usize) -> Sixteen
+    requires { word + 2 ≤ WORDS }
+    ensures { (k i p : ℕ) → k < 12 → i < 2 → cell result k i p ≡ cell lines.now k (word + i) p }
+{
+    let zeros = [0; 2];
+    [
+        pair(&lines[0], word),
+        pair(&lines[1], word),
+        pair(&lines[2], word),
+        pair(&lines[3], word),
+        pair(&lines[4], word),
+        pair(&lines[5], word),
+        pair(&lines[6], word),
+        pair(&lines[7], word),
+        pair(&lines[8], word),
+        pair(&lines[9], word),
+        pair(&lines[10], word),
+        pair(&lines[11], word),
+        zeros,
+        zeros,
+        zeros,
+        zeros,
+    ]
+}
+
+fn pair(row: &Row, word: usize) -> Pair
+    requires { word + 2 ≤ WORDS }
+    ensures { (i : ℕ) → i < 2 → slice_index result i ≡ slice_index row.now (word + i) }
+{
+    [row[word], row[word + 1]]
+}

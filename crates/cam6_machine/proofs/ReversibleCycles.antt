@@ -1,0 +1,66 @@
+-- A machine that may go back has a cycle of which every rule can be undone.
+use Rattle.std.proofs.Common.{◌≡◌, ℕ, suc, List, [], ◌∷◌, Option, Some, None, refl}
+use Rattle.std.specs.List.{AllByRecursion}
+use Rattle.cam6_wiring.specs.declared.names.Half.{Half}
+use Rattle.cam6_wiring.specs.declared.names.Half.TheVariants as half
+use Rattle.cam6_block.specs.Laws.{CauseIsFound}
+use Rattle.cam6_block.specs.declared.refusals.NotReversible.{NotReversible}
+use Rattle.cam6_machine.specs.Rules.{Rule}
+use Rattle.cam6_machine.specs.Cycles.{EntryRules, entry_rules}
+use Rattle.cam6_machine.specs.Undoing.{reading_of, IsReversibleRule, IsReversibleEntry}
+use Rattle.cam6_machine.specs.Machine.{Machine, IsReversibleCycle}
+use Rattle.cam6_machine.specs.Refusals.{or_then, rule_cause, cause_reply, entry_cause}
+use Rattle.cam6_machine.specs.Refusals.{first_cause, fault_reply, run_refusal, refusal}
+use Rattle.cam6_machine.specs.declared.commands.Command.TheVariants.{Back}
+use Rattle.cam6_machine.specs.declared.commands.NamedEntry.{NamedEntry}
+
+-- where neither of two refusals comes, there is neither
+pub neither_comes : {A : Type 0} (first next : Option A) → or_then first next ≡ None →
+    (first ≡ None) × (next ≡ None)
+neither_comes None next e = (refl, e)
+neither_comes (Some first) next e = cc e
+
+no_cause : (number : ℕ) (h : Half) (cause : Option NotReversible) →
+    cause_reply number h cause ≡ None → cause ≡ None
+no_cause number h None e = refl
+no_cause number h (Some cause) e = cc e
+
+-- a rule without a cause can be undone
+pub rule_reversible : CauseIsFound → (rule : Option Rule) → rule_cause rule ≡ None → IsReversibleRule rule
+rule_reversible found None none = tt
+rule_reversible found (Some rule) none =
+    (found (reading_of rule) rule.wiring.hood rule.wiring.minor).2 none
+
+pub entry_reversible : CauseIsFound → (number : ℕ) (entry : EntryRules) →
+    entry_cause number entry ≡ None → IsReversibleEntry entry
+entry_reversible found number entry none =
+    let (a, b) =
+    neither_comes (cause_reply number half.A (rule_cause entry.a))
+    (cause_reply number half.B (rule_cause entry.b)) none in (
+      rule_reversible found entry.a (no_cause number half.A (rule_cause entry.a) a),
+      rule_reversible found entry.b (no_cause number half.B (rule_cause entry.b) b),
+    )
+
+pub cycle_reversible : CauseIsFound → (rules : List Rule) (number : ℕ) (cycle : List NamedEntry) →
+    first_cause rules number cycle ≡ None →
+    AllByRecursion (λ entry. IsReversibleEntry (entry_rules rules entry)) cycle
+cycle_reversible found rules number [] none = tt
+cycle_reversible found rules number (entry ∷ cycle) none =
+    let (here, later) =
+    neither_comes (entry_cause number (entry_rules rules entry))
+    (first_cause rules (suc number) cycle) none in (
+      entry_reversible found number (entry_rules rules entry) here,
+      cycle_reversible found rules (suc number) cycle later,
+    )
+
+-- a machine that isn't refused to go back may also run
+pub back_runs : (m : Machine) (n : ℕ) → refusal m (Back n) ≡ None →
+    fault_reply (run_refusal m.cycle n) ≡ None
+back_runs m n none =
+    (neither_comes (fault_reply (run_refusal m.cycle n)) (first_cause m.rules 0 m.cycle) none).0
+
+pub reversible : CauseIsFound → (m : Machine) (n : ℕ) → refusal m (Back n) ≡ None →
+    IsReversibleCycle m
+reversible found m n none =
+    cycle_reversible found m.rules 0 m.cycle
+    (neither_comes (fault_reply (run_refusal m.cycle n)) (first_cause m.rules 0 m.cycle) none).1
