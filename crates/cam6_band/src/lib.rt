@@ -6,9 +6,10 @@
 //! promises it promises for all old planes of which the image is partway (`specs/Partway.antt`)
 //! towards their step by the tables at hand (`specs/ByTables.antt`). The band after which no row is
 //! left answers `Next::Whole`, with the planes after the step. `move_into` takes a step with all
-//! that is saved of it to another image, and `abandon` gives it up. `tables_at` finds, among tables
-//! that lie as a cycle needs them, those of the entry at a position (`specs/AtPosition.antt`); the
-//! law: each half goes by the table of its use. No call takes memory.
+//! that is saved of it to another image, and `abandon` gives it up. `go_by` finds, among tables
+//! that lie as a cycle needs them, those by which a step goes this way or that from a position
+//! (`specs/AtPosition.antt`), and the position after it; the law: each half goes by the table of
+//! its use. No call takes memory.
 //!
 //! So, with a table of half A by which a cell becomes what its northern neighbour was: of planes of
 //! side 256, after one band the rows 0 to 15 are new, row 0 what row 255 was, and the others old;
@@ -31,5 +32,5 @@ mod tables;
 
 pub use bands::{BAND, MidStep, Next};
 pub use images::{AtRest, Spare};
-pub use positions::tables_at;
+pub use positions::go_by;
 pub use tables::{EntryTables, HalfTable};

@@ -1,27 +1,48 @@
-//! The tables that serve a position of a cycle.
-ghost use Rattle.std.specs.Prelude.{◌≡◌, ◌<◌, ◌≤◌, length, Some};
+//! The tables by which a step goes along a cycle.
+ghost use Rattle.std.specs.Prelude.{◌≡◌, ◌<◌, ◌≤◌, ◌+◌, length, Some};
 ghost use Rattle.std.specs.Option.{option_map};
+ghost use Rattle.cam6_cycle.specs.Along.{entry_index, position_after};
 ghost use Rattle.cam6_cycle.specs.Limits.{max_tables};
 ghost use Rattle.cam6_band.specs.ByTables.{values_of, half_entries};
-ghost use Rattle.cam6_band.specs.AtPosition.{step_tables_at, half_at};
+ghost use Rattle.cam6_band.specs.AtPosition.{tables_from, step_tables_at, half_at};
 
 use crate::tables::{EntryTables, HalfTable};
-use cam6_cycle::{Cycle, Entry, HalfRule};
+use cam6_cycle::{Cycle, Direction, Entry, HalfRule};
 use cam6_table::Table;
 
-/// The tables of the entry at a position, among tables that lie as the cycle needs them: one for
-/// each use of a rule.
-pub fn tables_at<'a>(cycle: &Cycle, position: usize, tables: &'a [Table]) -> EntryTables<'a>
+/// The tables by which a step goes this way from a position, among tables that lie as the cycle
+/// needs them, one for each use of a rule; and the position after the step.
+pub fn go_by<'a>(
+    cycle: &Cycle,
+    position: usize,
+    direction: Direction,
+    tables: &'a [Table],
+) -> (EntryTables<'a>, usize)
     requires position { position < length cycle.now }
     requires room { max_tables ≤ length tables.now }
-    ensures { step_tables_at cycle.now position tables.now ≡ Some (values_of result) }
+    ensures tables { step_tables_at cycle.now (entry_index direction (length cycle.now) position)
+        tables.now ≡ Some (values_of result.0) }
+    ensures next { result.1 ≡ position_after direction (length cycle.now) position }
+    ensures within { result.1 < length cycle.now }
 {
-    let (Entry { a, b, grid, phase }, _) = cycle.forward(position);
-    let first = cycle.tables_before(position);
-    let second = first + usize::from(a.is_some());
+    let (entry, after) = cycle.go(position, direction);
+    let index = match direction {
+        Direction::Forward => position,
+        Direction::Backward => after,
+    };
+    let own = tables_from(entry, cycle.tables_before(index), tables);
+    (own, after)
+}
+
+/// An entry's tables: half A's at the index, and half B's behind it, if they have rules.
+fn tables_from<'a>(entry: Entry, index: usize, tables: &'a [Table]) -> EntryTables<'a>
+    requires room { index + 2 ≤ length tables.now }
+    ensures { values_of result ≡ tables_from index entry tables.now }
+{
+    let Entry { a, b, grid, phase } = entry;
     EntryTables {
-        a: half_table(a, tables, first),
-        b: half_table(b, tables, second),
+        a: half_table(a, tables, index),
+        b: half_table(b, tables, index + usize::from(a.is_some())),
         grid,
         phase,
     }

@@ -86,7 +86,7 @@ behind (first ∷ front) back item = behind front back item
 
 module _ (direction : Direction) (entries : List Entry) (position : ℕ) (past : Entry)
     (within : position < length entries) where
-  -- the place of half A's table, and of half B's, of the entry at a position
+  -- the index of half A's table, and of half B's, of the entry at a position
   pub first_table : (rule : HalfRule) → (get_or entries position past).a ≡ Some rule →
       slice_get (tables_needed direction entries)
       (length (tables_needed direction (take position entries)))

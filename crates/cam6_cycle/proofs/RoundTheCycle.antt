@@ -1,8 +1,10 @@
 -- Going on along a cycle, and going back.
-use Rattle.std.proofs.Common.{◌≡◌, ℕ, zero, suc, ◌+◌, ◌-◌, ◌<◌, ◌%◌, arith, ap, ◌∙◌}
+use Rattle.std.proofs.Common.{◌≡◌, ℕ, zero, suc, ◌+◌, ◌-◌, ◌<◌, ◌%◌, arith, refl, ap, ◌∙◌}
 use Rattle.std.proofs.Math.Nat.{mod_self, mod-eq_of_lt}
 use native.Mathlib.Decide.{dec_lt}
 use Rattle.cam6_cycle.specs.Along.{next, previous}
+use Rattle.cam6_cycle.specs.Laws.{UndoEachOther}
+use Rattle.cam6_cycle.specs.declared.tables.Direction.TheVariants.{Forward, Backward}
 
 there_and_back : (n position : ℕ) → position < n → previous n (next n position) ≡ position
 there_and_back n position within =
@@ -26,3 +28,8 @@ pub undo_each_other : (n position : ℕ) → position < n →
     (previous n (next n position) ≡ position) × (next n (previous n position) ≡ position)
 undo_each_other n position within =
     (there_and_back n position within, back_and_there n position within)
+
+pub ways_undo_each_other : UndoEachOther
+ways_undo_each_other Forward n position within =
+    let same = (undo_each_other n position within).0 in (same, same)
+ways_undo_each_other Backward n position within = ((undo_each_other n position within).1, refl)

@@ -4,6 +4,8 @@ use Rattle.std.specs.Prelude.{Result, Ok, Err, if◌then◌else◌}
 use Rattle.cam6_cycle.specs.Limits.{max_entries}
 use Rattle.cam6_cycle.specs.declared.cycles.CycleFault.{CycleFault}
 use Rattle.cam6_cycle.specs.declared.entries.Entry.{Entry}
+use Rattle.cam6_cycle.specs.declared.tables.Direction.{Direction}
+use Rattle.cam6_cycle.specs.declared.tables.Direction.TheVariants.{Forward, Backward}
 
 -- 1 to 16 entries are a cycle
 abbrev pub is_cycle : List Entry → Bool
@@ -21,3 +23,13 @@ next n position = (position + 1) % n
 abbrev pub previous : ℕ → ℕ → ℕ
 previous n zero = n - 1
 previous n (suc position) = position
+
+-- the index of the entry by which a step goes this way from a position
+abbrev pub entry_index : Direction → ℕ → ℕ → ℕ
+entry_index Forward length position = position
+entry_index Backward length position = previous length position
+
+-- the position after a step this way
+abbrev pub position_after : Direction → ℕ → ℕ → ℕ
+position_after Forward length position = next length position
+position_after Backward length position = previous length position

@@ -3,19 +3,25 @@ use Rattle.std.specs.Prelude.{◌≡◌, ◌<◌, ◌≤◌, ◌+◌, ℕ, List,
 use Rattle.std.specs.List.{slice_get}
 use Rattle.cam6_wiring.specs.declared.names.Half.TheVariants.{A, B}
 use Rattle.cam6_cycle.specs.Limits.{max_entries, max_tables}
-use Rattle.cam6_cycle.specs.Along.{next, previous}
+use Rattle.cam6_cycle.specs.Along.{entry_index, position_after}
 use Rattle.cam6_cycle.specs.Tables.{needed_for, tables_needed}
 use Rattle.cam6_cycle.specs.declared.entries.Entry.{Entry}
 use Rattle.cam6_cycle.specs.declared.entries.HalfRule.{HalfRule}
 use Rattle.cam6_cycle.specs.declared.tables.Direction.{Direction}
+use Rattle.cam6_cycle.specs.declared.tables.Direction.TheVariants.{Forward, Backward}
 
--- going on by one and back by one leads to the same position, and so does going back and on. As
--- going on takes the entry at the position that it leaves, and going back the entry at the position
--- that it reaches, both take the same entry
+-- the way back
+abbrev pub other_way : Direction → Direction
+other_way Forward = Backward
+other_way Backward = Forward
+
+-- going one way and then the other leads to the same position, by the same entry
 abbrev pub UndoEachOther : Type 0
 UndoEachOther =
-    (n position : ℕ) → position < n →
-    (previous n (next n position) ≡ position) × (next n (previous n position) ≡ position)
+    (direction : Direction) (n position : ℕ) → position < n →
+    let after = position_after direction n position in
+    (position_after (other_way direction) n after ≡ position)
+    × (entry_index (other_way direction) n after ≡ entry_index direction n position)
 
 -- a cycle's tables have room among 32
 abbrev pub AreFew : Type 0

@@ -1,5 +1,5 @@
 -- In the order of reading: which entries are a cycle, and the ways along it; the tables that it
--- needs; what stands in places that aren't used; and what follows.
+-- needs; what stands where none is used; and what follows.
 pub mod Limits
 pub mod Along
 pub mod Tables

@@ -1,4 +1,4 @@
--- What stands in a place that isn't used.
+-- What stands where none is used.
 use Rattle.std.specs.Prelude.{None}
 use Rattle.cam6_wiring.specs.declared.blocks.Grid.TheVariants.{Even}
 use Rattle.cam6_wiring.specs.declared.names.Half.TheVariants.{A}

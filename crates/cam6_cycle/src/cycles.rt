@@ -2,7 +2,7 @@
 ghost use Rattle.std.specs.Prelude.{◌≡◌, ◌<◌, ◌≤◌, ◌+◌, Some, length, take};
 ghost use Rattle.std.specs.List.{slice_get};
 ghost use Rattle.cam6_cycle.specs.Limits.{max_tables};
-ghost use Rattle.cam6_cycle.specs.Along.{cycle_of, next, previous};
+ghost use Rattle.cam6_cycle.specs.Along.{cycle_of, next, previous, entry_index, position_after};
 ghost use Rattle.cam6_cycle.specs.Tables.{tables_needed, count_before};
 ghost use Rattle.cam6_cycle.specs.declared.cycles.TheConstants.{MAX_ENTRIES};
 ghost use Rattle.cam6_cycle.specs.declared.tables.Direction.{Direction};
@@ -97,6 +97,20 @@ impl Cycle {
             position - 1
         };
         (entries[before], before)
+    }
+
+    /// The entry by which a step goes this way from a position, and the position after the step.
+    pub fn go(&self, position: usize, direction: Direction) -> (Entry, usize)
+        requires { position < length self.now }
+        ensures entry { slice_get self.now (entry_index direction (length self.now) position)
+            ≡ Some result.0 }
+        ensures next { result.1 ≡ position_after direction (length self.now) position }
+        ensures within { result.1 < length self.now }
+    {
+        match direction {
+            Direction::Forward => self.forward(position),
+            Direction::Backward => self.backward(position),
+        }
     }
 
     /// The tables by which the cycle is gone along, one for each use of a rule: entry by entry,

@@ -11,7 +11,7 @@ pub fn tables_are_few()
     ensures law { AreFew }
 {}
 
-/// Each rule of each entry has its table, at its place among those of the entries before it.
+/// Each rule of each entry has its table, behind those of the entries before it.
 pub fn each_use_has_its_table()
     ensures law { HaveTheirTables }
 {}

@@ -1,8 +1,10 @@
 //! Cycles of entries, which the steps of a run take in turn.
 //!
-//! Contract: a cycle is a list of 1 to 16 entries (`Cycle::new`). `forward` takes the entry at a
-//! position and goes on to the next, `backward` goes back by one and takes the entry there, both
-//! round the cycle (`specs/Along.antt`); the law: they undo each other. `tables_needed` lists a
+//! Contract: a cycle is a list of 1 to 16 entries (`Cycle::new`). `go` takes the entry by which a
+//! step goes this way or that from a position, and the position after the step
+//! (`specs/Along.antt`): `forward` takes the entry at the position and goes on to the next,
+//! `backward` goes back by one and takes the entry there, both round the cycle. The law: going one
+//! way and then the other leads to the same position, by the same entry. `tables_needed` lists a
 //! table for each use of a rule, entry by entry, half A's before half B's (`specs/Tables.antt`),
 //! and `tables_before` says where those of an entry begin. `copy` has the same entries. No call
 //! takes memory.

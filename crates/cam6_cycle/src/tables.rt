@@ -31,7 +31,7 @@ pub struct NeededTable {
 impl Default for NeededTable {
     ghost is_default = { λ table. table ≡ unused_table };
 
-    /// What stands in a place that isn't used.
+    /// What stands where none is used.
     fn default() -> NeededTable {
         NeededTable {
             half: Half::A,

@@ -1,52 +1,144 @@
--- A step by the entry at the position, with numbers and with names.
-use Rattle.std.proofs.Common.{◌≡◌, ◌<◌, ◌+◌, ◌%◌, ℕ, List, length, Some, sym, ap}
-use Rattle.std.proofs.Common.{◌∙◌, option_map, slice_get, get_or}
+-- One step this way along a cycle, with numbers and with names.
+use Rattle.std.proofs.Common.{◌≡◌, ◌∙◌, ℕ, suc, List, length, Option, Some, None}
+use Rattle.std.proofs.Common.{option_map, slice_get, refl, sym, ap, subst}
 use Rattle.std.proofs.lemmas.List.{length-map}
-use Rattle.std.proofs.lemmas.Option.{slice_get-map, slice_get-get_or}
+use Rattle.std.proofs.lemmas.Option.{slice_get-map}
 use Rattle.cam6_planes.specs.Side.{side_number}
 use Rattle.cam6_planes.specs.Stored.{Stored, AreAlike}
-use Rattle.cam6_planes.specs.Cells.{Cells, cells}
-use Rattle.cam6_machine.specs.Rules.{Rule}
-use Rattle.cam6_machine.specs.Cycles.{entry_rules}
-use Rattle.cam6_machine.specs.Steps.{step}
-use Rattle.cam6_machine.specs.Always.{HaveOwnNames}
-use Rattle.cam6_machine.specs.Machine.{Machine, machine_of, stepped, stepped_by}
-use Rattle.cam6_machine.specs.Numbers.{named_entry, named_entries, rules_at}
-use Rattle.cam6_machine.specs.Internal.Numbered.{stored}
+use Rattle.cam6_planes.specs.Cells.{Cells, cells, stored_bit}
+use Rattle.cam6_planes.proofs.CellsAt.{torus_again}
+use Rattle.cam6_wiring.specs.declared.names.Half.{Half}
+use Rattle.cam6_band.specs.AtPosition.{step_tables_at}
+use Rattle.cam6_band.specs.ByTables.{StepTables, step_by}
+use Rattle.cam6_cycle.specs.Along.{entry_index, position_after}
+use Rattle.cam6_cycle.specs.Tables.{tables_needed}
 use Rattle.cam6_cycle.specs.declared.entries.Entry.{Entry}
+use Rattle.cam6_cycle.specs.declared.tables.Direction.{Direction}
+use Rattle.cam6_cycle.specs.declared.tables.Direction.TheVariants.{Forward, Backward}
+use Rattle.cam6_machine.specs.Rules.{Rule}
+use Rattle.cam6_machine.specs.Cycles.{entry_rules, rule_for}
+use Rattle.cam6_machine.specs.Undoing.{IsReversibleEntry}
+use Rattle.cam6_machine.specs.Always.{HaveOwnNames}
+use Rattle.cam6_machine.specs.Machine.{Machine, machine_of, stepped_by, unstepped_by}
+use Rattle.cam6_machine.specs.Numbers.{named_entry, named_entries, rules_at}
+use Rattle.cam6_machine.specs.Numbers.{AreNumbered, AreTables}
+use Rattle.cam6_machine.specs.Internal.Numbered.{stored}
+use Rattle.cam6_machine.specs.Internal.Ways.{one_moved, moved, CanMove}
+use Rattle.cam6_machine.specs.declared.commands.NamedEntry.{NamedEntry}
 use Rattle.cam6_machine.proofs.Naming.{same_rules}
+use Rattle.cam6_machine.proofs.RulesOfEntries.{of_entry}
+use Rattle.cam6_machine.proofs.StepsByTables.{CanGoBy, planes_after, step_by_tables}
+use Rattle.cam6_machine.proofs.StepsByTables.{can_be_undone}
+use Rattle.cam6_machine.proofs.StepsOfATorus.{side_some, side_even}
+use Rattle.cam6_machine.proofs.TablesOfPositions.{tables_by_use}
 
--- the planes after a step by the entry at the position, which moves on
-pub one_step : (old new : Stored) (rules : List Rule) (cycle : List Entry) (position : ℕ)
-    (colours : List ℕ) (past : Entry) → HaveOwnNames rules → position < length cycle →
-    AreAlike old new →
-    cells new
-    ≡ step (side_number old.side) (rules_at rules (get_or cycle position past)) (cells old) →
-    machine_of (stored new rules cycle ((position + 1) % length cycle) colours)
-    ≡ stepped (machine_of (stored old rules cycle position colours))
-one_step old new rules cycle position colours past own within alike made =
-    let s = side_number old.side in
-    let m = machine_of (stored old rules cycle position colours) in
-    let entry = get_or cycle position past in
-    let named = named_entries rules cycle in
-    let next = (position + 1) % length cycle in
-    let at : slice_get named position ≡ Some (named_entry rules entry) =
-    slice_get-map (named_entry rules) cycle position ∙
-    ap (option_map (named_entry rules)) (slice_get-get_or cycle position past within) in
-    let all : length named ≡ length cycle = length-map cycle (named_entry rules) in
-    let by_names : cells new ≡ step s (entry_rules rules (named_entry rules entry)) (cells old) =
-    made ∙ ap (λ e. step s e (cells old)) (sym (same_rules rules entry own)) in
-    ap {B = Machine} (λ n. record m {
-      side = n;
-      limit = new.limit;
-      planes = cells new;
-      position = next;
-    }) alike.side ∙
-    ap {B = Machine} (λ l. record m { limit = l; planes = cells new; position = next })
-    alike.limit ∙
-    ap {B = Machine} (λ (f : Cells). record m { planes = f; position = next }) by_names ∙
-    ap {B = Machine} (λ l. record m {
-      planes = step s (entry_rules rules (named_entry rules entry)) (cells old);
-      position = (position + 1) % l;
-    }) (sym all) ∙
-    ap (λ e. stepped_by e m) (sym at)
+-- no steps leave a machine, and one step more comes after the others
+pub none_moved : (direction : Direction) (m : Machine) → m ≡ moved direction 0 m
+none_moved Forward m = refl
+none_moved Backward m = refl
+
+pub one_more : (direction : Direction) (n : ℕ) (m : Machine) →
+    one_moved direction (moved direction n m) ≡ moved direction (suc n) m
+one_more Forward n m = refl
+one_more Backward n m = refl
+
+-- where there is something of an item, there is the item
+was_there : {X Y : Type 0} (f : X → Y) (o : Option X) (y : Y) → option_map f o ≡ Some y →
+    (x : X) × (o ≡ Some x)
+was_there f None y is = cc is
+was_there f (Some x) y is = (x, refl)
+
+-- one step this way is by the entry of the cycle by which a step goes
+moved_by : (direction : Direction) (m : Machine) (entry : NamedEntry) →
+    slice_get m.cycle (entry_index direction (length m.cycle) m.position) ≡ Some entry →
+    record m {
+      planes =
+          planes_after direction (side_number m.side) (entry_rules m.rules entry) m.planes;
+      position = position_after direction (length m.cycle) m.position;
+    }
+    ≡ one_moved direction m
+moved_by Forward m entry at = ap (λ e. stepped_by e m) (sym at)
+moved_by Backward m entry at =
+    ap (λ e. unstepped_by (position_after Backward (length m.cycle) m.position) e m) (sym at)
+
+-- where a machine can move this way, its step can go by the rules of each entry
+can_go_by : (direction : Direction) (first old : Stored) (rules : List Rule)
+    (cycle : List Entry) (start index : ℕ) (colours : List ℕ) (entry : Entry) →
+    HaveOwnNames rules → slice_get cycle index ≡ Some entry →
+    CanMove direction (machine_of (stored first rules cycle start colours)) → (half : Half) →
+    CanGoBy direction (side_number old.side) (rule_for half (rules_at rules entry))
+can_go_by Forward first old rules cycle start index colours entry own found can half = tt
+can_go_by Backward first old rules cycle start index colours entry own found can half = (
+  side_some old.side,
+  side_even old.side,
+  can_be_undone (rules_at rules entry)
+      (subst IsReversibleEntry (same_rules rules entry own)
+      (of_entry (λ e. IsReversibleEntry (entry_rules rules e))
+      (named_entries rules cycle) index (named_entry rules entry) can
+      (slice_get-map (named_entry rules) cycle index ∙
+      ap (option_map (named_entry rules)) found)))
+      half,
+)
+
+module _ (direction : Direction) (rules : List Rule) (cycle : List Entry) (colours : List ℕ)
+    (own : HaveOwnNames rules) (old new : Stored) (alike : AreAlike old new) (position : ℕ) where
+  -- by an entry with numbers, the planes after it and the position after it are those of one step
+  by_numbers : (entry : Entry) →
+      slice_get cycle (entry_index direction (length cycle) position) ≡ Some entry →
+      cells new ≡ planes_after direction (side_number old.side) (rules_at rules entry) (cells old) →
+      machine_of (stored new rules cycle (position_after direction (length cycle) position) colours)
+      ≡ one_moved direction (machine_of (stored old rules cycle position colours))
+  by_numbers entry found made =
+      let s = side_number old.side in
+      let m = machine_of (stored old rules cycle position colours) in
+      let named = named_entries rules cycle in
+      let after = position_after direction (length cycle) position in
+      let all : length named ≡ length cycle = length-map cycle (named_entry rules) in
+      let at : slice_get named (entry_index direction (length named) position)
+      ≡ Some (named_entry rules entry) =
+      ap (λ n. slice_get named (entry_index direction n position)) all ∙
+      slice_get-map (named_entry rules) cycle (entry_index direction (length cycle) position) ∙
+      ap (option_map (named_entry rules)) found in
+      let by_names : cells new
+      ≡ planes_after direction s (entry_rules rules (named_entry rules entry)) (cells old) =
+      made ∙
+      ap (λ e. planes_after direction s e (cells old)) (sym (same_rules rules entry own)) in
+      ap {B = Machine} (λ n. record m {
+        side = n;
+        limit = new.limit;
+        planes = cells new;
+        position = after;
+      }) alike.side ∙
+      ap {B = Machine} (λ l. record m { limit = l; planes = cells new; position = after })
+      alike.limit ∙
+      ap {B = Machine} (λ (f : Cells). record m { planes = f; position = after }) by_names ∙
+      ap {B = Machine} (λ n. record m {
+        planes = planes_after direction s (entry_rules rules (named_entry rules entry)) (cells old);
+        position = position_after direction n position;
+      }) (sym all) ∙
+      moved_by direction m (named_entry rules entry) at
+
+  -- by the tables of the entry by which a step goes, they are those of one step
+  pub one_step : (tables : List (List ℕ)) (step : StepTables) (first : Stored) (start : ℕ) →
+      AreNumbered rules cycle →
+      AreTables direction (length (tables_needed direction cycle)) rules
+      (tables_needed direction cycle) tables →
+      CanMove direction (machine_of (stored first rules cycle start colours)) →
+      step_tables_at cycle (entry_index direction (length cycle) position) tables ≡ Some step →
+      cells new ≡ step_by (side_number old.side) step (cells old) →
+      machine_of (stored new rules cycle (position_after direction (length cycle) position) colours)
+      ≡ one_moved direction (machine_of (stored old rules cycle position colours))
+  one_step tables step first start numbered are can at made =
+      let s = side_number old.side in
+      let index = entry_index direction (length cycle) position in
+      let there : (entry : Entry) × (slice_get cycle index ≡ Some entry) =
+      was_there _ (slice_get cycle index) step at in
+      let entry = there.0 in
+      let found = there.1 in
+      by_numbers entry found
+      (made ∙
+      step_by_tables direction s (rules_at rules entry) step
+      (tables_by_use direction rules cycle tables index entry step numbered are found at)
+      (cells old)
+      (can_go_by direction first old rules cycle start index colours entry own found can)
+      (torus_again s (stored_bit old.rows) (side_some old.side)))

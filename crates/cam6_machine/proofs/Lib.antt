@@ -2,8 +2,6 @@
 
 -- Numbers of rules, and their names: they say the same where the names are the rules' own.
 pub mod Naming
--- A step by the entry at the position, with numbers and with names.
-pub mod Along
 -- Rules after one was put under its name: what held of them holds.
 pub mod KeptNames
 -- Rules after one was dropped: what held of them holds, and numbers and names still say the same.
@@ -14,8 +12,6 @@ pub mod FilledTables
 pub mod TablesOfPositions
 -- What is said of a rule's true table is said of the rule's words.
 pub mod Inverses
--- A step undone along the cycle, with numbers and with names.
-pub mod AlongBackward
 -- The first entry with a rule that can't be undone, entry by entry.
 pub mod FirstCauses
 -- The rules of a map, looked up by name.
@@ -28,8 +24,6 @@ pub mod ColoursOfRows
 pub mod Verdicts
 -- The reply to a command and the machine after it, where it is refused and where it is not.
 pub mod Done
--- A step by true tables is the step by the rules' words.
-pub mod TrueSteps
 -- What follows of steps.
 pub mod StepLaws
 -- A machine stays a machine, whatever it is commanded, and its rules run.
@@ -48,10 +42,14 @@ pub mod AddressesOfBlocks
 pub mod SeenInBlocks
 -- A step by rules of blocks changes each block as a whole.
 pub mod StepsByBlocks
--- A step and the step undone, and a step by inverted tables.
-pub mod StepsUndone
 -- The entry at a number of the cycle, and what its rules are.
 pub mod RulesOfEntries
+-- A step by the tables of an entry's rules is the entry's step, or backward its step undone.
+pub mod StepsByTables
+-- One step this way along a cycle, with numbers and with names.
+pub mod Along
+-- A step and the step undone give the planes back.
+pub mod StepsUndone
 -- Steps that are undone change planes and position alone, and leave a machine.
 pub mod StepsBack
 -- Steps along a cycle and steps back along it undo each other.

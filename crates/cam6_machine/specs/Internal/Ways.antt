@@ -2,9 +2,15 @@
 use Rattle.std.specs.Prelude.{ℕ, ⊤}
 use Rattle.cam6_cycle.specs.declared.tables.Direction.{Direction}
 use Rattle.cam6_cycle.specs.declared.tables.Direction.TheVariants.{Forward, Backward}
-use Rattle.cam6_machine.specs.Machine.{Machine, steps, unsteps, IsReversibleCycle}
+use Rattle.cam6_machine.specs.Machine.{Machine, stepped, steps, unstepped, unsteps}
+use Rattle.cam6_machine.specs.Machine.{IsReversibleCycle}
 use Rattle.cam6_machine.specs.declared.replies.Reply.{Reply}
 use Rattle.cam6_machine.specs.declared.replies.Reply.TheVariants as reply
+
+-- one step this way
+abbrev pub one_moved : Direction → Machine → Machine
+one_moved Forward m = stepped m
+one_moved Backward m = unstepped m
 
 -- so many steps this way
 abbrev pub moved : Direction → ℕ → Machine → Machine

@@ -1,4 +1,4 @@
-use Rattle.cam6_machine.proofs.StepsUndone.{inverted_tables_undo}
+use Rattle.cam6_machine.proofs.StepsByTables.{inverted_tables_undo}
 use Rattle.cam6_machine.proofs.laws.inverted_tables_undo_a_step.Goals as goal
 
 pub returns : goal.returns
