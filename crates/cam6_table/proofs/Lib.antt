@@ -4,6 +4,8 @@
 pub mod BodyCodes
 -- The code of a body's words in a row is the code of the body.
 pub mod Emission
+-- Each word of a tree has what it needs of what stands behind it.
+pub mod Needs
 -- Code is no longer than its size allows.
 pub mod Lengths
 -- Codes one behind another, and choices between them.

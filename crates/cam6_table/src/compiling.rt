@@ -33,8 +33,8 @@ impl From<NoMemory> for NotCompiled {
     }
 }
 
-/// Reads a rule's text, and tries the rule at every address. The trial is the rule's table, where it
-/// stops nowhere; else nothing is promised of its entries.
+/// Reads a rule's text, and tries the rule at every address. The trial becomes the rule's table,
+/// where the rule stops nowhere; else nothing is promised of its entries.
 pub fn compile(
     alloc: Global,
     wiring: Wiring,
