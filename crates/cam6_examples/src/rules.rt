@@ -6,8 +6,7 @@ use crate::examples::Sent;
 use crate::sessions::{add_line, no_memory};
 use crate::settings::{half_text, hood_text, minor_text};
 use cam6_forth::{Definition, ParseFault, Rule, TextFault, Word, parse_under};
-use cam6_table::laws::code_that_filled_a_table_is_its_texts;
-use cam6_table::{Code, ENTRIES, MAX_TURNS, RuleFault, Table, eval, fill};
+use cam6_table::{Code, ENTRIES, MAX_TURNS, NotCompiled, RuleFault, Table, compile, eval};
 use cam6_wiring::Wiring;
 use std::alloc::Global;
 use std::io;
@@ -176,24 +175,15 @@ pub fn code_of(
     ensures code { IfOk result (λ read. IfOk read (λ code. IsCodeFor wiring text.now code)) }
     ensures table { IfOk result (λ read. OnOk read (IsTableOf wiring text.now table.new)) }
 {
-    let rule = match parse_under(alloc, text, wiring) {
-        Ok(rule) => rule,
-        Err(ParseFault::Text(fault)) => return Ok(Err(text_fault(alloc, fault)?)),
-        Err(ParseFault::NoMemory) => return Err(no_memory()),
-    };
-    let Ok(code) = Code::of(alloc, &rule) else {
-        return Err(no_memory());
-    };
-    match fill(&code, table) {
-        Ok(()) => {
-            code_that_filled_a_table_is_its_texts();
-            Ok(Ok(code))
-        }
-        Err((address, fault)) => {
+    match compile(alloc, wiring, text, table) {
+        Ok(code) => Ok(Ok(code)),
+        Err(NotCompiled::Text(fault)) => Ok(Err(text_fault(alloc, fault)?)),
+        Err(NotCompiled::Stops { address, fault }) => {
             let number = fault.number();
             let stop = format!(in alloc; r#"{{"address":{address},"fault":{number}}}"#)?;
             Ok(Err(stop))
         }
+        Err(NotCompiled::NoMemory) => Err(no_memory()),
     }
 }
 

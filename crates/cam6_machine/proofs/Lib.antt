@@ -20,8 +20,6 @@ pub mod KeptRules
 pub mod PlaneTexts
 -- The colours of a row are among those of the states.
 pub mod ColoursOfRows
--- What the reading of a text and the trial of its rule's code say of the verdict.
-pub mod Verdicts
 -- The reply to a command and the machine after it, where it is refused and where it is not.
 pub mod Done
 -- What follows of steps.

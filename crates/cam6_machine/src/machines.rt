@@ -15,7 +15,7 @@ use crate::refusals::{
 };
 use crate::replies::{Now, Reply};
 use crate::rows::{Bits, PlaneRows, RowColours, RowText};
-use crate::rules::{KeptRule, RuleRefusal, names_of, put, remove, tried_rule};
+use crate::rules::{KeptRule, names_of, put, remove, tried_rule};
 use crate::runs::go_along;
 use crate::tables::fill_tables;
 use crate::texts::{Names, Text};
@@ -23,7 +23,7 @@ use crate::undoing::first_cause;
 use cam6_band::AtRest;
 use cam6_cycle::{Cycle, Direction, MAX_TABLES};
 use cam6_planes::{NoMemory, Planes, Side};
-use cam6_table::Table;
+use cam6_table::{NotCompiled, Table};
 use cam6_view::count;
 use cam6_wiring::Wiring;
 use indexmap::IndexMap;
@@ -240,9 +240,9 @@ impl Machine {
                 put(&mut self.rules, name, rule)?;
                 Ok(Reply::Rule)
             }
-            Err(RuleRefusal::Text(fault)) => Ok(Reply::RuleText(fault)),
-            Err(RuleRefusal::Stops { address, fault }) => Ok(Reply::RuleStops { address, fault }),
-            Err(RuleRefusal::NoMemory) => Err(NoMemory),
+            Err(NotCompiled::Text(fault)) => Ok(Reply::RuleText(fault)),
+            Err(NotCompiled::Stops { address, fault }) => Ok(Reply::RuleStops { address, fault }),
+            Err(NotCompiled::NoMemory) => Err(NoMemory),
         }
     }
 

@@ -11,10 +11,8 @@ ghost use Rattle.cam6_machine.specs.Internal.Verdicts.{IsVerdict};
 ghost use Rattle.cam6_machine.specs.declared.replies.Reply.{Reply};
 
 use crate::texts::Text;
-use cam6_forth::{ParseFault, TextFault, parse_under};
 use cam6_planes::NoMemory;
-use cam6_table::laws::code_that_filled_a_table_is_its_texts;
-use cam6_table::{Code, RuleFault, Table, fill};
+use cam6_table::{Code, NotCompiled, Table, compile, fill};
 use cam6_wiring::Wiring;
 use indexmap::IndexMap;
 use std::alloc::Global;
@@ -74,53 +72,21 @@ impl KeptRule {
     }
 }
 
-/// Why a rule isn't kept.
-#[derive(Debug, Drop)]
-pub(crate) enum RuleRefusal {
-    /// The text's first fault.
-    Text(TextFault),
-    /// The least address at which the rule stops, and why it stops there.
-    Stops { address: u16, fault: RuleFault },
-    /// Memory was asked for and refused.
-    NoMemory,
-}
-
-impl From<NoMemory> for RuleRefusal {
-    ghost use Rattle.cam6_machine.specs.declared.rules.RuleRefusal.TheVariants.{NoMemory};
-
-    ghost from_gives = { λ _ e. e ≡ NoMemory };
-
-    fn from(_refused: NoMemory) -> RuleRefusal {
-        RuleRefusal::NoMemory
-    }
-}
-
 /// Reads a rule's text and tries the rule at every address. The table is room for the trial.
 pub(crate) fn tried_rule(
     alloc: Global,
     wiring: Wiring,
     text: Text,
     trial: &mut Table,
-) -> Result<KeptRule, RuleRefusal>
+) -> Result<KeptRule, NotCompiled>
     ensures verdict { IsVerdict wiring text result }
     // No memory is wanted for a text of which nothing is kept.
     ensures unkept { (fault : TextFault) →
         text_refusal (read_text wiring text) ≡ Some (Reply.RuleText fault) →
-        keeps wiring text ≡ false → result ≢ Err RuleRefusal.NoMemory }
+        keeps wiring text ≡ false → result ≢ Err NotCompiled.NoMemory }
 {
-    let rule = match parse_under(alloc, text.as_str(), wiring) {
-        Ok(rule) => rule,
-        Err(ParseFault::Text(fault)) => return Err(RuleRefusal::Text(fault)),
-        Err(ParseFault::NoMemory) => return Err(RuleRefusal::NoMemory),
-    };
-    let code = Code::of(alloc, &rule)?;
-    match fill(&code, trial) {
-        Ok(()) => {
-            code_that_filled_a_table_is_its_texts();
-            Ok(KeptRule::new(wiring, text, code))
-        }
-        Err((address, fault)) => Err(RuleRefusal::Stops { address, fault }),
-    }
+    let code = compile(alloc, wiring, text.as_str(), trial)?;
+    Ok(KeptRule::new(wiring, text, code))
 }
 
 /// Whether a text can be a rule's name: 1 to 24 printable bytes without `"` and `\`, and not `-`.

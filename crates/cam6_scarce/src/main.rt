@@ -11,10 +11,8 @@ ghost use Rattle.cam6_table.specs.RuleTexts.{IsCodeFor};
 ghost use Rattle.cam6_cache.specs.Limits.{max_text};
 
 use cam6_cache::{Key, TableCache};
-use cam6_forth::parse_under;
 use cam6_planes::NoMemory;
-use cam6_table::laws::code_that_filled_a_table_is_its_texts;
-use cam6_table::{Code, ENTRIES, Table, fill};
+use cam6_table::{Code, ENTRIES, Table, compile};
 use cam6_wiring::{Half, Hood, Minor, Wiring};
 use std::alloc::Global;
 use std::io;
@@ -114,17 +112,5 @@ fn code_for(alloc: Global, wiring: Wiring, text: &str) -> Option<Code>
     ensures { IfSome result (λ code. IsCodeFor wiring text.now code) }
 {
     let mut trial = Table::blank(alloc).ok()?;
-    let Ok(rule) = parse_under(alloc, text, wiring) else {
-        return None;
-    };
-    let Ok(code) = Code::of(alloc, &rule) else {
-        return None;
-    };
-    match fill(&code, &mut trial) {
-        Ok(()) => {
-            code_that_filled_a_table_is_its_texts();
-            Some(code)
-        }
-        Err(_) => None,
-    }
+    compile(alloc, wiring, text, &mut trial).ok()
 }

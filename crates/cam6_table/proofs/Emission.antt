@@ -23,12 +23,12 @@ abbrev pub at_code : Instructions → List ℕ → Emitted
 at_code c landings = record { code = c; landings = landings; case = None }
 
 -- the same in a case
-abbrev in_case : Instructions → List ℕ → (end count : ℕ) → Emitted
+abbrev pub in_case : Instructions → List ℕ → (end count : ℕ) → Emitted
 in_case c landings end count =
     record { code = c; landings = landings; case = Some (record { end = end; count = count }) }
 
 -- the last words come first
-all-append : (wiring : Wiring) (codes : List Instructions) (xs ys : List Word) (e : Emitted) →
+pub all-append : (wiring : Wiring) (codes : List Instructions) (xs ys : List Word) (e : Emitted) →
     emit_all wiring codes (xs ++ ys) e ≡ emit_all wiring codes xs (emit_all wiring codes ys e)
 all-append wiring codes [] ys e = refl
 all-append wiring codes (x ∷ xs) ys e = ap (emit wiring codes x) (all-append wiring codes xs ys e)
@@ -39,14 +39,14 @@ length_before xs ys = omega (arith, length-append xs ys)
 
 module _ (wiring : Wiring) (known : List Defined) (codes : List Instructions) where
   -- a token that says a word
-  emit-said : (result : Result (SingleWord × ℕ) ℕ) (e : Emitted) → IsOk result →
+  pub emit-said : (result : Result (SingleWord × ℕ) ℕ) (e : Emitted) → IsOk result →
       emit_all wiring codes (words_in result) e
       ≡ emit_word e.case (said_code wiring codes result) e
   emit-said (Ok (said, size)) e ok = refl
   emit-said (Err number) e ok = cc ok
 
   -- the words of a case
-  emitted-case : (tokens : List Token) (c : Instructions) (landings : List ℕ) →
+  pub emitted-case : (tokens : List Token) (c : Instructions) (landings : List ℕ) →
       AreWords wiring known tokens →
       emit_all wiring codes (case_words wiring known tokens) (in_case c landings (length c) 0)
       ≡ in_case (case_code wiring known codes tokens ++ c) landings (length c) (length tokens)
@@ -141,12 +141,12 @@ module _ (wiring : Wiring) (known : List Defined) (codes : List Instructions) wh
       ∙ ap (λ x. at_code (Case (length tokens) ∷ x) landings) (sym (append_assoc a z c))
 
 -- the definitions of a tree
-abbrev added : Wiring → List Defined → List Part → List Defined
+abbrev pub added : Wiring → List Defined → List Part → List Defined
 added wiring known [] = []
 added wiring known (part ∷ parts) =
     defined wiring known part ∷ added wiring (known ++ defined wiring known part ∷ []) parts
 
-meant-added : (wiring : Wiring) (parts : List Part) (known : List Defined) →
+pub meant-added : (wiring : Wiring) (parts : List Part) (known : List Defined) →
     meant wiring known parts ≡ known ++ added wiring known parts
 meant-added wiring [] known = sym (append-nil known)
 meant-added wiring (part ∷ parts) known =
@@ -155,7 +155,7 @@ meant-added wiring (part ∷ parts) known =
     ∙ append_assoc known (defined wiring known part ∷ []) (added wiring more parts)
 
 -- the code of a body's words alone
-words-body : (wiring : Wiring) (known : List Defined) (codes : List Instructions) (body : Body) →
+pub words-body : (wiring : Wiring) (known : List Defined) (codes : List Instructions) (body : Body) →
     IsKnown wiring known body →
     words_code wiring codes (words_of wiring known body) ≡ body_code wiring known codes body
 words-body wiring known codes body are =

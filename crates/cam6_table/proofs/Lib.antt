@@ -4,6 +4,8 @@
 pub mod BodyCodes
 -- The code of a body's words in a row is the code of the body.
 pub mod Emission
+-- Each word of a tree has what it needs of what stands behind it.
+pub mod Needs
 -- Code is no longer than its size allows.
 pub mod Lengths
 -- Codes one behind another, and choices between them.
@@ -22,7 +24,11 @@ pub mod TrueTables
 pub mod OneMeaning
 -- What code of the rule that a text was accepted as is to the text.
 pub mod RuleTexts
+-- What the trial of a text's code says of the text.
+pub mod FaultsOfTexts
 -- Jumps of flat code: instructions passed over are instructions left out.
 pub mod Jumps
+-- Code gives one result at two addresses that agree on the lines which it reads.
+pub mod LinesRead
 -- How many values a stack word wants.
 pub mod Wants

@@ -37,7 +37,7 @@ is_entry : (said : Result ℕ RuleFault) (entry : ℕ) → said ≡ Ok entry →
 is_entry said entry e = subst (λ (r : Result ℕ RuleFault). IsOk r) (sym e) refl
 
 pub filled_is_of_the_text : FilledIsOfTheText
-filled_is_of_the_text wiring text rule code entries accepted is are =
+filled_is_of_the_text wiring text rule code entries accepted is whole are =
     let its = of_the_text wiring text rule code accepted is in (
       record {
         spells = its.spells;
@@ -47,6 +47,7 @@ filled_is_of_the_text wiring text rule code entries accepted is are =
       },
       record {
         rule = its.spells.all.rule;
+        whole = whole;
         holds = λ address within. sym (its.means address) ∙ are address within;
       },
     )

@@ -1,2 +1,3 @@
--- What no public contract says: how a rule becomes code.
+-- What no public contract says: how a rule becomes code, and which lines code reads.
 pub mod Emitting
+pub mod LinesRead

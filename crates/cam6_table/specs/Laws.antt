@@ -63,5 +63,5 @@ abbrev pub FilledIsOfTheText : Type 0
 FilledIsOfTheText =
     (wiring : Wiring) (text : List ℕ) (rule : RuleWords) (code : List Instruction)
     (entries : List ℕ) → IsAccepted wiring text (Ok rule) → IsCodeOf code rule →
-    AreEntries (result_at code) entries →
+    length entries ≡ addresses → AreEntries (result_at code) entries →
     IsCodeFor wiring text code × IsTableOf wiring text entries

@@ -1,5 +1,5 @@
 -- What code and a table are to the text of a rule.
-use Rattle.std.specs.Prelude.{◌≡◌, ℕ, ◌<◌, List, IsOk}
+use Rattle.std.specs.Prelude.{◌≡◌, ℕ, ◌<◌, List, length, IsOk}
 use Rattle.cam6_wiring.specs.declared.wirings.Wiring.{Wiring}
 use Rattle.cam6_forth.specs.Texts.{IsTextOf}
 use Rattle.cam6_forth.specs.Tree.{IsRule}
@@ -17,7 +17,8 @@ pub record IsCodeFor (wiring : Wiring) (text : List ℕ) (code : List Instructio
   pub means : (address : ℕ) → result_at code address ≡ at_address wiring (tree_of text) address
   pub runs : (address : ℕ) → address < addresses → IsOk (result_at code address)
 
--- the true table of the rule that a text spells
+-- the true table of the rule that a text spells: an entry for each address
 pub record IsTableOf (wiring : Wiring) (text : List ℕ) (entries : List ℕ) : Type 0 where
   pub rule : IsRule wiring (tree_of text)
+  pub whole : length entries ≡ addresses
   pub holds : IsTrueTable wiring (tree_of text) entries

@@ -2,7 +2,8 @@
 ghost use Rattle.std.specs.Prelude.{◌≡◌, ◌≤◌, [], ◌++◌, length, IfOk, OnOk};
 ghost use Rattle.cam6_table.specs.Limits.{max_turns};
 ghost use Rattle.cam6_table.specs.Codes.{IsCodeOf};
-ghost use Rattle.cam6_table.specs.Internal.Emitting.{words_code, all_codes};
+ghost use Rattle.cam6_table.specs.Internal.Emitting.{words_code, all_codes, nothing};
+ghost use Rattle.cam6_table.specs.Internal.Emitting.{HaveTheirs, AllHaveTheirs};
 
 use crate::codes::{Code, Instruction, Instructions};
 use cam6_forth::{Definition, Rule, SingleWord, Word};
@@ -30,6 +31,7 @@ fn codes_of(
     wiring: Wiring,
     definitions: &[Definition],
 ) -> Result<Vec<Instructions>, NoMemory>
+    requires { AllHaveTheirs wiring [] definitions.now }
     ensures { IfOk result (λ codes. codes.items ≡ all_codes wiring [] definitions.now) }
 {
     let mut codes = Vec::new(alloc);
@@ -48,6 +50,7 @@ fn code_of(
     words: &[Word],
     codes: &[Instructions],
 ) -> Result<Instructions, NoMemory>
+    requires { HaveTheirs wiring codes.now words.now nothing }
     ensures { IfOk result (λ code. code ≡ words_code wiring codes.now words.now) }
 {
     let mut emitter = Emitter {
@@ -102,9 +105,11 @@ impl Emitter {
     ghost use Rattle.cam6_table.specs.Internal.Emitting.{emit, emit_then, emit_else, emit_if};
     ghost use Rattle.cam6_table.specs.Internal.Emitting.{emit_end_cases, emit_cases, emit_word};
     ghost use Rattle.cam6_table.specs.Internal.Emitting.{with_head, word_code};
+    ghost use Rattle.cam6_table.specs.Internal.Emitting.{IsOpen, IsThere, HasCode, HasIts};
 
     /// One more word in front.
     fn emit(&mut self, wiring: Wiring, word: Word, codes: &[Instructions]) -> Result<(), NoMemory>
+        requires { HasIts wiring codes.now word self.old }
         ensures { OnOk result (self.new ≡ emit wiring codes.now word self.old) }
     {
         match word {
@@ -131,10 +136,11 @@ impl Emitter {
 
     /// The first body passes the second one, which begins where the IF leads on.
     fn emit_else(&mut self) -> Result<(), NoMemory>
+        requires { IsOpen self.old.landings }
         ensures { OnOk result (self.new ≡ emit_else self.old.landings self.old) }
     {
         let Some(landing) = self.landings.pop() else {
-            return Ok(());
+            unreachable!()
         };
         let here = self.code.len();
         let passed = here.saturating_sub(landing);
@@ -144,10 +150,11 @@ impl Emitter {
     }
 
     fn emit_if(&mut self) -> Result<(), NoMemory>
+        requires { IsOpen self.old.landings }
         ensures { OnOk result (self.new ≡ emit_if self.old.landings self.old) }
     {
         let Some(landing) = self.landings.pop() else {
-            return Ok(());
+            unreachable!()
         };
         let passed = self.code.len().saturating_sub(landing);
         self.code.put(Instruction::SkipIfZero(passed))
@@ -163,11 +170,12 @@ impl Emitter {
     }
 
     fn emit_cases(&mut self) -> Result<(), NoMemory>
+        requires { IsThere self.old.case }
         ensures { OnOk result (self.new ≡ emit_cases self.old.case self.old) }
     {
         match self.case.take() {
             Some(case) => self.code.put(Instruction::Case(case.count)),
-            None => Ok(()),
+            None => unreachable!(),
         }
     }
 
@@ -178,6 +186,7 @@ impl Emitter {
         word: SingleWord,
         codes: &[Instructions],
     ) -> Result<(), NoMemory>
+        requires { HasCode wiring codes.now word }
         ensures { OnOk result (self.new ≡
             emit_word self.old.case (word_code wiring codes.now word) self.old) }
     {
@@ -204,6 +213,7 @@ impl Emitter {
         word: SingleWord,
         codes: &[Instructions],
     ) -> Result<(), NoMemory>
+        requires { HasCode wiring codes.now word }
         ensures { OnOk result (self.new ≡
             record self.old { code = word_code wiring codes.now word ++ self.old.code }) }
     {
@@ -211,13 +221,13 @@ impl Emitter {
             SingleWord::Literal(value) => self.code.put(Instruction::Literal(value)),
             SingleWord::Name(name) => match line_of(wiring.hood, wiring.minor, name) {
                 Some(line) => self.code.put(Instruction::Line(line)),
-                None => Ok(()),
+                None => unreachable!(),
             },
             SingleWord::Stack(word) => self.code.put(Instruction::Stack(word)),
             SingleWord::Output(target) => self.code.put(Instruction::Output(target)),
             SingleWord::Defined(position) => match codes.get(position) {
                 Some(code) => self.code.put_all(code),
-                None => Ok(()),
+                None => unreachable!(),
             },
         }
     }

@@ -9,7 +9,7 @@ ghost use Rattle.cam6_table.specs.Codes.{act, exec, turns_of, result_at, turns_a
 
 use crate::codes::{Code, Instruction, Instructions};
 use crate::faults::RuleFault;
-use crate::outputs::{State, untouched, entry_of, write};
+use crate::outputs::{State, entry_of, untouched, write};
 
 /// Turns that a rule can take, one for each instruction.
 pub const MAX_TURNS: u32 = 4096;

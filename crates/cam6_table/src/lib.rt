@@ -3,7 +3,8 @@
 //! Contract: the code of a rule answers at each address what the rule means there
 //! (`specs/Meaning.antt`), the two new bits or the first fault. `eval` gives that result in at most
 //! 4,096 turns, one instruction each; `fill` leaves the table of all results, or names the least
-//! address at which any fault comes, with the fault there, also where no cell shows the address. A
+//! address at which any fault comes, with the fault there, also where no cell shows the address.
+//! `compile` makes a text its rule's code, where nothing is wrong in it; else it says what is. A
 //! table gives the new rows of a row's lines (`Table::look_up`), and is seen as its entries alone.
 //!
 //! What a rule means is defined by recursion on its tree, as a function of what its names mean. The
@@ -16,19 +17,23 @@
 //! Stands on: `cam6_planes`, `cam6_wiring`, `cam6_lookup` and `cam6_forth`.
 //!
 //! Read next: `stacks`, what a word does; `outputs`; `codes`, the instructions; `emitter`, how a
-//! rule becomes code; `evaluation`; `tables`; then `laws`.
+//! rule becomes code; `evaluation`; `lines_read`, on which lines its results hang; `tables`;
+//! `compiling`; then `laws`.
 #![tactic(auto)]
 
 mod codes;
+mod compiling;
 mod emitter;
 mod evaluation;
 mod faults;
 pub mod laws;
+mod lines_read;
 mod outputs;
 mod stacks;
 mod tables;
 
 pub use codes::{Code, Instruction};
+pub use compiling::{NotCompiled, compile};
 pub use evaluation::{MAX_TURNS, eval};
 pub use faults::RuleFault;
 pub use tables::{ENTRIES, Table, fill};

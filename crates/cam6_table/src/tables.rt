@@ -1,12 +1,16 @@
 //! A rule's table: its entry at each address.
-ghost use Rattle.std.specs.Prelude.{◌≡◌, ◌<◌, IfOk, IfErr, slice_index, replicate};
+ghost use Rattle.std.specs.Prelude.{◌≡◌, ◌<◌, ℕ, Ok, IfOk, IfErr, length};
+ghost use Rattle.std.specs.Prelude.{slice_index, replicate};
 ghost use Rattle.cam6_table.specs.declared.tables.TheConstants.{ENTRIES};
 ghost use Rattle.cam6_table.specs.Tables.{AreEntries, IsLeastStop};
+ghost use Rattle.cam6_table.specs.Limits.{addresses};
 ghost use Rattle.cam6_table.specs.Codes.{result_at};
+ghost use Rattle.cam6_table.specs.Internal.LinesRead.{IsMaskFor};
 
 use crate::codes::Code;
 use crate::evaluation::{MAX_TURNS, eval};
 use crate::faults::RuleFault;
+use crate::lines_read::lines_read;
 use cam6_lookup::look_up_rows;
 use cam6_planes::{NoMemory, Row, Side};
 use cam6_wiring::Lines;
@@ -97,18 +101,37 @@ impl Table {
 
 /// Makes the table that of a rule, or names the least address at which it stops, and the fault
 /// there, also if no cell shows the address. After a fault nothing is promised of the table's
-/// entries. It takes no memory.
+/// entries. It takes no memory. The code runs only where the lines that it reads differ: its result
+/// hangs on no other.
 pub fn fill(code: &Code, table: &mut Table) -> Result<(), (u16, RuleFault)>
+    ensures whole { length table.new ≡ addresses }
     ensures filled { IfOk result (λ _. AreEntries (result_at code.now) table.new) }
     ensures fault { IfErr result (λ refused. IsLeastStop (result_at code.now) refused.0 refused.1) }
 {
     prove!(table.entries.len() == usize::from(ENTRIES));
+    let mask = lines_read(code);
     for address in 0..ENTRIES {
-        let mut turns = MAX_TURNS;
-        match eval(code, address, &mut turns) {
+        match entry_at(code, address, mask, table) {
             Ok(entry) => table.put(address, entry),
             Err(fault) => return Err((address, fault)),
         }
     }
     Ok(())
+}
+
+/// The code's entry at an address, or its fault there. It stands in the table already where another
+/// address, which comes before, shows the same on all lines of the mask.
+fn entry_at(code: &Code, address: u16, mask: u16, table: &Table) -> Result<u8, RuleFault>
+    requires address { address < ENTRIES }
+    requires mask { IsMaskFor mask code.now }
+    requires filled { (before : ℕ) → before < address →
+        result_at code.now before ≡ Ok (slice_index table.now before) }
+    ensures { result ≡ result_at code.now address }
+{
+    let same = address & mask;
+    if same < address {
+        return Ok(table.at(same));
+    }
+    let mut turns = MAX_TURNS;
+    eval(code, address, &mut turns)
 }

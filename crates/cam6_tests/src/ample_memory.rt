@@ -5,12 +5,11 @@ ghost use Rattle.std.specs.Prelude.{IfSome};
 ghost use Rattle.cam6_table.specs.RuleTexts.{IsCodeFor};
 
 use cam6_cache::{Key, TableCache};
-use cam6_forth::{ParseFault, Rule, parse, parse_under};
+use cam6_forth::{ParseFault, Rule, parse};
 use cam6_machine::{Command, Fault, Machine, Now, Reply, replies_alone};
 use cam6_planes::{NoMemory, Planes, Side};
 use cam6_session::{Ask, End, Line, LineBuf, next_line, serve, serve_alone};
-use cam6_table::laws::code_that_filled_a_table_is_its_texts;
-use cam6_table::{Code, Table, fill};
+use cam6_table::{Code, Table, compile};
 use cam6_wire::{command_shown, read_command, reply_text};
 use cam6_wiring::{Half, Hood, Minor, Wiring};
 use serde_json::Value;
@@ -50,19 +49,7 @@ fn code_for(alloc: Global, wiring: Wiring, text: &str) -> Option<Code>
     ensures { IfSome result (λ code. IsCodeFor wiring text.now code) }
 {
     let mut trial = Table::blank(alloc).ok()?;
-    let Ok(rule) = parse_under(alloc, text, wiring) else {
-        return None;
-    };
-    let Ok(code) = Code::of(alloc, &rule) else {
-        return None;
-    };
-    match fill(&code, &mut trial) {
-        Ok(()) => {
-            code_that_filled_a_table_is_its_texts();
-            Some(code)
-        }
-        Err(_) => None,
-    }
+    compile(alloc, wiring, text, &mut trial).ok()
 }
 
 #[test]

@@ -3,7 +3,7 @@
 use crate::within::address_of;
 use cam6_planes::{NoMemory, Planes, Side};
 use cam6_wiring::{
-    Compass, Corner, Grid, Half, Hood, Level, Minor, Name, Phase, Setting, Rotation, address_at,
+    Compass, Corner, Grid, Half, Hood, Level, Minor, Name, Phase, Rotation, Setting, address_at,
     corner_of, in_block, seen,
 };
 use std::test::Fail;
@@ -28,7 +28,11 @@ fn corners_of_cells(rt: HostRuntime) {
 // From the picture of a block: the places run clockwise from the upper left one.
 #[test]
 fn rotations_in_a_block(rt: HostRuntime) {
-    let rotations = [Rotation::Clockwise, Rotation::Opposite, Rotation::CounterClockwise];
+    let rotations = [
+        Rotation::Clockwise,
+        Rotation::Opposite,
+        Rotation::CounterClockwise,
+    ];
     for (corner, places) in [
         (
             Corner::UpperLeft,

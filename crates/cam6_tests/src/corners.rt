@@ -4,7 +4,7 @@
 use crate::rows::lone;
 use crate::within::{seen_at, set_row};
 use cam6_planes::{NoMemory, Planes, Side, WORDS};
-use cam6_wiring::{Compass, Grid, Half, Level, Name, Phase, Setting, Rotation};
+use cam6_wiring::{Compass, Grid, Half, Level, Name, Phase, Rotation, Setting};
 use std::alloc::Global;
 use std::process::Abort;
 use std::test::Fail;

@@ -1,6 +1,6 @@
 -- How a rule becomes flat code. Its words are taken from the last to the first, so that what a jump
 -- leads over is there before the jump.
-use Rattle.std.specs.Prelude.{ℕ, ◌+◌, ◌-◌, List, [], ◌∷◌, ◌++◌, length}
+use Rattle.std.specs.Prelude.{ℕ, ◌+◌, ◌-◌, ◌<◌, List, [], ◌∷◌, ◌++◌, length, ⊤}
 use Rattle.std.specs.Prelude.{Option, Some, None, slice_index_or}
 use Rattle.cam6_wiring.specs.declared.wirings.Wiring.{Wiring}
 use Rattle.cam6_wiring.specs.Wiring.{line_of}
@@ -99,3 +99,43 @@ abbrev pub all_codes : Wiring → List Instructions → List Defined → List In
 all_codes wiring codes [] = codes
 all_codes wiring codes (definition ∷ later) =
     all_codes wiring (codes ++ words_code wiring codes definition.words ∷ []) later
+
+-- a line, or an open case, is there
+abbrev pub IsThere : {A : Type 0} → Option A → Type 0
+IsThere None = ⊥
+IsThere (Some a) = ⊤
+
+-- an IF is open
+abbrev pub IsOpen : List ℕ → Type 0
+IsOpen [] = ⊥
+IsOpen (landing ∷ outer) = ⊤
+
+-- a name has a line, and a definition a code
+abbrev pub HasCode : Wiring → List Instructions → SingleWord → Type 0
+HasCode wiring codes (single.Literal v) = ⊤
+HasCode wiring codes (single.Name name) = IsThere (line_of wiring.hood wiring.minor name)
+HasCode wiring codes (single.Stack stack) = ⊤
+HasCode wiring codes (single.Output target) = ⊤
+HasCode wiring codes (single.Defined position) = position < length codes
+
+-- what a word needs of what stands behind it: IF and ELSE an end, a case its words
+abbrev pub HasIts : Wiring → List Instructions → Word → Emitted → Type 0
+HasIts wiring codes (word.Single said) e = HasCode wiring codes said
+HasIts wiring codes word.Then e = ⊤
+HasIts wiring codes word.Else e = IsOpen e.landings
+HasIts wiring codes word.If e = IsOpen e.landings
+HasIts wiring codes word.EndCases e = ⊤
+HasIts wiring codes word.Cases e = IsThere e.case
+
+-- each of words in a row has what it needs
+abbrev pub HaveTheirs : Wiring → List Instructions → List Word → Emitted → Type 0
+HaveTheirs wiring codes [] e = ⊤
+HaveTheirs wiring codes (said ∷ later) e =
+    HasIts wiring codes said (emit_all wiring codes later e) × HaveTheirs wiring codes later e
+
+-- and so do those of each definition
+abbrev pub AllHaveTheirs : Wiring → List Instructions → List Defined → Type 0
+AllHaveTheirs wiring codes [] = ⊤
+AllHaveTheirs wiring codes (definition ∷ later) =
+    HaveTheirs wiring codes definition.words nothing
+    × AllHaveTheirs wiring (codes ++ words_code wiring codes definition.words ∷ []) later

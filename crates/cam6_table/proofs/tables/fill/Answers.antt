@@ -37,7 +37,7 @@ loop-address-preserved c =
     record {
       all = ap length put ∙ length-set l.table l.address c.in-Ok.entry ∙ l.invariant.all;
       filled = λ k below.
-          filled_more results l.table l.address c.in-Ok.entry (omega arith) c.in-Ok.ensures.value
+          filled_more results l.table l.address c.in-Ok.entry (omega arith) c.in-Ok.ensures
           l.invariant.filled k below ∙ sym (ap (λ t. ok_entry (slice_index t k)) put);
     }
 
@@ -46,7 +46,7 @@ returns-in-Err-clause-fault c =
     let l = c.loop-address in
     record {
       within = c.loop-address-test.true;
-      stops = sym c.in-Err.ensures.value;
+      stops = sym c.in-Err.ensures;
       least = λ before below.
           is_ok (result_at c.args.code.now before) (slice_index l.table before)
           (l.invariant.filled before below);

@@ -1,6 +1,12 @@
 use Rattle.std.proofs.Common.{◌∙◌, arith}
 use Rattle.cam6_table.proofs.LastCode.{last_is, made_of, last-length, last-is_code}
+use Rattle.cam6_table.proofs.Needs.{rule_has}
 use Rattle.cam6_table.proofs.codes.Code.of.Goals as goal
+
+pub codes_of-requires : goal.codes_of-requires
+codes_of-requires c =
+    rule_has c.args.rule.now c.wiring.result c.definitions.result.now c.wiring.ensures
+    c.definitions.ensures.definitions c.definitions.ensures.tree
 
 pub new-requires-2 : goal.new-requires-2
 new-requires-2 c =

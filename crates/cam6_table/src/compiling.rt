@@ -1,0 +1,63 @@
+//! A text is compiled: it becomes the code of its rule, or it is told why not.
+ghost use Rattle.std.specs.Prelude.{◌≡◌, ◌≢◌, ℕ, false, Err, IfOk, OnOk};
+ghost use Rattle.cam6_forth.specs.Reading.{read_text, keeps};
+ghost use Rattle.cam6_table.specs.RuleTexts.{IsCodeFor, IsTableOf};
+ghost use Rattle.cam6_table.specs.Compiling.{fault_in, IsRefusedFor};
+
+use crate::codes::Code;
+use crate::faults::RuleFault;
+use crate::tables::{Table, fill};
+use cam6_forth::{ParseFault, TextFault, parse_under};
+use cam6_planes::NoMemory;
+use cam6_wiring::Wiring;
+use std::alloc::Global;
+
+/// Why a text isn't compiled.
+#[derive(Debug, Drop)]
+pub enum NotCompiled {
+    /// The text's first fault.
+    Text(TextFault),
+    /// The least address at which the rule stops, and why it stops there.
+    Stops { address: u16, fault: RuleFault },
+    /// Memory was asked for and refused.
+    NoMemory,
+}
+
+impl From<NoMemory> for NotCompiled {
+    ghost use Rattle.cam6_table.specs.declared.compiling.NotCompiled.TheVariants.{NoMemory};
+
+    ghost from_gives = { λ _ e. e ≡ NoMemory };
+
+    fn from(_refused: NoMemory) -> NotCompiled {
+        NotCompiled::NoMemory
+    }
+}
+
+/// Reads a rule's text, and tries the rule at every address. The trial becomes the rule's table,
+/// where the rule stops nowhere; else nothing is promised of its entries.
+pub fn compile(
+    alloc: Global,
+    wiring: Wiring,
+    text: &str,
+    trial: &mut Table,
+) -> Result<Code, NotCompiled>
+    ensures code { IfOk result (λ code. IsCodeFor wiring text.now code) }
+    ensures table { OnOk result (IsTableOf wiring text.now trial.new) }
+
+    // A text is refused exactly where there is a fault in it, and for that, unless memory runs out.
+    ensures refused { IsRefusedFor (fault_in wiring text.now) result }
+    // No memory is wanted for a text with a fault of which nothing is kept.
+    ensures unkept { (fault : ℕ × ℕ) → read_text wiring text.now ≡ Err fault →
+        keeps wiring text.now ≡ false → result ≢ Err NotCompiled.NoMemory }
+{
+    let rule = match parse_under(alloc, text, wiring) {
+        Ok(rule) => rule,
+        Err(ParseFault::Text(fault)) => return Err(NotCompiled::Text(fault)),
+        Err(ParseFault::NoMemory) => return Err(NotCompiled::NoMemory),
+    };
+    let code = Code::of(alloc, &rule)?;
+    match fill(&code, trial) {
+        Ok(()) => Ok(code),
+        Err((address, fault)) => Err(NotCompiled::Stops { address, fault }),
+    }
+}

@@ -1,0 +1,33 @@
+//! The lines of an address that code reads.
+ghost use Rattle.std.specs.Prelude.{◌≡◌, ℕ};
+ghost use Rattle.std.specs.Int.{bit_at};
+ghost use Rattle.cam6_table.specs.Internal.LinesRead.{HasLineOf, IsMaskFor};
+
+use crate::codes::{Code, Instruction};
+
+/// A mask with the bit of each line that the code reads, and of the two lines that show the centre,
+/// which a plane that isn't written keeps.
+pub fn lines_read(code: &Code) -> u16
+    ensures { IsMaskFor result code.now }
+{
+    let instructions = code.instructions();
+    let mut mask = CENTRE;
+    for behind in 0..instructions.len() {
+        mask = with_line_of(mask, instructions.before(behind));
+    }
+    mask
+}
+
+/// The bits of the lines that show the centre.
+const CENTRE: u16 = 3;
+
+/// A mask with the bit of the line that an instruction reads, if it reads one of the sixteen.
+fn with_line_of(mask: u16, instruction: Instruction) -> u16
+    ensures line { HasLineOf result instruction }
+    ensures others { (line : ℕ) → bit_at mask line ≡ 1 → bit_at result line ≡ 1 }
+{
+    match instruction {
+        Instruction::Line(line) if line < 16 => mask | 1 << line,
+        _ => mask,
+    }
+}
