@@ -13,7 +13,7 @@ use Rattle.cam6_wiring.specs.declared.names.Phase.{Phase}
 use Rattle.cam6_wiring.specs.declared.neighbours.Setting.{Setting}
 use Rattle.cam6_table.specs.NewBits.{bit_for}
 use Rattle.cam6_block.specs.Blocks.{corner_sees, corner_address}
-use Rattle.cam6_block.specs.BlockMaps.{block_map, preimage}
+use Rattle.cam6_block.specs.BlockMaps.{block_map, preimage, reading_of}
 use Rattle.cam6_block.proofs.States.{block_map-lt, bit_for-corner_bits}
 use Rattle.cam6_block.proofs.Pigeonhole.{takes_each}
 use Rattle.cam6_block.proofs.Preimages.{preimage_is, preimage-lt}
@@ -24,7 +24,7 @@ use Rattle.cam6_machine.specs.Rules.{Rule}
 use Rattle.cam6_machine.specs.Cycles.{EntryRules, rule_for, setting_for}
 use Rattle.cam6_machine.specs.Steps.{step}
 use Rattle.cam6_machine.specs.Undoing.{block_state_at, corner_in_block, changed_cell, blockwise}
-use Rattle.cam6_machine.specs.Undoing.{reading_of, done_by, undone_by, unstep}
+use Rattle.cam6_machine.specs.Undoing.{done_by, undone_by, unstep}
 use Rattle.cam6_machine.specs.Undoing.{IsReversibleRule, IsReversibleEntry}
 use Rattle.cam6_machine.specs.TrueTables.{HasTableFor, AreTablesFor}
 use Rattle.cam6_machine.specs.Laws.{IsOfBlocks, InvertedTablesUndo}
@@ -51,7 +51,7 @@ cell_by_inverted s f setting (Some rule) (Some half) level x y some even h k can
     let state = block_state_at s f setting.half setting.grid x y in
     let corner = corner_in_block setting.grid x y in
     let sees : Sees = λ name. seen s f setting name x y in
-    let inverted = has.2 can in
+    let inverted = has.2.2 in
     ap (λ hood. bit_for level (slice_index entries (address s f setting hood half.minor x y)))
     has.0 ∙
     ap (λ minor. bit_for level (slice_index entries (address s f setting wiring.hood minor x y)))
@@ -62,7 +62,7 @@ cell_by_inverted s f setting (Some rule) (Some half) level x y some even h k can
     ap (bit_for level)
     (inverted.shown setting.phase state corner (block_state_at-lt s f setting.half setting.grid x y)
     (corner_number-lt (corner_of setting.grid x y))) ∙
-    bit_for-corner_bits level (preimage (block_map (reading_of rule) setting.phase) state) corner
+    bit_for-corner_bits level (preimage (block_map (reading_of rule.wiring rule.text) setting.phase) state) corner
 
 module _ (s : ℕ) (entry : EntryRules) (some : 0 < s) (even : s % 2 ≡ 0)
     (can : IsReversibleEntry entry) where
@@ -105,20 +105,20 @@ module _ (s : ℕ) (entry : EntryRules) (some : 0 < s) (even : s % 2 ≡ 0)
       IsUndone (done_by phase rule) (undone_by phase rule)
   there None phase can = tt
   there (Some rule) phase can = (
-    λ state h. block_map-lt (reading_of rule) phase state,
-    λ state h. preimage_is (block_map (reading_of rule) phase) state h (can.one_to_one phase),
+    λ state h. block_map-lt (reading_of rule.wiring rule.text) phase state,
+    λ state h. preimage_is (block_map (reading_of rule.wiring rule.text) phase) state h (can.one_to_one phase),
   )
 
   back : (rule : Option Rule) (phase : Phase) → IsReversibleRule rule →
       IsUndone (undone_by phase rule) (done_by phase rule)
   back None phase can = tt
   back (Some rule) phase can =
-      let map = block_map (reading_of rule) phase in
+      let map = block_map (reading_of rule.wiring rule.text) phase in
       let one = can.one_to_one phase in (
-        λ state h. preimage-lt (reading_of rule) phase state h one,
+        λ state h. preimage-lt (reading_of rule.wiring rule.text) phase state h one,
         λ state h.
             let from : (a : ℕ) × (a < 256) × (map a ≡ state) =
-            takes_each map (λ a _. block_map-lt (reading_of rule) phase a) one state h in
+            takes_each map (λ a _. block_map-lt (reading_of rule.wiring rule.text) phase a) one state h in
             ap (λ b. map (preimage map b)) (sym (from.2)) ∙
             ap map (preimage_is map from.0 from.1 one) ∙ from.2,
       )

@@ -35,7 +35,7 @@ new_cell_by_table s f setting (Some rule) (Some half) level x y has =
     (slice_index entries (address s f setting rule.wiring.hood minor x y))) has.1 ∙
     sym (ap (new_bit level)
     (true_table rule.wiring (tree_of rule.text) entries (λ name. seen s f setting name x y)
-    has.2.rule has.2.holds))
+    has.2.1.rule has.2.1.holds))
 
 module _ (s : ℕ) (entry : EntryRules) (tables : StepTables) (are : AreTablesFor Forward entry tables) where
   half_of : (half : Half) → HasTableFor Forward (rule_for half entry) (table_for half tables)
