@@ -20,5 +20,7 @@ pub mod Rotated
 pub mod Undoing
 -- What is refused is refused for its cause, and what has no cause is reversible.
 pub mod Causes
+-- What is said of a rule's table is said of the words of its text.
+pub mod RuleTables
 -- A table that is filled corner by corner.
 pub mod Filled

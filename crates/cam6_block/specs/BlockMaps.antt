@@ -10,6 +10,7 @@ use Rattle.cam6_wiring.specs.declared.wirings.Minor.{Minor}
 use Rattle.cam6_wiring.specs.declared.wirings.Minor.TheVariants.{Centers}
 use Rattle.cam6_wiring.specs.declared.wirings.Wiring.{Wiring}
 use Rattle.cam6_forth.specs.Tree.{Part}
+use Rattle.cam6_forth.specs.Trees.{tree_of}
 use Rattle.cam6_table.specs.declared.faults.RuleFault.{RuleFault}
 use Rattle.cam6_table.specs.Meaning.{meaning}
 use Rattle.cam6_table.specs.NewBits.{bit_for}
@@ -31,6 +32,10 @@ made (Err fault) = 0
 -- a rule is read by its words
 abbrev pub by_words : Wiring → List Part → Reading
 by_words wiring parts sees = made (meaning wiring parts sees)
+
+-- what the words of a rule's text make of what is seen
+abbrev pub reading_of : Wiring → List ℕ → Reading
+reading_of wiring text = by_words wiring (tree_of text)
 
 -- what becomes of a block's state: each corner takes the bits of what it sees
 unfoldable pub block_map : Reading → Phase → ℕ → ℕ

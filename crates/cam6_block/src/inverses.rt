@@ -8,9 +8,9 @@ ghost use Rattle.cam6_block.specs.BlockMaps.{IsOneToOne, IsReversible};
 ghost use Rattle.cam6_block.specs.Inverted.{IsInverted};
 ghost use Rattle.cam6_block.specs.Refusals.{IsRefused};
 
-use crate::successors::successor;
-use crate::corners::{CORNERS, STATES, corner_bits, is_margolus, corner_address};
+use crate::corners::{CORNERS, STATES, corner_address, corner_bits, is_margolus};
 use crate::refusals::{NotReversible, Pair, meeting};
+use crate::successors::successor;
 use cam6_table::Table;
 use cam6_wiring::{Hood, Minor, Phase};
 

@@ -3,8 +3,8 @@ ghost use Rattle.std.specs.Prelude.{◌≡◌, IfSome, None, true};
 ghost use Rattle.cam6_block.specs.BlockMaps.{by_table, block_map, IsOneToOne, is_margolus};
 ghost use Rattle.cam6_block.specs.Refusals.{IsMeeting};
 
-use crate::successors::successor;
 use crate::corners::STATES;
+use crate::successors::successor;
 use cam6_table::Table;
 use cam6_wiring::{Hood, Minor, Phase};
 

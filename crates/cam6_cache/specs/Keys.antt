@@ -8,10 +8,10 @@ use Rattle.cam6_wiring.specs.declared.wirings.Hood.TheVariants.{MargolusPhase, M
 use Rattle.cam6_wiring.specs.declared.wirings.Minor.{Minor}
 use Rattle.cam6_wiring.specs.declared.wirings.Minor.TheVariants.{Centers, Phases, HorzVert}
 use Rattle.cam6_wiring.specs.declared.wirings.Wiring.{Wiring}
-use Rattle.cam6_forth.specs.Trees.{tree_of}
-use Rattle.cam6_table.specs.RuleTexts.{IsTableOf}
-use Rattle.cam6_block.specs.BlockMaps.{Reading, by_words, IsReversible}
-use Rattle.cam6_block.specs.Inverted.{IsInverted}
+use Rattle.cam6_cycle.specs.declared.tables.Direction.{Direction}
+use Rattle.cam6_cycle.specs.declared.tables.Direction.TheVariants.{Forward, Backward}
+use Rattle.cam6_block.specs.BlockMaps.{reading_of, IsReversible}
+use Rattle.cam6_block.specs.RuleTables.{IsTableBy}
 
 -- what a rule is written for, its whole text, and whether the table is to undo it. The name under
 -- which a user keeps the rule is no part of it
@@ -20,21 +20,19 @@ pub record TableKey : Type 0 where
   pub text : List ℕ
   pub inverted : Bool
 
--- what the rule's words make of what is seen
-abbrev pub reading_of : TableKey → Reading
-reading_of key = by_words key.wiring (tree_of key.text)
-
 -- a table that undoes a rule is asked for only where the rule can be undone
 abbrev pub IsReversibleKey : TableKey → Type 0
-IsReversibleKey key = IsReversible (reading_of key) key.wiring.hood key.wiring.minor
+IsReversibleKey key = IsReversible (reading_of key.wiring key.text) key.wiring.hood key.wiring.minor
+
+-- a table that is to undo a rule is one by which a cycle is gone along backward
+abbrev pub way_of : Bool → Direction
+way_of false = Forward
+way_of true = Backward
 
 -- a table is the key's true one: that of the rule's words, or the one that undoes what they make of
 -- blocks
 abbrev pub IsTrueBy : Bool → TableKey → List ℕ → Type 0
-IsTrueBy false key entries = IsTableOf key.wiring key.text entries
-IsTrueBy true key entries =
-    IsReversibleKey key
-    × IsInverted (reading_of key) key.wiring.hood key.wiring.minor entries
+IsTrueBy inverted key entries = IsTableBy (way_of inverted) key.wiring key.text entries
 
 abbrev pub IsTrueFor : TableKey → List ℕ → Type 0
 IsTrueFor key entries = IsTrueBy key.inverted key entries

@@ -1,15 +1,14 @@
 //! Tables that were made, each its key's true one.
 ghost use Rattle.std.specs.Prelude.{◌≡◌, ◌⊎◌, true, false};
-ghost use Rattle.cam6_block.specs.Inverted.{IsInverted};
-ghost use Rattle.cam6_table.specs.RuleTexts.{IsCodeFor, IsTableOf};
-ghost use Rattle.cam6_cache.specs.Keys.{IsReversibleKey, IsTrueFor, reading_of};
+ghost use Rattle.cam6_table.specs.RuleTexts.{IsCodeFor};
+ghost use Rattle.cam6_cache.specs.Keys.{IsReversibleKey, IsTrueFor};
 ghost use Rattle.cam6_cache.specs.Cached.{is_cached, with_first};
 ghost use Rattle.cam6_cache.specs.Internal.Entries.{key_of, tables_of, cached_of};
 
 use crate::keys::{Key, NamedKey};
-use cam6_block::invert;
+use cam6_block::fill_by;
 use cam6_planes::NoMemory;
-use cam6_table::{Code, ENTRIES, Table, fill};
+use cam6_table::{Code, ENTRIES, Table};
 use lru::LruCache;
 use std::alloc::Global;
 use std::marker::Model;
@@ -119,38 +118,14 @@ impl TableCache {
     }
 }
 
-/// Makes a table the key's true one; the table that it undoes, if it undoes one, is made beside it.
+/// Makes a table the key's true one, by way of the table that it undoes, if it undoes one. It isn't
+/// refused: what is to be undone can be.
 fn fill_true(key: &NamedKey, code: &Code, straight: &mut Table, out: &mut Table)
     requires code { IsCodeFor (key_of key.now).wiring (key_of key.now).text code.now }
     requires reversible { key.now.inverted ≡ true → IsReversibleKey (key_of key.now) }
     ensures { IsTrueFor (key_of key.now) out.new }
 {
-    if key.inverted {
-        fill_straight(key, code, straight);
-        undo(key, straight, out);
-    } else {
-        fill_straight(key, code, out);
-    }
-}
-
-/// Fills the table of the rule's words. It meets no fault: the rule stops nowhere.
-fn fill_straight(key: &NamedKey, code: &Code, table: &mut Table)
-    requires { IsCodeFor (key_of key.now).wiring (key_of key.now).text code.now }
-    ensures { IsTableOf (key_of key.now).wiring (key_of key.now).text table.new }
-{
-    match fill(code, table) {
-        Ok(()) => {}
-        Err(_) => unreachable!(),
-    }
-}
-
-/// Writes the table that undoes a rule's. It isn't refused: the rule can be undone.
-fn undo(key: &NamedKey, straight: &Table, out: &mut Table)
-    requires straight { IsTableOf (key_of key.now).wiring (key_of key.now).text straight.now }
-    requires reversible { IsReversibleKey (key_of key.now) }
-    ensures { IsInverted (reading_of (key_of key.now)) key.now.hood key.now.minor out.new }
-{
-    match invert(straight, key.hood, key.minor, out) {
+    match fill_by(code, key.wiring(), key.way(), straight, out) {
         Ok(()) => {}
         Err(_) => unreachable!(),
     }

@@ -1,8 +1,9 @@
 //! What a table is asked for by.
 ghost use Rattle.std.specs.Prelude.{◌≡◌};
 
+use cam6_cycle::Direction;
 use cam6_planes::NoMemory;
-use cam6_wiring::{Half, Hood, Minor};
+use cam6_wiring::{Half, Hood, Minor, Wiring};
 use std::alloc::Global;
 use std::hash::{Hash, Hasher};
 use std::marker::Model;
@@ -18,6 +19,33 @@ pub(crate) struct NamedKey {
     pub(crate) minor: Minor,
     pub(crate) text: String,
     pub(crate) inverted: bool,
+}
+
+impl NamedKey {
+    ghost use Rattle.std.specs.Prelude.{◌≡◌};
+    ghost use Rattle.cam6_cache.specs.Keys.{way_of};
+    ghost use Rattle.cam6_cache.specs.Internal.Entries.{key_of};
+
+    pub(crate) fn wiring(&self) -> Wiring
+        ensures { result ≡ (key_of self.now).wiring }
+    {
+        Wiring {
+            half: self.half,
+            hood: self.hood,
+            minor: self.minor,
+        }
+    }
+
+    /// The way along a cycle that is gone by the key's table.
+    pub(crate) fn way(&self) -> Direction
+        ensures { result ≡ way_of self.now.inverted }
+    {
+        if self.inverted {
+            Direction::Backward
+        } else {
+            Direction::Forward
+        }
+    }
 }
 
 /// By the text alone: few keys of a cache differ in something else.

@@ -12,7 +12,8 @@
 //! So, of a cache of two: loads of the keys K, L, K, M, K and L miss, miss, hit, miss, hit and
 //! miss, for M comes in place of L. What is cached then is of L and K.
 //!
-//! Stands on: `cam6_planes`, `cam6_wiring`, `cam6_forth`, `cam6_table` and `cam6_block`.
+//! Stands on: `cam6_planes`, `cam6_wiring`, `cam6_forth`, `cam6_table`, `cam6_block` and
+//! `cam6_cycle`.
 //!
 //! Read next: `keys`, what a table is asked for by; `caches`; then `laws`.
 #![tactic(auto)]

@@ -10,8 +10,10 @@ pub mod Dropped
 pub mod FilledTables
 -- The tables of a position are those of its entry's rules.
 pub mod TablesOfPositions
--- What is said of a rule's true table is said of the rule's words.
+-- What a try to fill the table that undoes a rule tells of the rule.
 pub mod Inverses
+-- The rules that a cycle uses have tables, where the machine can move.
+pub mod NeededTables
 -- The first entry with a rule that can't be undone, entry by entry.
 pub mod FirstCauses
 -- The rules of a map, looked up by name.

@@ -7,7 +7,8 @@ use Rattle.cam6_block.specs.Laws.{CauseIsFound}
 use Rattle.cam6_block.specs.declared.refusals.NotReversible.{NotReversible}
 use Rattle.cam6_machine.specs.Rules.{Rule}
 use Rattle.cam6_machine.specs.Cycles.{EntryRules, entry_rules}
-use Rattle.cam6_machine.specs.Undoing.{reading_of, IsReversibleRule, IsReversibleEntry}
+use Rattle.cam6_block.specs.BlockMaps.{reading_of}
+use Rattle.cam6_machine.specs.Undoing.{IsReversibleRule, IsReversibleEntry}
 use Rattle.cam6_machine.specs.Machine.{Machine, IsReversibleCycle}
 use Rattle.cam6_machine.specs.Refusals.{or_then, rule_cause, cause_reply, entry_cause}
 use Rattle.cam6_machine.specs.Refusals.{first_cause, fault_reply, run_refusal, refusal}
@@ -29,7 +30,7 @@ no_cause number h (Some cause) e = cc e
 pub rule_reversible : CauseIsFound → (rule : Option Rule) → rule_cause rule ≡ None → IsReversibleRule rule
 rule_reversible found None none = tt
 rule_reversible found (Some rule) none =
-    (found (reading_of rule) rule.wiring.hood rule.wiring.minor).2 none
+    (found (reading_of rule.wiring rule.text) rule.wiring.hood rule.wiring.minor).2 none
 
 pub entry_reversible : CauseIsFound → (number : ℕ) (entry : EntryRules) →
     entry_cause number entry ≡ None → IsReversibleEntry entry

@@ -24,13 +24,13 @@ use Rattle.cam6_table.specs.NewBits.{bit_for}
 use Rattle.cam6_table.specs.Tables.{least_stop}
 use Rattle.cam6_table.proofs.TrueTables.{at_seen}
 use Rattle.cam6_block.specs.Blocks.{corner_sees}
-use Rattle.cam6_block.specs.BlockMaps.{made}
+use Rattle.cam6_block.specs.BlockMaps.{made, reading_of}
 use Rattle.cam6_block.proofs.States.{corner_bit-block_map}
 use Rattle.cam6_machine.specs.Rules.{Rule}
 use Rattle.cam6_machine.specs.Cycles.{rule_for, setting_for}
 use Rattle.cam6_machine.specs.Steps.{new_bit, new_cell}
 use Rattle.cam6_machine.specs.Undoing.{block_state_at, corner_in_block, changed_cell, blockwise}
-use Rattle.cam6_machine.specs.Undoing.{reading_of, done_by}
+use Rattle.cam6_machine.specs.Undoing.{done_by}
 use Rattle.cam6_machine.specs.Refusals.{text_refusal, stop_refusal, words_refusal}
 use Rattle.cam6_machine.specs.Laws.{IsOfBlocks, StepChangesBlocks}
 use Rattle.cam6_machine.proofs.ReversibleCycles.{neither_comes}
@@ -91,7 +91,7 @@ new_cell_of_block s f setting (Some rule) level x y some even h k (words, margol
     (at_seen wiring tree sees is_rule ∙ ap (at_address wiring tree) same ∙
     sym (at_seen wiring tree from_corner is_rule)) ∙
     made_bit level (meaning wiring tree from_corner) ∙
-    sym (corner_bit-block_map (reading_of rule) setting.phase state level corner
+    sym (corner_bit-block_map (reading_of rule.wiring rule.text) setting.phase state level corner
     (corner_number-lt (corner_of setting.grid x y)))
 
 pub step_changes_blocks : StepChangesBlocks

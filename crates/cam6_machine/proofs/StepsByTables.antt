@@ -16,7 +16,7 @@ use Rattle.cam6_forth.specs.Trees.{tree_of}
 use Rattle.cam6_table.specs.NewBits.{bit_for}
 use Rattle.cam6_table.proofs.TrueTables.{true_table}
 use Rattle.cam6_block.specs.Blocks.{corner_sees, corner_address}
-use Rattle.cam6_block.specs.BlockMaps.{block_map, preimage}
+use Rattle.cam6_block.specs.BlockMaps.{block_map, preimage, reading_of}
 use Rattle.cam6_block.proofs.States.{bit_for-corner_bits}
 use Rattle.cam6_cycle.specs.declared.tables.Direction.{Direction}
 use Rattle.cam6_cycle.specs.declared.tables.Direction.TheVariants.{Forward, Backward}
@@ -26,7 +26,7 @@ use Rattle.cam6_machine.specs.Rules.{Rule}
 use Rattle.cam6_machine.specs.Cycles.{EntryRules, rule_for, setting_for}
 use Rattle.cam6_machine.specs.Steps.{new_bit, new_cell, step}
 use Rattle.cam6_machine.specs.Undoing.{block_state_at, corner_in_block, changed_cell, blockwise}
-use Rattle.cam6_machine.specs.Undoing.{reading_of, undone_by, unstep}
+use Rattle.cam6_machine.specs.Undoing.{undone_by, unstep}
 use Rattle.cam6_machine.specs.Undoing.{IsReversibleRule, IsReversibleEntry}
 use Rattle.cam6_machine.specs.TrueTables.{HasTableFor, AreTablesFor}
 use Rattle.cam6_machine.specs.Laws.{TrueTablesStep, InvertedTablesUndo}
@@ -78,7 +78,7 @@ module _ (s : ℕ) (f : Cells) (setting : Setting) (rule : Rule) (half : HalfEnt
       by_wiring has.0 has.1 ∙
       sym (ap (new_bit level)
       (true_table rule.wiring (tree_of rule.text) half.entries
-      (λ name. seen s f setting name x y) has.2.rule has.2.holds))
+      (λ name. seen s f setting name x y) has.2.1.rule has.2.1.holds))
 
   -- by an inverted table: its corner's bit in the least state that becomes its block's
   by_inverse_table : 0 < s → s % 2 ≡ 0 → x < s → y < s → IsReversibleRule (Some rule) →
@@ -90,7 +90,7 @@ module _ (s : ℕ) (f : Cells) (setting : Setting) (rule : Rule) (half : HalfEnt
       let state = block_state_at s f setting.half setting.grid x y in
       let corner = corner_in_block setting.grid x y in
       let sees : Sees = λ name. seen s f setting name x y in
-      let inverted = has.2 can in
+      let inverted = has.2.2 in
       by_wiring has.0 has.1 ∙
       ap (λ shown. bit_for level (slice_index half.entries shown))
       (addresses_agree sees (corner_sees setting.phase state corner)
@@ -100,7 +100,7 @@ module _ (s : ℕ) (f : Cells) (setting : Setting) (rule : Rule) (half : HalfEnt
       (inverted.shown setting.phase state corner
       (block_state_at-lt s f setting.half setting.grid x y)
       (corner_number-lt (corner_of setting.grid x y))) ∙
-      bit_for-corner_bits level (preimage (block_map (reading_of rule) setting.phase) state) corner
+      bit_for-corner_bits level (preimage (block_map (reading_of rule.wiring rule.text) setting.phase) state) corner
 
 -- a cell's new bit, of a half that has its rule's table
 cell_by_table : (direction : Direction) (s : ℕ) (f : Cells) (setting : Setting)

@@ -3,14 +3,14 @@ use Rattle.std.proofs.Common.{◌≡◌, ◌<◌, ℕ, ◌%◌, Option, Some, No
 use Rattle.std.proofs.Common.{◌∙◌, ap}
 use Rattle.cam6_planes.specs.Cells.{Cells, torus}
 use Rattle.cam6_wiring.specs.declared.names.Phase.{Phase}
-use Rattle.cam6_block.specs.BlockMaps.{block_map, preimage}
+use Rattle.cam6_block.specs.BlockMaps.{block_map, preimage, reading_of}
 use Rattle.cam6_block.proofs.States.{block_map-lt}
 use Rattle.cam6_block.proofs.Pigeonhole.{takes_each}
 use Rattle.cam6_block.proofs.Preimages.{preimage_is, preimage-lt}
 use Rattle.cam6_machine.specs.Rules.{Rule}
 use Rattle.cam6_machine.specs.Cycles.{EntryRules, rule_for}
 use Rattle.cam6_machine.specs.Steps.{step}
-use Rattle.cam6_machine.specs.Undoing.{reading_of, done_by, undone_by, unstep}
+use Rattle.cam6_machine.specs.Undoing.{done_by, undone_by, unstep}
 use Rattle.cam6_machine.specs.Undoing.{IsReversibleRule, IsReversibleEntry}
 use Rattle.cam6_machine.specs.Laws.{IsOfBlocks}
 use Rattle.cam6_machine.proofs.ChangedBlocks.{IsUndone, changed_back}
@@ -23,20 +23,20 @@ module _ (s : ℕ) (entry : EntryRules) (some : 0 < s) (even : s % 2 ≡ 0)
       IsUndone (done_by phase rule) (undone_by phase rule)
   there None phase can = tt
   there (Some rule) phase can = (
-    λ state h. block_map-lt (reading_of rule) phase state,
-    λ state h. preimage_is (block_map (reading_of rule) phase) state h (can.one_to_one phase),
+    λ state h. block_map-lt (reading_of rule.wiring rule.text) phase state,
+    λ state h. preimage_is (block_map (reading_of rule.wiring rule.text) phase) state h (can.one_to_one phase),
   )
 
   back : (rule : Option Rule) (phase : Phase) → IsReversibleRule rule →
       IsUndone (undone_by phase rule) (done_by phase rule)
   back None phase can = tt
   back (Some rule) phase can =
-      let map = block_map (reading_of rule) phase in
+      let map = block_map (reading_of rule.wiring rule.text) phase in
       let one = can.one_to_one phase in (
-        λ state h. preimage-lt (reading_of rule) phase state h one,
+        λ state h. preimage-lt (reading_of rule.wiring rule.text) phase state h one,
         λ state h.
             let from : (a : ℕ) × (a < 256) × (map a ≡ state) =
-            takes_each map (λ a _. block_map-lt (reading_of rule) phase a) one state h in
+            takes_each map (λ a _. block_map-lt (reading_of rule.wiring rule.text) phase a) one state h in
             ap (λ b. map (preimage map b)) (sym (from.2)) ∙
             ap map (preimage_is map from.0 from.1 one) ∙ from.2,
       )

@@ -1,5 +1,5 @@
 -- The tables of a position are those of its entry's rules.
-use Rattle.std.proofs.Common.{◌≡◌, ◌∙◌, ◌+◌, ℕ, List, [], length, take, get_or, slice_get, Option}
+use Rattle.std.proofs.Common.{◌≡◌, ◌∙◌, ◌+◌, ℕ, List, [], length, take, get_or, Option}
 use Rattle.std.proofs.Common.{Some, None, refl, sym, ap, subst}
 use Rattle.std.proofs.lemmas.Option.{get_or_from_slice_get, slice_get_within}
 use Rattle.cam6_wiring.specs.declared.names.Half.TheVariants.{A}
@@ -8,7 +8,7 @@ use Rattle.cam6_cycle.specs.declared.entries.Entry.{Entry}
 use Rattle.cam6_cycle.specs.declared.entries.HalfRule.{HalfRule}
 use Rattle.cam6_cycle.specs.declared.tables.Direction.{Direction}
 use Rattle.cam6_cycle.specs.declared.tables.Direction.TheVariants.{Forward}
-use Rattle.cam6_band.specs.AtPosition.{half_at, tables_from}
+use Rattle.cam6_band.specs.AtPosition.{half_at}
 use Rattle.cam6_band.proofs.Uses.{as_many, same_length, step_is}
 use Rattle.cam6_machine.specs.Rules.{Rule}
 use Rattle.cam6_machine.specs.TrueTables.{IsTableFor, HasTableFor, AreTablesFor}

@@ -13,6 +13,7 @@ use Rattle.cam6_forth.specs.Trees.{tree_of}
 use Rattle.cam6_table.specs.declared.faults.RuleFault.{RuleFault}
 use Rattle.cam6_table.specs.Meaning.{at_address}
 use Rattle.cam6_table.specs.Tables.{least_stop}
+use Rattle.cam6_block.specs.BlockMaps.{reading_of}
 use Rattle.cam6_block.specs.Refusals.{cause_of}
 use Rattle.cam6_block.specs.declared.refusals.NotReversible.{NotReversible}
 use Rattle.cam6_planes.specs.Side.{side_number, side_of}
@@ -21,7 +22,6 @@ use Rattle.cam6_cycle.specs.Limits.{max_entries}
 use Rattle.cam6_machine.specs.Limits as limits
 use Rattle.cam6_machine.specs.Rules.{Rule, rule_named, wiring_of, is_rule_name}
 use Rattle.cam6_machine.specs.Cycles.{EntryRules, entry_rules}
-use Rattle.cam6_machine.specs.Undoing.{reading_of}
 use Rattle.cam6_machine.specs.Machine.{Machine}
 use Rattle.cam6_machine.specs.declared.commands.NamedEntry.{NamedEntry}
 use Rattle.cam6_machine.specs.declared.commands.Command.{Command}
@@ -177,7 +177,8 @@ fault_reply (Some fault) = Some (reply.Fault fault)
 -- why a rule can't be undone, if there is a rule and it can't
 abbrev pub rule_cause : Option Rule → Option NotReversible
 rule_cause None = None
-rule_cause (Some rule) = cause_of (reading_of rule) rule.wiring.hood rule.wiring.minor
+rule_cause (Some rule) =
+    cause_of (reading_of rule.wiring rule.text) rule.wiring.hood rule.wiring.minor
 
 -- the reply for a half's rule of the entry with this number
 abbrev pub cause_reply : ℕ → Half → Option NotReversible → Option Reply

@@ -1,21 +1,15 @@
 -- The tables of rules, by which a machine goes forward or backward.
 use Rattle.std.specs.Prelude.{◌≡◌, ℕ, List, Option, Some, None, ⊤}
-use Rattle.cam6_table.specs.RuleTexts.{IsTableOf}
-use Rattle.cam6_block.specs.Inverted.{IsInverted}
+use Rattle.cam6_block.specs.RuleTables.{IsTableBy}
 use Rattle.cam6_cycle.specs.declared.tables.Direction.{Direction}
-use Rattle.cam6_cycle.specs.declared.tables.Direction.TheVariants.{Forward, Backward}
 use Rattle.cam6_band.specs.ByTables.{HalfEntries, StepTables}
 use Rattle.cam6_machine.specs.Rules.{Rule}
 use Rattle.cam6_machine.specs.Cycles.{EntryRules}
-use Rattle.cam6_machine.specs.Undoing.{reading_of, IsReversibleRule}
 
--- a rule's table: forward, that of its words; backward, the one that undoes its blocks, if it can
--- be undone
+-- a rule's table: forward, that of its words; backward, the one that undoes its blocks, of a rule
+-- that can be undone
 abbrev pub IsTable : Direction → Rule → List ℕ → Type 0
-IsTable Forward rule entries = IsTableOf rule.wiring rule.text entries
-IsTable Backward rule entries =
-    IsReversibleRule (Some rule) →
-    IsInverted (reading_of rule) rule.wiring.hood rule.wiring.minor entries
+IsTable direction rule entries = IsTableBy direction rule.wiring rule.text entries
 
 -- the same, where there is a rule
 abbrev pub IsTableFor : Direction → Option Rule → List ℕ → Type 0

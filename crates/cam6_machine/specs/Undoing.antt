@@ -12,9 +12,8 @@ use Rattle.cam6_wiring.specs.declared.blocks.Grid.{Grid}
 use Rattle.cam6_wiring.specs.declared.names.Half.{Half}
 use Rattle.cam6_wiring.specs.declared.names.Level.{Level}
 use Rattle.cam6_wiring.specs.declared.names.Phase.{Phase}
-use Rattle.cam6_forth.specs.Trees.{tree_of}
 use Rattle.cam6_block.specs.Blocks.{state_of, corner_bit, is_right, is_low}
-use Rattle.cam6_block.specs.BlockMaps.{Reading, by_words, block_map, preimage, IsReversible}
+use Rattle.cam6_block.specs.BlockMaps.{reading_of, block_map, preimage, IsReversible}
 use Rattle.cam6_machine.specs.Rules.{Rule}
 use Rattle.cam6_machine.specs.Cycles.{EntryRules, rule_for}
 
@@ -57,16 +56,13 @@ blockwise s grid changes f =
     torus s (λ p x y. on_plane p (λ half level.
     changed_cell s f grid half (changes half) level x y))
 
--- what a rule's words make of what is seen
-abbrev pub reading_of : Rule → Reading
-reading_of rule = by_words rule.wiring (tree_of rule.text)
-
 -- what becomes of a block by a rule, and by the rule undone: the least state that becomes this one
 abbrev pub done_by : Phase → Option Rule → Option (ℕ → ℕ)
-done_by phase rule = option_map (λ r. block_map (reading_of r) phase) rule
+done_by phase rule = option_map (λ r. block_map (reading_of r.wiring r.text) phase) rule
 
 abbrev pub undone_by : Phase → Option Rule → Option (ℕ → ℕ)
-undone_by phase rule = option_map (λ r. preimage (block_map (reading_of r) phase)) rule
+undone_by phase rule =
+    option_map (λ r. preimage (block_map (reading_of r.wiring r.text) phase)) rule
 
 -- one step by an entry undone: each block of its grid becomes the least state that becomes this one
 -- by the half's rule at the entry's phase. A half without a rule keeps its planes
@@ -78,7 +74,8 @@ unstep s entry f =
 -- states become one
 abbrev pub IsReversibleRule : Option Rule → Type 0
 IsReversibleRule None = ⊤
-IsReversibleRule (Some rule) = IsReversible (reading_of rule) rule.wiring.hood rule.wiring.minor
+IsReversibleRule (Some rule) =
+    IsReversible (reading_of rule.wiring rule.text) rule.wiring.hood rule.wiring.minor
 
 -- both rules of an entry can be
 abbrev pub IsReversibleEntry : EntryRules → Type 0

@@ -11,8 +11,10 @@ ghost use Rattle.cam6_machine.specs.Internal.Verdicts.{IsVerdict};
 ghost use Rattle.cam6_machine.specs.declared.replies.Reply.{Reply};
 
 use crate::texts::Text;
+use cam6_block::{NotReversible, fill_by};
+use cam6_cycle::Direction;
 use cam6_planes::NoMemory;
-use cam6_table::{Code, NotCompiled, Table, compile, fill};
+use cam6_table::{Code, NotCompiled, Table, compile};
 use cam6_wiring::Wiring;
 use indexmap::IndexMap;
 use std::alloc::Global;
@@ -45,8 +47,12 @@ impl Model for KeptRule {
 }
 
 impl KeptRule {
-    ghost use Rattle.std.specs.Prelude.{◌≡◌};
-    ghost use Rattle.cam6_table.specs.RuleTexts.{IsCodeFor, IsTableOf};
+    ghost use Rattle.std.specs.Prelude.{◌≡◌, Some, IfOk, IfErr};
+    ghost use Rattle.cam6_table.specs.RuleTexts.{IsCodeFor};
+    ghost use Rattle.cam6_block.specs.BlockMaps.{reading_of};
+    ghost use Rattle.cam6_block.specs.Refusals.{cause_of};
+    ghost use Rattle.cam6_block.specs.RuleTables.{IsTableBy};
+    ghost use Rattle.cam6_cycle.specs.declared.tables.Direction.TheVariants.{Backward};
 
     pub(crate) fn new(wiring: Wiring, text: Text, code: Code) -> KeptRule
         requires { IsCodeFor wiring text code }
@@ -61,14 +67,21 @@ impl KeptRule {
         self.wiring
     }
 
-    /// Fills a table with the rule's entries. It meets no fault: the rule stops nowhere.
-    pub(crate) fn fill(&self, table: &mut Table)
-        ensures { IsTableOf self.now.wiring self.now.text table.new }
+    /// Fills the rule's table for a way along a cycle, backward by way of the straight one, or says
+    /// why there is none.
+    pub(crate) fn fill_by(
+        &self,
+        direction: Direction,
+        straight: &mut Table,
+        table: &mut Table,
+    ) -> Result<(), NotReversible>
+        ensures table { IfOk result (λ _.
+            IsTableBy direction self.now.wiring self.now.text table.new) }
+        ensures refused { IfErr result (λ cause. let wiring = self.now.wiring in
+            (direction ≡ Backward)
+            × (cause_of (reading_of wiring self.now.text) wiring.hood wiring.minor ≡ Some cause)) }
     {
-        match fill(&self.code, table) {
-            Ok(()) => {}
-            Err(_) => unreachable!(),
-        }
+        fill_by(&self.code, self.wiring, direction, straight, table)
     }
 }
 

@@ -2,17 +2,14 @@
 //! cycle needs them: a table for each use of a rule.
 ghost use Rattle.std.specs.Prelude.{◌≡◌, ◌<◌, ◌≤◌, ◌+◌, length, IfSome, Some};
 ghost use Rattle.std.specs.List.{slice_get};
-ghost use Rattle.cam6_block.specs.BlockMaps.{IsReversible};
-ghost use Rattle.cam6_block.specs.Inverted.{IsInverted};
 ghost use Rattle.cam6_cycle.specs.Tables.{tables_needed};
 ghost use Rattle.cam6_cycle.specs.declared.tables.TheConstants.{MAX_TABLES};
 ghost use Rattle.cam6_machine.specs.Numbers.{rule_at, AreTables};
-ghost use Rattle.cam6_machine.specs.Internal.Numbered.{rules_of, kept_reading};
-ghost use Rattle.cam6_machine.specs.Internal.Uses.{IsUse};
+ghost use Rattle.cam6_machine.specs.Internal.Numbered.{rules_of};
+ghost use Rattle.cam6_machine.specs.Internal.Uses.{IsUse, HasTable, HaveTables};
 ghost use Rattle.cam6_machine.specs.TrueTables.{IsTableFor};
 
 use crate::rules::KeptRule;
-use crate::undoing::invert_rule;
 use cam6_cycle::{Cycle, Direction, MAX_TABLES, NeededTable};
 use cam6_table::Table;
 use indexmap::IndexMap;
@@ -27,6 +24,9 @@ pub(crate) fn fill_tables(
     tables: &mut [Table],
 )
     requires room { length tables.old ≡ MAX_TABLES }
+    // Backward, the rules that the cycle uses can be undone.
+    requires rules { HaveTables direction (rules_of rules.now.entries)
+        (tables_needed direction cycle.now) }
     ensures tables { let needed = tables_needed direction cycle.now in
         AreTables direction (length needed) (rules_of rules.now.entries) needed tables.new }
     ensures room { length tables.new ≡ length tables.old }
@@ -49,6 +49,7 @@ fn fill_use(
 )
     requires index { index < length needed.now }
     requires room { length needed.now ≤ length tables.old }
+    requires rules { HaveTables direction (rules_of rules.now.entries) needed.now }
     requires before { AreTables direction index (rules_of rules.now.entries) needed.now tables.old }
     ensures tables { AreTables direction (index + 1) (rules_of rules.now.entries) needed.now tables.new }
     ensures room { length tables.new ≡ length tables.old }
@@ -68,8 +69,8 @@ fn first_use(needed: &[NeededTable], number: usize) -> Option<usize>
     needed.iter().position(|table| table.rule.number == number)
 }
 
-/// Fills the table of the rule at this number, if there is one, and if it can be undone where it is
-/// to be undone.
+/// Fills the table of the rule at this number, if there is one. It isn't refused: what is to be undone
+/// can be.
 fn fill_table(
     rules: &IndexMap<String, KeptRule>,
     number: usize,
@@ -77,21 +78,14 @@ fn fill_table(
     straight: &mut Table,
     table: &mut Table,
 )
+    requires rule { HasTable direction (rule_at (rules_of rules.now.entries) (Some number)) }
     ensures { IsTableFor direction (rule_at (rules_of rules.now.entries) (Some number)) table.new }
 {
-    if let Some((_, rule)) = rules.get_index(number) {
-        match direction {
-            Direction::Forward => rule.fill(table),
-            Direction::Backward => fill_inverse(rule, straight, table),
-        }
+    let Some((_, rule)) = rules.get_index(number) else {
+        return;
+    };
+    match rule.fill_by(direction, straight, table) {
+        Ok(()) => {}
+        Err(_) => unreachable!(),
     }
-}
-
-/// Fills the table that undoes a rule, if it can be undone.
-fn fill_inverse(rule: &KeptRule, straight: &mut Table, table: &mut Table)
-    ensures { let wiring = rule.now.wiring in
-        IsReversible (kept_reading rule.now) wiring.hood wiring.minor →
-        IsInverted (kept_reading rule.now) wiring.hood wiring.minor table.new }
-{
-    let _cause = invert_rule(rule, straight, table);
 }

@@ -1,19 +1,17 @@
-//! Whether the rules of a cycle can be undone, and the table that undoes a rule.
-ghost use Rattle.std.specs.Prelude.{◌≡◌, Some, None, IfOk, IfErr};
+//! Whether the rules of a cycle can be undone.
+ghost use Rattle.std.specs.Prelude.{◌≡◌};
 ghost use Rattle.std.specs.List.{AllByRecursion};
-ghost use Rattle.cam6_block.specs.Inverted.{IsInverted};
-ghost use Rattle.cam6_block.specs.Refusals.{cause_of};
 ghost use Rattle.cam6_machine.specs.Refusals.{rule_cause, first_cause};
 ghost use Rattle.cam6_machine.specs.Always.{HaveOwnNames};
 ghost use Rattle.cam6_machine.specs.Numbers.{rule_at, number_in, named_entries};
-ghost use Rattle.cam6_machine.specs.Internal.Numbered.{rules_of, kept_reading};
+ghost use Rattle.cam6_machine.specs.Internal.Numbered.{rules_of};
 ghost use Rattle.cam6_machine.specs.Internal.Uses.{HasNoCause};
 
 use crate::refusals::is_used;
 use crate::replies::Reply;
 use crate::rules::KeptRule;
-use cam6_block::{NotReversible, invert};
-use cam6_cycle::{Entry, HalfRule};
+use cam6_block::NotReversible;
+use cam6_cycle::{Direction, Entry, HalfRule};
 use cam6_table::Table;
 use cam6_wiring::Half;
 use indexmap::IndexMap;
@@ -77,23 +75,5 @@ fn rule_cause(
     ensures { result ≡ rule_cause (rule_at (rules_of rules.now.entries) (number_in rule)) }
 {
     let (_, rule) = rules.get_index(rule?.number)?;
-    invert_rule(rule, straight, inverse).err()
-}
-
-/// Fills the table that undoes a rule, by way of the straight one, or says why there is none.
-pub(crate) fn invert_rule(
-    rule: &KeptRule,
-    straight: &mut Table,
-    inverse: &mut Table,
-) -> Result<(), NotReversible>
-    ensures ok { IfOk result (λ _. let wiring = rule.now.wiring in
-        cause_of (kept_reading rule.now) wiring.hood wiring.minor ≡ None) }
-    ensures inverted { IfOk result (λ _. let wiring = rule.now.wiring in
-        IsInverted (kept_reading rule.now) wiring.hood wiring.minor inverse.new) }
-    ensures err { IfErr result (λ cause. let wiring = rule.now.wiring in
-        cause_of (kept_reading rule.now) wiring.hood wiring.minor ≡ Some cause) }
-{
-    let wiring = rule.wiring();
-    rule.fill(straight);
-    invert(straight, wiring.hood, wiring.minor, inverse)
+    rule.fill_by(Direction::Backward, straight, inverse).err()
 }

@@ -9,8 +9,6 @@ use Rattle.std.specs.Str.{bytes_eq}
 use Rattle.std.specs.declared.alloc.Global.{Global}
 use Rattle.cam6_planes.specs.Stored.{Stored}
 use Rattle.cam6_wiring.specs.declared.wirings.Wiring.{Wiring}
-use Rattle.cam6_forth.specs.Trees.{tree_of}
-use Rattle.cam6_block.specs.BlockMaps.{Reading, by_words}
 use Rattle.cam6_cycle.specs.declared.entries.Entry.{Entry}
 use Rattle.cam6_cycle.specs.declared.entries.HalfRule.{HalfRule}
 use Rattle.cam6_table.specs.declared.codes.Instruction.{Instruction}
@@ -25,10 +23,6 @@ pub record Compiled : Type 0 where
   pub wiring : Wiring
   pub text : List ℕ
   pub code : List Instruction
-
--- what its words make of what is seen
-abbrev pub kept_reading : Compiled → Reading
-kept_reading rule = by_words rule.wiring (tree_of rule.text)
 
 -- the rules of a map from names
 abbrev pub rules_of : List (String Global × Compiled) → List Rule

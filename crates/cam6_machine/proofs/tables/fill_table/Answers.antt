@@ -1,36 +1,24 @@
-use Rattle.std.proofs.Common.{sym, subst, Some}
-use Rattle.cam6_cycle.specs.declared.tables.Direction.TheVariants.{Forward, Backward}
-use Rattle.cam6_machine.specs.Numbers.{rule_at}
-use Rattle.cam6_machine.specs.Internal.Numbered.{rules_of}
+use Rattle.std.proofs.Common.{subst, sym}
+use Rattle.cam6_machine.specs.Internal.Uses.{HasTable}
 use Rattle.cam6_machine.specs.TrueTables.{IsTableFor}
-use Rattle.cam6_machine.proofs.KeptRules.{rule_found, no_rule_found}
+use Rattle.cam6_machine.proofs.Inverses.{not_refused}
+use Rattle.cam6_machine.proofs.KeptRules.{listed, rule_found}
 use Rattle.cam6_machine.proofs.tables.fill_table.Goals as goal
 
-pub returns-in-Forward : goal.returns-in-Forward
-returns-in-Forward c =
-    let key = c.in-Some.field-0-0 in
-    let rule = c.in-Some.rule in
-    let table = c.fill.new.table in
-    subst (λ way. IsTableFor way (rule_at (rules_of c.args.rules.now.entries) (Some c.args.number)) table)
-    (sym c.in-Forward.is)
-    (subst (λ found. IsTableFor Forward found table)
-    (sym (rule_found c.args.rules.now.entries c.args.number (key.now, rule.now)
-    c.in-Some.ensures.entry))
-    c.fill.ensures)
+pub unreachable-requires : goal.unreachable-requires
+unreachable-requires c =
+    let name = c.in-Some.field-0-0.now in
+    let rule = c.in-Some.rule.now in
+    not_refused c.args.direction (listed (name, rule)) c.in-Err.field-0
+    (subst (HasTable c.args.direction)
+    (rule_found c.args.rules.now.entries c.args.number (name, rule) c.in-Some.ensures.entry)
+    c.requires.rule)
+    c.in-Err.ensures.refused
 
-pub returns-in-Backward : goal.returns-in-Backward
-returns-in-Backward c =
-    let key = c.in-Some.field-0-0 in
-    let rule = c.in-Some.rule in
-    let table = c.fill_inverse.new.table in
-    subst (λ way. IsTableFor way (rule_at (rules_of c.args.rules.now.entries) (Some c.args.number)) table)
-    (sym c.in-Backward.is)
-    (subst (λ found. IsTableFor Backward found table)
-    (sym (rule_found c.args.rules.now.entries c.args.number (key.now, rule.now)
-    c.in-Some.ensures.entry))
-    c.fill_inverse.ensures)
-
-pub returns-in_default : goal.returns-in_default
-returns-in_default c =
-    subst (λ found. IsTableFor c.args.direction found c.args.table.now)
-    (sym (no_rule_found c.args.rules.now.entries c.args.number c.in_default.ensures.entry)) tt
+pub returns : goal.returns
+returns c =
+    let name = c.in-Some.field-0-0.now in
+    let rule = c.in-Some.rule.now in
+    subst (λ found. IsTableFor c.args.direction found c.fill_by.new.table)
+    (sym (rule_found c.args.rules.now.entries c.args.number (name, rule) c.in-Some.ensures.entry))
+    c.in-Ok.ensures.table

@@ -1,6 +1,6 @@
 use Rattle.std.proofs.Common.{◌≡◌, ◌<◌, ◌∙◌, [], Some, get_or, ap, sym, arith, subst, length}
 use Rattle.std.proofs.lemmas.List.{get_or_default, get_or_append_left}
-use Rattle.std.proofs.lemmas.Option.{get_or_from_slice_get}
+use Rattle.std.proofs.lemmas.Option.{get_or_from_slice_get, slice_get-get_or}
 use Rattle.cam6_machine.specs.Numbers.{rule_at, AreTables}
 use Rattle.cam6_machine.specs.Internal.Numbered.{rules_of}
 use Rattle.cam6_machine.specs.TrueTables.{IsTableFor}
@@ -10,6 +10,7 @@ use Rattle.cam6_wiring.specs.declared.wirings.Minor.TheVariants.{Centers}
 use Rattle.cam6_cycle.specs.declared.tables.Direction.TheVariants.{Forward}
 use Rattle.cam6_cycle.specs.declared.tables.NeededTable.{NeededTable}
 use Rattle.cam6_machine.proofs.FilledTables.{one_more, used_before}
+use Rattle.cam6_machine.proofs.NeededTables.{has_at}
 use Rattle.cam6_machine.proofs.tables.fill_use.Goals as goal
 
 -- what stands past the end
@@ -19,6 +20,15 @@ default = record {
   rule = record { number = 0; hood = Moore; minor = Centers };
   direction = Forward;
 }
+
+pub fill_table-requires : goal.fill_table-requires
+fill_table-requires c =
+    let a = c.args in
+    record {
+      rule = has_at a.direction (rules_of a.rules.now.entries) a.needed.now a.index
+          (get_or a.needed.now a.index default) c.requires.rules
+          (slice_get-get_or a.needed.now a.index default c.requires.index);
+    }
 
 pub returns-in-Some-clause-tables : goal.returns-in-Some-clause-tables
 returns-in-Some-clause-tables c =

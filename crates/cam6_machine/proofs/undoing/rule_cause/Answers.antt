@@ -1,8 +1,7 @@
 use Rattle.std.proofs.Common.{◌∙◌, ap, sym}
 use Rattle.cam6_machine.specs.Refusals.{rule_cause}
 use Rattle.cam6_machine.specs.Numbers.{rule_at, number_in}
-use Rattle.cam6_machine.specs.Internal.Numbered.{rules_of, kept_reading}
-use Rattle.cam6_block.specs.Refusals.{cause_of}
+use Rattle.cam6_machine.specs.Internal.Numbered.{rules_of}
 use Rattle.cam6_machine.proofs.Inverses.{told_cause}
 use Rattle.cam6_machine.proofs.KeptRules.{rule_found}
 use Rattle.cam6_machine.proofs.undoing.rule_cause.Goals as goal
@@ -13,10 +12,10 @@ returns c =
     let number = c.in_ok-rule.field-0.number in
     let name = c.in_ok-rule-2.field-0-0 in
     let rule = c.in_ok-rule-2.rule.now in
-    let wiring = rule.wiring in
-    let cause = cause_of (kept_reading rule) wiring.hood wiring.minor in
-    let tried = c.invert_rule.ensures in
-    c.err.ensures.value ∙ told_cause c.invert_rule.result cause tried.ok tried.err ∙
+    let tried = c.fill_by in
+    c.err.ensures.value ∙
+    told_cause rule.wiring rule.text tried.new.table tried.result tried.ensures.table
+    tried.ensures.refused ∙
     sym (ap rule_cause
     (rule_found entries number (name.now, rule) c.in_ok-rule-2.ensures.entry)) ∙
     sym (ap (λ r. rule_cause (rule_at (rules_of entries) (number_in r))) c.in_ok-rule.was)

@@ -13,6 +13,7 @@ use Rattle.cam6_machine.specs.Alone.{reply, after, command_of}
 use Rattle.cam6_machine.specs.Refusals.{refusal}
 use Rattle.cam6_machine.specs.Internal.Ways.{moved, CanMove}
 use Rattle.cam6_machine.proofs.Done.{after-moves, reply-moves}
+use Rattle.cam6_machine.proofs.NeededTables.{have_tables}
 use Rattle.cam6_machine.proofs.Staying.{moves_begin, moves_are, can_move}
 use Rattle.cam6_machine.proofs.machines.Machine.work.Goals.{After-reply_at}
 use Rattle.cam6_machine.proofs.machines.Machine.work.Goals as goal
@@ -33,6 +34,22 @@ go_along-image-requires-clause-position c =
       length-map (entries_of m.cycle) (named_entry rules),
       ap length (ap entries_of c.in-Some.is),
     )
+
+-- the rules that the cycle uses have tables
+pub fill_tables-requires-clause-rules : goal.fill_tables-requires-clause-rules
+fill_tables-requires-clause-rules c =
+    let m = c.self.inside in
+    let way = c.args.direction in
+    let planes = planes_of m.image in
+    let rules = rules_of m.rules.entries in
+    let old = machine_of (stored planes rules (entries_of m.cycle) m.position m.colours) in
+    have_tables way planes rules c.in-Some.cycle m.position m.colours c.self.invariant.0.own
+    (subst (λ (entries : List Entry).
+    CanMove way (machine_of (stored planes rules entries m.position m.colours)))
+    (ap entries_of c.in-Some.is)
+    (can_move old c.args.n way
+    (ap (λ k. refusal (machine_of k) (command_of c.args.n way)) c.self.view_is ∙
+    c.requires.accepted)))
 
 -- the steps are those of the machine that was there
 done : (c : After-reply_at) →

@@ -1,0 +1,65 @@
+//! The table of a rule's code, by the direction in which a cycle is gone along.
+ghost use Rattle.std.specs.Prelude.{◌≡◌, ◌<◌, ℕ, List, length, Some, IsOk, IfOk, IfErr, OnErr};
+ghost use Rattle.cam6_cycle.specs.declared.tables.Direction.TheVariants.{Forward, Backward};
+ghost use Rattle.cam6_table.specs.Limits.{addresses};
+ghost use Rattle.cam6_table.specs.Codes.{result_at};
+ghost use Rattle.cam6_table.specs.Tables.{AreEntries};
+ghost use Rattle.cam6_table.specs.RuleTexts.{IsCodeFor};
+ghost use Rattle.cam6_block.specs.BlockMaps.{reading_of, IsReversible};
+ghost use Rattle.cam6_block.specs.Refusals.{cause_of};
+ghost use Rattle.cam6_block.specs.RuleTables.{IsTableBy};
+
+use crate::inverses::invert;
+use crate::refusals::NotReversible;
+use cam6_cycle::Direction;
+use cam6_table::{Code, ENTRIES, Table, fill};
+use cam6_wiring::Wiring;
+
+/// Fills the table of a rule's code: forward, the one of its words; backward, the one that undoes
+/// its blocks, by way of the straight one, or says why there is none. It takes no memory.
+pub fn fill_by(
+    code: &Code,
+    wiring: Wiring,
+    direction: Direction,
+    straight: &mut Table,
+    out: &mut Table,
+) -> Result<(), NotReversible>
+    // The code stops at no address.
+    requires runs { (address : ℕ) → address < addresses → IsOk (result_at code.now address) }
+    // Of whatever text this is the code.
+    ensures table { IfOk result (λ _. (text : List ℕ) → IsCodeFor wiring text code.now →
+        IsTableBy direction wiring text out.new) }
+
+    // Backward alone a rule is refused, for its cause; one that can be undone isn't.
+    ensures refused { IfErr result (λ cause. (direction ≡ Backward) × ((text : List ℕ) →
+        IsCodeFor wiring text code.now →
+        cause_of (reading_of wiring text) wiring.hood wiring.minor ≡ Some cause)) }
+    ensures ok { (text : List ℕ) → IsCodeFor wiring text code.now →
+        IsReversible (reading_of wiring text) wiring.hood wiring.minor → IsOk result }
+    ensures forward { direction ≡ Forward → IsOk result }
+
+    ensures unchanged { OnErr result (out.new ≡ out.old) }
+{
+    match direction {
+        Direction::Forward => {
+            fill_straight(code, out);
+            Ok(())
+        }
+        Direction::Backward => {
+            fill_straight(code, straight);
+            invert(straight, wiring.hood, wiring.minor, out)
+        }
+    }
+}
+
+/// Fills the table of code that stops at no address.
+fn fill_straight(code: &Code, table: &mut Table)
+    requires runs { (address : ℕ) → address < addresses → IsOk (result_at code.now address) }
+    ensures entries { AreEntries (result_at code.now) table.new }
+    ensures whole { length table.new ≡ addresses }
+{
+    match fill(code, table) {
+        Ok(()) => prove!(table.len() == ENTRIES),
+        Err(_) => unreachable!(),
+    }
+}
