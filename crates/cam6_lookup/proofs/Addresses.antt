@@ -83,7 +83,8 @@ looked_up rows lines table w i bit word twelve two shows has c h =
 
 -- two more words of a new row
 pub two_more : (rows lines : List (List ℕ)) (table out : List ℕ) (chunk bit a b : ℕ) →
-    length lines ≡ 12 → length out ≡ WORDS → 2 * chunk + 2 ≤ WORDS → ShowAddresses rows lines (2 * chunk) →
+    length lines ≡ 12 → length out ≡ WORDS → 2 * chunk + 2 ≤ WORDS →
+    ShowAddresses rows lines (2 * chunk) →
     ((x : ℕ) → x < 128 * chunk → column_bit out x ≡ entry_bit table (address_in lines x) bit) →
     ((p : ℕ) → p < 64 → bit_at a p ≡ bit_at (get_or table (shown_at rows 0 p) 0) bit) →
     ((p : ℕ) → p < 64 → bit_at b p ≡ bit_at (get_or table (shown_at rows 1 p) 0) bit) →

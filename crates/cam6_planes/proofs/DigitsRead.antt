@@ -1,5 +1,6 @@
 -- Digits that were made of a row are read as its bits.
-use Rattle.std.proofs.Common.{◌≡◌, ℕ, suc, zero, ◌+◌, ◌-◌, ◌*◌, ◌/◌, ◌%◌, ◌^◌, ◌<◌, Bool, true, false}
+use Rattle.std.proofs.Common.{◌≡◌, ℕ, suc, zero, ◌+◌, ◌-◌, ◌*◌, ◌/◌, ◌%◌, ◌^◌, ◌<◌}
+use Rattle.std.proofs.Common.{Bool, true, false}
 use Rattle.std.proofs.Common.{List, map, length, get_or, Some, Ok, option_and_then, refl, sym, ◌∙◌}
 use Rattle.std.proofs.Common.{ap, arith, nat_eq}
 use Rattle.std.specs.Int.{bit_at}
