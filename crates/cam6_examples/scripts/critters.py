@@ -4,8 +4,8 @@
 Shares nothing with the program. Where a flight is known by hand, the steps are compared with it here.
 """
 
-# A block's places clockwise from its upper left cell.
-PLACES = [(0, 0), (1, 0), (1, 1), (0, 1)]
+from block_steps import PLACES, after, drop
+from block_steps import print_cycle, print_plane, print_rule, print_run, print_side, print_states
 
 
 def turned(block):
@@ -19,79 +19,14 @@ def turned(block):
 
 def step(cells, n, side):
     """The n-th step: even ones on the even grid, odd ones on the odd grid."""
-    after = set()
+    stepped = set()
     for y in range(n % 2, side, 2):
         for x in range(n % 2, side, 2):
             block = [((x + i) % side, (y + j) % side) for i, j in PLACES]
             new = turned([int(cell in cells) for cell in block])
-            after.update(cell for cell, bit in zip(block, new) if bit)
-    assert len(after) == side * side - len(cells)
-    return after
-
-
-def after(cells, steps, side):
-    for n in range(steps):
-        cells = step(cells, n, side)
-    return cells
-
-
-def short(text):
-    """A row's digits, as an example may say them."""
-    if len(set(text)) == 1:
-        return f"«{len(text)}*{text[0]}»"
-    first = text.rstrip("0")
-    return min((text[:n] + "*" + text[n:].lstrip("0") for n in range(len(first) + 1)), key=len)
-
-
-def print_rows(cells, side):
-    rows = []
-    for y in range(side):
-        bits = "".join("1" if (x, y) in cells else "0" for x in range(side))
-        rows.append(f"{int(bits, 2):0{side // 4}x}")
-    common = "f" * (side // 4) if 2 * len(cells) > side * side else "0" * (side // 4)
-    if "f" in common:
-        print(f"= even {short(common)}\n= odd {short(common)}")
-    for y, digits in enumerate(rows):
-        if digits != common:
-            print(f"= {y} {digits if len(short(digits)) > len(digits) else short(digits)}")
-
-
-def print_set(cells, side):
-    print("> rows 0")
-    print_rows(cells, side)
-
-
-def print_plane(cells, side):
-    print('> {"do":"plane","plane":0}\n< plane')
-    print_rows(cells, side)
-
-
-def print_run(steps, done):
-    """A run of so many steps, after which so many are done."""
-    print(f'> {{"do":"run","n":{steps}}} => {{"ok":"run","position":{done % 2}}}')
-
-
-def print_side(side):
-    print(f'side {side}\n> {{"do":"side","side":{side}}} => {{"ok":"side"}}')
-
-
-def print_rule(name, text):
-    line = f'{{"do":"rule","name":"{name}","half":"A","hood":"N/MARG","minor":"&/PHASES","text":"{text}"}}'
-    print(f'> {line} => {{"ok":"rule"}}')
-
-
-def print_cycle(name, *grids):
-    texts = [f'{{"a":"{name}","b":"-","grid":"{grid}","phase":0}}' for grid in grids]
-    print(f'> {{"do":"cycle","entries":[{",".join(texts)}]}} => {{"ok":"cycle"}}')
-
-
-def print_states(cells, side, times):
-    print_set(cells, side)
-    done = 0
-    for time in times:
-        print_run(time - done, time)
-        print_plane(after(cells, time, side), side)
-        done = time
+            stepped.update(cell for cell, bit in zip(block, new) if bit)
+    assert len(stepped) == side * side - len(cells)
+    return stepped
 
 
 def moved(cells, columns, side):
@@ -109,22 +44,18 @@ def gliders(steps, side):
 
 def check_by_hand():
     holes = {(x, y) for x in range(128) for y in range(128)}
-    assert after(RIGHT, 1, 128) == holes - {(1, 1), (3, 2), (3, 3), (1, 4)}
-    assert after(RIGHT, 2, 128) == {(4, 1), (2, 2), (2, 3), (4, 4)}
-    assert after(RIGHT, 3, 128) == holes - {(4, 1), (3, 2), (3, 3), (4, 4)}
-    assert after(RIGHT, 4, 128) == {(3, 1), (4, 2), (4, 3), (3, 4)}
+    assert after(step, RIGHT, 1, 128) == holes - {(1, 1), (3, 2), (3, 3), (1, 4)}
+    assert after(step, RIGHT, 2, 128) == {(4, 1), (2, 2), (2, 3), (4, 4)}
+    assert after(step, RIGHT, 3, 128) == holes - {(4, 1), (3, 2), (3, 3), (4, 4)}
+    assert after(step, RIGHT, 4, 128) == {(3, 1), (4, 2), (4, 3), (3, 4)}
     for steps in 4, 16, 40:
-        assert after(gliders(0, 128), steps, 128) == gliders(steps, 128)
+        assert after(step, gliders(0, 128), steps, 128) == gliders(steps, 128)
 
 
 # Blocks of none to four, at columns 0, 4, 8, 12, 16 and 20 of rows 126 and 127.
 COUNTS = {(5, 126), (8, 127), (9, 126), (12, 126), (12, 127), (16, 126), (17, 126), (17, 127)} | {
     (x, y) for x in (20, 21) for y in (126, 127)
 }
-
-
-def without_a_pattern(x, y):
-    return ((x + 512 * y) * 0x9E3779B97F4A7C15) % 2**64 >> 61 < 3
 
 
 def main():
@@ -137,7 +68,7 @@ def main():
     print("# by block, and finds that count at each step.")
     print("as session within 512")
     print_rule("C", f"{four} : C S4 {{ NC NC CENTER NO NC }} >PLN0 ;")
-    print_cycle("C", "EVEN", "ODD")
+    print_cycle("C", ("EVEN", 0), ("ODD", 0))
     for side in (128, 256, 512):
         full = {(x, y) for x in range(side) for y in range(side)}
         print(f"\n# Side {side}. A blank torus, in two steps.")
@@ -153,23 +84,22 @@ def main():
         print("# (3, 3), and the fourth step leaves the first picture two columns farther on. So a turn of the torus takes twice as")
         print("# many steps as there are columns.")
         print_side(side)
-        print_states(gliders(0, side), side, (1, 2, 3, 4))
+        print_states(step, gliders(0, side), side, (1, 2, 3, 4))
         steps = 40 if side == 512 else 2 * side
         print_run(steps - 4, steps)
         print_plane(gliders(steps, side), side)
     side = 128
     print("\n# Blocks of none to four set cells, after one step and two.")
     print_side(side)
-    print_states(COUNTS, side, (1, 2))
-    beside = [*range(-12, 12)]
-    cells = {(x % side, y % side) for x in beside for y in beside if without_a_pattern(x + 12, y + 12)}
+    print_states(step, COUNTS, side, (1, 2))
+    cells = drop(side)
     print("\n# A drop without a pattern round the corner of the torus, after 9 steps, 10 and 300. Then back: the rule that undoes")
     print("# each block, where one set cell comes from three and three from one, on the grids in the other order.")
     print_side(side)
-    print_states(cells, side, (9, 10))
+    print_states(step, cells, side, (9, 10))
     print_run(290, 300)
     print_rule("U", f"{four} : U S4 {{ NC NO CENTER NC NC }} >PLN0 ;")
-    print_cycle("U", "ODD", "EVEN")
+    print_cycle("U", ("ODD", 0), ("EVEN", 0))
     print_run(300, 300)
     print_plane(cells, side)
 

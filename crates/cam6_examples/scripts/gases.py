@@ -4,8 +4,11 @@
 Shares nothing with the program. Where a flight is known by hand, the steps are compared with it here.
 """
 
-# A block's places clockwise from its upper left cell.
-PLACES = [(0, 0), (1, 0), (1, 1), (0, 1)]
+from functools import partial
+
+from block_steps import PLACES, after, drop, is_set
+from block_steps import print_cycle, print_plane, print_rule, print_run, print_side, print_states
+
 PAIRS = ({0, 2}, {1, 3})
 
 
@@ -29,70 +32,17 @@ def step(gas, cells, n, side):
         right, low = (x + odd) % 2, (y + odd) % 2
         block = ((x - right) % side, (y - low) % side)
         blocks.setdefault(block, set()).add(PLACES.index((right, low)))
-    after = set()
+    stepped = set()
     for (x, y), places in blocks.items():
         for place in gas(places, odd):
             i, j = PLACES[place]
-            after.add(((x + i) % side, (y + j) % side))
-    assert len(after) == len(cells)
-    return after
+            stepped.add(((x + i) % side, (y + j) % side))
+    assert len(stepped) == len(cells)
+    return stepped
 
 
-def after(gas, cells, steps, side):
-    for n in range(steps):
-        cells = step(gas, cells, n, side)
-    return cells
-
-
-def short(text):
-    first = text.rstrip("0")
-    return min((text[:n] + "*" + text[n:].lstrip("0") for n in range(len(first) + 1)), key=len)
-
-
-def print_rows(cells, side):
-    for y in range(side):
-        bits = "".join("1" if (x, y) in cells else "0" for x in range(side))
-        digits = f"{int(bits, 2):0{side // 4}x}"
-        if int(bits, 2):
-            print(f"= {y} {digits if len(short(digits)) > len(digits) else short(digits)}")
-
-
-def print_set(cells, side):
-    print("> rows 0")
-    print_rows(cells, side)
-
-
-def print_plane(cells, side):
-    print('> {"do":"plane","plane":0}\n< plane')
-    print_rows(cells, side)
-
-
-def print_run(steps, done):
-    """A run of so many steps, after which so many are done."""
-    print(f'> {{"do":"run","n":{steps}}} => {{"ok":"run","position":{done % 2}}}')
-
-
-def print_side(side):
-    print(f'side {side}\n> {{"do":"side","side":{side}}} => {{"ok":"side"}}')
-
-
-def print_rule(name, text):
-    line = f'{{"do":"rule","name":"{name}","half":"A","hood":"N/MARG","minor":"&/PHASES","text":"{text}"}}'
-    print(f'> {line} => {{"ok":"rule"}}')
-
-
-def print_cycle(name, *entries):
-    texts = [f'{{"a":"{name}","b":"-","grid":"{grid}","phase":{phase}}}' for grid, phase in entries]
-    print(f'> {{"do":"cycle","entries":[{",".join(texts)}]}} => {{"ok":"cycle"}}')
-
-
-def print_states(gas, cells, side, times):
-    print_set(cells, side)
-    done = 0
-    for time in times:
-        print_run(time - done, time)
-        print_plane(after(gas, cells, time, side), side)
-        done = time
+HPP = partial(step, hpp)
+TM = partial(step, tm)
 
 
 def four(side):
@@ -108,23 +58,19 @@ HPP_WAYS = [(1, 1), (-1, 1), (-1, -1), (1, -1)]
 TM_WAYS = [(0, 1), (-1, 0), (0, -1), (1, 0)]
 
 
-def without_a_pattern(x, y):
-    return ((x + 512 * y) * 0x9E3779B97F4A7C15) % 2**64 >> 61 < 3
-
-
 def check_by_hand(side):
     for n in range(1, 9):
-        assert after(hpp, set(four(side)), n, side) == flown(four(side), HPP_WAYS, n, side)
-        assert after(tm, set(four(side)), n, side) == flown(four(side), TM_WAYS, n, side)
+        assert after(HPP, set(four(side)), n, side) == flown(four(side), HPP_WAYS, n, side)
+        assert after(TM, set(four(side)), n, side) == flown(four(side), TM_WAYS, n, side)
     pair = {(0, 0), (11, 11)}
-    assert after(hpp, pair, 5, side) == {(5, 5), (6, 6)}
-    assert after(hpp, pair, 6, side) == {(6, 5), (5, 6)}
-    assert after(hpp, pair, 8, side) == {(8, 3), (3, 8)}
-    assert after(hpp, pair, side, side) == pair
+    assert after(HPP, pair, 5, side) == {(5, 5), (6, 6)}
+    assert after(HPP, pair, 6, side) == {(6, 5), (5, 6)}
+    assert after(HPP, pair, 8, side) == {(8, 3), (3, 8)}
+    assert after(HPP, pair, side, side) == pair
     pair = {(0, 0), (1, 9)}
-    assert after(tm, pair, 4, side) == after(tm, pair, 5, side) == {(0, 4), (1, 5)}
-    assert after(tm, pair, 6, side) == {(side - 1, 4), (2, 5)}
-    assert after(tm, pair, 2 * side, side) == pair
+    assert after(TM, pair, 4, side) == after(TM, pair, 5, side) == {(0, 4), (1, 5)}
+    assert after(TM, pair, 6, side) == {(side - 1, 4), (2, 5)}
+    assert after(TM, pair, 2 * side, side) == pair
 
 
 def main():
@@ -143,18 +89,18 @@ def main():
         print(f"\n# Side {side}. A particle at each of the four places, after one step, two, and a turn of the torus; on the way")
         print("# the first and the last cross a block side by side, and so do the second and the third.")
         print_side(side)
-        print_states(hpp, set(four(side)), side, (1, 2, side))
+        print_states(HPP, set(four(side)), side, (1, 2, side))
         print("# Two of which the one runs down to the right from (0, 0) and the other up to the left from (11, 11): they meet")
         print("# after 5 steps at (5, 5) and (6, 6) and leave from (6, 5) and (5, 6), at right angles. Half a turn later they meet")
         print("# on the far side of the torus and turn again, and after the turn they are back where they began.")
         print_side(side)
-        print_states(hpp, {(0, 0), (11, 11)}, side, (5, 6, 8) if side == 512 else (5, 6, 8, side))
+        print_states(HPP, {(0, 0), (11, 11)}, side, (5, 6, 8) if side == 512 else (5, 6, 8, side))
     side = 128
-    cells = {(x, y) for x in range(side) for y in range(side) if without_a_pattern(x, y)}
+    cells = {(x, y) for x in range(side) for y in range(side) if is_set(x, y)}
     print("\n# A gas without a pattern, after 10 steps and 300. What crossed crosses back, and what turned turns back, so that")
     print("# the grids in the other order lead to the start.")
     print_side(side)
-    print_states(hpp, cells, side, (10,))
+    print_states(HPP, cells, side, (10,))
     print_run(290, 300)
     print_cycle("G", ("ODD", 1), ("EVEN", 0))
     print_run(300, 300)
@@ -166,20 +112,19 @@ def main():
     for side in (128, 256, 512):
         print(f"\n# Side {side}. From its four places a particle runs down, to the left, up, to the right.")
         print_side(side)
-        print_states(tm, set(four(side)), side, (1, 2) if side == 512 else (1, 2, side))
+        print_states(TM, set(four(side)), side, (1, 2) if side == 512 else (1, 2, side))
         print("# Two that run down from (0, 0) and up from (1, 9): they meet after 4 steps, stay for one, and leave to the left and")
         print("# to the right. So they turn again with each half of the torus, and after a turn they meet half a torus farther on,")
         print("# by columns and by rows. After two turns they are back where they began.")
         print_side(side)
         turns = () if side == 512 else (side + 4, 2 * side)
-        print_states(tm, {(0, 0), (1, 9)}, side, (4, 5, 6, 8, *turns))
+        print_states(TM, {(0, 0), (1, 9)}, side, (4, 5, 6, 8, *turns))
     side = 512
-    beside = [*range(-12, 12)]
-    cells = {(x % side, y % side) for x in beside for y in beside if without_a_pattern(x + 12, y + 12)}
+    cells = drop(side)
     print("\n# A drop without a pattern round the corner of the torus, after 9 steps and 31, and back: the grids in the other")
     print("# order, and each in the other phase.")
     print_side(side)
-    print_states(tm, cells, side, (9,))
+    print_states(TM, cells, side, (9,))
     print_run(22, 31)
     print_cycle("T", ("EVEN", 1), ("ODD", 0))
     print_run(31, 31)

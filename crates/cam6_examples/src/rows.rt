@@ -1,10 +1,7 @@
 //! Rows of a plane in an example: as digits, or as a picture of a few cells.
 
-use cam6_planes::Side;
+use cam6_planes::{DIGITS, Side};
 use std::alloc::{AllocError, Global};
-
-/// Hexadecimal digits of a row of the largest side.
-const DIGITS: usize = 128;
 
 /// The rows of a plane, all zeros but for those that an example names.
 #[derive(Drop)]

@@ -7,6 +7,7 @@ use Rattle.std.specs.Int.{bit_at}
 use Rattle.std.proofs.lemmas.List.{get_or-map, length-map}
 use Rattle.std.proofs.lemmas.Nat.Bits.{bit_at_and, bit_at_ones, bit_at-lt, same_from_bits_below}
 use Rattle.cam6_planes.specs.Row.{word_column, column_bit, bit_number}
+use Rattle.cam6_planes.specs.declared.row.TheConstants.{WORDS}
 use Rattle.cam6_planes.proofs.WordByWord.{row_more}
 use Rattle.cam6_wiring.specs.Seen.{number_of}
 use Rattle.cam6_wiring.proofs.Numbers.{bit_at-number_of, number_of-lt}
@@ -82,19 +83,20 @@ looked_up rows lines table w i bit word twelve two shows has c h =
 
 -- two more words of a new row
 pub two_more : (rows lines : List (List ℕ)) (table out : List ℕ) (chunk bit a b : ℕ) →
-    length lines ≡ 12 → length out ≡ 8 → chunk < 4 → ShowAddresses rows lines (2 * chunk) →
+    length lines ≡ 12 → length out ≡ WORDS → 2 * chunk + 2 ≤ WORDS →
+    ShowAddresses rows lines (2 * chunk) →
     ((x : ℕ) → x < 128 * chunk → column_bit out x ≡ entry_bit table (address_in lines x) bit) →
     ((p : ℕ) → p < 64 → bit_at a p ≡ bit_at (get_or table (shown_at rows 0 p) 0) bit) →
     ((p : ℕ) → p < 64 → bit_at b p ≡ bit_at (get_or table (shown_at rows 1 p) 0) bit) →
     (x : ℕ) → x < 128 * (chunk + 1) →
     column_bit (set (set out (2 * chunk) a) (2 * chunk + 1) b) x
     ≡ entry_bit table (address_in lines x) bit
-two_more rows lines table out chunk bit a b twelve eight h shows below first second x l =
+two_more rows lines table out chunk bit a b twelve long h shows below first second x l =
     let g : ℕ → Bool = λ x. entry_bit table (address_in lines x) bit in
     let i : ℕ = 2 * chunk in
     let e : i + 0 ≡ i = omega arith in
-    row_more g (set out i a) (i + 1) b (omega (arith, length-set out i a, eight))
-    (row_more g out i a (omega (arith, eight)) (λ x k. below x (omega arith))
+    row_more g (set out i a) (i + 1) b (omega (arith, length-set out i a, long))
+    (row_more g out i a (omega (arith, long)) (λ x k. below x (omega arith))
     (λ c k. looked_up rows lines table i 0 bit a twelve (omega arith) shows first c k ∙
     ap (λ n. g (64 * n + c)) e))
     (λ c k. looked_up rows lines table i 1 bit b twelve (omega arith) shows second c k)

@@ -4,7 +4,7 @@ use Rattle.std.specs.Str.{IsAscii}
 use Rattle.std.proofs.lemmas.List.Elements.{All-map}
 use Rattle.std.specs.List.{range_with_len}
 use Rattle.std.proofs.lemmas.List.FromFn.{map-range_with_len_more}
-use Rattle.cam6_planes.specs.Row.{row_text}
+use Rattle.cam6_planes.specs.Digits.{row_text}
 use Rattle.cam6_planes.specs.Cells.{Cells}
 use Rattle.cam6_planes.proofs.AsciiTexts.{row_text-ascii}
 use Rattle.cam6_machine.specs.Effects.{plane_rows}

@@ -2,7 +2,8 @@
 use Rattle.std.specs.Prelude.{ℕ, ◌/◌, List, [], ◌∷◌, map, if◌then◌else◌, Option, Some, None}
 use Rattle.std.specs.List.{range_with_len}
 use Rattle.std.specs.Str.{bytes_eq}
-use Rattle.cam6_planes.specs.Row.{byte_column, row_text}
+use Rattle.cam6_planes.specs.Row.{byte_column}
+use Rattle.cam6_planes.specs.Digits.{row_text}
 use Rattle.cam6_planes.specs.Side.{side_number, side_of}
 use Rattle.cam6_planes.specs.declared.sides.Side.{Side}
 use Rattle.cam6_planes.specs.Cells.{Cells, no_cells, with_row, without_plane}

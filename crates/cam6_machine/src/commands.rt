@@ -1,7 +1,7 @@
 //! What a user asks of his machine.
 
-use crate::rows::Bits;
 use crate::texts::Text;
+use cam6_planes::Bits;
 use cam6_wiring::{Grid, Wiring};
 use std::marker::Model;
 

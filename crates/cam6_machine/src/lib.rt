@@ -61,6 +61,6 @@ pub use commands::{Command, MAX_COLOUR, MAX_MASK, MAX_STEPS, NamedEntries, Named
 pub use faults::Fault;
 pub use machines::Machine;
 pub use replies::{Now, Reply};
-pub use rows::{Bits, PlaneRows, RowColours, RowText};
+pub use rows::{PlaneRows, RowColours, RowText};
 pub use rules::MAX_RULES;
 pub use texts::{Names, Text};

@@ -14,7 +14,7 @@ use crate::refusals::{
     row_refusal, rule_refusal, run_refusal, set_refusal, side_within,
 };
 use crate::replies::{Now, Reply};
-use crate::rows::{Bits, PlaneRows, RowColours, RowText};
+use crate::rows::{PlaneRows, RowColours, RowText};
 use crate::rules::{KeptRule, names_of, put, remove, tried_rule};
 use crate::runs::go_along;
 use crate::tables::fill_tables;
@@ -22,7 +22,7 @@ use crate::texts::{Names, Text};
 use crate::undoing::first_cause;
 use cam6_band::AtRest;
 use cam6_cycle::{Cycle, Direction, MAX_TABLES};
-use cam6_planes::{NoMemory, Planes, Side};
+use cam6_planes::{Bits, NoMemory, Planes, Side};
 use cam6_table::{NotCompiled, Table};
 use cam6_view::count;
 use cam6_wiring::Wiring;

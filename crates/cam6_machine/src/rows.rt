@@ -1,49 +1,16 @@
-//! Rows as commands and replies have them.
+//! Rows as replies have them.
 ghost use Rattle.std.specs.Prelude.{◌≡◌, ◌<◌, ◌≤◌, ◌/◌, take};
 ghost use Rattle.std.specs.List.{AllByRecursion};
 ghost use Rattle.std.specs.Str.{IsAscii};
-ghost use Rattle.cam6_planes.specs.Side.{side_number};
 ghost use Rattle.cam6_planes.specs.Stored.{width};
 ghost use Rattle.cam6_planes.specs.Cells.{cells};
-ghost use Rattle.cam6_planes.specs.Row.{row_text};
+ghost use Rattle.cam6_planes.specs.Digits.{row_text};
 ghost use Rattle.cam6_machine.specs.Limits.{max_colour};
 
 use cam6_band::AtRest;
-use cam6_planes::{BYTES, DIGITS, Planes, Side};
+use cam6_planes::{DIGITS, Planes};
 use cam6_view::{COLOURS, colour_row};
 use std::marker::Model;
-
-/// The bits of a row of one of the three sides. Contracts see them as bytes, of which the first has
-/// columns 0 to 7.
-#[derive(Debug, Drop)]
-pub struct Bits {
-    side: Side,
-    bytes: [u8; BYTES],
-}
-
-impl Model for Bits {
-    ghost use Rattle.std.specs.Prelude.{List, ℕ, ◌/◌, take};
-    ghost use Rattle.cam6_planes.specs.Side.{side_number};
-
-    ghost Value = { List ℕ };
-
-    ghost view = { λ b. take (side_number b.side / 8) b.bytes };
-}
-
-impl Bits {
-    /// The first of these bytes, as many as a row of this side has.
-    pub fn new(side: Side, bytes: [u8; BYTES]) -> Bits
-        ensures { result ≡ take (side_number side / 8) bytes }
-    {
-        Bits { side, bytes }
-    }
-
-    pub fn as_slice(&self) -> &[u8]
-        ensures { result.now ≡ self.now }
-    {
-        &self.bytes[..self.side.number() / 8]
-    }
-}
 
 /// The text of a row: a lower case hexadecimal digit for every four columns. Contracts see it as
 /// its bytes.

@@ -2,7 +2,7 @@
 use Rattle.std.proofs.Common.{ℕ, zero, suc, ◌*◌, ◌<◌, Bool, List, [], ◌∷◌, map, codes, lit<, arith}
 use Rattle.std.specs.Str.{IsAscii}
 use Rattle.std.specs.List.{range_with_len}
-use Rattle.cam6_planes.specs.Row.{row_text, digit_at, four_columns}
+use Rattle.cam6_planes.specs.Digits.{row_text, digit_at, four_columns}
 
 -- each of these is below 128
 abbrev AreBelow128 : List ℕ → Type 0

@@ -11,6 +11,7 @@ use Rattle.std.specs.Int.{bit_at}
 use native.Mathlib.Decide.{dec_lt}
 use Rattle.cam6_planes.specs.Row.{word_column, column_bit}
 use Rattle.cam6_planes.specs.Cells.{torus, stored_bit, no_cells, without_plane}
+use Rattle.cam6_planes.specs.declared.row.TheConstants.{WORDS}
 use Rattle.cam6_planes.proofs.CellsAt.{torus_same, torus_at}
 
 -- no column of a row of n zero words is set
@@ -50,19 +51,19 @@ stored_bit-zeros s n rows some zeros =
 
 -- the bits that are kept once all rows of plane p are cleared
 stored_bit-cleared : (s : ℕ) (rows new : List (List (List ℕ))) (p q u v : ℕ) →
-    get_or new v [] ≡ set (get_or rows v []) p (replicate 8 0) →
+    get_or new v [] ≡ set (get_or rows v []) p (replicate WORDS 0) →
     length (get_or rows v []) ≡ 4 → p < 4 → q < 4 → u < s → v < s →
     stored_bit new q u v ≡ (if q == p then false else torus s (stored_bit rows) q u v)
 stored_bit-cleared s rows new p q u v cleared four h l m n =
     let old : torus s (stored_bit rows) q u v ≡ stored_bit rows q u v =
     torus_at s (stored_bit rows) q u v l m n in
-    let zeros : column_bit (replicate 8 0) u ≡ false = column_bit-zeros 8 u in
+    let zeros : column_bit (replicate WORDS 0) u ≡ false = column_bit-zeros WORDS u in
     rw old (rw cleared (grind (arith, common_steps, zeros, four)))
 
 -- the cells that are shown then
 pub cells-cleared : (s : ℕ) (rows new : List (List (List ℕ))) (p : ℕ) → 0 < s → p < 4 →
     ((y : ℕ) → y < s → length (get_or rows y []) ≡ 4) →
-    ((y : ℕ) → y < s → get_or new y [] ≡ set (get_or rows y []) p (replicate 8 0)) →
+    ((y : ℕ) → y < s → get_or new y [] ≡ set (get_or rows y []) p (replicate WORDS 0)) →
     torus s (stored_bit new) ≡ without_plane s (torus s (stored_bit rows)) p
 cells-cleared s rows new p some h four cleared =
     torus_same s (stored_bit new)

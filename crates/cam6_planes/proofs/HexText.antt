@@ -10,7 +10,8 @@ use Rattle.std.proofs.Math.Seq.{take-append_seam}
 use native.Mathlib.Decide.{dec_lt}
 use Rattle.hex.specs.Hex.{encode_with, encode_lower, lower_digits}
 use Rattle.hex.proofs.HexLemmas.{length-encode_with}
-use Rattle.cam6_planes.specs.Row.{byte_column, bit_number, four_columns, digit_at, row_text}
+use Rattle.cam6_planes.specs.Row.{byte_column, bit_number}
+use Rattle.cam6_planes.specs.Digits.{four_columns, digit_at, row_text}
 use Rattle.cam6_planes.proofs.Bytes.{byte_column-at}
 
 -- the digits of byte i

@@ -10,6 +10,8 @@ pub mod Bytes
 pub mod HexText
 -- The digits of a row are ASCII.
 pub mod AsciiTexts
+-- Digits that were made of a row are read as its bits.
+pub mod DigitsRead
 -- Within the side, coordinates stand for themselves.
 pub mod CellsAt
 -- Words that are 0 show no cell.

@@ -1,7 +1,6 @@
--- The bits of a row in words, in bytes and in hexadecimal digits, and the columns beside a column.
-use Rattle.std.specs.Prelude.{ℕ, ◌+◌, ◌-◌, ◌*◌, ◌/◌, ◌%◌, Bool, true}
-use Rattle.std.specs.Prelude.{false, List, map, codes, slice_index, ◌==◌}
-use Rattle.std.specs.List.{range_with_len}
+-- The bits of a row in words and in bytes, a bit as a number, and the columns beside a column.
+use Rattle.std.specs.Prelude.{ℕ, ◌+◌, ◌-◌, ◌/◌, ◌%◌, Bool, true}
+use Rattle.std.specs.Prelude.{false, List, slice_index, ◌==◌}
 use Rattle.std.specs.Int.{bit_at}
 
 -- the bit at column c of a 64-bit word, of which column 0 is the highest
@@ -16,23 +15,10 @@ column_bit row x = word_column (slice_index row (x / 64)) (x % 64)
 unfoldable pub byte_column : List ℕ → ℕ → Bool
 byte_column bytes x = bit_at (slice_index bytes (x / 8)) (7 - x % 8) == 1
 
+-- a bit as a number
 abbrev pub bit_number : Bool → ℕ
 bit_number false = 0
 bit_number true = 1
-
--- the four columns from x on as a number, the first of them the highest bit
-abbrev pub four_columns : (ℕ → Bool) → ℕ → ℕ
-four_columns row x =
-    8 * bit_number (row x) + 4 * bit_number (row (x + 1))
-    + 2 * bit_number (row (x + 2)) + bit_number (row (x + 3))
-
--- the lower case hexadecimal digit of columns 4k to 4k+3
-abbrev pub digit_at : (ℕ → Bool) → ℕ → ℕ
-digit_at row k = slice_index (codes "0123456789abcdef") (four_columns row (4 * k))
-
--- a row's text of n digits, from column 0 on
-unfoldable pub row_text : ℕ → (ℕ → Bool) → List ℕ
-row_text n row = map (digit_at row) (range_with_len 0 n)
 
 -- the column to the west of x, on a ring of s columns
 abbrev pub west_of : ℕ → ℕ → ℕ

@@ -6,21 +6,27 @@
 //! `set_row_words` and `put_row` change one row of one plane and nothing else; `copy_from` makes
 //! the planes equal, side and all; `set_side` blanks them at another side, within the limit that
 //! `blank` took memory for; `west` and `east` move a row by one column. `row` lends a row of all
-//! four planes.
+//! four planes. `bits_of_digits` gives the bits of hexadecimal digits, of either case, that are as
+//! many as a row of one of the sides has, and none of others (`specs/Digits.antt`).
+//!
+//! The law: the digits that `row_hex` writes of a row are read back as its bits.
 //!
 //! Stands on: `hex`, for a row's digits. Column 0 is the highest bit of a row's first word, of its
 //! first byte and of its first hexadecimal digit.
 //!
-//! Read next: `sides`; `row`, one packed row and its shifts by one column; then `planes`; then
-//! `memory`.
+//! Read next: `sides`; `row`, one packed row and its shifts by one column; `digits`, how they are
+//! made and read; then `planes`; then `memory` and `laws`.
 #![tactic(auto)]
 
+mod digits;
+pub mod laws;
 mod memory;
 mod planes;
 mod row;
 mod sides;
 
+pub use digits::{Bits, bits_of_digits};
 pub use memory::NoMemory;
 pub use planes::Planes;
-pub use row::{BYTES, CellRow, DIGITS, Row, WORDS, east, put_east, put_west, west};
+pub use row::{BYTES, COLUMNS, CellRow, DIGITS, Row, WORDS, east, put_east, put_west, west};
 pub use sides::Side;

@@ -2,14 +2,16 @@
 ghost use Rattle.std.specs.Prelude.{◌≡◌, ◌<◌, ◌≤◌, ◌*◌, ◌/◌, ℕ, slice_index_or, slice_set};
 ghost use Rattle.std.specs.Prelude.{[], IfOk, length, take, drop, false, replicate};
 ghost use Rattle.std.specs.Str.{IsAscii};
-ghost use Rattle.cam6_planes.specs.Row.{column_bit, byte_column, row_text};
+ghost use Rattle.cam6_planes.specs.Row.{column_bit, byte_column};
+ghost use Rattle.cam6_planes.specs.Digits.{row_text};
 ghost use Rattle.cam6_planes.specs.Side.{side_number};
 ghost use Rattle.cam6_planes.specs.Stored.{width};
 ghost use Rattle.cam6_planes.specs.declared.row.TheConstants.{WORDS};
 ghost use Rattle.cam6_planes.specs.Cells.{cells, no_cells, with_row, without_plane, IsRow};
 
+use crate::digits::write_hex;
 use crate::memory::NoMemory;
-use crate::row::{CellRow, DIGITS, Row, WORDS, is_set, row_of_bytes, write_hex};
+use crate::row::{CellRow, DIGITS, Row, WORDS, is_set, row_of_bytes};
 use crate::sides::Side;
 use std::alloc::Global;
 use std::marker::Model;

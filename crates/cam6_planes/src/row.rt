@@ -1,21 +1,24 @@
-//! One packed row, its text and bytes, and its shifts by one column round the torus.
+//! One packed row, from its bytes, and its shifts by one column round the torus.
 ghost use Rattle.std.specs.Prelude.{◌≡◌, ◌<◌, ◌≤◌, ◌+◌, ◌-◌, ◌*◌, ◌%◌, ◌==◌, ℕ, false, length};
 ghost use Rattle.std.specs.Int.{bit_at};
-ghost use Rattle.cam6_planes.specs.Row.{word_column, column_bit, byte_column, row_text, west_of};
+ghost use Rattle.cam6_planes.specs.Row.{word_column, column_bit, byte_column, west_of};
 ghost use Rattle.cam6_planes.specs.Row.{east_of};
 ghost use Rattle.cam6_planes.specs.Side.{side_number};
-ghost use Rattle.cam6_planes.specs.declared.row.TheConstants.{WORDS, BYTES, DIGITS};
+ghost use Rattle.cam6_planes.specs.declared.row.TheConstants.{WORDS};
 
 use crate::sides::Side;
 
-/// Words of a row of the largest side.
-pub const WORDS: usize = 8;
+/// Columns of a row of the largest side.
+pub const COLUMNS: usize = 512;
+
+/// Words of such a row.
+pub const WORDS: usize = COLUMNS / 64;
 
 /// Bytes of such a row.
-pub const BYTES: usize = 64;
+pub const BYTES: usize = COLUMNS / 8;
 
 /// Hexadecimal digits of such a row.
-pub const DIGITS: usize = 128;
+pub const DIGITS: usize = COLUMNS / 4;
 
 /// The bits of one row of one plane. Column 0 is the highest bit of the first word; the words past
 /// the side are 0.
@@ -123,34 +126,4 @@ fn word_of_bytes(bytes: &[u8], i: usize) -> u64
         word = word << 8 | u64::from(bytes[8 * i + k]);
     }
     word
-}
-
-/// The bytes of the row, of which the first has columns 0 to 7.
-fn bytes_of_row(row: &Row) -> [u8; BYTES]
-    ensures { (x : ℕ) → x < 8 * BYTES → byte_column result x ≡ column_bit row.now x }
-{
-    let mut bytes = [0; BYTES];
-    for i in 0..BYTES {
-        bytes[i] = byte_of_word(row[i / 8], i % 8);
-    }
-    bytes
-}
-
-/// The byte of columns 8k to 8k + 7 of the word.
-fn byte_of_word(word: u64, k: usize) -> u8
-    requires { k < 8 }
-    ensures { (c : ℕ) → c < 8 → (bit_at result (7 - c) == 1) ≡ word_column word (8 * k + c) }
-{
-    word.to_be_bytes()[k]
-}
-
-/// Writes the row's lower case hexadecimal digits, four columns to a digit, as many as there is
-/// room for.
-pub(crate) fn write_hex(row: &Row, text: &mut [u8])
-    requires bytes { length text.old % 2 ≡ 0 }
-    requires row { length text.old ≤ DIGITS }
-    ensures { text.new ≡ row_text (length text.old) (column_bit row.now) }
-{
-    let bytes = bytes_of_row(row);
-    hex::encode_to_slice(&bytes[..text.len() / 2], text).unwrap();
 }

@@ -1,7 +1,8 @@
 //! The three sides that a torus may have.
 ghost use Rattle.std.specs.Prelude.{◌≡◌, ◌*◌, ◌%◌, ◌≤◌, IfSome};
+ghost use Rattle.cam6_planes.specs.Limits.{max_columns};
 ghost use Rattle.cam6_planes.specs.Side.{side_number, side_of};
-ghost use Rattle.cam6_planes.specs.declared.row.TheConstants.{WORDS};
+ghost use Rattle.cam6_planes.specs.declared.row.TheConstants.{COLUMNS, WORDS};
 
 use crate::row::WORDS;
 
@@ -19,7 +20,7 @@ impl Side {
         ensures value { result ≡ side_number self }
         ensures whole_words { result % 128 ≡ 0 }
         ensures least { 128 ≤ result }
-        ensures most { result ≤ 512 }
+        ensures most { result ≤ COLUMNS }
     {
         match self {
             Side::S128 => 128,
@@ -46,6 +47,8 @@ impl Side {
         ensures value { 64 * result ≡ side_number self }
         ensures some { 2 ≤ result }
         ensures most { result ≤ WORDS }
+        // The constant is the limit that contracts speak of.
+        ensures limit { COLUMNS ≡ max_columns }
     {
         self.number() / 64
     }

@@ -1,11 +1,11 @@
 //! One row of a plane: its columns moved round the torus, and as bytes, words, digits and columns.
 
-use cam6_planes::{DIGITS, Planes, Row, Side, WORDS, east, west};
+use cam6_planes::{COLUMNS, DIGITS, Planes, Row, Side, WORDS, bits_of_digits, east, west};
 use std::test::Fail;
 
 /// A row of which one column is set.
 pub(crate) fn lone(column: usize) -> Row {
-    let column = column % 512;
+    let column = column % COLUMNS;
     let mut row = [0; WORDS];
     row[column / 64] = 1 << (63 - column % 64);
     row
@@ -57,17 +57,22 @@ const FIRST_BYTES: [u8; 16] = [
     0x01, 0x23, 0x45, 0x67, 0x89, 0xAB, 0xCD, 0xEF, 0xFE, 0xDC, 0xBA, 0x98, 0x76, 0x54, 0x32, 0x10,
 ];
 
-// By hand: a digit is four columns, a byte eight and a word 64, the first the highest bit.
-#[test]
-fn digits_bytes_and_words(rt: HostRuntime) -> Result<(), Fail> {
+/// The bytes of that row.
+fn row_bytes() -> [u8; 32] {
     let mut bytes = [0; 32];
     for (byte, first) in bytes.iter_mut().zip(FIRST_BYTES) {
         *byte = first;
     }
     bytes[24] = 0x80;
     bytes[31] = 0x01;
+    bytes
+}
+
+// By hand: a digit is four columns, a byte eight and a word 64, the first the highest bit.
+#[test]
+fn digits_bytes_and_words(rt: HostRuntime) -> Result<(), Fail> {
     let mut planes = Planes::blank(rt.alloc(), Side::S256)?;
-    planes.put_row(0, 0, &bytes);
+    planes.put_row(0, 0, &row_bytes());
     assert_eq!(rt; planes.row_words(0, 0), ROW);
     let mut text = [0; DIGITS];
     assert_eq!(rt; planes.row_hex(0, 0, &mut text), 64);
@@ -77,6 +82,33 @@ fn digits_bytes_and_words(rt: HostRuntime) -> Result<(), Fail> {
     assert_eq!(rt; planes.row_hex(3, 255, &mut text), 64);
     assert_eq!(rt; &text[..64], TEXT);
     Ok(())
+}
+
+const UPPER_CASE: &[u8] = b"0123456789ABCDEFFEDCBA987654321000000000000000008000000000000001";
+
+// By hand: the row's digits say its bytes, in either case.
+#[test]
+fn digits_are_read(rt: HostRuntime) {
+    for digits in [TEXT, UPPER_CASE] {
+        let is_read = match bits_of_digits(digits) {
+            Some(bits) => bits.as_slice() == row_bytes().as_slice(),
+            None => false,
+        };
+        assert!(rt; is_read);
+    }
+}
+
+// By hand: a digit too few or too many, 48 or 96 of them, and one that is none.
+#[test]
+fn digits_of_no_row(rt: HostRuntime) {
+    let zeros = [b'0'; 96];
+    for count in [0usize, 31, 33, 48, 63, 96] {
+        assert!(rt;
+            bits_of_digits(&zeros[..count % 97]).is_none(),
+            "{count} digits"
+        );
+    }
+    assert!(rt; bits_of_digits(b"0123456789abcdef0123456789abcdeg").is_none());
 }
 
 // By hand: the digits 0, 1, 2 and 3 are columns 0 to 15, f and e columns 64 to 71.

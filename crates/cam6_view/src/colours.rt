@@ -8,10 +8,10 @@ ghost use Rattle.cam6_view.specs.States.{row_colours};
 ghost use Rattle.cam6_view.specs.Internal.{state_in_row};
 
 use cam6_band::AtRest;
-use cam6_planes::{CellRow, Row, WORDS};
+use cam6_planes::{COLUMNS, CellRow, Row};
 
 /// Colours of a row of the largest side.
-pub const COLOURS: usize = 512;
+pub const COLOURS: usize = COLUMNS;
 
 /// Writes the colour of each cell of row `y`, from column 0 on, by the map's colour for its state,
 /// and answers how many.

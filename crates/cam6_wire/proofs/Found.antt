@@ -7,6 +7,7 @@ use Rattle.std.proofs.lemmas.Option.{IfSome_then}
 use Rattle.std.proofs.lemmas.Bool.Decides.{Decides-eqb}
 use Rattle.std.proofs.lemmas.Slice.Eq.{bytes_eq-Decides}
 use Rattle.hex.specs.Hex.{decode_sized}
+use Rattle.cam6_planes.specs.Digits.{bits_of_digits}
 use Rattle.cam6_planes.specs.Side.{side_number, side_of}
 use Rattle.cam6_planes.specs.declared.sides.Side.{Side}
 use Rattle.hex.specs.declared.error.FromHexError.{FromHexError}
@@ -19,7 +20,7 @@ use Rattle.cam6_wiring.specs.declared.wirings.Hood.TheVariants.{MargolusPhase, M
 use Rattle.cam6_wiring.specs.declared.wirings.Minor.TheVariants.{Centers, Phases, HorzVert}
 use Rattle.cam6_wiring.specs.declared.blocks.Grid.TheVariants.{Even, Odd}
 use Rattle.cam6_wire.specs.Fields.{count, has_size, number_in, number_at, text_at}
-use Rattle.cam6_wire.specs.Fields.{bits_of, bits_at, ◌>>=◌}
+use Rattle.cam6_wire.specs.Fields.{bits_at, ◌>>=◌}
 use Rattle.cam6_wire.specs.Replies.{natural}
 use Rattle.cam6_wire.specs.Wirings.{half_text, hood_text, minor_text, grid_text}
 use Rattle.cam6_wire.specs.Wirings.{half_named, hood_named, minor_named, grid_named}
@@ -63,7 +64,7 @@ AreDigits key d bits =
     (get key d ≡ Some (string digits))
 
 bits_in : (key digits : List ℕ) (d : Data) → get key d ≡ Some (string digits) →
-    IfSome (bits_of digits) (AreDigits key d)
+    IfSome (bits_of_digits digits) (AreDigits key d)
 bits_in key digits d found = by_side (side_of (4 * length digits))
   where
     by_result : (side : Side) (r : Result (List ℕ) FromHexError) →
@@ -81,7 +82,7 @@ bits_in key digits d found = by_side (side_of (4 * length digits))
 pub bits_found : (key : List ℕ) (d : Data) → IfSome (bits_at key d) (AreDigits key d)
 bits_found key d =
     of_step (λ text. get key d ≡ Some (string text)) (AreDigits key d)
-    bits_of (λ text found. bits_in key text d found) (text_at key d) (text_found key d)
+    bits_of_digits (λ text found. bits_in key text d found) (text_at key d) (text_found key d)
 
 -- a text that is one of a list of names
 one_of : {A : Type 0} (shown : A → List ℕ) (text : List ℕ) (a : A) (later : Option A) →

@@ -19,8 +19,8 @@ use Rattle.cam6_wire.proofs.Ordered.{IsOrdered, AreOrdered, HaveOrder}
 use Rattle.cam6_wire.proofs.Exactly.{these}
 use Rattle.cam6_wire.proofs.Found.{number_found, text_found, grid_found, of_object}
 
-abbrev one_entry_in : List ℕ → List ℕ → Grid → ℕ → NamedEntry
-one_entry_in a b grid phase =
+abbrev made_entry : List ℕ → List ℕ → Grid → ℕ → NamedEntry
+made_entry a b grid phase =
     record { a = rule_name_in a; b = rule_name_in b; grid = grid; phase = phase }
 
 entry_held : (held : Members) → count held ≡ 4 → IsOrdered (object held) →
@@ -30,7 +30,7 @@ entry_held held same given =
     (λ b. get (codes "b") (object held) ≡ Some (string b))
     (λ grid. get (codes "grid") (object held) ≡ Some (string (grid_text grid)))
     (λ phase. get (codes "phase") (object held) ≡ Some (natural phase))
-    (ShowsEntry (object held)) one_entry_in
+    (ShowsEntry (object held)) made_entry
     (λ a b grid phase at_a at_b at_grid at_phase. (
       a,
       b,
@@ -88,15 +88,15 @@ HasEntries d entries =
     (items : Items) × ShowsEntries items entries ×
     (get (codes "entries") d ≡ Some (array items))
 
-all_entries_in : (found : Option Data) (d : Data) → (found ≡ Some d) × IsOrdered d →
+entries_held : (found : Option Data) (d : Data) → (found ≡ Some d) × IsOrdered d →
     IfSome (as_array d >>= λ items. entries_in items)
     (λ entries. (items : Items) × ShowsEntries items entries × (found ≡ Some (array items)))
-all_entries_in found null given = tt
-all_entries_in found (boolean b) given = tt
-all_entries_in found (number n) given = tt
-all_entries_in found (string s) given = tt
-all_entries_in found (object held) given = tt
-all_entries_in found (array items) given =
+entries_held found null given = tt
+entries_held found (boolean b) given = tt
+entries_held found (number n) given = tt
+entries_held found (string s) given = tt
+entries_held found (object held) given = tt
+entries_held found (array items) given =
     IfSome_then (entries_in items) (entries_shown items given.1)
     (λ entries show. (items, show, given.0))
 
@@ -105,6 +105,6 @@ pub entries_found : (held : Members) → HaveOrder held →
 entries_found held given =
     of_step (λ d. (get_member (codes "entries") held ≡ Some d) × IsOrdered d)
     (HasEntries (object held)) (λ d. as_array d >>= λ items. entries_in items)
-    (λ d given. all_entries_in (get_member (codes "entries") held) d given)
+    (λ d given. entries_held (get_member (codes "entries") held) d given)
     (get_member (codes "entries") held)
     (and_is (get_member (codes "entries") held) (ordered_at (codes "entries") held given))

@@ -1,11 +1,9 @@
 -- A line whose value shows a command says it.
 use Rattle.std.proofs.Common.{◌≡◌, ℕ, ◌*◌, ◌/◌, List, [], ◌∷◌, length, codes, arith}
 use Rattle.std.proofs.Common.{Option, Some, Ok, ok_or, option_and_then, option_map, refl, ap, ◌∙◌}
-use Rattle.std.specs.Result.{result_ok}
 use Rattle.cam6_planes.specs.Side.{side_number}
-use Rattle.cam6_planes.specs.Side as number
 use Rattle.cam6_planes.specs.declared.sides.Side.{Side}
-use Rattle.cam6_planes.specs.declared.sides.Side.TheVariants.{S128, S256, S512}
+use Rattle.cam6_planes.proofs.DigitsRead.{digits_said}
 use Rattle.hex.specs.Hex.{decode_sized}
 use Rattle.serde_json.specs.Data.{Data, string, array, object}
 use Rattle.serde_json.specs.Data.{Items, no_items, item, no_members, member}
@@ -29,7 +27,7 @@ use Rattle.cam6_machine.specs.declared.commands.Command.TheVariants.{Count}
 use Rattle.cam6_machine.specs.Limits.{cell_states}
 use Rattle.cam6_machine.specs.declared.commands.NamedEntry.{NamedEntry}
 use Rattle.cam6_wire.specs.declared.faults.LineFault.TheVariants.{NoCommand}
-use Rattle.cam6_wire.specs.Fields.{bits_of, text_at, ◌>>=◌}
+use Rattle.cam6_wire.specs.Fields.{text_at, ◌>>=◌}
 use Rattle.cam6_wire.specs.Replies.{natural, naturals}
 use Rattle.cam6_wire.specs.Wirings.{half_text, hood_text, minor_text, grid_text}
 use Rattle.cam6_wire.specs.Wirings.{half_named, hood_named, minor_named, grid_named, wiring_in}
@@ -72,26 +70,6 @@ three_steps x y z make a b c is_a is_b is_c =
     ap (λ y. y >>= λ b. z >>= λ c. Some (make a b c)) is_b ∙
     ap (λ z. z >>= λ c. Some (make a b c)) is_c
 
--- digits of a row of a side are as many as that side's rows have
-row_digits : (side : Side) (digits bits : List ℕ) →
-    decode_sized digits (side_number side / 8) ≡ Ok bits → 4 * length digits ≡ side_number side
-row_digits S128 digits bits is = grind (arith, is)
-row_digits S256 digits bits is = grind (arith, is)
-row_digits S512 digits bits is = grind (arith, is)
-
-number_side : (side : Side) → number.side_of (side_number side) ≡ Some side
-number_side S128 = refl
-number_side S256 = refl
-number_side S512 = refl
-
-bits_said : (side : Side) (digits bits : List ℕ) →
-    decode_sized digits (side_number side / 8) ≡ Ok bits → bits_of digits ≡ Some bits
-bits_said side digits bits is =
-    ap (λ n. number.side_of n >>= λ s. result_ok (decode_sized digits (side_number s / 8)))
-    (row_digits side digits bits is) ∙
-    ap (λ o. o >>= λ s. result_ok (decode_sized digits (side_number s / 8))) (number_side side) ∙
-    ap result_ok is
-
 set_said : (plane row : ℕ) (side : Side) (bits digits : List ℕ) →
     decode_sized digits (side_number side / 8) ≡ Ok bits →
     set_of
@@ -102,7 +80,7 @@ set_said : (plane row : ℕ) (side : Side) (bits digits : List ℕ) →
     ≡ Some (Set plane row bits)
 unfolding set_of
 set_said plane row side bits digits is =
-    ap (option_and_then (λ bits. Some (Set plane row bits))) (bits_said side digits bits is)
+    ap (option_and_then (λ bits. Some (Set plane row bits))) (digits_said side digits bits is)
 
 wiring_said : (wiring : Wiring) (name text : List ℕ) →
     wiring_in

@@ -1,11 +1,9 @@
 -- What stands at a key of a JSON object.
-use Rattle.std.specs.Prelude.{ℕ, ◌+◌, ◌*◌, ◌/◌, List, [], ◌∷◌, length, Bool, false, ◌==◌}
+use Rattle.std.specs.Prelude.{ℕ, ◌+◌, List, [], ◌∷◌, length, Bool, false, ◌==◌}
 use Rattle.std.specs.Prelude.{Option, Some, None, if◌then◌else◌}
 use Rattle.std.specs.Prelude.{option_and_then}
 use Rattle.std.specs.Option.{option_map_or}
-use Rattle.std.specs.Result.{result_ok}
-use Rattle.hex.specs.Hex.{decode_sized}
-use Rattle.cam6_planes.specs.Side.{side_number, side_of}
+use Rattle.cam6_planes.specs.Digits.{bits_of_digits}
 use Rattle.serde_json.specs.Data.{Data, Items, no_items, item, Members, no_members, member}
 use Rattle.serde_json.specs.Find.{get, as_number, as_u64, as_str, as_array, as_object}
 use Rattle.cam6_machine.specs.Limits.{cell_states}
@@ -56,12 +54,6 @@ colours_at key d = do
 abbrev pub text_at : List ℕ → Data → Option (List ℕ)
 text_at key d = option_and_then as_str (get key d)
 
--- the bytes of hexadecimal digits, of either case, as many as a row of one of the sides has
-abbrev pub bits_of : List ℕ → Option (List ℕ)
-bits_of digits = do
-  side ← side_of (4 * length digits)
-  result_ok (decode_sized digits (side_number side / 8))
-
 -- the bytes of a row's digits at a key
 abbrev pub bits_at : List ℕ → Data → Option (List ℕ)
-bits_at key d = option_and_then bits_of (text_at key d)
+bits_at key d = option_and_then bits_of_digits (text_at key d)

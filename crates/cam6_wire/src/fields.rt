@@ -1,12 +1,10 @@
 //! What stands at a key of a JSON object.
-ghost use Rattle.std.specs.Prelude.{◌≡◌, ◌*◌, option_map, option_and_then};
+ghost use Rattle.std.specs.Prelude.{◌≡◌, option_map, option_and_then};
 ghost use Rattle.serde_json.specs.View.{view, items_view};
-ghost use Rattle.cam6_wire.specs.Fields.{has_size, number_at, text_at, bits_of, bits_at};
+ghost use Rattle.cam6_wire.specs.Fields.{has_size, number_at, text_at, bits_at};
 ghost use Rattle.cam6_wire.specs.Fields.{numbers_of, of_states, colours_at};
-ghost use Rattle.cam6_planes.specs.Side.{side_of};
 
-use cam6_machine::Bits;
-use cam6_planes::{BYTES, Side};
+use cam6_planes::{Bits, bits_of_digits};
 use serde_json::Value;
 
 /// Whether a value is an object of so many members.
@@ -52,30 +50,9 @@ pub(crate) fn text_at<'a>(value: &'a Value, key: &str) -> Option<&'a str>
     value.get(key).and_then(Value::as_str)
 }
 
-/// A plane's row, written as 32, 64 or 128 digits of either case.
+/// A plane's row, written as digits of either case, as many as a row of one of the sides has.
 pub(crate) fn bits_at(value: &Value, key: &str) -> Option<Bits>
     ensures { result ≡ bits_at key.now (view value.now) }
 {
-    bits_of(text_at(value, key)?)
-}
-
-fn bits_of(digits: &str) -> Option<Bits>
-    ensures { result ≡ bits_of digits.now }
-{
-    let side = side_of_digits(digits.len())?;
-    let mut bytes = [0; BYTES];
-    hex::decode_to_slice(digits, &mut bytes[..side.number() / 8]).ok()?;
-    Some(Bits::new(side, bytes))
-}
-
-/// The side whose rows have so many digits.
-fn side_of_digits(count: usize) -> Option<Side>
-    ensures { result ≡ side_of (4 * count) }
-{
-    match count {
-        32 => Some(Side::S128),
-        64 => Some(Side::S256),
-        128 => Some(Side::S512),
-        _ => None,
-    }
+    bits_of_digits(text_at(value, key)?.as_bytes())
 }

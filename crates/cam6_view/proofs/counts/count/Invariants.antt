@@ -1,4 +1,5 @@
 use Rattle.std.proofs.Common.{◌≡◌, ◌≤◌, ◌*◌}
+use Rattle.cam6_planes.specs.Limits.{max_columns}
 use Rattle.cam6_planes.specs.Cells.{cells}
 use Rattle.cam6_planes.specs.Stored.{width}
 use Rattle.cam6_view.specs.States.{state_at, is_in, count_below, sum_below}
@@ -10,5 +11,5 @@ invariant-loop-y l =
     let f = cells l.rest.planes in
     record {
       value : l.total ≡ sum_below (λ y. count_below (λ x. is_in l.mask (state_at f x y)) s) l.y;
-      bound : l.total ≤ 512 * l.y;
+      bound : l.total ≤ max_columns * l.y;
     }

@@ -1,10 +1,11 @@
 use Rattle.std.proofs.Common.{◌∙◌, sym}
 use Rattle.cam6_planes.proofs.Blank.{column_bit-zeros}
 use Rattle.cam6_wiring.proofs.MixedColumns.{column_of_ones}
+use Rattle.cam6_planes.specs.declared.row.TheConstants.{WORDS}
 use Rattle.cam6_wiring.proofs.columns.row_of.Goals as goal
 
 pub returns-then-bit : goal.returns-then-bit
-returns-then-bit c = λ x h. column_of_ones 8 x h ∙ sym c.if-bit.true
+returns-then-bit c = λ x h. column_of_ones WORDS x h ∙ sym c.if-bit.true
 
 pub returns-else-bit : goal.returns-else-bit
-returns-else-bit c = λ x h. column_bit-zeros 8 x ∙ sym c.if-bit.false
+returns-else-bit c = λ x h. column_bit-zeros WORDS x ∙ sym c.if-bit.false

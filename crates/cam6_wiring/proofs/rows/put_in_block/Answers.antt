@@ -2,6 +2,7 @@ use Rattle.std.proofs.Common.{◌≡◌, ◌%◌, ◌<◌, ◌==◌, if◌then�
 use native.Mathlib.Decide.{dec_lt}
 use Rattle.cam6_planes.specs.Cells.{torus}
 use Rattle.cam6_planes.specs.Row.{column_bit}
+use Rattle.cam6_planes.specs.Limits.{max_columns}
 use Rattle.cam6_planes.specs.Side.{side_number}
 use Rattle.cam6_planes.proofs.SideNumbers.{side_most}
 use Rattle.cam6_wiring.specs.Block.{in_block}
@@ -13,7 +14,7 @@ pub returns : goal.returns
 returns c = λ f around x l.
     let a = c.args in
     let s = side_number a.rows.now.side in
-    let room : x < 512 = omega (arith, l, side_most a.rows.now.side) in
+    let room : x < max_columns = omega (arith, l, side_most a.rows.now.side) in
     let odd = c.put_beside.new.line in
     let even = c.put_beside-2.new.line in
     c.put_odd_columns.ensures x room ∙

@@ -5,6 +5,7 @@ use Rattle.cam6_planes.specs.Cells.{cells, torus, stored_bit, without_plane}
 use Rattle.cam6_planes.specs.Stored.{Stored}
 use Rattle.cam6_planes.proofs.Blank.{cells-cleared}
 use Rattle.cam6_planes.proofs.SideNumbers.{side_least}
+use Rattle.cam6_planes.specs.declared.row.TheConstants.{WORDS}
 use Rattle.cam6_planes.proofs.planes.Planes.clear_plane.Goals as goal
 
 pub returns-clause-cells : goal.returns-clause-cells
@@ -18,6 +19,6 @@ returns-clause-cells c =
     (λ y h. ap (λ (all : List (List (List ℕ))). length (get_or all y [])) (sym c.deref_mut.ensures.value) ∙
     c.clear_rows.ensures.planes y (omega (arith, rows.ok.0, c.self.invariant)))
     (λ y h. c.clear_rows.ensures.value y (omega (arith, rows.ok.0, c.self.invariant)) ∙
-    ap (λ (all : List (List (List ℕ))). set (get_or all y []) c.args.p (replicate 8 0))
+    ap (λ (all : List (List (List ℕ))). set (get_or all y []) c.args.p (replicate WORDS 0))
     c.deref_mut.ensures.value) ∙
     ap (λ (v : Stored). without_plane (side_number v.side) (cells v) c.args.p) c.self.view_is

@@ -1,7 +1,8 @@
 use Rattle.std.proofs.Common.{◌≡◌, ◌∙◌, ◌/◌, ℕ, sym, subst, ap, length, take, arith}
 use Rattle.std.proofs.lemmas.List.{length-take-le}
 use Rattle.std.specs.Str.{IsAscii}
-use Rattle.cam6_planes.specs.Row.{column_bit, row_text}
+use Rattle.cam6_planes.specs.Row.{column_bit}
+use Rattle.cam6_planes.specs.Digits.{row_text}
 use Rattle.cam6_planes.specs.Side.{side_number}
 use Rattle.cam6_planes.specs.Stored.{Stored}
 use Rattle.cam6_planes.specs.Cells.{cells}

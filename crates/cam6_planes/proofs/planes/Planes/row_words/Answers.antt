@@ -2,13 +2,14 @@ use Rattle.std.proofs.Common.{ℕ, get_or, arith, refl, sym, ◌∙◌, length-s
 use Rattle.cam6_planes.specs.Row.{column_bit}
 use Rattle.cam6_planes.proofs.Blank.{column_bit-zeros}
 use Rattle.cam6_planes.proofs.WordByWord.{row_more, column_bit-at, column_bit-set_past}
+use Rattle.cam6_planes.specs.declared.row.TheConstants.{WORDS}
 use Rattle.cam6_planes.proofs.planes.Planes.row_words.Goals as goal
 
 pub loop-i-init : goal.loop-i-init
 loop-i-init c = record {
   words = refl;
   copied = λ x h. absurd (omega arith);
-  past = λ x h. column_bit-zeros 8 x;
+  past = λ x h. column_bit-zeros WORDS x;
 }
 
 pub loop-i-preserved : goal.loop-i-preserved

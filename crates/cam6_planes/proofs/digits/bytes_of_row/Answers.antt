@@ -2,7 +2,7 @@ use Rattle.std.proofs.Common.{◌+◌, ◌*◌, ◌/◌, ◌%◌, arith, length-
 use Rattle.cam6_planes.specs.Row.{column_bit}
 use Rattle.cam6_planes.proofs.WordByWord.{column_bit-at}
 use Rattle.cam6_planes.proofs.Bytes.{bytes_more}
-use Rattle.cam6_planes.proofs.row.bytes_of_row.Goals as goal
+use Rattle.cam6_planes.proofs.digits.bytes_of_row.Goals as goal
 
 pub loop-i-preserved : goal.loop-i-preserved
 loop-i-preserved c =

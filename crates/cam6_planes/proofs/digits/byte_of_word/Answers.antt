@@ -1,7 +1,7 @@
 use Rattle.std.proofs.Common.{◌-◌, get_or, nat_eq, arith, ap, ◌∙◌}
 use Rattle.std.specs.Int.{bit_at}
 use Rattle.cam6_planes.proofs.Bytes.{byte_of_word-at}
-use Rattle.cam6_planes.proofs.row.byte_of_word.Goals as goal
+use Rattle.cam6_planes.proofs.digits.byte_of_word.Goals as goal
 
 pub returns : goal.returns
 returns c =

@@ -1,0 +1,87 @@
+//! A row's hexadecimal digits, made and read: four columns to a digit, from column 0 on.
+ghost use Rattle.std.specs.Prelude.{◌≡◌, ◌<◌, ◌≤◌, ◌+◌, ◌-◌, ◌*◌, ◌%◌, ◌==◌, ℕ, length};
+ghost use Rattle.std.specs.Int.{bit_at};
+ghost use Rattle.cam6_planes.specs.Row.{word_column, column_bit, byte_column};
+ghost use Rattle.cam6_planes.specs.Digits.{row_text, bits_of_digits};
+ghost use Rattle.cam6_planes.specs.Side.{side_of};
+ghost use Rattle.cam6_planes.specs.declared.row.TheConstants.{BYTES, DIGITS};
+
+use crate::row::{BYTES, DIGITS, Row};
+use crate::sides::Side;
+use std::marker::Model;
+
+/// The bits of a row of one of the three sides. Contracts see them as bytes, of which the first has
+/// columns 0 to 7.
+#[derive(Debug, Drop)]
+pub struct Bits {
+    side: Side,
+    bytes: [u8; BYTES],
+}
+
+impl Model for Bits {
+    ghost use Rattle.std.specs.Prelude.{List, ℕ, ◌/◌, take};
+    ghost use Rattle.cam6_planes.specs.Side.{side_number};
+
+    ghost Value = { List ℕ };
+
+    ghost view = { λ b. take (side_number b.side / 8) b.bytes };
+}
+
+impl Bits {
+    pub fn as_slice(&self) -> &[u8]
+        ensures { result.now ≡ self.now }
+    {
+        &self.bytes[..self.side.number() / 8]
+    }
+}
+
+/// The bits that digits of either case say, where they are as many as a row of one of the three
+/// sides has.
+pub fn bits_of_digits(digits: &[u8]) -> Option<Bits>
+    ensures { result ≡ bits_of_digits digits.now }
+{
+    let side = side_of_digits(digits.len())?;
+    let mut bytes = [0; BYTES];
+    hex::decode_to_slice(digits, &mut bytes[..side.number() / 8]).ok()?;
+    Some(Bits { side, bytes })
+}
+
+/// The side whose rows have so many digits.
+fn side_of_digits(count: usize) -> Option<Side>
+    ensures { result ≡ side_of (4 * count) }
+{
+    if count > DIGITS {
+        return None;
+    }
+    Side::of(4 * count as u64)
+}
+
+/// Writes the row's lower case hexadecimal digits, four columns to a digit, as many as there is
+/// room for.
+pub(crate) fn write_hex(row: &Row, text: &mut [u8])
+    requires bytes { length text.old % 2 ≡ 0 }
+    requires row { length text.old ≤ DIGITS }
+    ensures { text.new ≡ row_text (length text.old) (column_bit row.now) }
+{
+    let bytes = bytes_of_row(row);
+    hex::encode_to_slice(&bytes[..text.len() / 2], text).unwrap();
+}
+
+/// The bytes of the row, of which the first has columns 0 to 7.
+fn bytes_of_row(row: &Row) -> [u8; BYTES]
+    ensures { (x : ℕ) → x < 8 * BYTES → byte_column result x ≡ column_bit row.now x }
+{
+    let mut bytes = [0; BYTES];
+    for i in 0..BYTES {
+        bytes[i] = byte_of_word(row[i / 8], i % 8);
+    }
+    bytes
+}
+
+/// The byte of columns 8k to 8k + 7 of the word.
+fn byte_of_word(word: u64, k: usize) -> u8
+    requires { k < 8 }
+    ensures { (c : ℕ) → c < 8 → (bit_at result (7 - c) == 1) ≡ word_column word (8 * k + c) }
+{
+    word.to_be_bytes()[k]
+}
