@@ -17,11 +17,11 @@
 //! `laws`.
 #![tactic(auto)]
 
-mod successors;
+mod corners;
 mod inverses;
 pub mod laws;
-mod corners;
 mod refusals;
+mod successors;
 
 pub use inverses::invert;
 pub use refusals::NotReversible;

@@ -26,6 +26,7 @@ mod lines;
 mod names;
 mod neighbours;
 mod rows;
+mod texts;
 mod wirings;
 
 pub use blocks::{Corner, Grid, corner_of, in_block};
