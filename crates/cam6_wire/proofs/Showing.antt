@@ -250,6 +250,7 @@ of_word word key d x y ordered at here later =
 
 word_shown : (word : List ℕ) (d : Data) → IsOrdered d →
     get (codes "do") d ≡ Some (string word) → IfSome (by_word word d) (Shows d)
+unfolding clear_of run_of back_of plane_of side_of colours_of count_of
 word_shown word d ordered at =
     of_word word (codes "set") d (set_of d) _ ordered at (set_shown d)
     (of_word word (codes "clear") d (clear_of d) _ ordered at

@@ -28,8 +28,9 @@ use Rattle.cam6_wiring.proofs.NamesOfTexts.{half_of_text, hood_of_text, minor_of
 use Rattle.cam6_wiring.proofs.NamesOfTexts.{grid_of_text}
 use Rattle.cam6_wire.specs.Wirings.{wiring_in}
 use Rattle.cam6_wire.specs.Entries.{rule_name_in, entry_in, entries_in}
-use Rattle.cam6_wire.specs.Commands.{set_of, sole_number, rule_of, drop_of, listing_of, cycle_of}
-use Rattle.cam6_wire.specs.Commands.{row_of, map_of, by_word, shown_in, from_value}
+use Rattle.cam6_wire.specs.Commands.{set_of, sole_number, clear_of, rule_of, drop_of, listing_of}
+use Rattle.cam6_wire.specs.Commands.{cycle_of, run_of, back_of, row_of, plane_of, side_of, map_of}
+use Rattle.cam6_wire.specs.Commands.{colours_of, count_of, by_word, shown_in, from_value}
 use Rattle.cam6_wire.specs.Shown.{ShowsEntries, Shows}
 use Rattle.cam6_wire.specs.Laws.{ShownIsSaid}
 use Rattle.cam6_wire.proofs.Saying.{short_line}
@@ -198,7 +199,7 @@ sole_said : (d : Data) (word key : List ℕ) (n : ℕ) (c : Command) →
 sole_said d word key n c same is = ap shown_in same ∙ is
 
 says_shown : (d : Data) (c : Command) → Shows d c → shown_in d ≡ Some c
-unfolding sole_number
+unfolding sole_number clear_of run_of back_of plane_of side_of colours_of count_of
 says_shown d (Set plane row bits) shows =
     of_same d _ (Set plane row bits) shows.3
     (by_its_word _ (codes "set") (Set plane row bits) refl

@@ -39,7 +39,7 @@ unfoldable pub sole_number : List ℕ → Data → Option ℕ
 sole_number key d = if has_size 2 d then number_at key d else None
 
 -- {"do":"clear","plane":p}
-abbrev pub clear_of : Data → Option Command
+unfoldable pub clear_of : Data → Option Command
 clear_of d = option_map Clear (sole_number (codes "plane") d)
 
 -- the command of the keys name, half, hood, minor and text
@@ -67,11 +67,11 @@ unfoldable pub cycle_of : Data → Option Command
 cycle_of d = if has_size 2 d then option_map Cycle (entries_at (codes "entries") d) else None
 
 -- {"do":"run","n":k}
-abbrev pub run_of : Data → Option Command
+unfoldable pub run_of : Data → Option Command
 run_of d = option_map Run (sole_number (codes "n") d)
 
 -- {"do":"back","n":k}
-abbrev pub back_of : Data → Option Command
+unfoldable pub back_of : Data → Option Command
 back_of d = option_map Back (sole_number (codes "n") d)
 
 -- the command of the keys plane and row
@@ -86,11 +86,11 @@ unfoldable pub row_of : Data → Option Command
 row_of d = if has_size 3 d then row_fields d else None
 
 -- {"do":"plane","plane":p}
-abbrev pub plane_of : Data → Option Command
+unfoldable pub plane_of : Data → Option Command
 plane_of d = option_map Plane (sole_number (codes "plane") d)
 
 -- {"do":"side","side":n}
-abbrev pub side_of : Data → Option Command
+unfoldable pub side_of : Data → Option Command
 side_of d = option_map SetSide (sole_number (codes "side") d)
 
 -- {"do":"map","colours":[16 numbers]}
@@ -98,11 +98,11 @@ unfoldable pub map_of : Data → Option Command
 map_of d = if has_size 2 d then option_map Map (colours_at (codes "colours") d) else None
 
 -- {"do":"colours","row":y}
-abbrev pub colours_of : Data → Option Command
+unfoldable pub colours_of : Data → Option Command
 colours_of d = option_map Colours (sole_number (codes "row") d)
 
 -- {"do":"count","mask":m}
-abbrev pub count_of : Data → Option Command
+unfoldable pub count_of : Data → Option Command
 count_of d = option_map Count (sole_number (codes "mask") d)
 
 -- by the word at the key do
