@@ -11,7 +11,8 @@ use Rattle.cam6_wiring.specs.declared.names.Phase.TheVariants.{P0, P1, P2, P3}
 use Rattle.cam6_wiring.specs.declared.wirings.Hood.{Hood}
 use Rattle.cam6_wiring.specs.declared.wirings.Minor.{Minor}
 use Rattle.cam6_wiring.specs.declared.wirings.Minor.TheVariants.{Centers, Phases, HorzVert}
-use Rattle.cam6_block.specs.BlockMaps.{Reading, block_map, preimage, first_from, is_margolus}
+use Rattle.cam6_wiring.specs.Wiring.{is_margolus}
+use Rattle.cam6_block.specs.BlockMaps.{Reading, block_map, preimage, first_from}
 use Rattle.cam6_block.specs.BlockMaps.{IsOneToOne, IsReversible}
 use Rattle.cam6_block.specs.Refusals.{IsMeeting, IsRefused, has_met, meeting_of, or_at_later_phase}
 use Rattle.cam6_block.specs.Refusals.{first_meeting, centres_or, cause_of}

@@ -8,8 +8,9 @@ use Rattle.cam6_wiring.specs.Name.{phase_number}
 use Rattle.cam6_wiring.specs.declared.names.Phase.{Phase}
 use Rattle.cam6_wiring.specs.declared.wirings.Hood.{Hood}
 use Rattle.cam6_wiring.specs.declared.wirings.Minor.{Minor}
+use Rattle.cam6_wiring.specs.Wiring.{is_margolus}
 use Rattle.cam6_block.specs.Blocks.{corner_address, corner_bits}
-use Rattle.cam6_block.specs.BlockMaps.{Reading, block_map, preimage, IsOneToOne, is_margolus}
+use Rattle.cam6_block.specs.BlockMaps.{Reading, block_map, preimage, IsOneToOne}
 use Rattle.cam6_block.specs.Inverted.{IsInverted}
 use Rattle.cam6_block.proofs.States.{block_map-lt}
 use Rattle.cam6_block.proofs.Pigeonhole.{takes_each}

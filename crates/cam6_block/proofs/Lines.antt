@@ -5,7 +5,7 @@ use Rattle.std.proofs.Common.{◌++◌, length, drop, map, refl, sym, ◌∙◌,
 use Rattle.std.proofs.lemmas.List.{length-map}
 use Rattle.cam6_wiring.specs.Name.{phase_bit}
 use Rattle.cam6_wiring.specs.Seen.{number_of, line_shows, address_of}
-use Rattle.cam6_wiring.specs.Wiring.{names_of, hood_names, minor_names}
+use Rattle.cam6_wiring.specs.Wiring.{names_of, hood_names, minor_names, is_margolus}
 use Rattle.cam6_wiring.specs.declared.names.Level.TheVariants.{Lower, Upper}
 use Rattle.cam6_wiring.specs.declared.names.Phase.{Phase}
 use Rattle.cam6_wiring.specs.declared.wirings.Hood.{Hood}
@@ -14,7 +14,6 @@ use Rattle.cam6_wiring.specs.declared.wirings.Hood.TheVariants.{MargolusPhase, M
 use Rattle.cam6_wiring.specs.declared.wirings.Minor.{Minor}
 use Rattle.cam6_wiring.specs.declared.wirings.Minor.TheVariants.{Centers, Phases, HorzVert}
 use Rattle.cam6_block.specs.Blocks.{corner_bit, corner_sees, corner_address, is_right, is_low}
-use Rattle.cam6_block.specs.BlockMaps.{is_margolus}
 
 -- what a corner shows on each line
 abbrev pub lines : Hood → Minor → Phase → ℕ → ℕ → List Bool

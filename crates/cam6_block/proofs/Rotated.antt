@@ -7,7 +7,7 @@ use Rattle.std.proofs.Common.{sym, ◌∙◌, ap, arith, slice_index}
 use Rattle.std.proofs.lemmas.List.{length-map}
 use mathlib.Core.Path.{Path}
 use Rattle.cam6_wiring.specs.Seen.{Sees, number_of, line_shows, address_of}
-use Rattle.cam6_wiring.specs.Wiring.{names_of}
+use Rattle.cam6_wiring.specs.Wiring.{names_of, is_margolus}
 use Rattle.cam6_wiring.specs.declared.names.Compass.TheVariants.{Center}
 use Rattle.cam6_wiring.specs.declared.names.Level.{Level}
 use Rattle.cam6_wiring.specs.declared.names.Level.TheVariants.{Lower, Upper}
@@ -19,7 +19,7 @@ use Rattle.cam6_wiring.specs.declared.wirings.Minor.{Minor}
 use Rattle.cam6_table.specs.NewBits.{bit_for}
 use Rattle.cam6_block.specs.Blocks.{corner_bit, state_of, corner_sees, corners_on, corner_address}
 use Rattle.cam6_block.specs.Blocks.{corner_bits}
-use Rattle.cam6_block.specs.BlockMaps.{Reading, by_table, block_map, IsOneToOne, is_margolus}
+use Rattle.cam6_block.specs.BlockMaps.{Reading, by_table, block_map, IsOneToOne}
 use Rattle.cam6_block.proofs.States.{four, corner_bit-state_of, state_of-lt, corner_bit-mod}
 use Rattle.cam6_block.proofs.States.{same_state, corner_bit-block_map, block_map-lt}
 use Rattle.cam6_block.proofs.Lines.{lines, block_lines, other_lines, split, other_long}

@@ -35,12 +35,13 @@ never_refused wiring text cause can is =
     cc contrary
 
 module _ (wiring : Wiring) (code : List Instruction) (entries : List ℕ)
-    (are : AreEntries (result_at code) entries) where
+    (whole : length entries ≡ addresses) (are : AreEntries (result_at code) entries) where
   -- what the code filled is the table of its text
   its_table : (text : List ℕ) → IsCodeFor wiring text code → IsTableOf wiring text entries
   its_table text is =
       record {
         rule = is.spells.all.rule;
+        whole = whole;
         holds = λ address within. sym (is.means address) ∙ are address within;
       }
 

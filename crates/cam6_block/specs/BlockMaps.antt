@@ -1,11 +1,10 @@
 -- What a rule or a table makes of a block, and when this can be undone.
-use Rattle.std.specs.Prelude.{◌≡◌, ◌≢◌, ◌<◌, ℕ, zero, suc, ◌==◌, Bool, true, false}
+use Rattle.std.specs.Prelude.{◌≡◌, ◌≢◌, ◌<◌, ℕ, zero, suc, ◌==◌, Bool, true}
 use Rattle.std.specs.Prelude.{List, slice_index, Result, Ok, Err, if◌then◌else◌}
 use Rattle.cam6_wiring.specs.Seen.{Sees, address_of}
+use Rattle.cam6_wiring.specs.Wiring.{is_margolus}
 use Rattle.cam6_wiring.specs.declared.names.Phase.{Phase}
 use Rattle.cam6_wiring.specs.declared.wirings.Hood.{Hood}
-use Rattle.cam6_wiring.specs.declared.wirings.Hood.TheVariants.{Moore, VonNeumann, Margolus}
-use Rattle.cam6_wiring.specs.declared.wirings.Hood.TheVariants.{MargolusPhase, MargolusHorzVert}
 use Rattle.cam6_wiring.specs.declared.wirings.Minor.{Minor}
 use Rattle.cam6_wiring.specs.declared.wirings.Minor.TheVariants.{Centers}
 use Rattle.cam6_wiring.specs.declared.wirings.Wiring.{Wiring}
@@ -54,14 +53,6 @@ first_from p (suc n) k = if p k then k else first_from p n (suc k)
 -- the least state with this successor
 unfoldable pub preimage : (ℕ → ℕ) → ℕ → ℕ
 preimage f successor = first_from (λ state. f state == successor) block_states 0
-
--- under these neighbourhoods each cell is one of a block
-abbrev pub is_margolus : Hood → Bool
-is_margolus Moore = false
-is_margolus VonNeumann = false
-is_margolus Margolus = true
-is_margolus MargolusPhase = true
-is_margolus MargolusHorzVert = true
 
 -- blocks that see nothing but themselves, of which no two have one successor at any phase
 pub record IsReversible (read : Reading) (hood : Hood) (minor : Minor) : Type 0 where

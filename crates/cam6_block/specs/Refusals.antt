@@ -7,9 +7,10 @@ use Rattle.cam6_wiring.specs.declared.names.Phase.TheVariants.{P0, P1, P2, P3}
 use Rattle.cam6_wiring.specs.declared.wirings.Hood.{Hood}
 use Rattle.cam6_wiring.specs.declared.wirings.Minor.{Minor}
 use Rattle.cam6_wiring.specs.declared.wirings.Minor.TheVariants.{Centers, Phases, HorzVert}
+use Rattle.cam6_wiring.specs.Wiring.{is_margolus}
 use Rattle.cam6_block.specs.Blocks.{block_states}
 use Rattle.cam6_block.specs.BlockMaps.{Reading, block_map, preimage, first_from}
-use Rattle.cam6_block.specs.BlockMaps.{IsOneToOne, is_margolus}
+use Rattle.cam6_block.specs.BlockMaps.{IsOneToOne}
 use Rattle.cam6_block.specs.declared.refusals.NotReversible.{NotReversible}
 use Rattle.cam6_block.specs.declared.refusals.NotReversible.TheVariants as not_reversible
 

@@ -2,11 +2,10 @@
 ghost use Rattle.std.specs.Prelude.{◌≡◌, ◌<◌, ◌+◌, [], ◌∷◌, drop, map, true};
 ghost use Rattle.cam6_wiring.specs.Seen.{number_of, line_shows};
 ghost use Rattle.cam6_wiring.specs.declared.names.Level.TheVariants.{Lower, Upper};
-ghost use Rattle.cam6_wiring.specs.Wiring.{hood_names, minor_names};
+ghost use Rattle.cam6_wiring.specs.Wiring.{hood_names, minor_names, is_margolus};
 ghost use Rattle.cam6_table.specs.Limits.{addresses};
 ghost use Rattle.cam6_block.specs.Blocks.{corner_bit, corner_bits, corner_sees, corner_address};
 ghost use Rattle.cam6_block.specs.Blocks.{is_right, is_low};
-ghost use Rattle.cam6_block.specs.BlockMaps.{is_margolus};
 
 use cam6_wiring::{Hood, Level, Minor, Phase};
 
@@ -15,16 +14,6 @@ pub(crate) const CORNERS: u8 = 4;
 
 /// States of a block.
 pub(crate) const STATES: u16 = 256;
-
-/// Whether cells are of blocks under this neighbourhood.
-pub(crate) fn is_margolus(hood: Hood) -> bool
-    ensures { result ≡ is_margolus hood }
-{
-    match hood {
-        Hood::Moore | Hood::VonNeumann => false,
-        Hood::Margolus | Hood::MargolusPhase | Hood::MargolusHorzVert => true,
-    }
-}
 
 /// The address that a corner shows: it sees its block on lines 0 to 7, and on the others what its
 /// block's state has no part in.

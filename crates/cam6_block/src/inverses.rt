@@ -2,13 +2,14 @@
 ghost use Rattle.std.specs.Prelude.{◌≡◌, ◌<◌, ◌%◌, ℕ, true, IfOk, IfErr, OnErr, length};
 ghost use Rattle.std.specs.Prelude.{slice_index};
 ghost use Rattle.cam6_wiring.specs.declared.names.Phase.{Phase};
+ghost use Rattle.cam6_wiring.specs.Wiring.{is_margolus};
 ghost use Rattle.cam6_table.specs.Limits.{addresses};
-ghost use Rattle.cam6_block.specs.BlockMaps.{by_table, block_map, is_margolus};
+ghost use Rattle.cam6_block.specs.BlockMaps.{by_table, block_map};
 ghost use Rattle.cam6_block.specs.BlockMaps.{IsOneToOne, IsReversible};
 ghost use Rattle.cam6_block.specs.Inverted.{IsInverted};
 ghost use Rattle.cam6_block.specs.Refusals.{IsRefused};
 
-use crate::corners::{CORNERS, STATES, corner_address, corner_bits, is_margolus};
+use crate::corners::{CORNERS, STATES, corner_address, corner_bits};
 use crate::refusals::{NotReversible, Pair, meeting};
 use crate::successors::successor;
 use cam6_table::Table;
@@ -28,7 +29,7 @@ pub fn invert(table: &Table, hood: Hood, minor: Minor, out: &mut Table) -> Resul
         IsRefused (by_table hood minor table.now) hood minor cause) }
     ensures unchanged { OnErr result (out.new ≡ out.old) }
 {
-    if !is_margolus(hood) {
+    if !hood.is_margolus() {
         return Err(NotReversible::Hood);
     }
     if let Minor::Centers = minor {

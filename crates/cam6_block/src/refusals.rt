@@ -1,6 +1,7 @@
 //! Why a table has no inverse, and the block_states that show it.
 ghost use Rattle.std.specs.Prelude.{◌≡◌, IfSome, None, true};
-ghost use Rattle.cam6_block.specs.BlockMaps.{by_table, block_map, IsOneToOne, is_margolus};
+ghost use Rattle.cam6_wiring.specs.Wiring.{is_margolus};
+ghost use Rattle.cam6_block.specs.BlockMaps.{by_table, block_map, IsOneToOne};
 ghost use Rattle.cam6_block.specs.Refusals.{IsMeeting};
 
 use crate::corners::STATES;

@@ -1,12 +1,7 @@
 -- What a table is asked for by, and its true table.
 use Rattle.std.specs.Prelude.{ℕ, Bool, true, false, not, ◌&&◌, List}
 use Rattle.std.specs.Str.{bytes_eq}
-use Rattle.cam6_wiring.specs.Name.{is_same_half}
-use Rattle.cam6_wiring.specs.declared.wirings.Hood.{Hood}
-use Rattle.cam6_wiring.specs.declared.wirings.Hood.TheVariants.{Moore, VonNeumann, Margolus}
-use Rattle.cam6_wiring.specs.declared.wirings.Hood.TheVariants.{MargolusPhase, MargolusHorzVert}
-use Rattle.cam6_wiring.specs.declared.wirings.Minor.{Minor}
-use Rattle.cam6_wiring.specs.declared.wirings.Minor.TheVariants.{Centers, Phases, HorzVert}
+use Rattle.cam6_wiring.specs.Same.{is_same_wiring}
 use Rattle.cam6_wiring.specs.declared.wirings.Wiring.{Wiring}
 use Rattle.cam6_cycle.specs.declared.tables.Direction.{Direction}
 use Rattle.cam6_cycle.specs.declared.tables.Direction.TheVariants.{Forward, Backward}
@@ -37,25 +32,7 @@ IsTrueBy inverted key entries = IsTableBy (way_of inverted) key.wiring key.text 
 abbrev pub IsTrueFor : TableKey → List ℕ → Type 0
 IsTrueFor key entries = IsTrueBy key.inverted key entries
 
-abbrev pub is_same_hood : Hood → Hood → Bool
-is_same_hood Moore Moore = true
-is_same_hood VonNeumann VonNeumann = true
-is_same_hood Margolus Margolus = true
-is_same_hood MargolusPhase MargolusPhase = true
-is_same_hood MargolusHorzVert MargolusHorzVert = true
-is_same_hood _ _ = false
-
-abbrev pub is_same_minor : Minor → Minor → Bool
-is_same_minor Centers Centers = true
-is_same_minor Phases Phases = true
-is_same_minor HorzVert HorzVert = true
-is_same_minor _ _ = false
-
-abbrev pub is_same_wiring : Wiring → Wiring → Bool
-is_same_wiring first second =
-    is_same_half first.half second.half && is_same_hood first.hood second.hood
-    && is_same_minor first.minor second.minor
-
+-- whether two keys are both for the table of a rule, or both for the one that undoes it
 abbrev pub is_same_way : Bool → Bool → Bool
 is_same_way false second = not second
 is_same_way true second = second

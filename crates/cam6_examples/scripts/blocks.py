@@ -9,6 +9,8 @@ Where it can be said by hand which states meet, it is compared here.
 
 import sys
 
+from wirings import BLOCKS, SEEN_BY_BLOCKS
+
 PLACES = range(4)
 STATES = range(256)
 PHASES = range(4)
@@ -26,13 +28,15 @@ class View:
         self.right = int(place in (1, 2))
         self.below = int(place in (2, 3))
         self.balls, self.upper_balls = sum(lower), sum(upper)
+        self.shown = {
+            **{"CENTER": self.center, "CW": self.cw, "CCW": self.ccw, "OPP": self.opp},
+            **{"CENTER'": self.center2, "CW'": self.cw2, "CCW'": self.ccw2, "OPP'": self.opp2},
+            **{"PHASE": self.low, "PHASE'": self.high, "HORZ": self.right, "VERT": self.below, ".": 0},
+        }
 
     def address(self, hood, minor):
-        lines = [self.center, self.center2, self.cw, self.ccw, self.opp, self.cw2, self.ccw2, self.opp2]
-        phase, sides = [self.low, self.high], [self.right, self.below]
-        lines += {"N/MARG": [0, 0], "N/MARG-PH": phase, "N/MARG-HV": sides}[hood]
-        lines += {"&/PHASES": phase, "&/HV": sides}[minor]
-        return sum(bit << line for line, bit in enumerate(lines))
+        names = (BLOCKS[hood] + " " + SEEN_BY_BLOCKS[minor]).split()
+        return sum(self.shown[name.lstrip("&")] << line for line, name in enumerate(names))
 
 
 def image(formula, state, phase):

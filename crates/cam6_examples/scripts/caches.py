@@ -8,12 +8,9 @@ find their table is said by hand.
 
 import blocks
 import tables
+from wirings import BLOCKS, HOODS, MINORS, SEEN_BY_BLOCKS
 
 HALVES = ["A", "B"]
-BLOCKS = ["N/MARG", "N/MARG-PH", "N/MARG-HV"]
-HOODS = ["N/MOORE", "N/VONN", *BLOCKS]
-SEEN_BY_BLOCKS = ["&/PHASES", "&/HV"]
-MINORS = ["&/CENTERS", *SEEN_BY_BLOCKS]
 
 
 def entries(formula):

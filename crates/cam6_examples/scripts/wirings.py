@@ -8,14 +8,21 @@ cell. Where no set cell is beside, a name that reads cells shows 0, so that it i
 from functools import cache
 
 # The names by their lines, from 0 on; a dot is a line without a name.
-HOODS = {
+SINGLE_CELLS = {
     "N/MOORE": "CENTER CENTER' NORTH SOUTH WEST EAST N.WEST N.EAST S.WEST S.EAST",
     "N/VONN": "CENTER CENTER' NORTH SOUTH WEST EAST NORTH' SOUTH' WEST' EAST'",
+}
+# The neighbourhoods of blocks.
+BLOCKS = {
     "N/MARG": "CENTER CENTER' CW CCW OPP CW' CCW' OPP' . .",
     "N/MARG-PH": "CENTER CENTER' CW CCW OPP CW' CCW' OPP' PHASE PHASE'",
     "N/MARG-HV": "CENTER CENTER' CW CCW OPP CW' CCW' OPP' HORZ VERT",
 }
-MINORS = {"&/CENTERS": "&CENTER &CENTER'", "&/PHASES": "&PHASE &PHASE'", "&/HV": "&HORZ &VERT"}
+HOODS = {**SINGLE_CELLS, **BLOCKS}
+# The minor assignments, first the one of which a block sees nothing.
+CENTRES = {"&/CENTERS": "&CENTER &CENTER'"}
+SEEN_BY_BLOCKS = {"&/PHASES": "&PHASE &PHASE'", "&/HV": "&HORZ &VERT"}
+MINORS = {**CENTRES, **SEEN_BY_BLOCKS}
 
 BESIDE = {
     "CENTER": (0, 0),
@@ -206,4 +213,5 @@ def main():
             print_part(tori[(i + j) % 3], (hood, minor), b)
 
 
-main()
+if __name__ == "__main__":
+    main()

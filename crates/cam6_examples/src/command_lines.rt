@@ -1,6 +1,5 @@
 //! A command as the plainest line that says it: compact, its keys in byte order, its digits small.
 
-use crate::settings::{grid_text, half_text, hood_text, minor_text};
 use cam6_machine::{Command, NamedEntry, Text};
 use serde_json::{Value, json};
 use std::alloc::{AllocError, Global};
@@ -20,9 +19,9 @@ fn value_of(alloc: Global, command: &Command) -> Result<Value, AllocError> {
         Command::Rule { name, wiring, text } => {
             json!(in alloc; {
                 "do": "rule",
-                "half": half_text(wiring.half),
-                "hood": hood_text(wiring.hood),
-                "minor": minor_text(wiring.minor),
+                "half": wiring.half.text(),
+                "hood": wiring.hood.text(),
+                "minor": wiring.minor.text(),
                 "name": name.as_str(),
                 "text": text.as_str()
             })
@@ -64,6 +63,6 @@ fn map_value(alloc: Global, colours: &[u64; 16]) -> Result<Value, AllocError> {
 fn entry_value(alloc: Global, entry: &NamedEntry) -> Result<Value, AllocError> {
     let a = entry.a.as_ref().map_or("-", Text::as_str);
     let b = entry.b.as_ref().map_or("-", Text::as_str);
-    let grid = grid_text(entry.grid);
+    let grid = entry.grid.text();
     json!(in alloc; {"a": a, "b": b, "grid": grid, "phase": entry.phase})
 }

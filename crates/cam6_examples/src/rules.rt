@@ -4,7 +4,6 @@ ghost use Rattle.cam6_table.specs.RuleTexts.{IsCodeFor, IsTableOf};
 
 use crate::examples::Sent;
 use crate::sessions::{add_line, no_memory};
-use crate::settings::{half_text, hood_text, minor_text};
 use cam6_forth::{Definition, ParseFault, Rule, TextFault, Word, parse_under};
 use cam6_table::{Code, ENTRIES, MAX_TURNS, NotCompiled, RuleFault, Table, compile, eval};
 use cam6_wiring::Wiring;
@@ -67,8 +66,8 @@ pub fn kept_rules(alloc: Global, wiring: Wiring, sent: &[Sent]) -> io::Result<Ve
 
 fn add_rule(alloc: Global, answers: &mut Vec<u8>, rule: &Rule) -> io::Result<()> {
     let wiring = rule.wiring();
-    let (half, hood) = (half_text(wiring.half), hood_text(wiring.hood));
-    let minor = minor_text(wiring.minor);
+    let (half, hood) = (wiring.half.text(), wiring.hood.text());
+    let minor = wiring.minor.text();
     let head = format!(in alloc; "{half} {hood} {minor}")?;
     answers.extend_from_slice(head.as_bytes())?;
     for definition in rule.definitions() {

@@ -3,7 +3,7 @@
 use Rattle.std.proofs.Common.{◌≡◌, ◌≢◌, Bool, true, List, [], ◌∷◌, map, refl, ap}
 use mathlib.Core.Path.{Path}
 use Rattle.cam6_wiring.specs.Seen.{Sees, line_shows, number_of, address_of}
-use Rattle.cam6_wiring.specs.Wiring.{names_of}
+use Rattle.cam6_wiring.specs.Wiring.{names_of, is_margolus}
 use Rattle.cam6_wiring.specs.declared.names.Compass.TheVariants.{Center}
 use Rattle.cam6_wiring.specs.declared.names.Level.{Level}
 use Rattle.cam6_wiring.specs.declared.names.Level.TheVariants.{Lower, Upper}
@@ -16,7 +16,6 @@ use Rattle.cam6_wiring.specs.declared.wirings.Hood.TheVariants.{Moore, VonNeuman
 use Rattle.cam6_wiring.specs.declared.wirings.Hood.TheVariants.{MargolusPhase, MargolusHorzVert}
 use Rattle.cam6_wiring.specs.declared.wirings.Minor.{Minor}
 use Rattle.cam6_wiring.specs.declared.wirings.Minor.TheVariants.{Centers, Phases, HorzVert}
-use Rattle.cam6_block.specs.BlockMaps.{is_margolus}
 
 -- two ways of seeing agree on the names of a block
 pub record Agrees (a b : Sees) : Type 0 where

@@ -9,7 +9,7 @@ use Rattle.cam6_wiring.specs.Seen.{Sees}
 use Rattle.cam6_wiring.specs.declared.names.Half.{Half}
 use Rattle.cam6_wiring.specs.declared.names.Level.{Level}
 use Rattle.cam6_wiring.specs.declared.wirings.Minor.TheVariants.{Centers}
-use Rattle.cam6_block.specs.BlockMaps.{is_margolus}
+use Rattle.cam6_wiring.specs.Wiring.{is_margolus}
 use Rattle.cam6_band.specs.ByTables.{StepTables, step_by}
 use Rattle.cam6_band.specs.AtPosition.{step_tables_at}
 use Rattle.cam6_cycle.specs.Tables.{tables_needed}

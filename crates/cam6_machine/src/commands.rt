@@ -116,11 +116,4 @@ impl NamedEntries {
     {
         self.entries.as_slice()
     }
-
-    pub fn into_vec(self) -> Vec<NamedEntry>
-        ensures { result.items ≡ self }
-    {
-        let NamedEntries { entries } = self;
-        entries
-    }
 }

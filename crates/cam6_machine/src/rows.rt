@@ -126,11 +126,4 @@ impl PlaneRows {
     {
         self.rows.as_slice()
     }
-
-    pub fn into_vec(self) -> Vec<RowText>
-        ensures { result.items ≡ self }
-    {
-        let PlaneRows { rows } = self;
-        rows
-    }
 }

@@ -1,11 +1,10 @@
 -- What stands at a key, where something is read there.
 use Rattle.std.proofs.Common.{◌≡◌, ℕ, ◌*◌, ◌/◌, length, List, cond, ◌==◌, Option, Some, None}
 use Rattle.std.proofs.Common.{IfSome}
-use Rattle.std.proofs.Common.{option_and_then, Result, Ok, Err, bytes_eq, refl, ap, ◌∙◌}
+use Rattle.std.proofs.Common.{option_and_then, Result, Ok, Err, refl, ap, ◌∙◌}
 use Rattle.std.specs.Result.{result_ok}
 use Rattle.std.proofs.lemmas.Option.{IfSome_then}
 use Rattle.std.proofs.lemmas.Bool.Decides.{Decides-eqb}
-use Rattle.std.proofs.lemmas.Slice.Eq.{bytes_eq-Decides}
 use Rattle.hex.specs.Hex.{decode_sized}
 use Rattle.cam6_planes.specs.Digits.{bits_of_digits}
 use Rattle.cam6_planes.specs.Side.{side_number, side_of}
@@ -14,16 +13,12 @@ use Rattle.hex.specs.declared.error.FromHexError.{FromHexError}
 use Rattle.serde_json.specs.Data.{Data, null, boolean, number, string, array, object}
 use Rattle.serde_json.specs.Data.{unsigned, negative, float, Members}
 use Rattle.serde_json.specs.Find.{get, as_str}
-use Rattle.cam6_wiring.specs.declared.names.Half.TheVariants.{A, B}
-use Rattle.cam6_wiring.specs.declared.wirings.Hood.TheVariants.{Moore, VonNeumann, Margolus}
-use Rattle.cam6_wiring.specs.declared.wirings.Hood.TheVariants.{MargolusPhase, MargolusHorzVert}
-use Rattle.cam6_wiring.specs.declared.wirings.Minor.TheVariants.{Centers, Phases, HorzVert}
-use Rattle.cam6_wiring.specs.declared.blocks.Grid.TheVariants.{Even, Odd}
 use Rattle.cam6_wire.specs.Fields.{count, has_size, number_in, number_at, text_at}
 use Rattle.cam6_wire.specs.Fields.{bits_at, ◌>>=◌}
 use Rattle.cam6_wire.specs.Replies.{natural}
-use Rattle.cam6_wire.specs.Wirings.{half_text, hood_text, minor_text, grid_text}
-use Rattle.cam6_wire.specs.Wirings.{half_named, hood_named, minor_named, grid_named}
+use Rattle.cam6_wiring.specs.Texts.{half_text, hood_text, minor_text, grid_text}
+use Rattle.cam6_wiring.specs.Texts.{half_named, hood_named, minor_named, grid_named}
+use Rattle.cam6_wiring.proofs.NamesOfTexts.{half_in, hood_in, minor_in, grid_in}
 use Rattle.cam6_wire.proofs.Steps.{of_step, of_test}
 
 at_key : {A : Type 0} (shown : A → Data) (f : Data → Option A) →
@@ -83,31 +78,6 @@ pub bits_found : (key : List ℕ) (d : Data) → IfSome (bits_at key d) (AreDigi
 bits_found key d =
     of_step (λ text. get key d ≡ Some (string text)) (AreDigits key d)
     bits_of_digits (λ text found. bits_in key text d found) (text_at key d) (text_found key d)
-
--- a text that is one of a list of names
-one_of : {A : Type 0} (shown : A → List ℕ) (text : List ℕ) (a : A) (later : Option A) →
-    IfSome later (λ x. text ≡ shown x) →
-    IfSome (cond (bytes_eq text (shown a)) (Some a) later) (λ x. text ≡ shown x)
-one_of shown text a later rest =
-    of_test (λ x. text ≡ shown x) (bytes_eq text (shown a)) (Some a) later
-    (λ is. (bytes_eq-Decides text (shown a)).0 is) rest
-
-half_in : (text : List ℕ) → IfSome (half_named text) (λ half. text ≡ half_text half)
-half_in text = one_of half_text text A _ (one_of half_text text B _ tt)
-
-hood_in : (text : List ℕ) → IfSome (hood_named text) (λ hood. text ≡ hood_text hood)
-hood_in text =
-    one_of hood_text text Moore _ (one_of hood_text text VonNeumann _
-    (one_of hood_text text Margolus _ (one_of hood_text text MargolusPhase _
-    (one_of hood_text text MargolusHorzVert _ tt))))
-
-minor_in : (text : List ℕ) → IfSome (minor_named text) (λ minor. text ≡ minor_text minor)
-minor_in text =
-    one_of minor_text text Centers _ (one_of minor_text text Phases _
-    (one_of minor_text text HorzVert _ tt))
-
-grid_in : (text : List ℕ) → IfSome (grid_named text) (λ grid. text ≡ grid_text grid)
-grid_in text = one_of grid_text text Even _ (one_of grid_text text Odd _ tt)
 
 -- what is named at a key
 named_at : {A : Type 0} (shown : A → List ℕ) (named : List ℕ → Option A) →

@@ -1,8 +1,11 @@
 -- A line that says a command has a value that shows it.
 use Rattle.std.proofs.Common.{◌≡◌, ◌<◌, ◌≤◌, ℕ, List, length, Bool, true, false, cond, nat_lt}
 use Rattle.std.proofs.Common.{codes, Option, Some, None, IfSome, Result, Ok, Err, ok_or, option_map}
-use Rattle.std.proofs.Common.{bytes_eq, refl, ap, ◌∙◌, arith}
+use Rattle.std.proofs.Common.{bytes_eq, Less, refl, ap, ◌∙◌, arith}
+use Rattle.std.specs.Cmp.Lexicographic.{slice_cmp}
+use Rattle.std.specs.Ordering.{nat_cmp}
 use Rattle.std.specs.Str.{is_utf8}
+use Rattle.std.proofs.lemmas.Option.{IfSome_then}
 use Rattle.std.proofs.lemmas.Slice.Eq.{bytes_eq-Decides}
 use Rattle.serde_json.specs.Data.{Data, string, array, object, Members, no_members, member}
 use Rattle.serde_json.specs.Find.{get}
@@ -20,15 +23,15 @@ use Rattle.cam6_wire.specs.declared.faults.LineFault.TheVariants.{NoCommand, Too
 use Rattle.cam6_wire.specs.Fields.{count, number_at, text_at, bits_at, colours_at}
 use Rattle.cam6_wire.specs.Fields.{◌>>=◌}
 use Rattle.cam6_wire.specs.Replies.{natural, naturals}
-use Rattle.cam6_wire.specs.Wirings.{half_text, hood_text, minor_text}
-use Rattle.cam6_wire.specs.Wirings.{half_named, hood_named, minor_named, wiring_in}
+use Rattle.cam6_wiring.specs.Texts.{half_text, hood_text, minor_text}
+use Rattle.cam6_wiring.specs.Texts.{half_named, hood_named, minor_named}
+use Rattle.cam6_wire.specs.Wirings.{wiring_in}
 use Rattle.cam6_wire.specs.Entries.{entries_at}
 use Rattle.cam6_wire.specs.Limits.{max_line}
-use Rattle.cam6_wire.specs.Commands.{set_fields, set_of, rule_fields, rule_of, cycle_of, run_of}
-use Rattle.cam6_wire.specs.Commands.{back_of}
-use Rattle.cam6_wire.specs.Commands.{row_fields, row_of, plane_of, side_of, by_word, shown_in}
-use Rattle.cam6_wire.specs.Commands.{from_value, value_of, command, clear_of, drop_of}
-use Rattle.cam6_wire.specs.Commands.{listing_of, map_of, colours_of, count_of}
+use Rattle.cam6_wire.specs.Commands.{set_fields, set_of, sole_number, clear_of, rule_fields}
+use Rattle.cam6_wire.specs.Commands.{rule_of, drop_of, listing_of, cycle_of, run_of, back_of}
+use Rattle.cam6_wire.specs.Commands.{row_fields, row_of, plane_of, side_of, map_of, colours_of}
+use Rattle.cam6_wire.specs.Commands.{count_of, by_word, shown_in, from_value, value_of, command}
 use Rattle.cam6_wire.specs.Shown.{Shows}
 use Rattle.cam6_wire.specs.Laws.{SaidIsShown}
 use Rattle.cam6_wire.proofs.Steps.{of_map, of_step, of_value, of_test, of_two, of_three}
@@ -71,37 +74,35 @@ set_shown : (d : Data) → HasWord (codes "set") d → IfSome (set_of d) (Shows 
 unfolding set_of
 set_shown d given = of_object 4 set_fields (HasWord (codes "set")) Shows set_held d given
 
-run_held : (held : Members) → count held ≡ 2 → HasWord (codes "run") (object held) →
-    IfSome (option_map Run (number_at (codes "n") (object held))) (Shows (object held))
-run_held held same given =
-    of_map (λ n. get (codes "n") (object held) ≡ Some (natural n)) (Shows (object held)) Run
-    (λ n at_n.
-    these
-    (member (codes "do") (string (codes "run")) (member (codes "n") (natural n) no_members))
-    held ((refl, tt), (tt, tt)) same given.0 (given.1, (at_n, tt)))
-    (number_at (codes "n") (object held)) (number_found (codes "n") (object held))
+-- a value that has a word and a number, and nothing else
+abbrev IsOfNumber : List ℕ → List ℕ → Data → ℕ → Type 0
+IsOfNumber word key d n =
+    d ≡ object (member (codes "do") (string word) (member key (natural n) no_members))
 
-run_shown : (d : Data) → HasWord (codes "run") d → IfSome (run_of d) (Shows d)
-unfolding run_of
-run_shown d given =
-    of_object 2 (λ x. option_map Run (number_at (codes "n") x)) (HasWord (codes "run")) Shows
-    run_held d given
+number_held : (word key : List ℕ) → slice_cmp nat_cmp (codes "do") key ≡ Less →
+    (held : Members) → count held ≡ 2 → HasWord word (object held) →
+    IfSome (number_at key (object held)) (IsOfNumber word key (object held))
+number_held word key later held same given =
+    IfSome_then (number_at key (object held)) (number_found key (object held))
+    (λ n at.
+    these (member (codes "do") (string word) (member key (natural n) no_members)) held
+    ((later, tt), (tt, tt)) same given.0 (given.1, (at, tt)))
 
-back_held : (held : Members) → count held ≡ 2 → HasWord (codes "back") (object held) →
-    IfSome (option_map Back (number_at (codes "n") (object held))) (Shows (object held))
-back_held held same given =
-    of_map (λ n. get (codes "n") (object held) ≡ Some (natural n)) (Shows (object held)) Back
-    (λ n at_n.
-    these
-    (member (codes "do") (string (codes "back")) (member (codes "n") (natural n) no_members))
-    held ((refl, tt), (tt, tt)) same given.0 (given.1, (at_n, tt)))
-    (number_at (codes "n") (object held)) (number_found (codes "n") (object held))
+sole_held : (word key : List ℕ) → slice_cmp nat_cmp (codes "do") key ≡ Less → (d : Data) →
+    HasWord word d → IfSome (sole_number key d) (IsOfNumber word key d)
+unfolding sole_number
+sole_held word key later d given =
+    of_object 2 (number_at key) (HasWord word) (IsOfNumber word key) (number_held word key later)
+    d given
 
-back_shown : (d : Data) → HasWord (codes "back") d → IfSome (back_of d) (Shows d)
-unfolding back_of
-back_shown d given =
-    of_object 2 (λ x. option_map Back (number_at (codes "n") x)) (HasWord (codes "back")) Shows
-    back_held d given
+-- a command of one number is shown by such a value
+sole_shown : (word key : List ℕ) (make : ℕ → Command) (d : Data) →
+    slice_cmp nat_cmp (codes "do") key ≡ Less →
+    ((n : ℕ) → IsOfNumber word key d n → Shows d (make n)) →
+    HasWord word d → IfSome (option_map make (sole_number key d)) (Shows d)
+sole_shown word key make d later shows given =
+    of_map (IsOfNumber word key d) (Shows d) make shows (sole_number key d)
+    (sole_held word key later d given)
 
 row_held : (held : Members) → count held ≡ 3 → HasWord (codes "row") (object held) →
     IfSome (row_fields (object held)) (Shows (object held))
@@ -120,91 +121,6 @@ row_held held same given =
 row_shown : (d : Data) → HasWord (codes "row") d → IfSome (row_of d) (Shows d)
 unfolding row_of
 row_shown d given = of_object 3 row_fields (HasWord (codes "row")) Shows row_held d given
-
-plane_held : (held : Members) → count held ≡ 2 → HasWord (codes "plane") (object held) →
-    IfSome (option_map Plane (number_at (codes "plane") (object held))) (Shows (object held))
-plane_held held same given =
-    of_map (λ n. get (codes "plane") (object held) ≡ Some (natural n)) (Shows (object held)) Plane
-    (λ n at_plane.
-    these
-    (member (codes "do") (string (codes "plane"))
-    (member (codes "plane") (natural n) no_members))
-    held ((refl, tt), (tt, tt)) same given.0 (given.1, (at_plane, tt)))
-    (number_at (codes "plane") (object held)) (number_found (codes "plane") (object held))
-
-plane_shown : (d : Data) → HasWord (codes "plane") d → IfSome (plane_of d) (Shows d)
-unfolding plane_of
-plane_shown d given =
-    of_object 2 (λ x. option_map Plane (number_at (codes "plane") x)) (HasWord (codes "plane"))
-    Shows plane_held d given
-
-side_held : (held : Members) → count held ≡ 2 → HasWord (codes "side") (object held) →
-    IfSome (option_map SetSide (number_at (codes "side") (object held))) (Shows (object held))
-side_held held same given =
-    of_map (λ n. get (codes "side") (object held) ≡ Some (natural n)) (Shows (object held)) SetSide
-    (λ n at_side.
-    these
-    (member (codes "do") (string (codes "side"))
-    (member (codes "side") (natural n) no_members))
-    held ((refl, tt), (tt, tt)) same given.0 (given.1, (at_side, tt)))
-    (number_at (codes "side") (object held)) (number_found (codes "side") (object held))
-
-side_shown : (d : Data) → HasWord (codes "side") d → IfSome (side_of d) (Shows d)
-unfolding side_of
-side_shown d given =
-    of_object 2 (λ x. option_map SetSide (number_at (codes "side") x)) (HasWord (codes "side"))
-    Shows side_held d given
-
-clear_held : (held : Members) → count held ≡ 2 → HasWord (codes "clear") (object held) →
-    IfSome (option_map Clear (number_at (codes "plane") (object held))) (Shows (object held))
-clear_held held same given =
-    of_map (λ n. get (codes "plane") (object held) ≡ Some (natural n)) (Shows (object held)) Clear
-    (λ n at_plane.
-    these
-    (member (codes "do") (string (codes "clear"))
-    (member (codes "plane") (natural n) no_members))
-    held ((refl, tt), (tt, tt)) same given.0 (given.1, (at_plane, tt)))
-    (number_at (codes "plane") (object held)) (number_found (codes "plane") (object held))
-
-clear_shown : (d : Data) → HasWord (codes "clear") d → IfSome (clear_of d) (Shows d)
-unfolding clear_of
-clear_shown d given =
-    of_object 2 (λ x. option_map Clear (number_at (codes "plane") x)) (HasWord (codes "clear"))
-    Shows clear_held d given
-
-colours_held : (held : Members) → count held ≡ 2 → HasWord (codes "colours") (object held) →
-    IfSome (option_map Colours (number_at (codes "row") (object held))) (Shows (object held))
-colours_held held same given =
-    of_map (λ n. get (codes "row") (object held) ≡ Some (natural n)) (Shows (object held)) Colours
-    (λ n at_row.
-    these
-    (member (codes "do") (string (codes "colours"))
-    (member (codes "row") (natural n) no_members))
-    held ((refl, tt), (tt, tt)) same given.0 (given.1, (at_row, tt)))
-    (number_at (codes "row") (object held)) (number_found (codes "row") (object held))
-
-colours_shown : (d : Data) → HasWord (codes "colours") d → IfSome (colours_of d) (Shows d)
-unfolding colours_of
-colours_shown d given =
-    of_object 2 (λ x. option_map Colours (number_at (codes "row") x)) (HasWord (codes "colours"))
-    Shows colours_held d given
-
-count_held : (held : Members) → count held ≡ 2 → HasWord (codes "count") (object held) →
-    IfSome (option_map Count (number_at (codes "mask") (object held))) (Shows (object held))
-count_held held same given =
-    of_map (λ n. get (codes "mask") (object held) ≡ Some (natural n)) (Shows (object held)) Count
-    (λ n at_mask.
-    these
-    (member (codes "do") (string (codes "count"))
-    (member (codes "mask") (natural n) no_members))
-    held ((refl, tt), (tt, tt)) same given.0 (given.1, (at_mask, tt)))
-    (number_at (codes "mask") (object held)) (number_found (codes "mask") (object held))
-
-count_shown : (d : Data) → HasWord (codes "count") d → IfSome (count_of d) (Shows d)
-unfolding count_of
-count_shown d given =
-    of_object 2 (λ x. option_map Count (number_at (codes "mask") x)) (HasWord (codes "count"))
-    Shows count_held d given
 
 drop_held : (held : Members) → count held ≡ 2 → HasWord (codes "drop") (object held) →
     IfSome (option_map DropRule (text_at (codes "name") (object held))) (Shows (object held))
@@ -334,21 +250,29 @@ of_word word key d x y ordered at here later =
 
 word_shown : (word : List ℕ) (d : Data) → IsOrdered d →
     get (codes "do") d ≡ Some (string word) → IfSome (by_word word d) (Shows d)
+unfolding clear_of run_of back_of plane_of side_of colours_of count_of
 word_shown word d ordered at =
     of_word word (codes "set") d (set_of d) _ ordered at (set_shown d)
-    (of_word word (codes "clear") d (clear_of d) _ ordered at (clear_shown d)
+    (of_word word (codes "clear") d (clear_of d) _ ordered at
+    (sole_shown (codes "clear") (codes "plane") Clear d refl (λ n is. is))
     (of_word word (codes "rule") d (rule_of d) _ ordered at (rule_shown d)
     (of_word word (codes "drop") d (drop_of d) _ ordered at (drop_shown d)
     (of_word word (codes "rules") d (listing_of d) _ ordered at (rules_shown d)
     (of_word word (codes "cycle") d (cycle_of d) _ ordered at (cycle_shown d)
-    (of_word word (codes "run") d (run_of d) _ ordered at (run_shown d)
-    (of_word word (codes "back") d (back_of d) _ ordered at (back_shown d)
+    (of_word word (codes "run") d (run_of d) _ ordered at
+    (sole_shown (codes "run") (codes "n") Run d refl (λ n is. is))
+    (of_word word (codes "back") d (back_of d) _ ordered at
+    (sole_shown (codes "back") (codes "n") Back d refl (λ n is. is))
     (of_word word (codes "row") d (row_of d) _ ordered at (row_shown d)
-    (of_word word (codes "plane") d (plane_of d) _ ordered at (plane_shown d)
-    (of_word word (codes "side") d (side_of d) _ ordered at (side_shown d)
+    (of_word word (codes "plane") d (plane_of d) _ ordered at
+    (sole_shown (codes "plane") (codes "plane") Plane d refl (λ n is. is))
+    (of_word word (codes "side") d (side_of d) _ ordered at
+    (sole_shown (codes "side") (codes "side") SetSide d refl (λ n is. is))
     (of_word word (codes "map") d (map_of d) _ ordered at (map_shown d)
-    (of_word word (codes "colours") d (colours_of d) _ ordered at (colours_shown d)
-    (of_word word (codes "count") d (count_of d) _ ordered at (count_shown d) tt)))))))))))))
+    (of_word word (codes "colours") d (colours_of d) _ ordered at
+    (sole_shown (codes "colours") (codes "row") Colours d refl (λ n is. is))
+    (of_word word (codes "count") d (count_of d) _ ordered at
+    (sole_shown (codes "count") (codes "mask") Count d refl (λ n is. is)) tt)))))))))))))
 
 pub command_shown : (d : Data) → IsOrdered d → IfSome (shown_in d) (Shows d)
 command_shown d ordered =

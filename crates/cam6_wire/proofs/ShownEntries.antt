@@ -11,7 +11,7 @@ use Rattle.cam6_wiring.specs.declared.blocks.Grid.{Grid}
 use Rattle.cam6_machine.specs.declared.commands.NamedEntry.{NamedEntry}
 use Rattle.cam6_wire.specs.Fields.{count, number_at, text_at, ◌>>=◌}
 use Rattle.cam6_wire.specs.Replies.{natural}
-use Rattle.cam6_wire.specs.Wirings.{grid_text, grid_named}
+use Rattle.cam6_wiring.specs.Texts.{grid_text, grid_named}
 use Rattle.cam6_wire.specs.Entries.{rule_name_in, entry_fields, entry_in, entries_in, entries_at}
 use Rattle.cam6_wire.specs.Shown.{ShowsEntry, ShowsEntries}
 use Rattle.cam6_wire.proofs.Steps.{of_step, of_four}

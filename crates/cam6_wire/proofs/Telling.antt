@@ -7,17 +7,8 @@ use Rattle.cam6_planes.proofs.DigitsRead.{digits_said}
 use Rattle.hex.specs.Hex.{decode_sized}
 use Rattle.serde_json.specs.Data.{Data, string, array, object}
 use Rattle.serde_json.specs.Data.{Items, no_items, item, no_members, member}
-use Rattle.cam6_wiring.specs.declared.names.Half.{Half}
-use Rattle.cam6_wiring.specs.declared.names.Half.TheVariants.{A, B}
-use Rattle.cam6_wiring.specs.declared.wirings.Hood.{Hood}
-use Rattle.cam6_wiring.specs.declared.wirings.Hood.TheVariants.{Moore, VonNeumann, Margolus}
-use Rattle.cam6_wiring.specs.declared.wirings.Hood.TheVariants.{MargolusPhase, MargolusHorzVert}
-use Rattle.cam6_wiring.specs.declared.wirings.Minor.{Minor}
-use Rattle.cam6_wiring.specs.declared.wirings.Minor.TheVariants.{Centers, Phases, HorzVert}
 use Rattle.cam6_wiring.specs.declared.wirings.Wiring.{Wiring}
 use Rattle.cam6_wiring.specs.Wiring.{wired}
-use Rattle.cam6_wiring.specs.declared.blocks.Grid.{Grid}
-use Rattle.cam6_wiring.specs.declared.blocks.Grid.TheVariants.{Even, Odd}
 use Rattle.cam6_machine.specs.declared.commands.Command.{Command}
 use Rattle.cam6_machine.specs.declared.commands.Command.TheVariants.{Set, Rule, Cycle, Run, Back}
 use Rattle.cam6_machine.specs.declared.commands.Command.TheVariants.{Row, Plane, Clear}
@@ -29,37 +20,19 @@ use Rattle.cam6_machine.specs.declared.commands.NamedEntry.{NamedEntry}
 use Rattle.cam6_wire.specs.declared.faults.LineFault.TheVariants.{NoCommand}
 use Rattle.cam6_wire.specs.Fields.{text_at, ◌>>=◌}
 use Rattle.cam6_wire.specs.Replies.{natural, naturals}
-use Rattle.cam6_wire.specs.Wirings.{half_text, hood_text, minor_text, grid_text}
-use Rattle.cam6_wire.specs.Wirings.{half_named, hood_named, minor_named, grid_named, wiring_in}
+use Rattle.cam6_wiring.specs.Texts.{half_text, hood_text, minor_text, grid_text}
+use Rattle.cam6_wiring.specs.Texts.{half_named, hood_named, minor_named}
+use Rattle.cam6_wiring.proofs.NamesOfTexts.{half_of_text, hood_of_text, minor_of_text}
+use Rattle.cam6_wiring.proofs.NamesOfTexts.{grid_of_text}
+use Rattle.cam6_wire.specs.Wirings.{wiring_in}
 use Rattle.cam6_wire.specs.Entries.{rule_name_in, entry_in, entries_in}
-use Rattle.cam6_wire.specs.Commands.{set_of, rule_of, cycle_of, run_of, back_of, plane_of}
-use Rattle.cam6_wire.specs.Commands.{side_of}
-use Rattle.cam6_wire.specs.Commands.{row_of, by_word, shown_in, from_value, clear_of}
-use Rattle.cam6_wire.specs.Commands.{drop_of, listing_of, map_of, colours_of, count_of}
+use Rattle.cam6_wire.specs.Commands.{set_of, sole_number, clear_of, rule_of, drop_of, listing_of}
+use Rattle.cam6_wire.specs.Commands.{cycle_of, run_of, back_of, row_of, plane_of, side_of, map_of}
+use Rattle.cam6_wire.specs.Commands.{colours_of, count_of, by_word, shown_in, from_value}
 use Rattle.cam6_wire.specs.Shown.{ShowsEntries, Shows}
 use Rattle.cam6_wire.specs.Laws.{ShownIsSaid}
 use Rattle.cam6_wire.proofs.Saying.{short_line}
 use Rattle.cam6_wire.proofs.ColourLists.{colours_said}
-
-half_of_text : (half : Half) → half_named (half_text half) ≡ Some half
-half_of_text A = refl
-half_of_text B = refl
-
-hood_of_text : (hood : Hood) → hood_named (hood_text hood) ≡ Some hood
-hood_of_text Moore = refl
-hood_of_text VonNeumann = refl
-hood_of_text Margolus = refl
-hood_of_text MargolusPhase = refl
-hood_of_text MargolusHorzVert = refl
-
-minor_of_text : (minor : Minor) → minor_named (minor_text minor) ≡ Some minor
-minor_of_text Centers = refl
-minor_of_text Phases = refl
-minor_of_text HorzVert = refl
-
-grid_of_text : (grid : Grid) → grid_named (grid_text grid) ≡ Some grid
-grid_of_text Even = refl
-grid_of_text Odd = refl
 
 -- three steps that all give a value
 three_steps : {A B C D : Type 0} (x : Option A) (y : Option B) (z : Option C)
@@ -154,40 +127,6 @@ cycle_said : (items : Items) (entries : List NamedEntry) → ShowsEntries items 
 unfolding cycle_of
 cycle_said items entries show = ap (option_map Cycle) (entries_said items entries show)
 
-run_said : (n : ℕ) →
-    run_of
-    (object
-    (member (codes "do") (string (codes "run")) (member (codes "n") (natural n) no_members)))
-    ≡ Some (Run n)
-unfolding run_of
-run_said n = refl
-
-back_said : (n : ℕ) →
-    back_of
-    (object
-    (member (codes "do") (string (codes "back")) (member (codes "n") (natural n) no_members)))
-    ≡ Some (Back n)
-unfolding back_of
-back_said n = refl
-
-plane_said : (n : ℕ) →
-    plane_of
-    (object
-    (member (codes "do") (string (codes "plane"))
-    (member (codes "plane") (natural n) no_members)))
-    ≡ Some (Plane n)
-unfolding plane_of
-plane_said n = refl
-
-side_said : (n : ℕ) →
-    side_of
-    (object
-    (member (codes "do") (string (codes "side"))
-    (member (codes "side") (natural n) no_members)))
-    ≡ Some (SetSide n)
-unfolding side_of
-side_said n = refl
-
 row_said : (plane row : ℕ) →
     row_of
     (object
@@ -197,15 +136,6 @@ row_said : (plane row : ℕ) →
     ≡ Some (Row plane row)
 unfolding row_of
 row_said plane row = refl
-
-clear_said : (n : ℕ) →
-    clear_of
-    (object
-    (member (codes "do") (string (codes "clear"))
-    (member (codes "plane") (natural n) no_members)))
-    ≡ Some (Clear n)
-unfolding clear_of
-clear_said n = refl
 
 drop_said : (name : List ℕ) →
     drop_of
@@ -229,24 +159,6 @@ map_said : (colours : List ℕ) → length colours ≡ cell_states →
 unfolding map_of
 map_said colours sixteen = ap (option_map Map) (colours_said colours sixteen)
 
-colours_said_by : (n : ℕ) →
-    colours_of
-    (object
-    (member (codes "do") (string (codes "colours"))
-    (member (codes "row") (natural n) no_members)))
-    ≡ Some (Colours n)
-unfolding colours_of
-colours_said_by n = refl
-
-count_said : (n : ℕ) →
-    count_of
-    (object
-    (member (codes "do") (string (codes "count"))
-    (member (codes "mask") (natural n) no_members)))
-    ≡ Some (Count n)
-unfolding count_of
-count_said n = refl
-
 -- a command is what a value says by its word
 by_its_word : (d : Data) (word : List ℕ) (c : Command) → text_at (codes "do") d ≡ Some word →
     by_word word d ≡ Some c → shown_in d ≡ Some c
@@ -256,13 +168,22 @@ by_its_word d word c at is = ap (λ o. o >>= λ word. by_word word d) at ∙ is
 of_same : (d e : Data) (c : Command) → d ≡ e → shown_in e ≡ Some c → shown_in d ≡ Some c
 of_same d e c same is = ap shown_in same ∙ is
 
+-- and where it has a word and one number
+sole_said : (d : Data) (word key : List ℕ) (n : ℕ) (c : Command) →
+    d ≡ object (member (codes "do") (string word) (member key (natural n) no_members)) →
+    shown_in (object (member (codes "do") (string word) (member key (natural n) no_members)))
+    ≡ Some c →
+    shown_in d ≡ Some c
+sole_said d word key n c same is = ap shown_in same ∙ is
+
 says_shown : (d : Data) (c : Command) → Shows d c → shown_in d ≡ Some c
+unfolding sole_number clear_of run_of back_of plane_of side_of colours_of count_of
 says_shown d (Set plane row bits) shows =
     of_same d _ (Set plane row bits) shows.3
     (by_its_word _ (codes "set") (Set plane row bits) refl
     (set_said plane row shows.0 bits shows.1 shows.2))
 says_shown d (Clear n) shows =
-    of_same d _ (Clear n) shows (by_its_word _ (codes "clear") (Clear n) refl (clear_said n))
+    sole_said d (codes "clear") (codes "plane") n (Clear n) shows refl
 says_shown d (DropRule name) shows =
     of_same d _ (DropRule name) shows
     (by_its_word _ (codes "drop") (DropRule name) refl (drop_said name))
@@ -272,10 +193,9 @@ says_shown d (Map colours) shows =
     of_same d _ (Map colours) shows.1
     (by_its_word _ (codes "map") (Map colours) refl (map_said colours shows.0))
 says_shown d (Colours n) shows =
-    of_same d _ (Colours n) shows
-    (by_its_word _ (codes "colours") (Colours n) refl (colours_said_by n))
+    sole_said d (codes "colours") (codes "row") n (Colours n) shows refl
 says_shown d (Count n) shows =
-    of_same d _ (Count n) shows (by_its_word _ (codes "count") (Count n) refl (count_said n))
+    sole_said d (codes "count") (codes "mask") n (Count n) shows refl
 says_shown d (Rule name wiring text) shows =
     of_same d _ (Rule name wiring text) shows
     (by_its_word _ (codes "rule") (Rule name wiring text) refl (rule_said wiring name text))
@@ -283,17 +203,16 @@ says_shown d (Cycle entries) shows =
     of_same d _ (Cycle entries) shows.2
     (by_its_word _ (codes "cycle") (Cycle entries) refl (cycle_said shows.0 entries shows.1))
 says_shown d (Run n) shows =
-    of_same d _ (Run n) shows (by_its_word _ (codes "run") (Run n) refl (run_said n))
+    sole_said d (codes "run") (codes "n") n (Run n) shows refl
 says_shown d (Back n) shows =
-    of_same d _ (Back n) shows (by_its_word _ (codes "back") (Back n) refl (back_said n))
+    sole_said d (codes "back") (codes "n") n (Back n) shows refl
 says_shown d (Row plane row) shows =
     of_same d _ (Row plane row) shows
     (by_its_word _ (codes "row") (Row plane row) refl (row_said plane row))
 says_shown d (Plane n) shows =
-    of_same d _ (Plane n) shows
-    (by_its_word _ (codes "plane") (Plane n) refl (plane_said n))
+    sole_said d (codes "plane") (codes "plane") n (Plane n) shows refl
 says_shown d (SetSide n) shows =
-    of_same d _ (SetSide n) shows (by_its_word _ (codes "side") (SetSide n) refl (side_said n))
+    sole_said d (codes "side") (codes "side") n (SetSide n) shows refl
 
 pub shown_is_said : ShownIsSaid
 shown_is_said line d c short is shows =

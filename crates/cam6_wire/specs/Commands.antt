@@ -34,9 +34,13 @@ set_fields d = do
 unfoldable pub set_of : Data → Option Command
 set_of d = if has_size 4 d then set_fields d else None
 
+-- the number at a key of an object that has two, do and this one
+unfoldable pub sole_number : List ℕ → Data → Option ℕ
+sole_number key d = if has_size 2 d then number_at key d else None
+
 -- {"do":"clear","plane":p}
 unfoldable pub clear_of : Data → Option Command
-clear_of d = if has_size 2 d then option_map Clear (number_at (codes "plane") d) else None
+clear_of d = option_map Clear (sole_number (codes "plane") d)
 
 -- the command of the keys name, half, hood, minor and text
 abbrev pub rule_fields : Data → Option Command
@@ -64,11 +68,11 @@ cycle_of d = if has_size 2 d then option_map Cycle (entries_at (codes "entries")
 
 -- {"do":"run","n":k}
 unfoldable pub run_of : Data → Option Command
-run_of d = if has_size 2 d then option_map Run (number_at (codes "n") d) else None
+run_of d = option_map Run (sole_number (codes "n") d)
 
 -- {"do":"back","n":k}
 unfoldable pub back_of : Data → Option Command
-back_of d = if has_size 2 d then option_map Back (number_at (codes "n") d) else None
+back_of d = option_map Back (sole_number (codes "n") d)
 
 -- the command of the keys plane and row
 abbrev pub row_fields : Data → Option Command
@@ -83,11 +87,11 @@ row_of d = if has_size 3 d then row_fields d else None
 
 -- {"do":"plane","plane":p}
 unfoldable pub plane_of : Data → Option Command
-plane_of d = if has_size 2 d then option_map Plane (number_at (codes "plane") d) else None
+plane_of d = option_map Plane (sole_number (codes "plane") d)
 
 -- {"do":"side","side":n}
 unfoldable pub side_of : Data → Option Command
-side_of d = if has_size 2 d then option_map SetSide (number_at (codes "side") d) else None
+side_of d = option_map SetSide (sole_number (codes "side") d)
 
 -- {"do":"map","colours":[16 numbers]}
 unfoldable pub map_of : Data → Option Command
@@ -95,11 +99,11 @@ map_of d = if has_size 2 d then option_map Map (colours_at (codes "colours") d) 
 
 -- {"do":"colours","row":y}
 unfoldable pub colours_of : Data → Option Command
-colours_of d = if has_size 2 d then option_map Colours (number_at (codes "row") d) else None
+colours_of d = option_map Colours (sole_number (codes "row") d)
 
 -- {"do":"count","mask":m}
 unfoldable pub count_of : Data → Option Command
-count_of d = if has_size 2 d then option_map Count (number_at (codes "mask") d) else None
+count_of d = option_map Count (sole_number (codes "mask") d)
 
 -- by the word at the key do
 abbrev pub by_word : List ℕ → Data → Option Command

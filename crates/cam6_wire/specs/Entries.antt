@@ -5,7 +5,7 @@ use Rattle.serde_json.specs.Data.{Data, Items, no_items, item}
 use Rattle.serde_json.specs.Find.{get, as_array}
 use Rattle.cam6_machine.specs.declared.commands.NamedEntry.{NamedEntry}
 use Rattle.cam6_wire.specs.Fields.{has_size, number_at, text_at, ◌>>=◌}
-use Rattle.cam6_wire.specs.Wirings.{grid_named}
+use Rattle.cam6_wiring.specs.Texts.{grid_named}
 
 -- `-` names no rule
 abbrev pub rule_name_in : List ℕ → Option (List ℕ)

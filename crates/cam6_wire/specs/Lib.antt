@@ -1,4 +1,4 @@
--- In the order of reading: faults, the limit of a line, what stands at a key, settings, entries,
+-- In the order of reading: faults, the limit of a line, what stands at a key, wirings, entries,
 -- commands, replies; then texts of one line, the values by which commands
 -- are shown, and the laws.
 pub mod Faults

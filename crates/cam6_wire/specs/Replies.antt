@@ -18,7 +18,7 @@ use Rattle.cam6_machine.specs.declared.replies.Reply.TheVariants.{Fault, RuleTex
 use Rattle.cam6_machine.specs.declared.replies.Reply.TheVariants.{NotReversible}
 use Rattle.cam6_wire.specs.declared.faults.LineFault.{LineFault}
 use Rattle.cam6_wire.specs.Faults.{fault_number}
-use Rattle.cam6_wire.specs.Wirings.{half_text}
+use Rattle.cam6_wiring.specs.Texts.{half_text}
 
 -- a whole number
 abbrev pub natural : ℕ → Data

@@ -14,7 +14,7 @@ use Rattle.cam6_machine.specs.declared.commands.Command.TheVariants.{Count}
 use Rattle.cam6_machine.specs.Limits.{cell_states}
 use Rattle.cam6_machine.specs.declared.commands.NamedEntry.{NamedEntry}
 use Rattle.cam6_wire.specs.Replies.{natural, naturals}
-use Rattle.cam6_wire.specs.Wirings.{half_text, hood_text, minor_text, grid_text}
+use Rattle.cam6_wiring.specs.Texts.{half_text, hood_text, minor_text, grid_text}
 use Rattle.cam6_wire.specs.Entries.{rule_name_in}
 
 -- {"a":n,"b":n,"grid":g,"phase":f}

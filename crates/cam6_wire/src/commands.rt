@@ -4,9 +4,8 @@ ghost use Rattle.std.specs.Option.{option_map_or};
 ghost use Rattle.cam6_wire.specs.declared.faults.LineFault.TheVariants.{NoMemory};
 ghost use Rattle.serde_json.specs.View.{view};
 ghost use Rattle.cam6_machine.specs.Always.{HasText};
-ghost use Rattle.cam6_wire.specs.Commands.{set_of, rule_of, cycle_of, run_of, back_of, row_of};
-ghost use Rattle.cam6_wire.specs.Commands.{plane_of, side_of, by_word, clear_of, drop_of};
-ghost use Rattle.cam6_wire.specs.Commands.{listing_of, map_of, colours_of, count_of};
+ghost use Rattle.cam6_wire.specs.Commands.{set_of, sole_number, rule_of, drop_of, listing_of};
+ghost use Rattle.cam6_wire.specs.Commands.{cycle_of, row_of, map_of, by_word};
 ghost use Rattle.cam6_wire.specs.Commands.{shown_in, command, IsSaid};
 ghost use Rattle.cam6_wire.specs.Commands.{keeps_text, takes_text};
 ghost use Rattle.cam6_wire.specs.Limits.{max_line};
@@ -85,6 +84,18 @@ fn has_text(command: &Command)
     }
 }
 
+#[tactic(
+    auto,
+    unfolding(
+        crate::specs::Commands::clear_of,
+        crate::specs::Commands::run_of,
+        crate::specs::Commands::back_of,
+        crate::specs::Commands::plane_of,
+        crate::specs::Commands::side_of,
+        crate::specs::Commands::colours_of,
+        crate::specs::Commands::count_of
+    )
+)]
 fn by_word(alloc: Global, word: &str, value: &Value) -> Result<Option<Command>, AllocError>
     ensures command { IfOk result (λ command. command ≡ by_word word.now (view value.now)) }
     ensures memory { option_map_or keeps_text (by_word word.now (view value.now)) false ≡ false
@@ -92,19 +103,19 @@ fn by_word(alloc: Global, word: &str, value: &Value) -> Result<Option<Command>, 
 {
     match word {
         "set" => Ok(set_of(value)),
-        "clear" => Ok(clear_of(value)),
+        "clear" => Ok(sole_number(value, "plane").map(|plane| Command::Clear { plane })),
         "rule" => rule_of(alloc, value),
         "drop" => drop_of(alloc, value),
         "rules" => Ok(listing_of(value)),
         "cycle" => cycle_of(alloc, value),
-        "run" => Ok(run_of(value)),
-        "back" => Ok(back_of(value)),
+        "run" => Ok(sole_number(value, "n").map(|n| Command::Run { n })),
+        "back" => Ok(sole_number(value, "n").map(|n| Command::Back { n })),
         "row" => Ok(row_of(value)),
-        "plane" => Ok(plane_of(value)),
-        "side" => Ok(side_of(value)),
+        "plane" => Ok(sole_number(value, "plane").map(|plane| Command::Plane { plane })),
+        "side" => Ok(sole_number(value, "side").map(|side| Command::Side { side })),
         "map" => Ok(map_of(value)),
-        "colours" => Ok(colours_of(value)),
-        "count" => Ok(count_of(value)),
+        "colours" => Ok(sole_number(value, "row").map(|row| Command::Colours { row })),
+        "count" => Ok(sole_number(value, "mask").map(|mask| Command::Count { mask })),
         _ => Ok(None),
     }
 }
@@ -122,15 +133,15 @@ fn set_of(value: &Value) -> Option<Command>
     Some(Command::Set { plane, row, bits })
 }
 
-#[tactic(auto, unfolding(crate::specs::Commands::clear_of))]
-fn clear_of(value: &Value) -> Option<Command>
-    ensures { result ≡ clear_of (view value.now) }
+/// The number at a key of an object that has two, `do` and this one.
+#[tactic(auto, unfolding(crate::specs::Commands::sole_number))]
+fn sole_number(value: &Value, key: &str) -> Option<u64>
+    ensures { result ≡ sole_number key.now (view value.now) }
 {
     if !has_size(value, 2) {
         return None;
     }
-    let plane = number_at(value, "plane")?;
-    Some(Command::Clear { plane })
+    number_at(value, key)
 }
 
 #[tactic(auto, unfolding(crate::specs::Commands::rule_of))]
@@ -200,28 +211,6 @@ fn cycle_of(alloc: Global, value: &Value) -> Result<Option<Command>, AllocError>
     }
 }
 
-#[tactic(auto, unfolding(crate::specs::Commands::run_of))]
-fn run_of(value: &Value) -> Option<Command>
-    ensures { result ≡ run_of (view value.now) }
-{
-    if !has_size(value, 2) {
-        return None;
-    }
-    let n = number_at(value, "n")?;
-    Some(Command::Run { n })
-}
-
-#[tactic(auto, unfolding(crate::specs::Commands::back_of))]
-fn back_of(value: &Value) -> Option<Command>
-    ensures { result ≡ back_of (view value.now) }
-{
-    if !has_size(value, 2) {
-        return None;
-    }
-    let n = number_at(value, "n")?;
-    Some(Command::Back { n })
-}
-
 #[tactic(auto, unfolding(crate::specs::Commands::row_of))]
 fn row_of(value: &Value) -> Option<Command>
     ensures { result ≡ row_of (view value.now) }
@@ -234,28 +223,6 @@ fn row_of(value: &Value) -> Option<Command>
     Some(Command::Row { plane, row })
 }
 
-#[tactic(auto, unfolding(crate::specs::Commands::plane_of))]
-fn plane_of(value: &Value) -> Option<Command>
-    ensures { result ≡ plane_of (view value.now) }
-{
-    if !has_size(value, 2) {
-        return None;
-    }
-    let plane = number_at(value, "plane")?;
-    Some(Command::Plane { plane })
-}
-
-#[tactic(auto, unfolding(crate::specs::Commands::side_of))]
-fn side_of(value: &Value) -> Option<Command>
-    ensures { result ≡ side_of (view value.now) }
-{
-    if !has_size(value, 2) {
-        return None;
-    }
-    let side = number_at(value, "side")?;
-    Some(Command::Side { side })
-}
-
 #[tactic(auto, unfolding(crate::specs::Commands::map_of))]
 fn map_of(value: &Value) -> Option<Command>
     ensures { result ≡ map_of (view value.now) }
@@ -265,26 +232,4 @@ fn map_of(value: &Value) -> Option<Command>
     }
     let colours = colours_at(value, "colours")?;
     Some(Command::Map { colours })
-}
-
-#[tactic(auto, unfolding(crate::specs::Commands::colours_of))]
-fn colours_of(value: &Value) -> Option<Command>
-    ensures { result ≡ colours_of (view value.now) }
-{
-    if !has_size(value, 2) {
-        return None;
-    }
-    let row = number_at(value, "row")?;
-    Some(Command::Colours { row })
-}
-
-#[tactic(auto, unfolding(crate::specs::Commands::count_of))]
-fn count_of(value: &Value) -> Option<Command>
-    ensures { result ≡ count_of (view value.now) }
-{
-    if !has_size(value, 2) {
-        return None;
-    }
-    let mask = number_at(value, "mask")?;
-    Some(Command::Count { mask })
 }

@@ -6,8 +6,8 @@ ghost use Rattle.cam6_wire.specs.Commands.{are_some};
 ghost use Rattle.cam6_wire.specs.Entries.{rule_name_in, entry_in, entries_in, entries_at};
 
 use crate::fields::{has_size, number_at, text_at};
-use crate::wirings::grid_named;
 use cam6_machine::{NamedEntries, NamedEntry, Text};
+use cam6_wiring::Grid;
 use serde_json::Value;
 use std::alloc::{AllocError, Global};
 
@@ -65,7 +65,7 @@ fn is_entry(value: &Value) -> bool
     has_size(value, 4)
         && text_at(value, "a").is_some()
         && text_at(value, "b").is_some()
-        && text_at(value, "grid").and_then(grid_named).is_some()
+        && text_at(value, "grid").and_then(Grid::named).is_some()
         && number_at(value, "phase").is_some()
 }
 
@@ -82,7 +82,7 @@ fn entry_in(alloc: Global, value: &Value) -> Result<Option<NamedEntry>, AllocErr
     let Some(b) = text_at(value, "b") else {
         return Ok(None);
     };
-    let Some(grid) = text_at(value, "grid").and_then(grid_named) else {
+    let Some(grid) = text_at(value, "grid").and_then(Grid::named) else {
         return Ok(None);
     };
     let Some(phase) = number_at(value, "phase") else {

@@ -12,7 +12,6 @@ ghost use Rattle.cam6_machine.specs.Limits.{max_colour};
 ghost use Rattle.cam6_view.specs.declared.colours.TheConstants.{COLOURS};
 
 use crate::faults::LineFault;
-use crate::wirings::half_text;
 use cam6_block::NotReversible;
 use cam6_machine::{Names, PlaneRows, Reply, RowColours};
 use cam6_planes::NoMemory;
@@ -100,7 +99,7 @@ fn cause_value(
 ) -> Result<Value, AllocError>
     ensures { IfOk result (λ value. view value ≡ cause_data entry half cause) }
 {
-    let half = half_text(half);
+    let half = half.text();
     match cause {
         NotReversible::Hood => {
             json!(in alloc; {"cause": "hood", "entry": entry, "fault": 64, "half": half})

@@ -14,3 +14,7 @@ pub mod MixedColumns
 pub mod RowsBeside
 -- Lines that are written one by one.
 pub mod LineByLine
+-- Wirings that are the same, and the test of them in memory.
+pub mod SameWirings
+-- Each text names what it is the text of, and no other text does.
+pub mod NamesOfTexts

@@ -1,5 +1,6 @@
--- The laws that tie what is seen to the address that it makes, and the table of rotations to the block.
-use Rattle.std.specs.Prelude.{◌≡◌, ◌<◌, ℕ, ◌*◌, true, false, Some, None, get_or}
+-- The laws that tie what is seen to the address that it makes, the table of rotations to the block,
+-- and texts to what they name; and those of what is the same.
+use Rattle.std.specs.Prelude.{◌≡◌, ◌<◌, ℕ, ◌*◌, true, false, List, Option, Some, None, get_or}
 use Rattle.cam6_planes.specs.Cells.{Cells}
 use Rattle.cam6_wiring.specs.Block.{corner_of, in_block, rotated, block_of}
 use Rattle.cam6_wiring.specs.declared.blocks.Grid.{Grid}
@@ -8,7 +9,11 @@ use Rattle.cam6_wiring.specs.declared.names.Rotation.{Rotation}
 use Rattle.cam6_wiring.specs.declared.wirings.Hood.{Hood}
 use Rattle.cam6_wiring.specs.declared.wirings.Minor.{Minor}
 use Rattle.cam6_wiring.specs.Name.{is_same_name}
+use Rattle.cam6_wiring.specs.declared.wirings.Wiring.{Wiring}
 use Rattle.cam6_wiring.specs.Wiring.{line_of, names_of}
+use Rattle.cam6_wiring.specs.Same.{is_same_wiring}
+use Rattle.cam6_wiring.specs.Texts.{half_text, hood_text, minor_text, grid_text}
+use Rattle.cam6_wiring.specs.Texts.{half_named, hood_named, minor_named, grid_named}
 use Rattle.cam6_wiring.specs.Seen.{Sees, address_of, shown, column_beside, row_beside}
 use Rattle.cam6_wiring.specs.Seen.{seen_in_block}
 
@@ -38,6 +43,25 @@ IsItselfAlone =
     (first second : Name) →
     (is_same_name first second ≡ true → first ≡ second) ×
     (first ≡ second → is_same_name first second ≡ true)
+
+-- a wiring is the same as itself, and as no other
+abbrev pub WiringsAreThemselves : Type 0
+WiringsAreThemselves =
+    (first second : Wiring) →
+    (is_same_wiring first second ≡ true → first ≡ second) ×
+    (first ≡ second → is_same_wiring first second ≡ true)
+
+-- each text names what it is the text of, and no other text does
+abbrev pub NamesExactly : {A : Type 0} → (A → List ℕ) → (List ℕ → Option A) → Type 0
+NamesExactly {A} text_of named =
+    ((a : A) → named (text_of a) ≡ Some a) ×
+    ((text : List ℕ) (a : A) → named text ≡ Some a → text ≡ text_of a)
+
+-- so do the texts of halves, neighbourhoods, minor assignments and grids
+abbrev pub TextsNameWhatTheyAreOf : Type 0
+TextsNameWhatTheyAreOf =
+    NamesExactly half_text half_named × NamesExactly hood_text hood_named ×
+    NamesExactly minor_text minor_named × NamesExactly grid_text grid_named
 
 -- the cell that a cell sees one, two or three corners further clockwise lies in the same block, so
 -- many corners further clockwise; the torus has an even side

@@ -1,7 +1,9 @@
--- In the order of reading: names, the lines that they stand on, blocks, what a cell sees and the
--- address that it shows. Last, the law that ties the two.
+-- In the order of reading: names, the lines that they stand on, when two wirings are one, and the
+-- texts of their parts; blocks, what a cell sees and the address that it shows. Last, the laws.
 pub mod Name
 pub mod Wiring
+pub mod Same
+pub mod Texts
 pub mod Block
 pub mod Seen
 pub mod Lines

@@ -1,5 +1,5 @@
 -- The names on a half's twelve address lines.
-use Rattle.std.specs.Prelude.{ℕ, Bool, false, List, [], ◌∷◌, ◌++◌, Option, Some, None}
+use Rattle.std.specs.Prelude.{ℕ, Bool, true, false, List, [], ◌∷◌, ◌++◌, Option, Some, None}
 use Rattle.std.specs.List.{position_from}
 use Rattle.cam6_wiring.specs.declared.names.Compass.{Compass}
 use Rattle.cam6_wiring.specs.declared.names.Compass.TheVariants.{Center, North, South, West}
@@ -72,3 +72,11 @@ line_of hood minor name = position_from (is_at name) 0 (names_of hood minor)
 -- a half with the names on its lines
 abbrev pub wired : Half → Hood → Minor → Wiring
 wired half hood minor = record { half = half; hood = hood; minor = minor }
+
+-- under these neighbourhoods each cell is one of a block
+abbrev pub is_margolus : Hood → Bool
+is_margolus Moore = false
+is_margolus VonNeumann = false
+is_margolus Margolus = true
+is_margolus MargolusPhase = true
+is_margolus MargolusHorzVert = true

@@ -1,7 +1,8 @@
-//! Laws that tie what is seen to the address that it makes, and rotations to the block. Each is the
-//! contract of a function that does nothing.
+//! Laws that tie what is seen to the address that it makes, rotations to the block, texts to what
+//! they name, and what is the same. Each is the contract of a function that does nothing.
 ghost use Rattle.cam6_wiring.specs.Laws.{ShowsWhatIsSeen, ShowsNothingElse};
 ghost use Rattle.cam6_wiring.specs.Laws.{LinesAreNamed, IsItselfAlone, RotationsInTheBlock};
+ghost use Rattle.cam6_wiring.specs.Laws.{WiringsAreThemselves, TextsNameWhatTheyAreOf};
 
 /// The address of what is seen shows, on the line of each name, what is seen under the name.
 pub fn an_address_shows_what_is_seen()
@@ -21,6 +22,17 @@ pub fn lines_are_named()
 /// A name is the same as itself, and as no other.
 pub fn a_name_is_itself_alone()
     ensures law { IsItselfAlone }
+{}
+
+/// A wiring is the same as itself, and as no other.
+pub fn wirings_are_themselves()
+    ensures law { WiringsAreThemselves }
+{}
+
+/// Each text of a half, a neighbourhood, a minor assignment or a grid names what it is the text of,
+/// and no other text does.
+pub fn texts_name_what_they_are_of()
+    ensures law { TextsNameWhatTheyAreOf }
 {}
 
 /// What a cell sees one, two or three corners further clockwise is a cell of its own block, so

@@ -7,15 +7,18 @@
 //! each column, on each line, what the cell there sees under the line's name (`specs/Lines.antt`).
 //! `corner_of` and `in_block` are a cell's corner of its Margolus block and where the block's other
 //! cells lie.
+//! `is_margolus` says whether a neighbourhood is one of blocks. `text` is the text of a half, a
+//! neighbourhood, a minor assignment or a grid, and `named` what a text names (`specs/Texts.antt`).
 //!
 //! The laws: an address shows, on the line of each name, what is seen under it, and 0 on every
 //! other line; the line of a name and the names of the lines say the same; a name is the same as
-//! itself alone; the cell that is seen one, two or three corners further clockwise is of the same
-//! block, and so many corners further.
+//! itself alone, and so is a wiring; each text names what it is the text of, and no other text does;
+//! the cell that is seen one, two or three corners further clockwise is of the same block, and so
+//! many corners further.
 //!
 //! Stands on: `cam6_planes`.
 //!
-//! Read next: `names`, the names; `wirings`, their lines; `blocks`, the Margolus grids; then
+//! Read next: `names`, the names; `wirings`, their lines; `blocks`, the Margolus grids; `texts`; then
 //! `neighbours`; `columns`, `rows` and `lines`, the same a row at a time; and `laws`.
 #![tactic(auto)]
 
@@ -26,6 +29,7 @@ mod lines;
 mod names;
 mod neighbours;
 mod rows;
+mod texts;
 mod wirings;
 
 pub use blocks::{Corner, Grid, corner_of, in_block};

@@ -71,7 +71,14 @@ pub fn seen(planes: &Planes, setting: Setting, name: Name, x: usize, y: usize) -
     let Setting { half, grid, phase } = setting;
     match name {
         Name::Beside(compass, level) => seen_beside(planes, compass, half.plane(level), x, y),
-        Name::InBlock(rotation, level) => seen_in_block(planes, grid, rotation, half.plane(level), x, y),
+        Name::InBlock(rotation, level) => seen_in_block(
+            planes,
+            grid,
+            rotation,
+            half.plane(level),
+            x,
+            y,
+        ),
         Name::MinorCenter(level) => {
             seen_beside(planes, Compass::Center, half.other().plane(level), x, y)
         }
@@ -141,7 +148,14 @@ pub(crate) fn east_of(side: Side, x: usize) -> usize
 }
 
 /// The bit of plane `p` that the cell sees in its block.
-fn seen_in_block(planes: &Planes, grid: Grid, rotation: Rotation, p: usize, x: usize, y: usize) -> bool
+fn seen_in_block(
+    planes: &Planes,
+    grid: Grid,
+    rotation: Rotation,
+    p: usize,
+    x: usize,
+    y: usize,
+) -> bool
     requires plane { p < 4 }
     requires column { x < width planes.now }
     requires row { y < width planes.now }

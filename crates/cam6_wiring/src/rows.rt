@@ -51,7 +51,14 @@ pub(crate) fn put_seen(line: &mut Row, setting: Setting, name: Name, y: usize, r
     let Setting { half, grid, phase } = setting;
     match name {
         Name::Beside(compass, level) => put_beside(line, compass, half.plane(level), rows),
-        Name::InBlock(rotation, level) => put_in_block(line, grid, rotation, half.plane(level), y, rows),
+        Name::InBlock(rotation, level) => put_in_block(
+            line,
+            grid,
+            rotation,
+            half.plane(level),
+            y,
+            rows,
+        ),
         Name::MinorCenter(level) => {
             put_beside(line, Compass::Center, half.other().plane(level), rows)
         }

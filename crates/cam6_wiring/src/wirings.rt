@@ -2,7 +2,7 @@
 ghost use Rattle.std.specs.Prelude.{◌≡◌, ◌<◌, IfSome};
 ghost use Rattle.cam6_wiring.specs.declared.wirings.TheConstants.{LINES};
 ghost use Rattle.cam6_wiring.specs.Wiring.{lower, upper, block_names, hood_names, minor_names};
-ghost use Rattle.cam6_wiring.specs.Wiring.{names_of, is_at, line_of};
+ghost use Rattle.cam6_wiring.specs.Wiring.{names_of, is_at, line_of, is_margolus};
 
 use crate::names::{Compass, Half, Level, Name, Rotation};
 
@@ -38,6 +38,18 @@ pub struct Wiring {
     pub half: Half,
     pub hood: Hood,
     pub minor: Minor,
+}
+
+impl Hood {
+    /// Whether each cell is one of a block under this neighbourhood.
+    pub fn is_margolus(self) -> bool
+        ensures { result ≡ is_margolus self }
+    {
+        match self {
+            Hood::Moore | Hood::VonNeumann => false,
+            Hood::Margolus | Hood::MargolusPhase | Hood::MargolusHorzVert => true,
+        }
+    }
 }
 
 /// Address lines of a half.
