@@ -10,7 +10,7 @@ ghost use Rattle.cam6_forth.specs.Faults.{HasFault};
 ghost use Rattle.cam6_forth.specs.Outcome.{IsReadAs, IsAccepted, IsRefused, IsThisRule};
 ghost use Rattle.cam6_forth.specs.Outcome.{IsThisFault};
 
-use crate::faults::{ParseFault, AdvanceFault, TextFault, TokenFault};
+use crate::faults::{AdvanceFault, ParseFault, TextFault, TokenFault};
 use crate::limits::MAX_TEXT;
 use crate::reader::Reader;
 use crate::rules::Rule;

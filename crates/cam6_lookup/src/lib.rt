@@ -16,7 +16,7 @@
 #![tactic(auto)]
 
 mod digits;
-mod swap;
 mod look_up;
+mod swap;
 
 pub use look_up::look_up_rows;

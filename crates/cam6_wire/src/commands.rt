@@ -84,18 +84,7 @@ fn has_text(command: &Command)
     }
 }
 
-#[tactic(
-    auto,
-    unfolding(
-        crate::specs::Commands::clear_of,
-        crate::specs::Commands::run_of,
-        crate::specs::Commands::back_of,
-        crate::specs::Commands::plane_of,
-        crate::specs::Commands::side_of,
-        crate::specs::Commands::colours_of,
-        crate::specs::Commands::count_of
-    )
-)]
+#[tactic(auto, unfolding(crate::specs::Commands::clear_of, crate::specs::Commands::run_of, crate::specs::Commands::back_of, crate::specs::Commands::plane_of, crate::specs::Commands::side_of, crate::specs::Commands::colours_of, crate::specs::Commands::count_of))]
 fn by_word(alloc: Global, word: &str, value: &Value) -> Result<Option<Command>, AllocError>
     ensures command { IfOk result (λ command. command ≡ by_word word.now (view value.now)) }
     ensures memory { option_map_or keeps_text (by_word word.now (view value.now)) false ≡ false
