@@ -70,7 +70,6 @@ module _ (wiring : Wiring) (code : List Instruction) (entries : List ℕ)
         IsTableBy direction wiring text inverted)
     undoes_the_text (Ok done) inverted can undoes = λ text is.
         subst (λ way. IsTableBy way wiring text inverted) (sym back) (
-          undoes.whole,
           of_words (λ read. IsReversible read wiring.hood wiring.minor) can text is,
           of_words (λ read. IsInverted read wiring.hood wiring.minor inverted) undoes text is,
         )

@@ -1,9 +1,8 @@
 -- The tables of a rule's text, by the direction in which a cycle is gone along.
-use Rattle.std.specs.Prelude.{◌≡◌, ℕ, List, length}
+use Rattle.std.specs.Prelude.{ℕ, List}
 use Rattle.cam6_wiring.specs.declared.wirings.Wiring.{Wiring}
 use Rattle.cam6_cycle.specs.declared.tables.Direction.{Direction}
 use Rattle.cam6_cycle.specs.declared.tables.Direction.TheVariants.{Forward, Backward}
-use Rattle.cam6_table.specs.Limits.{addresses}
 use Rattle.cam6_table.specs.RuleTexts.{IsTableOf}
 use Rattle.cam6_block.specs.BlockMaps.{reading_of, IsReversible}
 use Rattle.cam6_block.specs.Inverted.{IsInverted}
@@ -11,9 +10,7 @@ use Rattle.cam6_block.specs.Inverted.{IsInverted}
 -- forward, the entries of the rule's words; backward, those that undo its blocks, of a rule that can
 -- be undone
 abbrev pub IsTableBy : Direction → Wiring → List ℕ → List ℕ → Type 0
-IsTableBy Forward wiring text entries =
-    (length entries ≡ addresses) × IsTableOf wiring text entries
+IsTableBy Forward wiring text entries = IsTableOf wiring text entries
 IsTableBy Backward wiring text entries =
-    (length entries ≡ addresses)
-    × IsReversible (reading_of wiring text) wiring.hood wiring.minor
+    IsReversible (reading_of wiring text) wiring.hood wiring.minor
     × IsInverted (reading_of wiring text) wiring.hood wiring.minor entries

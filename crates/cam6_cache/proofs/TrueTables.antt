@@ -16,16 +16,15 @@ makes_reversible key entries is =
     (same_reading key.wiring key.text entries is)
 
 only_by : (inverted : Bool) (key : TableKey) (first second : List ℕ) →
-    length first ≡ addresses → length second ≡ addresses → IsTrueBy inverted key first →
-    IsTrueBy inverted key second → first ≡ second
-only_by false key first second whole_first whole_second is it =
-    ext_get_or 0 first second (whole_first ∙ sym whole_second) (λ address h.
-    let within : address < addresses = omega arith in
+    IsTrueBy inverted key first → IsTrueBy inverted key second → first ≡ second
+only_by false key first second is it =
+    ext_get_or 0 first second (is.whole ∙ sym it.whole) (λ address h.
+    let within : address < addresses = omega (arith, is.whole) in
     let same : Ok (get_or first address 0) ≡ Ok (get_or second address 0) =
-    sym (is.1.holds address within) ∙ it.1.holds address within in
+    sym (is.holds address within) ∙ it.holds address within in
     cc)
-only_by true key first second whole_first whole_second is it =
-    only_one (reading_of key.wiring key.text) key.wiring.hood key.wiring.minor first second is.2 it.2
+only_by true key first second is it =
+    only_one (reading_of key.wiring key.text) key.wiring.hood key.wiring.minor first second is.1 it.1
 
 pub only_table : IsTheOnlyTable
 only_table key = only_by key.inverted key

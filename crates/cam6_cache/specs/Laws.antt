@@ -1,6 +1,5 @@
 -- What follows of keys and of what a cache keeps.
-use Rattle.std.specs.Prelude.{◌≡◌, ℕ, true, List, length}
-use Rattle.cam6_table.specs.Limits.{addresses}
+use Rattle.std.specs.Prelude.{◌≡◌, ℕ, true, List}
 use Rattle.cam6_table.specs.RuleTexts.{IsTableOf}
 use Rattle.cam6_block.specs.BlockMaps.{by_table, IsReversible}
 use Rattle.cam6_cache.specs.Keys.{TableKey, IsReversibleKey, IsTrueFor, is_same_key}
@@ -15,8 +14,8 @@ KeysAreThemselves =
 -- a key has one true table
 abbrev pub IsTheOnlyTable : Type 0
 IsTheOnlyTable =
-    (key : TableKey) (first second : List ℕ) → length first ≡ addresses →
-    length second ≡ addresses → IsTrueFor key first → IsTrueFor key second → first ≡ second
+    (key : TableKey) (first second : List ℕ) → IsTrueFor key first → IsTrueFor key second →
+    first ≡ second
 
 -- a key whose straight table has a reversible block map is a reversible key
 abbrev pub TableMakesReversible : Type 0

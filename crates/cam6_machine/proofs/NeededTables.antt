@@ -18,30 +18,30 @@ use Rattle.cam6_machine.specs.Always.{HaveOwnNames}
 use Rattle.cam6_machine.specs.Machine.{machine_of}
 use Rattle.cam6_machine.specs.Numbers.{rule_at, rules_at, number_in, named_entries}
 use Rattle.cam6_machine.specs.Internal.Numbered.{stored}
-use Rattle.cam6_machine.specs.Internal.Uses.{HasTable, HaveTables}
+use Rattle.cam6_machine.specs.Internal.Uses.{IsUsable, AreUsable}
 use Rattle.cam6_machine.specs.Internal.Ways.{CanMove}
 use Rattle.cam6_machine.proofs.Naming.{same_rules}
 
 -- of uses one behind the other
 have_both : (way : Direction) (rules : List Rule) (first later : List NeededTable) →
-    HaveTables way rules first → HaveTables way rules later → HaveTables way rules (first ++ later)
+    AreUsable way rules first → AreUsable way rules later → AreUsable way rules (first ++ later)
 have_both way rules [] later have too = too
 have_both way rules (table ∷ first) later have too =
     (have.0, have_both way rules first later have.1 too)
 
 of_half : (way : Direction) (rules : List Rule) (half : Half) (rule : Option HalfRule) →
-    HasTable way (rule_at rules (number_in rule)) → HaveTables way rules (needed_for way half rule)
+    IsUsable way (rule_at rules (number_in rule)) → AreUsable way rules (needed_for way half rule)
 of_half way rules half None has = tt
 of_half way rules half (Some rule) has = (has, tt)
 
 -- of whatever uses forward
-have_forward : (rules : List Rule) (needed : List NeededTable) → HaveTables Forward rules needed
+have_forward : (rules : List Rule) (needed : List NeededTable) → AreUsable Forward rules needed
 have_forward rules [] = tt
 have_forward rules (table ∷ needed) = (tt, have_forward rules needed)
 
 have_backward : (rules : List Rule) (cycle : List Entry) → HaveOwnNames rules →
     AllByRecursion (λ entry. IsReversibleEntry (entry_rules rules entry))
-    (named_entries rules cycle) → HaveTables Backward rules (tables_needed Backward cycle)
+    (named_entries rules cycle) → AreUsable Backward rules (tables_needed Backward cycle)
 have_backward rules [] own can = tt
 have_backward rules (entry ∷ cycle) own can =
     let here : IsReversibleEntry (rules_at rules entry) =
@@ -56,7 +56,7 @@ have_backward rules (entry ∷ cycle) own can =
 pub have_tables : (way : Direction) (planes : Stored) (rules : List Rule) (cycle : List Entry)
     (position : ℕ) (colours : List ℕ) → HaveOwnNames rules →
     CanMove way (machine_of (stored planes rules cycle position colours)) →
-    HaveTables way rules (tables_needed way cycle)
+    AreUsable way rules (tables_needed way cycle)
 have_tables Forward planes rules cycle position colours own can =
     have_forward rules (tables_needed Forward cycle)
 have_tables Backward planes rules cycle position colours own can =
@@ -64,11 +64,11 @@ have_tables Backward planes rules cycle position colours own can =
 
 -- the rule of one of the uses has its table
 pub has_at : (way : Direction) (rules : List Rule) (needed : List NeededTable) (index : ℕ)
-    (table : NeededTable) → HaveTables way rules needed → slice_get needed index ≡ Some table →
-    HasTable way (rule_at rules (Some table.rule.number))
+    (table : NeededTable) → AreUsable way rules needed → slice_get needed index ≡ Some table →
+    IsUsable way (rule_at rules (Some table.rule.number))
 has_at way rules [] index table have found = cc found
 has_at way rules (first ∷ needed) zero table have found =
     let same : first ≡ table = cc found in
-    subst (λ (t : NeededTable). HasTable way (rule_at rules (Some t.rule.number))) same have.0
+    subst (λ (t : NeededTable). IsUsable way (rule_at rules (Some t.rule.number))) same have.0
 has_at way rules (first ∷ needed) (suc index) table have found =
     has_at way rules needed index table have.1 found

@@ -78,7 +78,7 @@ module _ (s : ℕ) (f : Cells) (setting : Setting) (rule : Rule) (half : HalfEnt
       by_wiring has.0 has.1 ∙
       sym (ap (new_bit level)
       (true_table rule.wiring (tree_of rule.text) half.entries
-      (λ name. seen s f setting name x y) has.2.1.rule has.2.1.holds))
+      (λ name. seen s f setting name x y) has.2.rule has.2.holds))
 
   -- by an inverted table: its corner's bit in the least state that becomes its block's
   by_inverse_table : 0 < s → s % 2 ≡ 0 → x < s → y < s → IsReversibleRule (Some rule) →
@@ -90,7 +90,7 @@ module _ (s : ℕ) (f : Cells) (setting : Setting) (rule : Rule) (half : HalfEnt
       let state = block_state_at s f setting.half setting.grid x y in
       let corner = corner_in_block setting.grid x y in
       let sees : Sees = λ name. seen s f setting name x y in
-      let inverted = has.2.2 in
+      let inverted = has.2.1 in
       by_wiring has.0 has.1 ∙
       ap (λ shown. bit_for level (slice_index half.entries shown))
       (addresses_agree sees (corner_sees setting.phase state corner)

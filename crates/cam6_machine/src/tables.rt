@@ -6,7 +6,7 @@ ghost use Rattle.cam6_cycle.specs.Tables.{tables_needed};
 ghost use Rattle.cam6_cycle.specs.declared.tables.TheConstants.{MAX_TABLES};
 ghost use Rattle.cam6_machine.specs.Numbers.{rule_at, AreTables};
 ghost use Rattle.cam6_machine.specs.Internal.Numbered.{rules_of};
-ghost use Rattle.cam6_machine.specs.Internal.Uses.{IsUse, HasTable, HaveTables};
+ghost use Rattle.cam6_machine.specs.Internal.Uses.{IsUse, IsUsable, AreUsable};
 ghost use Rattle.cam6_machine.specs.TrueTables.{IsTableFor};
 
 use crate::rules::KeptRule;
@@ -25,7 +25,7 @@ pub(crate) fn fill_tables(
 )
     requires room { length tables.old ≡ MAX_TABLES }
     // Backward, the rules that the cycle uses can be undone.
-    requires rules { HaveTables direction (rules_of rules.now.entries)
+    requires rules { AreUsable direction (rules_of rules.now.entries)
         (tables_needed direction cycle.now) }
     ensures tables { let needed = tables_needed direction cycle.now in
         AreTables direction (length needed) (rules_of rules.now.entries) needed tables.new }
@@ -49,7 +49,7 @@ fn fill_use(
 )
     requires index { index < length needed.now }
     requires room { length needed.now ≤ length tables.old }
-    requires rules { HaveTables direction (rules_of rules.now.entries) needed.now }
+    requires rules { AreUsable direction (rules_of rules.now.entries) needed.now }
     requires before { AreTables direction index (rules_of rules.now.entries) needed.now tables.old }
     ensures tables { AreTables direction (index + 1) (rules_of rules.now.entries) needed.now tables.new }
     ensures room { length tables.new ≡ length tables.old }
@@ -78,7 +78,7 @@ fn fill_table(
     straight: &mut Table,
     table: &mut Table,
 )
-    requires rule { HasTable direction (rule_at (rules_of rules.now.entries) (Some number)) }
+    requires rule { IsUsable direction (rule_at (rules_of rules.now.entries) (Some number)) }
     ensures { IsTableFor direction (rule_at (rules_of rules.now.entries) (Some number)) table.new }
 {
     let Some((_, rule)) = rules.get_index(number) else {

@@ -1,12 +1,13 @@
 -- The last code of a rule's definitions is the rule's code.
 use Rattle.std.proofs.Common.{◌≡◌, ℕ, ◌+◌, ◌-◌, ◌<◌, ◌≤◌, List, [], ◌∷◌, length, refl, ap}
-use Rattle.std.proofs.Common.{◌∙◌, arith, Option, Some, None, MatchOption, slice_index_or}
-use Rattle.std.specs.Option.{unwrap_or}
+use Rattle.std.proofs.Common.{◌∙◌, ◌++◌, sym, length-append, arith, Option, Some, None}
+use Rattle.std.proofs.Common.{MatchOption, slice_index_or}
 use Rattle.cam6_wiring.specs.declared.wirings.Wiring.{Wiring}
 use Rattle.cam6_forth.specs.Defined.{Defined, RuleWords}
 use Rattle.cam6_forth.specs.Tree.{Part, IsRule, IsOfTree, rule_of}
 use Rattle.cam6_table.specs.Codes.{result_at, IsCodeOf}
-use Rattle.cam6_table.specs.Internal.Emitting.{Instructions, code_at, all_codes}
+use Rattle.cam6_table.specs.Internal.Emitting.{Instructions, code_at, words_code, all_codes}
+use Rattle.cam6_forth.proofs.Runs.{length-all}
 use Rattle.cam6_table.proofs.BodyCodes.{tree_codes}
 use Rattle.cam6_table.proofs.Emission.{rule_codes}
 use Rattle.cam6_table.proofs.Lengths.{code_length}
@@ -16,26 +17,45 @@ some_code : (code last : Instructions) → Some code ≡ Some last → code ≡ 
 some_code code last is = cc
 
 -- what is taken off is the last code
-popped_code : (codes : List Instructions) (popped : Option Instructions) (count left : ℕ) →
-    count ≡ length codes →
+pub popped_last : (codes : List Instructions) (popped : Option Instructions) (code : Instructions)
+    (count left : ℕ) → count ≡ length codes →
     MatchOption popped ((count ≡ 0) × (left ≡ 0)) (λ code. left + 1 ≡ count) →
     ((d : Instructions) → 0 < count → popped ≡ Some (slice_index_or codes (count - 1) d)) →
-    unwrap_or popped [] ≡ last_code codes
-popped_code [] None count left long cases value = refl
-popped_code (first ∷ codes) None count left long cases value =
-    let none = cases.0 in absurd (omega arith)
-popped_code codes (Some code) count left long cases value =
-    some_code code (code_at codes (count - 1)) (value [] (omega arith))
+    popped ≡ Some code → code ≡ last_code codes
+popped_last codes None code count left long cases value is = cc is
+popped_last codes (Some last) code count left long cases value is =
+    some_code code last (sym is)
+    ∙ some_code last (code_at codes (count - 1)) (value [] (omega (arith, cases)))
     ∙ ap (λ n. code_at codes (n - 1)) long
 
--- the same, where no code stands for none
-pub last_is : (codes : List Instructions) (popped : Option Instructions) (count left : ℕ)
-    (none last : Instructions) → count ≡ length codes →
-    MatchOption popped ((count ≡ 0) × (left ≡ 0)) (λ code. left + 1 ≡ count) →
+-- a code for each definition
+codes_for_each : (wiring : Wiring) (codes : List Instructions) (definitions : List Defined) →
+    length (all_codes wiring codes definitions) ≡ length codes + length definitions
+codes_for_each wiring codes [] = omega arith
+codes_for_each wiring codes (definition ∷ later) =
+    let code = words_code wiring codes definition.words in
+    codes_for_each wiring (codes ++ code ∷ []) later
+    ∙ ap (λ n. n + length later) (length-append codes (code ∷ []))
+    ∙ omega arith
+
+has_definitions : (rule : RuleWords) (parts : List Part) → IsRule rule.wiring parts →
+    rule ≡ rule_of rule.wiring parts → 0 < length rule.definitions
+has_definitions rule parts is same =
+    let each = ap (λ (r : RuleWords). length r.definitions) same ∙ length-all rule.wiring parts in
+    omega (arith, each, is.some)
+
+-- there is one: a rule has a definition
+pub never_without : (rule : RuleWords) (codes : List Instructions) (popped : Option Instructions)
+    (count : ℕ) → codes ≡ all_codes rule.wiring [] rule.definitions → IsOfTree rule →
+    count ≡ length codes →
     ((d : Instructions) → 0 < count → popped ≡ Some (slice_index_or codes (count - 1) d)) →
-    none ≡ [] → last ≡ unwrap_or popped none → last ≡ last_code codes
-last_is codes popped count left none last long cases value empty is =
-    is ∙ ap (unwrap_or popped) empty ∙ popped_code codes popped count left long cases value
+    popped ≡ None → ⊥
+never_without rule codes popped count made tree long value none =
+    let some = has_definitions rule tree.0 tree.1 tree.2 in
+    let each = ap length made ∙ codes_for_each rule.wiring [] rule.definitions in
+    let contrary : None ≡ Some (code_at codes (count - 1)) =
+    sym none ∙ value [] (omega (arith, long, each, some)) in
+    cc contrary
 
 -- the codes that were made of a rule's definitions
 pub made_of : (rule : RuleWords) (wiring : Wiring) (definitions : List Defined)

@@ -20,8 +20,10 @@ impl Code {
         ensures limit { IfOk result (λ code. length code ≤ max_turns) }
     {
         let mut codes = codes_of(alloc, rule.wiring(), rule.definitions())?;
-        let last = codes.pop().unwrap_or(Instructions::new(alloc));
-        Ok(Code::new(last))
+        match codes.pop() {
+            Some(last) => Ok(Code::new(last)),
+            None => unreachable!(),
+        }
     }
 }
 

@@ -16,14 +16,14 @@ IsUse number None = ⊥
 IsUse number (Some table) = table.rule.number ≡ number
 
 -- a rule, where there is one, has a table this way: backward, one that can be undone
-abbrev pub HasTable : Direction → Option Rule → Type 0
-HasTable Forward rule = ⊤
-HasTable Backward rule = IsReversibleRule rule
+abbrev pub IsUsable : Direction → Option Rule → Type 0
+IsUsable Forward rule = ⊤
+IsUsable Backward rule = IsReversibleRule rule
 
 -- so it is with the rules of these uses
-abbrev pub HaveTables : Direction → List Rule → List NeededTable → Type 0
-HaveTables direction rules needed =
-    AllByRecursion (λ table. HasTable direction (rule_at rules (Some table.rule.number))) needed
+abbrev pub AreUsable : Direction → List Rule → List NeededTable → Type 0
+AreUsable direction rules needed =
+    AllByRecursion (λ table. IsUsable direction (rule_at rules (Some table.rule.number))) needed
 
 -- the rules at an entry's numbers, if it has any, can be undone
 abbrev pub HasNoCause : List Rule → Entry → Type 0

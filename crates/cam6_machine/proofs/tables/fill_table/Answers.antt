@@ -1,5 +1,5 @@
 use Rattle.std.proofs.Common.{subst, sym}
-use Rattle.cam6_machine.specs.Internal.Uses.{HasTable}
+use Rattle.cam6_machine.specs.Internal.Uses.{IsUsable}
 use Rattle.cam6_machine.specs.TrueTables.{IsTableFor}
 use Rattle.cam6_machine.proofs.Inverses.{not_refused}
 use Rattle.cam6_machine.proofs.KeptRules.{listed, rule_found}
@@ -10,7 +10,7 @@ unreachable-requires c =
     let name = c.in-Some.field-0-0.now in
     let rule = c.in-Some.rule.now in
     not_refused c.args.direction (listed (name, rule)) c.in-Err.field-0
-    (subst (HasTable c.args.direction)
+    (subst (IsUsable c.args.direction)
     (rule_found c.args.rules.now.entries c.args.number (name, rule) c.in-Some.ensures.entry)
     c.requires.rule)
     c.in-Err.ensures.refused

@@ -2,13 +2,13 @@ use Rattle.std.proofs.Common.{◌∙◌, ap, arith, subst, sym, length}
 use Rattle.cam6_cycle.specs.Tables.{tables_needed}
 use Rattle.cam6_machine.specs.Numbers.{AreTables}
 use Rattle.cam6_machine.specs.Internal.Numbered.{rules_of}
-use Rattle.cam6_machine.specs.Internal.Uses.{HaveTables}
+use Rattle.cam6_machine.specs.Internal.Uses.{AreUsable}
 use Rattle.cam6_machine.proofs.FilledTables.{fewer}
 use Rattle.cam6_machine.proofs.tables.fill_tables.Goals as goal
 
 pub fill_use-requires-clause-rules : goal.fill_use-requires-clause-rules
 fill_use-requires-clause-rules c =
-    subst (HaveTables c.args.direction (rules_of c.args.rules.now.entries))
+    subst (AreUsable c.args.direction (rules_of c.args.rules.now.entries))
     (sym (c.deref.ensures.0 ∙ c.tables_needed-needed.ensures.tables)) c.requires.rules
 
 pub returns-clause-tables : goal.returns-clause-tables
