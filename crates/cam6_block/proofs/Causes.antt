@@ -78,7 +78,7 @@ differs : (a b : ℕ) → a ≢ b → (a == b) ≡ false
 differs a b ne = elim (eqb_tells a b) [ inl e ↦ absurd (ne e.1) | inr e ↦ e.0 ]
 
 module _ (f : ℕ → ℕ) where
-  -- the least state with an successor
+  -- the least state with a successor
   least_state : (a t : ℕ) → a < 256 → f a ≡ t → ((i : ℕ) → i < a → f i ≢ t) → preimage f t ≡ a
   unfolding preimage
   least_state a t h e none =
@@ -107,7 +107,7 @@ module _ (f : ℕ → ℕ) where
   abbrev found_at : ℕ → Bool → Option (ℕ × ℕ)
   found_at k c = if c then Some (preimage f (f k), k) else None
 
-  -- two block_states that meet are found
+  -- two block states that meet are found
   pub found_meeting : (a b : ℕ) → IsMeeting f a b → meeting_of f ≡ Some (a, b)
   unfolding meeting_of
   found_meeting a b is =

@@ -2,11 +2,11 @@
 
 -- States of a block and their bits.
 pub mod States
--- A map of block_states of which no two have one successor takes each state.
+-- A map of block states of which no two have one successor takes each state.
 pub mod Pigeonhole
--- A search of all block_states, which keeps the state of each successor.
+-- A search of all block states, which keeps the state of each successor.
 pub mod Search
--- The least state with an successor.
+-- The least state with a successor.
 pub mod Preimages
 -- The lines that a corner of a block shows.
 pub mod Lines

@@ -8,7 +8,7 @@ use Rattle.cam6_block.specs.Laws.{TakesEach}
 abbrev pub IsOneToOneBelow : ℕ → (ℕ → ℕ) → Type 0
 IsOneToOneBelow n f = (s t : ℕ) → s < n → t < n → f s ≡ f t → s ≡ t
 
--- f with its value at n in corner of the value m
+-- f with its value at n instead of the value m
 abbrev moved : (ℕ → ℕ) → ℕ → ℕ → ℕ → ℕ
 moved f n m i = if f i == m then f n else f i
 

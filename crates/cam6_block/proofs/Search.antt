@@ -1,4 +1,4 @@
--- A search of all block_states, which keeps the state of each successor.
+-- A search of all block states, which keeps the state of each successor.
 use Rattle.std.proofs.Common.{◌≡◌, ◌≢◌, inl, inr, ℕ, zero, suc, ◌+◌, ◌<◌, ◌≤◌, List, length, get_or}
 use Rattle.std.proofs.Common.{set, Option, Some, None, refl, sym, ◌∙◌, ap, arith, replicate}
 use Rattle.std.proofs.Common.{length-set}
@@ -8,7 +8,7 @@ use native.Mathlib.Decide.{dec_lt}
 use Rattle.cam6_block.specs.BlockMaps.{IsOneToOne}
 use Rattle.cam6_block.specs.Refusals.{IsMeeting}
 
--- the block_states below n, each at its successor
+-- the block states below n, each at its successor
 pub record IsKept (f : ℕ → ℕ) (n : ℕ) (block_states : List (Option ℕ)) : Type 0 where
   pub long : length block_states ≡ 256
   pub kept : (s : ℕ) → s < n → get_or block_states (f s) None ≡ Some s

@@ -71,7 +71,7 @@ same_bit (suc zero) (suc zero) h k e = refl
 same_bit (suc (suc a)) b h k e = absurd (omega arith)
 same_bit a (suc (suc b)) h k e = absurd (omega arith)
 
--- two block_states with the same bits are one
+-- two block states with the same bits are one
 pub same_state : (s t : ℕ) → s < 256 → t < 256 →
     ((level : Level) (k : ℕ) → k < 4 → corner_bit s level k ≡ corner_bit t level k) → s ≡ t
 unfolding corner_bit

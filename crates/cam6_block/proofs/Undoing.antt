@@ -69,7 +69,7 @@ same_list (x ∷ xs) (y ∷ ys) h e =
     ap (λ n. n ∷ xs) (e 0 (omega arith)) ∙
     ap (λ l. y ∷ l) (same_list xs ys (omega arith) (λ i k. e (suc i) (omega arith)))
 
--- the addresses that corners show, one after another: 4 corners of 256 block_states at 4 phases
+-- the addresses that corners show, one after another: 4 corners of 256 block states at 4 phases
 abbrev pub phase_at : ℕ → Phase
 phase_at n = phase_of (n / 1024)
 

@@ -41,7 +41,7 @@ unfoldable pub block_map : Reading → Phase → ℕ → ℕ
 block_map read phase state =
     state_of (λ level corner. bit_for level (read (corner_sees phase state corner)))
 
--- no two block_states have one successor
+-- no two block states have one successor
 abbrev pub IsOneToOne : (ℕ → ℕ) → Type 0
 IsOneToOne f = (a b : ℕ) → a < block_states → b < block_states → f a ≡ f b → a ≡ b
 

@@ -17,7 +17,7 @@ use Rattle.cam6_wiring.specs.declared.names.Rotation.TheVariants.{Clockwise, Opp
 use Rattle.cam6_wiring.specs.declared.wirings.Hood.{Hood}
 use Rattle.cam6_wiring.specs.declared.wirings.Minor.{Minor}
 
--- a block has so many block_states: a bit at each of four corners in each of two planes
+-- a block has so many block states: a bit at each of four corners in each of two planes
 abbrev pub block_states : ℕ
 block_states = 256
 

@@ -21,13 +21,13 @@ TrueTableHasTheBlockMap =
     block_map (by_table wiring.hood wiring.minor entries) phase state
     ≡ block_map (by_words wiring parts) phase state
 
--- a map of block_states to block_states of which no two have one successor takes each state
+-- a map of block states to block states of which no two have one successor takes each state
 abbrev pub TakesEach : Type 0
 TakesEach =
     (f : ℕ → ℕ) → ((state : ℕ) → state < block_states → f state < block_states) → IsOneToOne f →
     (successor : ℕ) → successor < block_states → (state : ℕ) × (state < block_states) × (f state ≡ successor)
 
--- two corners that show one address, of whatever block_states and at whatever phases, take the same bits
+-- two corners that show one address, of whatever block states and at whatever phases, take the same bits
 abbrev pub CornersAgree : Type 0
 CornersAgree =
     (hood : Hood) (minor : Minor) (entries : List ℕ) →

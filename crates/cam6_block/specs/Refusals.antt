@@ -22,7 +22,7 @@ pub record IsMeeting (f : ℕ → ℕ) (a b : ℕ) : Type 0 where
   pub least : (s t : ℕ) → s < t → t < b → f s ≢ f t
 
 -- the cause: first the neighbourhood, then the minor assignment, then the least phase at which two
--- block_states meet
+-- block states meet
 abbrev pub IsRefused : Reading → Hood → Minor → NotReversible → Type 0
 IsRefused read hood minor not_reversible.Hood = is_margolus hood ≡ false
 IsRefused read hood minor not_reversible.Centres = (is_margolus hood ≡ true) × (minor ≡ Centers)

@@ -9,7 +9,7 @@ pub fn a_true_table_has_the_block_map()
     ensures law { TrueTableHasTheBlockMap }
 {}
 
-/// A map of block_states of which no two have one successor takes each state.
+/// A map of block states of which no two have one successor takes each state.
 pub fn one_to_one_takes_each_state()
     ensures law { TakesEach }
 {}

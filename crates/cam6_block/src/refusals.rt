@@ -1,4 +1,4 @@
-//! Why a table has no inverse, and the block_states that show it.
+//! Why a table has no inverse, and the block states that show it.
 ghost use Rattle.std.specs.Prelude.{◌≡◌, IfSome, None, true};
 ghost use Rattle.cam6_wiring.specs.Wiring.{is_margolus};
 ghost use Rattle.cam6_block.specs.BlockMaps.{by_table, block_map, IsOneToOne};
@@ -16,12 +16,12 @@ pub enum NotReversible {
     Hood,
     /// The blocks see the other half's centres.
     Centres,
-    /// At this phase, the least one at which it is so, two block_states have one successor: `b` is the least
+    /// At this phase, the least one at which it is so, two block states have one successor: `b` is the least
     /// state for which there is a smaller one, and `a` is that smaller one.
     Meeting { phase: Phase, a: u8, b: u8 },
 }
 
-/// Two block_states, the smaller one first.
+/// Two block states, the smaller one first.
 #[derive(Clone, Copy)]
 pub(crate) struct Pair {
     pub(crate) a: u8,

@@ -142,7 +142,7 @@ module _ (k : NamedKey) where
 abbrev cached : ℕ → List (TableKey × List ℕ) → Cached
 cached capacity tables = record { tables = tables; capacity = capacity }
 
--- a table of a key that is cached goes first, and leaves its place
+-- a table of a key that is cached goes first, and leaves where it was
 first_of_cached : (key : TableKey) (table : List ℕ) (cached : Cached) →
     is_cached key cached.tables ≡ true →
     record cached { tables = (key, table) ∷ without key cached.tables } ≡ with_first key table cached

@@ -28,7 +28,7 @@ without key [] = []
 without key (table ∷ tables) =
     if is_same_key key table.0 then tables else table ∷ without key tables
 
--- a key's table goes first: one that was cached leaves its place, and before a new one the last
+-- a key's table goes first: one that was cached leaves where it was, and before a new one the last
 -- leaves a full cache
 abbrev pub with_first : TableKey → List ℕ → Cached → Cached
 with_first key table cached =

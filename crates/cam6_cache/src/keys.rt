@@ -64,7 +64,7 @@ impl Hash for NamedKey {
     }
 }
 
-/// What a table is asked for by, in room that is cached: what a rule is written for, its whole text,
+/// What a table is asked for by, in room that is kept: what a rule is written for, its whole text,
 /// and whether the table is to undo it. The rule's name is no part of it.
 #[derive(Debug, Drop)]
 pub struct Key {

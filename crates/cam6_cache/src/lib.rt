@@ -10,7 +10,7 @@
 //! table; a key whose straight table has a reversible block map is a reversible key.
 //!
 //! So, of a cache of two: loads of the keys K, L, K, M, K and L miss, miss, hit, miss, hit and
-//! miss, for M comes in place of L. What is cached then is of L and K.
+//! miss, for M comes instead of L. What is cached then is of L and K.
 //!
 //! Stands on: `cam6_planes`, `cam6_wiring`, `cam6_forth`, `cam6_table`, `cam6_block` and
 //! `cam6_cycle`.

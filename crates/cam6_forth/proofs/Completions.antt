@@ -102,7 +102,7 @@ module _ (w : Wiring) where
       (ap ok_state (plain_state w u)) (unfinished_completes u)
   comment_completes false u = subst (Completes w) (sym (plain_state w u)) (unfinished_completes u)
 
-  -- tokens that were read without a fault beginning a rule
+  -- tokens that were read without a fault begin a rule
   pub run_begins : (before : List Token) (last : State) → run w beginning before ≡ ok_state last →
       Begins w before
   run_begins before last e =

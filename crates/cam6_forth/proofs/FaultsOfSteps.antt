@@ -1,4 +1,4 @@
--- A advance refuses a token with the fault that the token has after what is being written.
+-- An advance refuses a token with the fault that the token has after what is being written.
 use Rattle.std.proofs.Common.{◌≡◌, ◌+◌, ℕ, Bool, true, false, List, [], ◌∷◌}
 use Rattle.std.proofs.Common.{length, refl, ap, ◌∙◌, arith, Option, Some, None}
 use Rattle.std.proofs.Common.{is_some, Result, Ok, Err, cond, nat_lt, nat_le, suc}
@@ -25,7 +25,7 @@ use Rattle.cam6_forth.specs.Reading.{with_definition, step_at, finish, some_defi
 use Rattle.cam6_forth.proofs.States.{open_flags, state_of}
 use Rattle.cam6_forth.proofs.Runs.{length-all}
 
--- the fault of a advance
+-- the fault of an advance
 abbrev pub fault_in : {T : Type 0} → Result T ℕ → Option ℕ
 fault_in (Ok value) = None
 fault_in (Err number) = Some number

@@ -46,7 +46,7 @@ pub record Follows (w : Wiring) (u : Unfinished) (mode : Mode) (ts : List Token)
   pub spelled : spell_unfinished unfinished ≡ spell_unfinished u ++ uncommented mode ts
   pub state : last ≡ with_comment (is_comment (mode_after mode ts)) (state_of w unfinished)
 
--- a token opens a comment, or `(` is a name's position
+-- a token opens a comment, or `(` stands where a name is due
 opens : (u : Unfinished) (k : Kind) →
     ((k ≡ kind.Open) × (mode_of u ≡ Plain)) ⊎ (k ≡ kind.Open → mode_of u ≡ AfterColon)
 opens (Unnamed parts) k = inr (λ e. refl)
@@ -97,7 +97,7 @@ and_then_ok (Ok s1) f last e = (s1, refl, e)
 and_then_ok (Err x) f last e = cc
 
 module _ (w : Wiring) where
-  -- a advance outside comments
+  -- an advance outside comments
   pub step_plain : (u : Unfinished) (t : Token) →
       advance w (with_comment false (state_of w u)) t
       ≡ step_at w (state_of w u).context (state_of w u) (kind_of t) t

@@ -14,7 +14,7 @@ pub mod Runs
 pub mod Counting
 -- Items after items, and definitions after definitions.
 pub mod Joined
--- A advance refuses a token with the fault that the token has after what is being written.
+-- An advance refuses a token with the fault that the token has after what is being written.
 pub mod FaultsOfSteps
 -- Each token that is spelled is read.
 pub mod Steps
@@ -24,9 +24,9 @@ pub mod SpelledBodies
 pub mod SpelledIsRead
 -- What it means that what is being written grows by a token.
 pub mod OneMore
--- What is being written grows by each token that a advance reads in a body or between braces.
+-- What is being written grows by each token that an advance reads in a body or between braces.
 pub mod MoreInBodies
--- What is being written grows by each token that a advance reads.
+-- What is being written grows by each token that an advance reads.
 pub mod MoreByTokens
 -- Tokens with comments, and what is being written by them.
 pub mod Following

@@ -1,4 +1,4 @@
--- What is being written grows by each token that a advance reads.
+-- What is being written grows by each token that an advance reads.
 use Rattle.std.proofs.Common.{◌≡◌, ◌<◌, ℕ, List, [], ◌∷◌, ◌++◌, length, refl, sym}
 use Rattle.std.proofs.Common.{ap, ◌∙◌, append_assoc, zero-add, length-append, arith}
 use Rattle.std.proofs.Common.{Option, Some, None, is_some, Err, cond, nat_lt, codes}
@@ -157,7 +157,7 @@ module _ (w : Wiring) (parts : List Part) where
       more.case_grows w parts last words t s1 sound
       (ap (λ j. grown_by 1 (word_of w done j t) (state_of w (Braced parts last words))) e ∙ f)
 
--- a token that a advance reads outside comments, and that opens none
+-- a token that an advance reads outside comments, and that opens none
 pub grows : (w : Wiring) (u : Unfinished) (t : Token) (s1 : State) → IsSound w u →
     (kind_of t ≡ kind.Open → mode_of u ≡ AfterColon) →
     step_at w (state_of w u).context (state_of w u) (kind_of t) t ≡ ok_state s1 →

@@ -1,4 +1,4 @@
--- What is being written grows by each token that a advance reads in a body or between braces.
+-- What is being written grows by each token that an advance reads in a body or between braces.
 use Rattle.std.proofs.Common.{◌≡◌, ◌≤◌, ◌<◌, ◌+◌, true, false, List, [], ◌∷◌, ◌++◌}
 use Rattle.std.proofs.Common.{length, refl, sym, ◌∙◌, append_assoc, append-nil}
 use Rattle.std.proofs.Common.{arith, MatchOption, Option, Some, None, is_some, Err, nat_lt, codes}

@@ -31,7 +31,7 @@ pub record Grows (w : Wiring) (u : Unfinished) (t : Token) (next : Mode) (s1 : S
   pub state : s1 ≡ state_of w unfinished
   pub mode : mode_of unfinished ≡ next
 
--- a advance that goes on where a test holds
+-- an advance that goes on where a test holds
 pub if_ok : (b : Bool) (x y : State) (n : ℕ) → cond b (ok_state x) (Err n) ≡ ok_state y →
     (b ≡ true) × (x ≡ y)
 if_ok true x y n e = (refl, ok-same x y e)
@@ -42,7 +42,7 @@ pub if_then_ok : (b : Bool) (r : Result State ℕ) (y : State) (n : ℕ) →
 if_then_ok true r y n e = (refl, e)
 if_then_ok false r y n e = cc
 
--- a advance that adds a word
+-- an advance that adds a word
 pub grown_ok : (n : ℕ) (said : Word) (s s1 : State) → grown n said s ≡ ok_state s1 →
     (s.size + n ≤ max_size)
     × (record s { size = s.size + n; words = s.words ++ said ∷ [] } ≡ s1)

@@ -7,7 +7,7 @@ use Rattle.cam6_forth.specs.Defined.{Defined}
 use Rattle.cam6_forth.specs.Tree.{Part, defined, meant}
 use Rattle.cam6_forth.specs.Reading.{State, advance}
 
--- a state, as the result of a advance
+-- a state, as the result of an advance
 abbrev pub ok_state : State → Result State ℕ
 ok_state s = Ok s
 

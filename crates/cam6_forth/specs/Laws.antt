@@ -55,14 +55,14 @@ FaultStays =
     token_number ≤ length first → HasTokenFault wiring (first ++ later) number token_number →
     HasTokenFault wiring (first ++ other) number token_number
 
--- the token of a fault is the first with which the tokens beginning no rule
+-- the token of a fault is the first with which the tokens begin no rule
 abbrev pub FaultIsFirst : Type 0
 FaultIsFirst =
     (wiring : Wiring) (all : List Token) (number token_number : ℕ) →
     HasTokenFault wiring all number token_number →
     Begins wiring (take (token_number - 1) all) × (Begins wiring (take token_number all) → ⊥)
 
--- where the end has a fault, the tokens beginning a rule and are none
+-- where the end has a fault, the tokens begin a rule and are none
 abbrev pub EndIsTooEarly : Type 0
 EndIsTooEarly =
     (wiring : Wiring) (all : List Token) (number token_number : ℕ) →

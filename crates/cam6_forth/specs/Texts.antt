@@ -17,7 +17,7 @@ pub record IsTextOf (wiring : Wiring) (parts : List Part) (text : List ℕ) : Ty
   pub short : length text ≤ max_text
   pub all : AreTokensOf wiring parts (tokens text)
 
--- tokens that beginning the tokens of a rule
+-- tokens that begin the tokens of a rule
 abbrev pub Begins : Wiring → List Token → Type 0
 Begins wiring first =
     (later : List Token) × (parts : List Part) × AreTokensOf wiring parts (first ++ later)

@@ -100,7 +100,7 @@ pub record IsOpened (wiring : Wiring) (done : List Defined) (last : Opened) (mor
   pub said : FitsAt wiring done (length last.open_ifs) last.said
   pub size : opened_size wiring done last + more ≤ max_size
 
--- definitions after which one more may beginning
+-- definitions after which one more may begin
 pub record AreBefore (wiring : Wiring) (parts : List Part) : Type 0 where
   pub each : AreDefinitions wiring [] parts
   pub few : length parts < max_definitions

@@ -34,12 +34,12 @@ pub fn a_fault_stays()
     ensures law { FaultStays }
 {}
 
-/// The tokens before a token that has a fault beginning a rule; with that token they beginning none.
+/// The tokens before a token that has a fault begin a rule; with that token they begin none.
 pub fn a_fault_is_the_first()
     ensures law { FaultIsFirst }
 {}
 
-/// Where the end of a text has a fault, its tokens beginning a rule and are none.
+/// Where the end of a text has a fault, its tokens begin a rule and are none.
 pub fn an_end_with_a_fault_is_too_early()
     ensures law { EndIsTooEarly }
 {}

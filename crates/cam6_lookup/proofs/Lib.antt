@@ -4,7 +4,7 @@
 pub mod Shifted
 -- The positions of a word by a binary digit, and one swap of two words.
 pub mod Positions
--- Four swaps in pass.
+-- Four swaps, one after another.
 pub mod Transposing
 -- Words of four lanes.
 pub mod Lanes

@@ -65,7 +65,7 @@ module _ (digit : Digit) (rows : List (List ℕ)) (k i word : ℕ) where
   at_swapped p row position e f =
       sym (ap (λ n. bit_at (word_at n) (swapped_position digit k p)) e ∙ ap (bit_at (word_at row)) f)
 
-  -- the first word of an swap, whose row has the digit 0
+  -- the first word of a swap, whose row has the digit 0
   pub first_cell : digit_of digit k ≡ 0 →
       ((p : ℕ) → p < 64 → digit_of digit p ≡ 0 → bit_at word p ≡ bit_at (word_at k) p) →
       ((p : ℕ) → p < 64 → digit_of digit p ≡ 1 →

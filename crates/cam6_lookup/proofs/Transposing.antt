@@ -1,4 +1,4 @@
--- Four swaps in pass, as the check computes them for each row and position; and what holds of each
+-- Four swaps, one after another, as the check computes them for each row and position; and what holds of each
 -- of sixteen rows, of twelve lines and of two words.
 use Rattle.std.proofs.Common.{◌≡◌, ℕ, zero, suc, ◌+◌, ◌*◌, ◌/◌, ◌%◌, ◌<◌, Bool, true, nat_eq}
 use Rattle.std.proofs.Common.{nat_lt, refl, arith, subst}

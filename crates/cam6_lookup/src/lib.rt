@@ -12,7 +12,7 @@
 //! number with that digit of the position in the row. Then each word has four addresses of sixteen
 //! bits, one after the other.
 //!
-//! Read next: `digits`, then `swap`, the turning; then `look_up`.
+//! Read next: `digits`, then `swap`, the transposing; then `look_up`.
 #![tactic(auto)]
 
 mod digits;

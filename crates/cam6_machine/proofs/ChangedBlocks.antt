@@ -51,7 +51,7 @@ IsUndone None (Some second) = ⊥
 IsUndone (Some first) None = ⊥
 
 module _ (s : ℕ) (some : 0 < s) (even : s % 2 ≡ 0) (grid : Grid) where
-  -- the corner of the cell at a corner of a block
+  -- the cell at a corner of a block has this corner
   corner_there : (x y corner : ℕ) → corner < 4 →
       corner_in_block grid (column_at s grid x corner) (row_at s grid y corner) ≡ corner
   corner_there x y corner h =

@@ -38,11 +38,11 @@ pub mod BlocksOfCells
 pub mod ChangedBlocks
 -- Two ways of seeing that agree on the names of a block show one address.
 pub mod AddressesOfBlocks
--- What a cell sees in its block is what its number sees in the block's state.
+-- What a cell sees in its block is what its corner sees in the block's state.
 pub mod SeenInBlocks
 -- A step by rules of blocks changes each block as a whole.
 pub mod StepsByBlocks
--- The entry at a number of the cycle, and what its rules are.
+-- The entry at an index of the cycle, and what its rules are.
 pub mod RulesOfEntries
 -- A step by the tables of an entry's rules is the entry's step, or backward its step undone.
 pub mod StepsByTables

@@ -1,4 +1,4 @@
--- The entry at a index of the cycle, and what its rules are.
+-- The entry at an index of the cycle, and what its rules are.
 use Rattle.std.proofs.Common.{◌≡◌, ◌<◌, ℕ, zero, suc, Bool, true, false, List, [], ◌∷◌, length}
 use Rattle.std.proofs.Common.{cond, Option, Some, None, refl, subst, arith}
 use Rattle.std.proofs.Common.{slice_get, ◌⊎◌, inl, inr}
@@ -28,7 +28,7 @@ pub is_position : (cycle : List NamedEntry) (position : ℕ) → position < leng
 is_position [] position within = absurd (omega (arith, within))
 is_position (entry ∷ cycle) position within = within
 
--- what holds of all entries holds of the one at a index
+-- what holds of all entries holds of the one at an index
 pub of_entry : (Q : NamedEntry → Type 0) (cycle : List NamedEntry) (index : ℕ)
     (entry : NamedEntry) → AllByRecursion Q cycle → slice_get cycle index ≡ Some entry → Q entry
 of_entry Q [] index entry all found = cc found

@@ -1,4 +1,4 @@
--- Rules by their numbers, as a cycle has them: a rule's number is its number among the rules.
+-- Rules by their numbers, as a cycle has them: a rule's number is its index among the rules.
 use Rattle.std.specs.Prelude.{◌≡◌, ◌<◌, ℕ, List, [], map, slice_index_or, Option, Some, None, ⊤}
 use Rattle.std.specs.List.{slice_get, AllByRecursion}
 use Rattle.cam6_wiring.specs.Name.{phase_number}

@@ -79,7 +79,7 @@ map_refusal colours =
 abbrev pub colours_refusal : Side → ℕ → Option Fault
 colours_refusal side row = unless (nat_lt row (side_number side)) OutOfRange
 
--- a mask has no bit but those of cell_states
+-- a mask has no bit but those of states
 abbrev pub count_refusal : ℕ → Option Fault
 count_refusal mask = unless (nat_le mask limits.max_mask) OutOfRange
 

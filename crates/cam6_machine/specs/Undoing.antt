@@ -31,7 +31,7 @@ block_state_at s f half grid x y =
     state_of (λ level corner.
     f (plane_of half level) (column_at s grid x corner) (row_at s grid y corner))
 
--- the number of a corner as a corner of its block
+-- the number of a cell's corner of its block
 abbrev pub corner_number : Corner → ℕ
 corner_number UpperLeft = 0
 corner_number UpperRight = 1

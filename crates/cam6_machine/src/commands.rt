@@ -27,7 +27,7 @@ pub enum Command {
     Clear {
         plane: u64,
     },
-    /// Keeps a rule under a name, in number of the one that has the name already.
+    /// Keeps a rule under a name, instead of the one that has the name already.
     Rule {
         name: Text,
         wiring: Wiring,

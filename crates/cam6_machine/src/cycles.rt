@@ -1,4 +1,4 @@
-//! A cycle as a machine keeps it: with the numbers of its rules, which are their numbers.
+//! A cycle as a machine keeps it: by the numbers of its rules.
 ghost use Rattle.std.specs.Prelude.{◌≡◌, ◌≤◌, length, map};
 ghost use Rattle.cam6_cycle.specs.declared.cycles.TheConstants.{MAX_ENTRIES};
 ghost use Rattle.cam6_machine.specs.Cycles.{phase_of};

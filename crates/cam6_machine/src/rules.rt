@@ -177,7 +177,7 @@ pub(crate) fn names_of(
     Ok(names)
 }
 
-/// Keeps a rule under a name, in number of the one that has it.
+/// Keeps a rule under a name, instead of the one that has it.
 pub(crate) fn put(
     rules: &mut IndexMap<String, KeptRule>,
     name: Text,

@@ -12,7 +12,7 @@ use Rattle.cam6_session.specs.Answers.{text_to, after_line, by_machine, commands
 use Rattle.cam6_session.specs.Laws.{AnswersAreReplies, AnswersGoOn}
 
 module _ {S : Type 0} (by : Answering S) where
-  -- lines are answered as those before them unread what is asked
+  -- lines are answered as those before them left what is asked
   pub answers_to_both : (s : S) (done later : List (List ℕ))
       → answers by s (done ++ later) ≡ answers by s done ++ answers by (after_lines by s done) later
   answers_to_both s [] later = refl

@@ -26,7 +26,7 @@ AnswersAreReplies =
     ≡ texts_of (map command taken) (replies m (commands (map command taken)))) ×
     (after_lines by_machine m taken ≡ after_all m (commands (map command taken)))
 
--- lines are answered as others before them unread what is asked, so a session can be taken up again
+-- lines are answered as others before them left what is asked, so a session can be taken up again
 abbrev pub AnswersGoOn : {S : Type 0} → Answering S → Type 0
 AnswersGoOn {S} by =
     (s : S) (done later : List (List ℕ)) →

@@ -41,7 +41,7 @@ abbrev pub Reads : Line → Option (List ℕ) → Option (List ℕ) → Held →
 Reads result old new held =
     IfSome old (λ all. (unread : List ℕ) × (new ≡ Some unread) × ReadsLine result all unread held)
 
--- a line takes a turn or more, and the bound is met where none is unread
+-- a line takes a turn or more, and the bound is met where none is left
 abbrev pub Turns : Line → ℕ → ℕ → Type 0
 Turns Ended old new = new < old
 Turns Last old new = new < old

@@ -5,7 +5,7 @@ use Rattle.cam6_session.specs.declared.lines.Line.TheVariants as line
 use Rattle.cam6_session.specs.declared.sessions.End.{End}
 use Rattle.cam6_session.specs.declared.sessions.End.TheVariants.{TurnBound}
 
--- as many bytes were taken of the reader as there were turns until so many were unread, or more
+-- as many bytes were taken of the reader as there were turns until so many turns were left, or more
 abbrev pub TookAsMany : ℕ → ℕ → Option (List ℕ) → Option (List ℕ) → Type 0
 TookAsMany before after read remaining =
     IfSome read (λ all. IfSome remaining (λ unread. before + length unread ≤ after + length all))

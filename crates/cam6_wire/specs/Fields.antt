@@ -38,7 +38,7 @@ numbers_of (item d ds) = do
   numbers ← numbers_of ds
   Some (n ∷ numbers)
 
--- a colour for each of the sixteen cell_states
+-- a colour for each of the sixteen states
 abbrev pub of_states : List ℕ → Option (List ℕ)
 of_states numbers = if length numbers == cell_states then Some numbers else None
 

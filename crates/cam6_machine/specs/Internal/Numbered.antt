@@ -55,7 +55,7 @@ half_rule number None = None
 half_rule number (Some rule) =
     Some (record { number = number; hood = rule.wiring.hood; minor = rule.wiring.minor })
 
--- the rule at a number so, if there is a number and a rule at it
+-- the same of a rule that is compiled, if there is a number and a rule at it
 abbrev pub half_rule_at : List Rule → Option ℕ → Option HalfRule
 half_rule_at rules None = None
 half_rule_at rules (Some number) = half_rule number (slice_get rules number)

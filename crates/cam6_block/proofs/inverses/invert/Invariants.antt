@@ -4,7 +4,7 @@ use Rattle.cam6_wiring.specs.declared.names.Phase.{Phase}
 use Rattle.cam6_block.specs.BlockMaps.{by_table, block_map, IsOneToOne}
 use Rattle.cam6_block.proofs.inverses.invert.Given as goal
 
--- no two block_states meet at a phase before
+-- no two block states meet at a phase before
 abbrev pub invariant-loop-phase : goal.invariant-loop-phase
 invariant-loop-phase l =
     (before : Phase) → phase_number before < l.phase-index →
