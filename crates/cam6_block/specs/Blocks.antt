@@ -13,7 +13,8 @@ use Rattle.cam6_wiring.specs.declared.names.Level.TheVariants.{Lower, Upper}
 use Rattle.cam6_wiring.specs.declared.names.Name.TheVariants as name
 use Rattle.cam6_wiring.specs.declared.names.Phase.{Phase}
 use Rattle.cam6_wiring.specs.declared.names.Rotation.{Rotation}
-use Rattle.cam6_wiring.specs.declared.names.Rotation.TheVariants.{Clockwise, Opposite, CounterClockwise}
+use Rattle.cam6_wiring.specs.declared.names.Rotation.TheVariants.{Clockwise, Opposite}
+use Rattle.cam6_wiring.specs.declared.names.Rotation.TheVariants.{CounterClockwise}
 use Rattle.cam6_wiring.specs.declared.wirings.Hood.{Hood}
 use Rattle.cam6_wiring.specs.declared.wirings.Minor.{Minor}
 
@@ -39,7 +40,8 @@ state_of bit =
 
 -- a corner's two bits as a table has them
 unfoldable pub corner_bits : ℕ → ℕ → ℕ
-corner_bits state corner = number_of (corner_bit state Lower corner ∷ corner_bit state Upper corner ∷ [])
+corner_bits state corner =
+    number_of (corner_bit state Lower corner ∷ corner_bit state Upper corner ∷ [])
 
 -- how many corners further clockwise a name in the block looks
 abbrev pub corners_on : Rotation → ℕ
@@ -72,4 +74,5 @@ corner_sees phase state corner name.MinorVert = is_low corner
 
 -- the address that a corner shows
 unfoldable pub corner_address : Hood → Minor → Phase → ℕ → ℕ → ℕ
-corner_address hood minor phase state corner = address_of hood minor (corner_sees phase state corner)
+corner_address hood minor phase state corner =
+    address_of hood minor (corner_sees phase state corner)

@@ -25,9 +25,11 @@ TrueTableHasTheBlockMap =
 abbrev pub TakesEach : Type 0
 TakesEach =
     (f : ℕ → ℕ) → ((state : ℕ) → state < block_states → f state < block_states) → IsOneToOne f →
-    (successor : ℕ) → successor < block_states → (state : ℕ) × (state < block_states) × (f state ≡ successor)
+    (successor : ℕ) → successor < block_states →
+    (state : ℕ) × (state < block_states) × (f state ≡ successor)
 
--- two corners that show one address, of whatever block states and at whatever phases, take the same bits
+-- two corners that show one address, of whatever block states and at whatever phases, take the
+-- same bits
 abbrev pub CornersAgree : Type 0
 CornersAgree =
     (hood : Hood) (minor : Minor) (entries : List ℕ) →

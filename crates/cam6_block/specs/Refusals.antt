@@ -50,9 +50,10 @@ or_at_later_phase phase (Some pair) later = Some (not_reversible.Meeting phase p
 -- the meeting at the least phase, if there is any
 abbrev pub first_meeting : Reading → Option NotReversible
 first_meeting read =
-    or_at_later_phase P0 (meeting_of (block_map read P0)) (or_at_later_phase P1 (meeting_of (block_map read P1))
-    (or_at_later_phase P2 (meeting_of (block_map read P2)) (or_at_later_phase P3 (meeting_of (block_map read P3))
-    None)))
+    or_at_later_phase P0 (meeting_of (block_map read P0))
+    (or_at_later_phase P1 (meeting_of (block_map read P1))
+    (or_at_later_phase P2 (meeting_of (block_map read P2))
+    (or_at_later_phase P3 (meeting_of (block_map read P3)) None)))
 
 -- the other half's centres, or else the later cause
 abbrev pub centres_or : Minor → Option NotReversible → Option NotReversible
@@ -64,3 +65,7 @@ centres_or HorzVert later = later
 abbrev pub cause_of : Reading → Hood → Minor → Option NotReversible
 cause_of read hood minor =
     if is_margolus hood then centres_or minor (first_meeting read) else Some not_reversible.Hood
+
+-- the number of the fault in replies, one for every cause
+abbrev pub cause_number : NotReversible → ℕ
+cause_number cause = 64

@@ -7,8 +7,8 @@ use Rattle.cam6_table.specs.RuleTexts.{IsTableOf}
 use Rattle.cam6_block.specs.BlockMaps.{reading_of, IsReversible}
 use Rattle.cam6_block.specs.Inverted.{IsInverted}
 
--- forward, the entries of the rule's words; backward, those that undo its blocks, of a rule that can
--- be undone
+-- forward, the entries of the rule's words; backward, those that undo its blocks, of a rule that
+-- can be undone
 abbrev pub IsTableBy : Direction → Wiring → List ℕ → List ℕ → Type 0
 IsTableBy Forward wiring text entries = IsTableOf wiring text entries
 IsTableBy Backward wiring text entries =

@@ -16,9 +16,20 @@ pub enum NotReversible {
     Hood,
     /// The blocks see the other half's centres.
     Centres,
-    /// At this phase, the least one at which it is so, two block states have one successor: `b` is the least
-    /// state for which there is a smaller one, and `a` is that smaller one.
+    /// At this phase, the least one at which it is so, two block states have one successor: `b` is the
+    /// least state for which there is a smaller one, and `a` is that smaller one.
     Meeting { phase: Phase, a: u8, b: u8 },
+}
+
+impl NotReversible {
+    ghost use Rattle.cam6_block.specs.Refusals.{cause_number};
+
+    /// The fault's number in replies, one for every cause.
+    pub fn number(self) -> u8
+        ensures { result ≡ cause_number self }
+    {
+        64
+    }
 }
 
 /// Two block states, the smaller one first.

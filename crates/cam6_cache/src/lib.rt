@@ -4,8 +4,8 @@
 //! the one that undoes them (`specs/Keys.antt`), whether or not it was cached, and says which. What
 //! is cached is a list, the table that was used last first (`specs/Cached.antt`): a hit goes to its
 //! front, and a miss too, before which the last leaves a full cache. Where there is no memory for
-//! it nothing is cached, and nobody sees that. `TableCache::len` says of any cache that its tables are
-//! true, no two of them of one key, and no more than its capacity, which is 1 to 64
+//! it nothing is cached, and nobody sees that. `TableCache::len` says of any cache that its tables
+//! are true, no two of them of one key, and no more than its capacity, which is 1 to 64
 //! (`specs/Limits.antt`). The laws: a key is the same as itself and as no other, and has one true
 //! table; a key whose straight table has a reversible block map is a reversible key.
 //!

@@ -1,6 +1,6 @@
 //! A command as the plainest line that says it: compact, its keys in byte order, its digits small.
 
-use cam6_machine::{Command, NamedEntry, Text};
+use cam6_commands::{Command, NamedEntry, Text};
 use serde_json::{Value, json};
 use std::alloc::{AllocError, Global};
 

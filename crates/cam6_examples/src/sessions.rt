@@ -2,7 +2,8 @@
 
 use crate::command_lines::line_of;
 use crate::examples::Sent;
-use cam6_machine::{Command, Machine};
+use cam6_commands::Command;
+use cam6_machine::Machine;
 use cam6_planes::Side;
 use cam6_session::{End, serve_alone};
 use cam6_wire::{LineFault, fault_text, read_command, reply_text};

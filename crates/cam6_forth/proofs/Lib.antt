@@ -39,6 +39,8 @@ pub mod Fresh
 pub mod Completions
 -- The laws that tie texts, trees and faults.
 pub mod TextLaws
+-- Of a text that is a rule something is kept.
+pub mod SomethingKept
 -- What a known token says by itself.
 pub mod Singles
 -- A token has the first of its faults.

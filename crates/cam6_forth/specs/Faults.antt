@@ -37,7 +37,8 @@ fault_outside parts kind = Some out_of_place
 
 -- right after `:`: a name that isn't defined yet
 abbrev pub fault_naming : List Defined → Kind → Token → Option ℕ
-fault_naming done Other token = if is_some (definition_at token done) then Some not_definable else None
+fault_naming done Other token =
+    if is_some (definition_at token done) then Some not_definable else None
 fault_naming done kind token = Some not_definable
 
 -- `;` stands where no IF is open

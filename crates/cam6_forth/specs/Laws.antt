@@ -13,6 +13,7 @@ use Rattle.cam6_forth.specs.Unfinished.{Unfinished, IsSound}
 use Rattle.cam6_forth.specs.Faults.{AreSoundTokens, HasTokenFault, HasEndFault, HasFault}
 use Rattle.cam6_forth.specs.Faults.{token_fault}
 use Rattle.cam6_forth.specs.FaultOrder.{first_fault, between, has_at_most_one}
+use Rattle.cam6_forth.specs.Reading.{read_text, keeps}
 
 -- trees that are spelled alike are one
 abbrev pub HasOneTree : Type 0
@@ -87,3 +88,9 @@ abbrev pub KnownIsSingle : Type 0
 KnownIsSingle =
     (wiring : Wiring) (done : List Defined) (token : Token) (said : SingleWord) (size : ℕ) →
     word_at wiring done token ≡ Ok (said, size) → IsSingle wiring done token said size
+
+-- of a text that is a rule something is kept
+abbrev pub AcceptedIsKept : Type 0
+AcceptedIsKept =
+    (wiring : Wiring) (text : List ℕ) (definitions : List Defined) →
+    read_text wiring text ≡ Ok definitions → keeps wiring text ≡ true

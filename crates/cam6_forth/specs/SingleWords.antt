@@ -15,7 +15,8 @@ use Rattle.cam6_forth.specs.Kinds.{is_digits, literal}
 use Rattle.cam6_forth.specs.Limits.{unknown_word, out_of_place, wrong_output, literal_range}
 use Rattle.cam6_forth.specs.Defined.{Defined}
 
--- the position of a name among definitions that are counted from a position on, and its definition's size
+-- the position of a name among definitions that are counted from a position on, and its
+-- definition's size
 abbrev pub position_from : ℕ → Token → List Defined → Option (ℕ × ℕ)
 position_from position name [] = None
 position_from position name (definition ∷ later) =

@@ -2,6 +2,7 @@
 ghost use Rattle.cam6_forth.specs.Laws.{HasOneTree, TreeIsRead, HasRuleOrFault, HasOneFault};
 ghost use Rattle.cam6_forth.specs.Laws.{CanBeCompleted, FaultStays, FaultIsFirst, EndIsTooEarly};
 ghost use Rattle.cam6_forth.specs.Laws.{FaultsInOrder, OneBetween, KnownIsSingle};
+ghost use Rattle.cam6_forth.specs.Laws.{AcceptedIsKept};
 
 /// Trees that are spelled alike are one tree.
 pub fn trees_spelled_alike_are_one()
@@ -57,4 +58,9 @@ pub fn at_most_one_fault_comes_between()
 /// A token that is known in a body says a single word, of size 1 or its definition's.
 pub fn a_known_token_is_a_single_word()
     ensures law { KnownIsSingle }
+{}
+
+/// Of a text that is a rule something is kept.
+pub fn something_of_a_rule_is_kept()
+    ensures law { AcceptedIsKept }
 {}

@@ -10,10 +10,11 @@
 //! `: P CENTER` has fault 22 at token 4, its end, as the definition is open.
 //!
 //! The laws: trees that are spelled alike are one, and the tree of a text can be read from it by a
-//! plain function; a text is a rule or has exactly one fault; tokens without a fault begin a rule;
-//! a fault stays whatever follows its token; that token is the first with which the tokens begin no
-//! rule; a token has the first of its faults, 21 before 22 and 23 after all others; a token that is
-//! known in a body says a single word, the one that the tables of spellings say.
+//! plain function; a text is a rule or has exactly one fault; of a text that is a rule something is
+//! kept; tokens without a fault begin a rule; a fault stays whatever follows its token; that token
+//! is the first with which the tokens begin no rule; a token has the first of its faults, 21 before
+//! 22 and 23 after all others; a token that is known in a body says a single word, the one that the
+//! tables of spellings say.
 //!
 //! Stands on: `cam6_wiring`.
 //!

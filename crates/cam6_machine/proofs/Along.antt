@@ -24,7 +24,7 @@ use Rattle.cam6_machine.specs.Numbers.{named_entry, named_entries, rules_at}
 use Rattle.cam6_machine.specs.Numbers.{AreNumbered, AreTables}
 use Rattle.cam6_machine.specs.Internal.Numbered.{stored}
 use Rattle.cam6_machine.specs.Internal.Ways.{one_moved, moved, CanMove}
-use Rattle.cam6_machine.specs.declared.commands.NamedEntry.{NamedEntry}
+use Rattle.cam6_commands.specs.declared.commands.NamedEntry.{NamedEntry}
 use Rattle.cam6_machine.proofs.Naming.{same_rules}
 use Rattle.cam6_machine.proofs.RulesOfEntries.{of_entry}
 use Rattle.cam6_machine.proofs.StepsByTables.{CanGoBy, planes_after, step_by_tables}

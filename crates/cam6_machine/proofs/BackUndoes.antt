@@ -7,8 +7,8 @@ use Rattle.cam6_machine.specs.Refusals.{refusal}
 use Rattle.cam6_machine.specs.Effects.{effect}
 use Rattle.cam6_machine.specs.Alone.{if_refused, after}
 use Rattle.cam6_machine.specs.Laws.{BackGivesTheMachineBack}
-use Rattle.cam6_machine.specs.declared.commands.Command.{Command}
-use Rattle.cam6_machine.specs.declared.commands.Command.TheVariants.{Run, Back}
+use Rattle.cam6_commands.specs.declared.commands.Command.{Command}
+use Rattle.cam6_commands.specs.declared.commands.Command.TheVariants.{Run, Back}
 use Rattle.cam6_machine.proofs.StepLaws.{only_planes_and_position}
 use Rattle.cam6_machine.proofs.StepsBack.{only_these_back}
 use Rattle.cam6_machine.proofs.ReversibleCycles.{back_runs, reversible}

@@ -18,7 +18,7 @@ use Rattle.cam6_machine.specs.Numbers.{rule_at, name_of, number_in, named_entry,
 use Rattle.cam6_machine.specs.Numbers.{IsNumbered, AreNumbered}
 use Rattle.cam6_machine.specs.Internal.Numbered.{rule_number, is_number, uses_number, closed_up}
 use Rattle.cam6_machine.specs.Internal.Numbered.{closed_half, closed_entry}
-use Rattle.cam6_machine.specs.declared.commands.NamedEntry.{NamedEntry}
+use Rattle.cam6_commands.specs.declared.commands.NamedEntry.{NamedEntry}
 use Rattle.cam6_machine.proofs.Naming.{names_of, same_bytes}
 
 neither : (a b : Bool) → (a || b) ≡ false → (a ≡ false) × (b ≡ false)

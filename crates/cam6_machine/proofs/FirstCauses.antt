@@ -4,22 +4,18 @@ use Rattle.std.proofs.Common.{None}
 use Rattle.std.proofs.Common.{ap, arith, drop, take, get_or, refl, subst, Bool, true, false, ◌||◌}
 use Rattle.std.specs.List.{AllByRecursion, list_any}
 use Rattle.std.proofs.lemmas.Bool.{eqb-true}
-use Rattle.std.proofs.lemmas.Option.{same_Some}
 use Rattle.cam6_block.specs.declared.refusals.NotReversible.{NotReversible}
 use Rattle.cam6_cycle.specs.declared.entries.Entry.{Entry}
 use Rattle.cam6_wiring.specs.declared.names.Half.TheVariants.{A, B}
 use Rattle.cam6_machine.specs.Rules.{Rule}
-use Rattle.cam6_machine.specs.Cycles.{EntryRules, entry_rules}
-use Rattle.cam6_machine.specs.Refusals.{or_then, rule_cause, cause_reply, entry_cause, first_cause}
-use Rattle.cam6_machine.specs.Stored.{StoredMachine}
+use Rattle.cam6_machine.specs.Cycles.{EntryRules}
+use Rattle.cam6_machine.specs.Refusals.{or_then, rule_cause, cause_refusal, entry_cause, first_cause}
 use Rattle.cam6_machine.specs.Always.{HaveOwnNames}
-use Rattle.cam6_machine.specs.AtOnce.{StaysAfter}
-use Rattle.cam6_machine.specs.declared.commands.NamedEntry.{NamedEntry}
 use Rattle.cam6_machine.specs.Numbers.{named_entries, rules_at, rule_at, number_in}
 use Rattle.cam6_machine.specs.Internal.Numbered.{is_number, uses_number}
 use Rattle.cam6_machine.specs.Internal.Uses.{HasNoCause}
-use Rattle.cam6_machine.specs.declared.replies.Reply.{Reply}
-use Rattle.cam6_machine.specs.declared.replies.Reply.TheVariants as reply
+use Rattle.cam6_commands.specs.declared.refusals.Refusal.{Refusal}
+use Rattle.cam6_commands.specs.declared.refusals.Refusal.TheVariants as refused
 use Rattle.cam6_machine.proofs.Naming.{same_rules}
 
 -- an item and those behind it
@@ -63,7 +59,7 @@ used_has_none rules number (entry ∷ entries) all used =
     by_half false false is_a is_b rest e = rest e
 
 -- the causes from an entry on
-abbrev pub causes_from : List Rule → List Entry → ℕ → Option Reply
+abbrev pub causes_from : List Rule → List Entry → ℕ → Option Refusal
 causes_from rules entries n = first_cause rules n (named_entries rules (drop n entries))
 
 module _ (rules : List Rule) (entries : List Entry) (n : ℕ) (past : Entry)
@@ -83,17 +79,17 @@ module _ (rules : List Rule) (entries : List Entry) (n : ℕ) (past : Entry)
   abbrev cause_b : Option NotReversible
   cause_b = rule_cause (rules_at rules (get_or entries n past)).b
 
-  abbrev by_causes : Option NotReversible → Option NotReversible → Option Reply
+  abbrev by_causes : Option NotReversible → Option NotReversible → Option Refusal
   by_causes a b =
-      or_then (or_then (cause_reply n A a) (cause_reply n B b))
+      or_then (or_then (cause_refusal n A a) (cause_refusal n B b))
       (causes_from rules entries (suc n))
 
   pub of_half_a : (cause : NotReversible) → cause_a ≡ Some cause →
-      causes_from rules entries n ≡ Some (reply.NotReversible n A cause)
+      causes_from rules entries n ≡ Some (refused.NotReversible n A cause)
   of_half_a cause is = one_entry ∙ ap (λ a. by_causes a cause_b) is
 
   pub of_half_b : (cause : NotReversible) → cause_a ≡ None → cause_b ≡ Some cause →
-      causes_from rules entries n ≡ Some (reply.NotReversible n B cause)
+      causes_from rules entries n ≡ Some (refused.NotReversible n B cause)
   of_half_b cause none is =
       one_entry ∙ ap (λ a. by_causes a cause_b) none ∙ ap (λ b. by_causes None b) is
 
@@ -101,21 +97,3 @@ module _ (rules : List Rule) (entries : List Entry) (n : ℕ) (past : Entry)
       causes_from rules entries n ≡ causes_from rules entries (suc n)
   of_neither none neither =
       one_entry ∙ ap (λ a. by_causes a cause_b) none ∙ ap (λ b. by_causes None b) neither
-
--- the reply for a cause leaves all that is stored
-a_cause_leaves : (n : ℕ) (a b : Option NotReversible) (later : Option Reply) (r : Reply)
-    (m : StoredMachine) → (later ≡ Some r → StaysAfter r m m) →
-    or_then (or_then (cause_reply n A a) (cause_reply n B b)) later ≡ Some r → StaysAfter r m m
-a_cause_leaves n (Some cause) b later r m rest e =
-    subst (λ k. StaysAfter k m m) (same_Some (reply.NotReversible n A cause) r e) refl
-a_cause_leaves n None (Some cause) later r m rest e =
-    subst (λ k. StaysAfter k m m) (same_Some (reply.NotReversible n B cause) r e) refl
-a_cause_leaves n None None later r m rest e = rest e
-
-pub causes_leave : (rules : List Rule) (n : ℕ) (cycle : List NamedEntry) (r : Reply)
-    (m : StoredMachine) → first_cause rules n cycle ≡ Some r → StaysAfter r m m
-causes_leave rules n [] r m e = cc e
-causes_leave rules n (entry ∷ cycle) r m e =
-    let here = entry_rules rules entry in
-    a_cause_leaves n (rule_cause here.a) (rule_cause here.b) (first_cause rules (suc n) cycle) r m
-    (causes_leave rules (suc n) cycle r m) e

@@ -23,7 +23,7 @@ pub mod PlaneTexts
 -- The colours of a row are among those of the states.
 pub mod ColoursOfRows
 -- The reply to a command and the machine after it, where it is refused and where it is not.
-pub mod Done
+pub mod Replying
 -- What follows of steps.
 pub mod StepLaws
 -- A machine stays a machine, whatever it is commanded, and its rules run.
@@ -56,3 +56,5 @@ pub mod StepsBack
 pub mod RoundAndBack
 -- A machine that may go back is, run and then taken back as far, the machine that it was.
 pub mod BackUndoes
+-- For which commands memory may be wanted: a text is kept, or the reply has rows.
+pub mod WantOfMemory

@@ -15,8 +15,9 @@ use Rattle.cam6_wiring.specs.declared.names.Phase.{Phase}
 use Rattle.cam6_wiring.specs.declared.names.Phase.TheVariants.{P0, P1, P2, P3}
 use Rattle.cam6_cycle.specs.declared.entries.Entry.{Entry}
 use Rattle.cam6_cycle.specs.declared.entries.HalfRule.{HalfRule}
-use Rattle.cam6_machine.specs.Limits.{max_rules}
-use Rattle.cam6_machine.specs.Rules.{Rule, rule_named, rule_if_named, is_rule_name}
+use Rattle.cam6_commands.specs.Limits.{max_rules}
+use Rattle.cam6_commands.specs.Names.{is_rule_name}
+use Rattle.cam6_machine.specs.Rules.{Rule, rule_named, rule_if_named}
 use Rattle.cam6_machine.specs.Cycles.{EntryRules, phase_of, entry_rules}
 use Rattle.cam6_machine.specs.Effects.{with_rule}
 use Rattle.cam6_machine.specs.Always.{HaveOwnNames, IsNamed, IsEntry}
@@ -26,9 +27,9 @@ use Rattle.cam6_machine.specs.Numbers.{rule_at, name_of, named_entry, named_entr
 use Rattle.cam6_machine.specs.Numbers.{AreNumbered, number_in, IsNumbered}
 use Rattle.cam6_machine.specs.Internal.Numbered.{rule_number, number_if_named, numbered_entry, IsNumber}
 use Rattle.cam6_machine.specs.Internal.Numbered.{is_number, uses_number, half_rule, half_rule_at}
-use Rattle.cam6_machine.specs.declared.commands.NamedEntry.{NamedEntry}
-use Rattle.cam6_machine.specs.declared.faults.Fault.TheVariants.{RuleInUse, TooManyRules}
-use Rattle.cam6_machine.specs.declared.faults.Fault.TheVariants.{OutOfRange, NoRule}
+use Rattle.cam6_commands.specs.declared.commands.NamedEntry.{NamedEntry}
+use Rattle.cam6_commands.specs.declared.faults.Fault.TheVariants.{RuleInUse, TooManyRules}
+use Rattle.cam6_commands.specs.declared.faults.Fault.TheVariants.{OutOfRange, NoRule}
 
 -- names of rules
 abbrev pub names_of : List Rule → List (List ℕ)

@@ -10,10 +10,10 @@ use Rattle.cam6_machine.specs.Cycles.{EntryRules, entry_rules}
 use Rattle.cam6_block.specs.BlockMaps.{reading_of}
 use Rattle.cam6_machine.specs.Undoing.{IsReversibleRule, IsReversibleEntry}
 use Rattle.cam6_machine.specs.Machine.{Machine, IsReversibleCycle}
-use Rattle.cam6_machine.specs.Refusals.{or_then, rule_cause, cause_reply, entry_cause}
-use Rattle.cam6_machine.specs.Refusals.{first_cause, fault_reply, run_refusal, refusal}
-use Rattle.cam6_machine.specs.declared.commands.Command.TheVariants.{Back}
-use Rattle.cam6_machine.specs.declared.commands.NamedEntry.{NamedEntry}
+use Rattle.cam6_machine.specs.Refusals.{or_then, rule_cause, cause_refusal, entry_cause}
+use Rattle.cam6_machine.specs.Refusals.{first_cause, fault_refusal, run_refusal, refusal}
+use Rattle.cam6_commands.specs.declared.commands.Command.TheVariants.{Back}
+use Rattle.cam6_commands.specs.declared.commands.NamedEntry.{NamedEntry}
 
 -- where neither of two refusals comes, there is neither
 pub neither_comes : {A : Type 0} (first next : Option A) → or_then first next ≡ None →
@@ -22,7 +22,7 @@ neither_comes None next e = (refl, e)
 neither_comes (Some first) next e = cc e
 
 no_cause : (number : ℕ) (h : Half) (cause : Option NotReversible) →
-    cause_reply number h cause ≡ None → cause ≡ None
+    cause_refusal number h cause ≡ None → cause ≡ None
 no_cause number h None e = refl
 no_cause number h (Some cause) e = cc e
 
@@ -36,8 +36,8 @@ pub entry_reversible : CauseIsFound → (number : ℕ) (entry : EntryRules) →
     entry_cause number entry ≡ None → IsReversibleEntry entry
 entry_reversible found number entry none =
     let (a, b) =
-    neither_comes (cause_reply number half.A (rule_cause entry.a))
-    (cause_reply number half.B (rule_cause entry.b)) none in (
+    neither_comes (cause_refusal number half.A (rule_cause entry.a))
+    (cause_refusal number half.B (rule_cause entry.b)) none in (
       rule_reversible found entry.a (no_cause number half.A (rule_cause entry.a) a),
       rule_reversible found entry.b (no_cause number half.B (rule_cause entry.b) b),
     )
@@ -56,12 +56,12 @@ cycle_reversible found rules number (entry ∷ cycle) none =
 
 -- a machine that isn't refused to go back may also run
 pub back_runs : (m : Machine) (n : ℕ) → refusal m (Back n) ≡ None →
-    fault_reply (run_refusal m.cycle n) ≡ None
+    fault_refusal (run_refusal m.cycle n) ≡ None
 back_runs m n none =
-    (neither_comes (fault_reply (run_refusal m.cycle n)) (first_cause m.rules 0 m.cycle) none).0
+    (neither_comes (fault_refusal (run_refusal m.cycle n)) (first_cause m.rules 0 m.cycle) none).0
 
 pub reversible : CauseIsFound → (m : Machine) (n : ℕ) → refusal m (Back n) ≡ None →
     IsReversibleCycle m
 reversible found m n none =
     cycle_reversible found m.rules 0 m.cycle
-    (neither_comes (fault_reply (run_refusal m.cycle n)) (first_cause m.rules 0 m.cycle) none).1
+    (neither_comes (fault_refusal (run_refusal m.cycle n)) (first_cause m.rules 0 m.cycle) none).1

@@ -12,7 +12,7 @@ use Rattle.cam6_machine.specs.Machine.{Machine, stepped_by, stepped, steps}
 use Rattle.cam6_machine.specs.Machine.{unstepped_by, unstepped, unsteps, IsReversibleCycle}
 use Rattle.cam6_machine.specs.Always.{IsPosition, IsMachine}
 use Rattle.cam6_machine.specs.Laws.{IsOfBlocks, UndoingUndoes, DoingRedoes}
-use Rattle.cam6_machine.specs.declared.commands.NamedEntry.{NamedEntry}
+use Rattle.cam6_commands.specs.declared.commands.NamedEntry.{NamedEntry}
 use Rattle.cam6_machine.proofs.RulesOfEntries.{entry_or_none, entry_at, is_position, of_entry}
 use Rattle.cam6_machine.proofs.RulesOfEntries.{AreSound, sound_if_named, is_of_blocks}
 use Rattle.cam6_machine.proofs.StepsOfATorus.{AreWhole, step_whole, unstep_whole, side_some}

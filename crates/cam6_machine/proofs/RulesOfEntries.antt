@@ -9,7 +9,7 @@ use Rattle.cam6_machine.specs.Undoing.{IsReversibleRule}
 use Rattle.cam6_machine.specs.Refusals.{words_refusal}
 use Rattle.cam6_machine.specs.Always.{IsPosition}
 use Rattle.cam6_machine.specs.Laws.{IsOfBlocks}
-use Rattle.cam6_machine.specs.declared.commands.NamedEntry.{NamedEntry}
+use Rattle.cam6_commands.specs.declared.commands.NamedEntry.{NamedEntry}
 
 -- there is no cycle, or an entry stands at the position
 pub entry_or_none : (cycle : List NamedEntry) (position : ℕ) → IsPosition cycle position →

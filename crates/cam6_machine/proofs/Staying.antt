@@ -37,9 +37,11 @@ use Rattle.cam6_table.specs.declared.faults.RuleFault.{RuleFault}
 use Rattle.cam6_table.specs.Meaning.{at_address}
 use Rattle.cam6_table.specs.Tables.{least_stop}
 use Rattle.cam6_table.proofs.TrueTables.{runs_everywhere}
-use Rattle.cam6_machine.specs.Limits.{max_rules, max_colour, max_steps, cell_states}
+use Rattle.cam6_commands.specs.Limits.{max_rules, max_colour, max_steps, cell_states}
 use Rattle.cam6_cycle.specs.Limits.{max_entries}
-use Rattle.cam6_machine.specs.Rules.{Rule, rule_named, rule_if_named, wiring_for, is_rule_name}
+use Rattle.cam6_commands.specs.Names.{is_rule_name}
+use Rattle.cam6_commands.specs.Checks.{unless}
+use Rattle.cam6_machine.specs.Rules.{Rule, rule_named, rule_if_named, wiring_for}
 use Rattle.cam6_machine.specs.Steps.{words_mean}
 use Rattle.cam6_machine.specs.Machine.{Machine, own_colours, first_side, steps, machine_of}
 use Rattle.cam6_machine.specs.Internal.Ways.{moved, CanMove}
@@ -53,17 +55,17 @@ use Rattle.cam6_machine.specs.Refusals as refuse
 use Rattle.cam6_machine.specs.Effects.{effect, with_rule, without_rule, with_side}
 use Rattle.cam6_machine.specs.Alone.{if_refused, after, command_of}
 use Rattle.cam6_machine.specs.Always.{HaveOwnNames, IsNamed, IsEntry, IsPosition, IsMachine}
-use Rattle.cam6_machine.specs.Always.{HasText}
+use Rattle.cam6_commands.specs.RuleTexts.{HasText}
 use Rattle.cam6_machine.specs.Laws.{BlankIsMachine, StaysMachine, LimitStays, IsRuled, RulesRun}
-use Rattle.cam6_machine.specs.declared.commands.Command.{Command}
-use Rattle.cam6_machine.specs.declared.commands.Command.TheVariants as command
-use Rattle.cam6_machine.specs.declared.commands.NamedEntry.{NamedEntry}
-use Rattle.cam6_machine.specs.declared.faults.Fault.{Fault}
-use Rattle.cam6_machine.specs.declared.faults.Fault.TheVariants.{WrongHalf, OutOfRange}
-use Rattle.cam6_machine.specs.declared.faults.Fault.TheVariants.{TooManyRules, RuleInUse}
-use Rattle.cam6_machine.specs.declared.faults.Fault.TheVariants.{AboveLimit, NoCycle}
-use Rattle.cam6_machine.specs.declared.replies.Reply.{Reply}
-use Rattle.cam6_machine.proofs.Done.{after-refused, after-accepted}
+use Rattle.cam6_commands.specs.declared.commands.Command.{Command}
+use Rattle.cam6_commands.specs.declared.commands.Command.TheVariants as command
+use Rattle.cam6_commands.specs.declared.commands.NamedEntry.{NamedEntry}
+use Rattle.cam6_commands.specs.declared.faults.Fault.{Fault}
+use Rattle.cam6_commands.specs.declared.faults.Fault.TheVariants.{WrongHalf, OutOfRange}
+use Rattle.cam6_commands.specs.declared.faults.Fault.TheVariants.{TooManyRules, RuleInUse}
+use Rattle.cam6_commands.specs.declared.faults.Fault.TheVariants.{AboveLimit, NoCycle}
+use Rattle.cam6_commands.specs.declared.refusals.Refusal.{Refusal}
+use Rattle.cam6_machine.proofs.Replying.{after-refused, after-accepted}
 use Rattle.cam6_machine.proofs.KeptNames.{length_at_most, length_same, all_with}
 use Rattle.cam6_machine.proofs.KeptNames.{own_with, other_named}
 use Rattle.cam6_machine.proofs.Dropped.{length_without, all_without, own_without}
@@ -79,16 +81,16 @@ none_own =
     IsDistinct-from_AllPairs bytes_eq-Decides []
     (λ i j d before within. absurd (omega (arith, within)))
 
-no_fault : (o : Option Fault) → refuse.fault_reply o ≡ None → o ≡ None
+no_fault : (o : Option Fault) → refuse.fault_refusal o ≡ None → o ≡ None
 no_fault None e = refl
 no_fault (Some fault) e = cc e
 
-first_none : {A : Type 0} (first next : Option A) → refuse.or_then first next ≡ None →
+pub first_none : {A : Type 0} (first next : Option A) → refuse.or_then first next ≡ None →
     (first ≡ None) × (next ≡ None)
 first_none None next e = (refl, e)
 first_none (Some first) next e = cc e
 
-allowed : (b : Bool) (fault : Fault) → refuse.unless b fault ≡ None → b ≡ true
+allowed : (b : Bool) (fault : Fault) → unless b fault ≡ None → b ≡ true
 allowed true fault e = refl
 allowed false fault e = cc e
 
@@ -121,7 +123,7 @@ moved_is m planes position is whole at = record {
 
 -- a run that is accepted has a cycle
 some_cycle : (cycle : List NamedEntry) (n : ℕ) →
-    refuse.fault_reply (refuse.run_refusal cycle n) ≡ None → 0 < length cycle
+    refuse.fault_refusal (refuse.run_refusal cycle n) ≡ None → 0 < length cycle
 some_cycle [] n none =
     let later = first_none _ (refuse.some_cycle []) (no_fault _ none) in cc (later.1)
 some_cycle (entry ∷ cycle) n none = omega arith
@@ -132,13 +134,13 @@ position_below [] position is some = absurd (omega (arith, some))
 position_below (entry ∷ cycle) position is some = is
 
 no_cycle_refused : (b : Bool) →
-    refuse.fault_reply (refuse.or_then (refuse.unless b OutOfRange) (Some NoCycle)) ≡ None → ⊥
+    refuse.fault_refusal (refuse.or_then (unless b OutOfRange) (Some NoCycle)) ≡ None → ⊥
 no_cycle_refused true e = cc e
 no_cycle_refused false e = cc e
 
 -- a run that is accepted has an entry to begin with
 pub run_begins : (cycle : List NamedEntry) (position n : ℕ) → IsPosition cycle position →
-    refuse.fault_reply (refuse.run_refusal cycle n) ≡ None → position < length cycle
+    refuse.fault_refusal (refuse.run_refusal cycle n) ≡ None → position < length cycle
 run_begins [] position n is accepted = absurd (no_cycle_refused (nat_le n max_steps) accepted)
 run_begins (entry ∷ cycle) position n is accepted = is
 
@@ -560,7 +562,7 @@ effect_is m (command.Side n) is text none = by_side (side_of n) (no_fault _ none
 pub stays_machine : StaysMachine
 stays_machine m c is text = by_refusal (refuse.refusal m c) refl
   where
-    by_refusal : (o : Option Reply) → refuse.refusal m c ≡ o → IsMachine (after m c)
+    by_refusal : (o : Option Refusal) → refuse.refusal m c ≡ o → IsMachine (after m c)
     by_refusal None none = subst IsMachine (sym (after-accepted m c none)) (effect_is m c is text none)
     by_refusal (Some r) refused = subst IsMachine (sym (after-refused m c r refused)) is
 
@@ -588,7 +590,7 @@ effect_limit m (command.Side n) = by_side (side_of n)
 pub limit_stays : LimitStays
 limit_stays m c = by_refusal (refuse.refusal m c)
   where
-    by_refusal : (o : Option Reply) → (if_refused o (λ r. m) (effect m c)).limit ≡ m.limit
+    by_refusal : (o : Option Refusal) → (if_refused o (λ r. m) (effect m c)).limit ≡ m.limit
     by_refusal None = effect_limit m c
     by_refusal (Some r) = refl
 

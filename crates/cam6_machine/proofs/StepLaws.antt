@@ -15,7 +15,7 @@ use Rattle.cam6_wiring.specs.Name.{on_plane}
 use Rattle.cam6_machine.specs.Cycles.{rule_for, setting_for}
 use Rattle.cam6_machine.specs.Machine.{Machine, stepped_by, stepped, steps}
 use Rattle.cam6_machine.specs.Laws as laws
-use Rattle.cam6_machine.specs.declared.commands.NamedEntry.{NamedEntry}
+use Rattle.cam6_commands.specs.declared.commands.NamedEntry.{NamedEntry}
 
 plane_of-lt : (half : Half) (level : Level) → plane_of half level < 4
 plane_of-lt A Lower = omega arith

@@ -4,7 +4,7 @@ use Rattle.std.proofs.Common.{refl, sym, subst, ◌∙◌, ap, arith, slice_get}
 use Rattle.cam6_cycle.specs.Along.{previous}
 use Rattle.cam6_machine.specs.Machine.{Machine, unstepped_by, unstepped, unsteps}
 use Rattle.cam6_machine.specs.Always.{IsPosition, IsMachine}
-use Rattle.cam6_machine.specs.declared.commands.NamedEntry.{NamedEntry}
+use Rattle.cam6_commands.specs.declared.commands.NamedEntry.{NamedEntry}
 use Rattle.cam6_machine.proofs.StepsOfATorus.{AreWhole, unsteps_whole}
 
 -- one step undone changes these alone

@@ -15,7 +15,7 @@ use Rattle.cam6_machine.specs.Steps.{new_cell, step}
 use Rattle.cam6_machine.specs.Undoing.{changed_cell, blockwise, undone_by, unstep}
 use Rattle.cam6_machine.specs.Machine.{Machine, stepped_by, stepped, steps}
 use Rattle.cam6_machine.specs.Machine.{unstepped_by, unstepped, unsteps}
-use Rattle.cam6_machine.specs.declared.commands.NamedEntry.{NamedEntry}
+use Rattle.cam6_commands.specs.declared.commands.NamedEntry.{NamedEntry}
 
 pub step_whole : (s : ℕ) (entry : EntryRules) (f : Cells) → 0 < s →
     torus s (step s entry f) ≡ step s entry f

@@ -4,19 +4,21 @@ use Rattle.cam6_cycle.specs.declared.tables.Direction.{Direction}
 use Rattle.cam6_cycle.specs.declared.tables.Direction.TheVariants.{Forward, Backward}
 use Rattle.cam6_machine.specs.Machine.{Machine}
 use Rattle.cam6_machine.specs.Refusals.{refusal}
-use Rattle.cam6_machine.specs.Effects.{accepted_reply, effect}
-use Rattle.cam6_machine.specs.declared.commands.Command.{Command}
-use Rattle.cam6_machine.specs.declared.commands.Command.TheVariants.{Run, Back}
-use Rattle.cam6_machine.specs.declared.replies.Reply.{Reply}
+use Rattle.cam6_machine.specs.Effects.{accepted, effect}
+use Rattle.cam6_commands.specs.declared.commands.Command.{Command}
+use Rattle.cam6_commands.specs.declared.commands.Command.TheVariants.{Run, Back}
+use Rattle.cam6_commands.specs.declared.refusals.Refusal.{Refusal}
+use Rattle.cam6_commands.specs.declared.replies.Reply.{Reply}
+use Rattle.cam6_commands.specs.declared.replies.Reply.TheVariants.{Done, Refused}
 
 -- the first where there is a refusal, and else the second
-abbrev pub if_refused : {A : Type 0} → Option Reply → (Reply → A) → A → A
+abbrev pub if_refused : {A : Type 0} → Option Refusal → (Refusal → A) → A → A
 if_refused None refused accepted = accepted
 if_refused (Some r) refused accepted = refused r
 
--- the reply to a command
+-- the reply to a command: why it is refused, or what is done
 abbrev pub reply : Machine → Command → Reply
-reply m c = if_refused (refusal m c) (λ r. r) (accepted_reply m c)
+reply m c = if_refused (refusal m c) (λ r. Refused r) (Done (accepted m c))
 
 -- the machine after a command; one that is refused leaves it
 abbrev pub after : Machine → Command → Machine

@@ -7,14 +7,13 @@ use Rattle.cam6_wiring.specs.declared.names.Half.{Half}
 use Rattle.cam6_wiring.specs.declared.names.Half.TheVariants.{A, B}
 use Rattle.cam6_planes.specs.Side.{side_number}
 use Rattle.cam6_planes.specs.Cells.{torus}
-use Rattle.cam6_machine.specs.Limits.{max_rules, cell_states, max_colour}
+use Rattle.cam6_commands.specs.Limits.{max_rules, cell_states, max_colour}
 use Rattle.cam6_cycle.specs.Limits.{max_entries}
-use Rattle.cam6_machine.specs.Rules.{Rule, rule_named, is_rule_name}
+use Rattle.cam6_commands.specs.Names.{is_rule_name}
+use Rattle.cam6_machine.specs.Rules.{Rule, rule_named}
 use Rattle.cam6_machine.specs.Refusals.{words_refusal}
 use Rattle.cam6_machine.specs.Machine.{Machine}
-use Rattle.cam6_machine.specs.declared.commands.Command.{Command}
-use Rattle.cam6_machine.specs.declared.commands.Command.TheVariants.{Rule as SetRule}
-use Rattle.cam6_machine.specs.declared.commands.NamedEntry.{NamedEntry}
+use Rattle.cam6_commands.specs.declared.commands.NamedEntry.{NamedEntry}
 
 -- no two rules have one name
 abbrev pub HaveOwnNames : List Rule → Type 0
@@ -51,8 +50,3 @@ pub record IsMachine (m : Machine) : Type 0 where
   pub position : IsPosition m.cycle m.position
   pub coloured : length m.colours ≡ cell_states
   pub colours : AllByRecursion (λ colour. colour ≤ max_colour) m.colours
-
--- the text of a rule that a command defines, if it defines one, is UTF-8
-abbrev pub HasText : Command → Type 0
-HasText (SetRule name wiring text) = IsUtf8 text
-HasText _ = ⊤

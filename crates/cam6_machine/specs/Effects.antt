@@ -10,14 +10,15 @@ use Rattle.cam6_planes.specs.Cells.{Cells, no_cells, with_row, without_plane}
 use Rattle.cam6_view.specs.States.{row_colours, count_of}
 use Rattle.cam6_machine.specs.Rules.{Rule}
 use Rattle.cam6_machine.specs.Machine.{Machine, steps, unsteps}
-use Rattle.cam6_machine.specs.declared.commands.Command.{Command}
-use Rattle.cam6_machine.specs.declared.commands.Command.TheVariants.{Set, Rule as SetRule}
-use Rattle.cam6_machine.specs.declared.commands.Command.TheVariants.{Cycle, Run, Back, Row}
-use Rattle.cam6_machine.specs.declared.commands.Command.TheVariants.{Plane, Side as SetSide, Map}
-use Rattle.cam6_machine.specs.declared.commands.Command.TheVariants.{Colours, Count}
-use Rattle.cam6_machine.specs.declared.commands.Command.TheVariants.{Clear, Drop as DropRule, Rules}
-use Rattle.cam6_machine.specs.declared.replies.Reply.{Reply}
-use Rattle.cam6_machine.specs.declared.replies.Reply.TheVariants as reply
+use Rattle.cam6_commands.specs.declared.commands.Command.{Command}
+use Rattle.cam6_commands.specs.declared.commands.Command.TheVariants.{Set, Rule as SetRule}
+use Rattle.cam6_commands.specs.declared.commands.Command.TheVariants.{Cycle, Run, Back, Row}
+use Rattle.cam6_commands.specs.declared.commands.Command.TheVariants.{Plane, Side as SetSide, Map}
+use Rattle.cam6_commands.specs.declared.commands.Command.TheVariants.{Colours, Count}
+use Rattle.cam6_commands.specs.declared.commands.Command.TheVariants.{Clear, Rules}
+use Rattle.cam6_commands.specs.declared.commands.Command.TheVariants.{Drop as DropRule}
+use Rattle.cam6_commands.specs.declared.replies.Done.{Done}
+use Rattle.cam6_commands.specs.declared.replies.Done.TheVariants as done
 
 -- the text of each row of a plane of s rows and columns, from row 0 on, n digits a row
 unfoldable pub plane_rows : ℕ → ℕ → Cells → ℕ → List (List ℕ)
@@ -42,25 +43,25 @@ abbrev pub with_side : Option Side → Machine → Machine
 with_side None m = m
 with_side (Some side) m = record m { side = side; planes = no_cells; position = 0 }
 
--- the reply to a command that is not refused
-abbrev pub accepted_reply : Machine → Command → Reply
-accepted_reply m (Set plane row bits) = reply.Set
-accepted_reply m (Clear plane) = reply.Clear
-accepted_reply m (SetRule name wiring text) = reply.Rule
-accepted_reply m (DropRule name) = reply.Drop
-accepted_reply m Rules = reply.Rules (map (λ rule. rule.name) m.rules)
-accepted_reply m (Cycle entries) = reply.Cycle
-accepted_reply m (Run n) = reply.Run (steps n m).position
-accepted_reply m (Back n) = reply.Back (unsteps n m).position
-accepted_reply m (Row plane row) =
-    reply.Row (row_text (side_number m.side / 4) (λ x. m.planes plane x row))
-accepted_reply m (Plane plane) =
-    let s = side_number m.side in reply.Plane (plane_rows s (s / 4) m.planes plane)
-accepted_reply m (SetSide n) = reply.Side
-accepted_reply m (Map colours) = reply.Map
-accepted_reply m (Colours row) =
-    reply.Colours (row_colours (side_number m.side) m.colours m.planes row)
-accepted_reply m (Count mask) = reply.Count (count_of (side_number m.side) m.planes mask)
+-- what is told of a command that is not refused
+abbrev pub accepted : Machine → Command → Done
+accepted m (Set plane row bits) = done.Set
+accepted m (Clear plane) = done.Clear
+accepted m (SetRule name wiring text) = done.Rule
+accepted m (DropRule name) = done.Drop
+accepted m Rules = done.Rules (map (λ rule. rule.name) m.rules)
+accepted m (Cycle entries) = done.Cycle
+accepted m (Run n) = done.Run (steps n m).position
+accepted m (Back n) = done.Back (unsteps n m).position
+accepted m (Row plane row) =
+    done.Row (row_text (side_number m.side / 4) (λ x. m.planes plane x row))
+accepted m (Plane plane) =
+    let s = side_number m.side in done.Plane (plane_rows s (s / 4) m.planes plane)
+accepted m (SetSide n) = done.Side
+accepted m (Map colours) = done.Map
+accepted m (Colours row) =
+    done.Colours (row_colours (side_number m.side) m.colours m.planes row)
+accepted m (Count mask) = done.Count (count_of (side_number m.side) m.planes mask)
 
 -- the machine after it
 abbrev pub effect : Machine → Command → Machine

@@ -24,11 +24,12 @@ use Rattle.cam6_machine.specs.TrueTables.{AreTablesFor}
 use Rattle.cam6_machine.specs.Numbers.{rules_at, named_entry, IsNumbered, AreNumbered, AreTables}
 use Rattle.cam6_machine.specs.Machine.{Machine, blank, steps, unsteps, IsReversibleCycle}
 use Rattle.cam6_machine.specs.Refusals.{refusal, words_refusal}
-use Rattle.cam6_machine.specs.Always.{IsMachine, HaveOwnNames, HasText}
+use Rattle.cam6_machine.specs.Always.{IsMachine, HaveOwnNames}
+use Rattle.cam6_commands.specs.RuleTexts.{HasText}
 use Rattle.cam6_machine.specs.Alone.{after}
-use Rattle.cam6_machine.specs.declared.commands.Command.{Command}
-use Rattle.cam6_machine.specs.declared.commands.Command.TheVariants.{Run, Back}
-use Rattle.cam6_machine.specs.declared.commands.NamedEntry.{NamedEntry}
+use Rattle.cam6_commands.specs.declared.commands.Command.{Command}
+use Rattle.cam6_commands.specs.declared.commands.Command.TheVariants.{Run, Back}
+use Rattle.cam6_commands.specs.declared.commands.NamedEntry.{NamedEntry}
 
 -- by the tables of its rules, an entry steps any planes of a torus as by its rules' words
 abbrev pub TrueTablesStep : Type 0

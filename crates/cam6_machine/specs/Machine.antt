@@ -11,7 +11,7 @@ use Rattle.cam6_machine.specs.Cycles.{entry_rules}
 use Rattle.cam6_machine.specs.Steps.{step}
 use Rattle.cam6_machine.specs.Undoing.{unstep, IsReversibleEntry}
 use Rattle.cam6_machine.specs.Stored.{StoredMachine}
-use Rattle.cam6_machine.specs.declared.commands.NamedEntry.{NamedEntry}
+use Rattle.cam6_commands.specs.declared.commands.NamedEntry.{NamedEntry}
 
 -- four planes on a torus of this side, the largest side that it may take on, rules in their order,
 -- the cycle's entries with a position among them, and a colour for each of the sixteen states of a
@@ -88,7 +88,8 @@ unsteps (suc n) m = unstepped (unsteps n m)
 
 -- every rule of the cycle can be undone
 abbrev pub IsReversibleCycle : Machine → Type 0
-IsReversibleCycle m = AllByRecursion (λ entry. IsReversibleEntry (entry_rules m.rules entry)) m.cycle
+IsReversibleCycle m =
+    AllByRecursion (λ entry. IsReversibleEntry (entry_rules m.rules entry)) m.cycle
 
 -- the machine that is stored
 abbrev pub machine_of : StoredMachine → Machine

@@ -9,7 +9,7 @@ use Rattle.cam6_cycle.specs.declared.tables.NeededTable.{NeededTable}
 use Rattle.cam6_machine.specs.Rules.{Rule}
 use Rattle.cam6_machine.specs.Cycles.{EntryRules}
 use Rattle.cam6_machine.specs.TrueTables.{IsTableFor}
-use Rattle.cam6_machine.specs.declared.commands.NamedEntry.{NamedEntry}
+use Rattle.cam6_commands.specs.declared.commands.NamedEntry.{NamedEntry}
 
 -- the rule at a number, if there is a number and a rule at it
 abbrev pub rule_at : List Rule → Option ℕ → Option Rule

@@ -1,4 +1,4 @@
--- When a command is refused, and with which reply.
+-- When a command is refused, and why.
 use Rattle.std.specs.Prelude.{ℕ, suc, ◌*◌, Bool, false, ◌&&◌, ◌||◌, ◌==◌, List, [], ◌∷◌, length}
 use Rattle.std.specs.Prelude.{nat_le, nat_lt, Option, Some, None, Result, Ok, Err, if◌then◌else◌}
 use Rattle.std.specs.List.{list_all, list_any}
@@ -19,45 +19,42 @@ use Rattle.cam6_block.specs.declared.refusals.NotReversible.{NotReversible}
 use Rattle.cam6_planes.specs.Side.{side_number, side_of}
 use Rattle.cam6_planes.specs.declared.sides.Side.{Side}
 use Rattle.cam6_cycle.specs.Limits.{max_entries}
-use Rattle.cam6_machine.specs.Limits as limits
-use Rattle.cam6_machine.specs.Rules.{Rule, rule_named, wiring_of, is_rule_name}
+use Rattle.cam6_commands.specs.Limits as limits
+use Rattle.cam6_commands.specs.Names.{is_rule_name}
+use Rattle.cam6_commands.specs.Checks.{unless, plane_refusal, row_refusal, mask_refusal}
+use Rattle.cam6_commands.specs.Checks.{steps_refusal}
+use Rattle.cam6_machine.specs.Rules.{Rule, rule_named, wiring_of}
 use Rattle.cam6_machine.specs.Cycles.{EntryRules, entry_rules}
 use Rattle.cam6_machine.specs.Machine.{Machine}
-use Rattle.cam6_machine.specs.declared.commands.NamedEntry.{NamedEntry}
-use Rattle.cam6_machine.specs.declared.commands.Command.{Command}
-use Rattle.cam6_machine.specs.declared.commands.Command.TheVariants.{Set, Rule as SetRule}
-use Rattle.cam6_machine.specs.declared.commands.Command.TheVariants.{Cycle, Run, Back, Row}
-use Rattle.cam6_machine.specs.declared.commands.Command.TheVariants.{Plane, Side as SetSide, Map}
-use Rattle.cam6_machine.specs.declared.commands.Command.TheVariants.{Colours, Count}
-use Rattle.cam6_machine.specs.declared.commands.Command.TheVariants.{Clear, Drop as DropRule, Rules}
-use Rattle.cam6_machine.specs.declared.faults.Fault.{Fault}
-use Rattle.cam6_machine.specs.declared.faults.Fault.TheVariants.{NoRule, RuleInUse, TooManyRules}
-use Rattle.cam6_machine.specs.declared.faults.Fault.TheVariants.{NoCycle, OutOfRange, WrongHalf}
-use Rattle.cam6_machine.specs.declared.faults.Fault.TheVariants.{AboveLimit}
-use Rattle.cam6_machine.specs.declared.replies.Reply.{Reply}
-use Rattle.cam6_machine.specs.declared.replies.Reply.TheVariants as reply
-
-abbrev pub unless : Bool → Fault → Option Fault
-unless ok fault = if ok then None else Some fault
+use Rattle.cam6_commands.specs.declared.commands.NamedEntry.{NamedEntry}
+use Rattle.cam6_commands.specs.declared.commands.Command.{Command}
+use Rattle.cam6_commands.specs.declared.commands.Command.TheVariants.{Set, Rule as SetRule}
+use Rattle.cam6_commands.specs.declared.commands.Command.TheVariants.{Cycle, Run, Back, Row}
+use Rattle.cam6_commands.specs.declared.commands.Command.TheVariants.{Plane, Side as SetSide, Map}
+use Rattle.cam6_commands.specs.declared.commands.Command.TheVariants.{Colours, Count}
+use Rattle.cam6_commands.specs.declared.commands.Command.TheVariants.{Clear, Rules}
+use Rattle.cam6_commands.specs.declared.commands.Command.TheVariants.{Drop as DropRule}
+use Rattle.cam6_commands.specs.declared.faults.Fault.{Fault}
+use Rattle.cam6_commands.specs.declared.faults.Fault.TheVariants.{NoRule, RuleInUse, TooManyRules}
+use Rattle.cam6_commands.specs.declared.faults.Fault.TheVariants.{NoCycle, OutOfRange, WrongHalf}
+use Rattle.cam6_commands.specs.declared.faults.Fault.TheVariants.{AboveLimit}
+use Rattle.cam6_commands.specs.declared.refusals.Refusal.{Refusal}
+use Rattle.cam6_commands.specs.declared.refusals.Refusal.TheVariants as refused
 
 -- the first of two refusals, if there is one
 abbrev pub or_then : {A : Type 0} → Option A → Option A → Option A
 or_then None next = next
 or_then (Some first) next = Some first
 
--- planes are 0 to 3, rows 0 to below the side, and a row has a bit for each column
+-- a row of a plane
+abbrev pub plane_row_refusal : Side → ℕ → ℕ → Option Fault
+plane_row_refusal side plane row = or_then (plane_refusal plane) (row_refusal side row)
+
+-- a row that is set is one of a plane, and has a bit for each column
 abbrev pub set_refusal : Side → ℕ → ℕ → List ℕ → Option Fault
 set_refusal side plane row bits =
-    let s = side_number side in
-    unless (nat_lt plane 4 && nat_lt row s && (8 * length bits == s)) OutOfRange
-
--- a row that is asked for is one of a plane
-abbrev pub row_refusal : Side → ℕ → ℕ → Option Fault
-row_refusal side plane row =
-    unless (nat_lt plane 4 && nat_lt row (side_number side)) OutOfRange
-
-abbrev pub plane_refusal : ℕ → Option Fault
-plane_refusal plane = unless (nat_lt plane 4) OutOfRange
+    or_then (plane_row_refusal side plane row)
+    (unless (8 * length bits == side_number side) OutOfRange)
 
 -- a side is one of the three, and then not above the limit
 abbrev pub within_refusal : Side → Option Side → Option Fault
@@ -75,21 +72,13 @@ map_refusal colours =
     ((length colours == limits.cell_states)
     && list_all (λ colour. nat_le colour limits.max_colour) colours) OutOfRange
 
--- a row whose colours are asked for
-abbrev pub colours_refusal : Side → ℕ → Option Fault
-colours_refusal side row = unless (nat_lt row (side_number side)) OutOfRange
-
--- a mask has no bit but those of states
-abbrev pub count_refusal : ℕ → Option Fault
-count_refusal mask = unless (nat_le mask limits.max_mask) OutOfRange
-
 abbrev pub some_cycle : List NamedEntry → Option Fault
 some_cycle [] = Some NoCycle
 some_cycle (entry ∷ entries) = None
 
 -- at most 65,535 steps, and then a cycle
 abbrev pub run_refusal : List NamedEntry → ℕ → Option Fault
-run_refusal cycle n = or_then (unless (nat_le n limits.max_steps) OutOfRange) (some_cycle cycle)
+run_refusal cycle n = or_then (steps_refusal n) (some_cycle cycle)
 
 -- whether a name that an entry has, if it has one, is this one
 abbrev pub is_name : List ℕ → Option (List ℕ) → Bool
@@ -155,24 +144,25 @@ cycle_refusal rules entries =
     if is_named_cycle entries then first_refusal rules entries else Some OutOfRange
 
 -- a text's first fault, with its token
-abbrev pub text_refusal : Result (List Defined) (ℕ × ℕ) → Option Reply
+abbrev pub text_refusal : Result (List Defined) (ℕ × ℕ) → Option Refusal
 text_refusal (Ok definitions) = None
-text_refusal (Err fault) = Some (reply.RuleText (record { number = fault.0; token = fault.1 }))
+text_refusal (Err fault) = Some (refused.Text (record { number = fault.0; token = fault.1 }))
 
 -- the least address at which a rule stops, with the fault there
-abbrev pub stop_refusal : Option (ℕ × RuleFault) → Option Reply
+abbrev pub stop_refusal : Option (ℕ × RuleFault) → Option Refusal
 stop_refusal None = None
-stop_refusal (Some stop) = Some (reply.RuleStops stop.0 stop.1)
+stop_refusal (Some stop) = Some (refused.Stops stop.0 stop.1)
 
 -- a text must be a rule's, and the rule must stop nowhere
-abbrev pub words_refusal : Wiring → List ℕ → Option Reply
+abbrev pub words_refusal : Wiring → List ℕ → Option Refusal
 words_refusal wiring text =
     or_then (text_refusal (read_text wiring text))
     (stop_refusal (least_stop (at_address wiring (tree_of text))))
 
-abbrev pub fault_reply : Option Fault → Option Reply
-fault_reply None = None
-fault_reply (Some fault) = Some (reply.Fault fault)
+-- a fault as a refusal
+abbrev pub fault_refusal : Option Fault → Option Refusal
+fault_refusal None = None
+fault_refusal (Some fault) = Some (refused.Fault fault)
 
 -- why a rule can't be undone, if there is a rule and it can't
 abbrev pub rule_cause : Option Rule → Option NotReversible
@@ -180,43 +170,43 @@ rule_cause None = None
 rule_cause (Some rule) =
     cause_of (reading_of rule.wiring rule.text) rule.wiring.hood rule.wiring.minor
 
--- the reply for a half's rule of the entry with this number
-abbrev pub cause_reply : ℕ → Half → Option NotReversible → Option Reply
-cause_reply entry half None = None
-cause_reply entry half (Some cause) = Some (reply.NotReversible entry half cause)
+-- the refusal for a half's rule of the entry with this number
+abbrev pub cause_refusal : ℕ → Half → Option NotReversible → Option Refusal
+cause_refusal entry half None = None
+cause_refusal entry half (Some cause) = Some (refused.NotReversible entry half cause)
 
 -- half A's rule is looked at before half B's
-abbrev pub entry_cause : ℕ → EntryRules → Option Reply
+abbrev pub entry_cause : ℕ → EntryRules → Option Refusal
 entry_cause number entry =
-    or_then (cause_reply number half.A (rule_cause entry.a))
-    (cause_reply number half.B (rule_cause entry.b))
+    or_then (cause_refusal number half.A (rule_cause entry.a))
+    (cause_refusal number half.B (rule_cause entry.b))
 
 -- the first of a cycle's entries, from one of this number on, that has a rule which can't be undone
-abbrev pub first_cause : List Rule → ℕ → List NamedEntry → Option Reply
+abbrev pub first_cause : List Rule → ℕ → List NamedEntry → Option Refusal
 first_cause rules number [] = None
 first_cause rules number (entry ∷ entries) =
     or_then (entry_cause number (entry_rules rules entry)) (first_cause rules (suc number) entries)
 
--- as a run can be refused, and then each rule of the cycle must be one that can be undone, also where
--- no step is to be undone
-abbrev pub back_refusal : List Rule → List NamedEntry → ℕ → Option Reply
+-- as a run can be refused, and then each rule of the cycle must be one that can be undone, also
+-- where no step is to be undone
+abbrev pub back_refusal : List Rule → List NamedEntry → ℕ → Option Refusal
 back_refusal rules cycle n =
-    or_then (fault_reply (run_refusal cycle n)) (first_cause rules 0 cycle)
+    or_then (fault_refusal (run_refusal cycle n)) (first_cause rules 0 cycle)
 
--- the reply with which a machine refuses a command, if it does
-abbrev pub refusal : Machine → Command → Option Reply
-refusal m (Set plane row bits) = fault_reply (set_refusal m.side plane row bits)
-refusal m (Clear plane) = fault_reply (plane_refusal plane)
+-- why a machine refuses a command, if it does
+abbrev pub refusal : Machine → Command → Option Refusal
+refusal m (Set plane row bits) = fault_refusal (set_refusal m.side plane row bits)
+refusal m (Clear plane) = fault_refusal (plane_refusal plane)
 refusal m (SetRule name wiring text) =
-    or_then (fault_reply (rule_refusal m.rules m.cycle name)) (words_refusal wiring text)
-refusal m (DropRule name) = fault_reply (drop_refusal m.rules m.cycle name)
+    or_then (fault_refusal (rule_refusal m.rules m.cycle name)) (words_refusal wiring text)
+refusal m (DropRule name) = fault_refusal (drop_refusal m.rules m.cycle name)
 refusal m Rules = None
-refusal m (Cycle entries) = fault_reply (cycle_refusal m.rules entries)
-refusal m (Run n) = fault_reply (run_refusal m.cycle n)
+refusal m (Cycle entries) = fault_refusal (cycle_refusal m.rules entries)
+refusal m (Run n) = fault_refusal (run_refusal m.cycle n)
 refusal m (Back n) = back_refusal m.rules m.cycle n
-refusal m (Row plane row) = fault_reply (row_refusal m.side plane row)
-refusal m (Plane plane) = fault_reply (plane_refusal plane)
-refusal m (SetSide n) = fault_reply (side_refusal m.limit n)
-refusal m (Map colours) = fault_reply (map_refusal colours)
-refusal m (Colours row) = fault_reply (colours_refusal m.side row)
-refusal m (Count mask) = fault_reply (count_refusal mask)
+refusal m (Row plane row) = fault_refusal (plane_row_refusal m.side plane row)
+refusal m (Plane plane) = fault_refusal (plane_refusal plane)
+refusal m (SetSide n) = fault_refusal (side_refusal m.limit n)
+refusal m (Map colours) = fault_refusal (map_refusal colours)
+refusal m (Colours row) = fault_refusal (row_refusal m.side row)
+refusal m (Count mask) = fault_refusal (mask_refusal mask)

@@ -1,10 +1,7 @@
 -- The rules that a machine keeps, in their order.
-use Rattle.std.specs.Prelude.{ℕ, Bool, ◌&&◌, not, ◌==◌, List, [], ◌∷◌, length, nat_le}
-use Rattle.std.specs.Prelude.{codes, Option, Some, None, if◌then◌else◌}
-use Rattle.std.specs.List.{list_all}
+use Rattle.std.specs.Prelude.{ℕ, List, [], ◌∷◌, Option, Some, None, if◌then◌else◌}
 use Rattle.std.specs.Str.{bytes_eq}
 use Rattle.cam6_wiring.specs.declared.wirings.Wiring.{Wiring}
-use Rattle.cam6_machine.specs.Limits.{max_name}
 
 -- a rule: its name, what it is written for, and its text
 pub record Rule : Type 0 where
@@ -31,13 +28,3 @@ wiring_for (Some rule) = Some rule.wiring
 -- what the rule with this name is written for
 abbrev pub wiring_of : List ℕ → List Rule → Option Wiring
 wiring_of name rules = wiring_for (rule_named name rules)
-
--- 0x21 to 0x7E, but not a quotation mark or a backslash
-abbrev pub is_name_byte : ℕ → Bool
-is_name_byte b = nat_le 33 b && nat_le b 126 && not (b == 34) && not (b == 92)
-
--- 1 to 24 such bytes, and not `-` alone
-abbrev pub is_rule_name : List ℕ → Bool
-is_rule_name name =
-    nat_le 1 (length name) && nat_le (length name) max_name && not (bytes_eq name (codes "-"))
-    && list_all is_name_byte name

@@ -3,9 +3,8 @@ ghost use Rattle.std.specs.Prelude.{◌≡◌, IfOk};
 ghost use Rattle.cam6_machine.specs.Machine.{blank, machine_of};
 ghost use Rattle.cam6_machine.specs.Alone.{replies, after_all};
 
-use crate::commands::Command;
 use crate::machines::Machine;
-use crate::replies::Reply;
+use cam6_commands::{Command, Reply};
 use cam6_planes::{NoMemory, Side};
 use std::alloc::Global;
 

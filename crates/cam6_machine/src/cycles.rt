@@ -6,10 +6,9 @@ ghost use Rattle.cam6_machine.specs.Internal.Numbered.{rules_of, number_if_named
 ghost use Rattle.cam6_machine.specs.Internal.Numbered.{half_rule_at, entries_of, closed_half};
 ghost use Rattle.cam6_machine.specs.Internal.Numbered.{closed_entry};
 
-use crate::commands::NamedEntry;
 use crate::rules::{KeptRule, rule_number, wiring_at};
-use crate::texts::Text;
 use arrayvec::ArrayVec;
+use cam6_commands::{NamedEntry, Text};
 use cam6_cycle::{Cycle, Entry, HalfRule, MAX_ENTRIES};
 use cam6_wiring::Phase;
 use indexmap::IndexMap;

@@ -17,32 +17,30 @@
 //! rule can't be undone the reply is `NotReversible`, with the entry, the half and the cause.
 //!
 //! `Machine::now` leaves steps to do exactly for a run, or for going back, that is accepted and has
-//! at least one; memory is wanted for a rule and for lists of rows or names alone, neither where a
-//! number or a name is refused, nor for a text of which nothing is kept, nor to list no rules.
-//! `Machine::work` takes none; its tables are proved to be the rules' words, or what undoes them. The laws: steps that
-//! are done and undone, or undone and done, give the machine back; a step by rules of blocks
-//! changes blocks as a whole, and one by inverted tables is one undone; a step by tables is the
-//! step by the rules' words where the tables are theirs (`specs/TrueTables.antt`), and so they are
-//! at each position, where they lie as the cycle needs them; an entry's rules by their numbers are
-//! its rules by their names (`specs/Numbers.antt`); what a machine always is
-//! (`specs/Always.antt`), which `Machine::limit` tells of any, the blank one is, and stays whatever
-//! it is commanded in UTF-8; no command changes its limit; the rules that its cycle names run,
-//! whatever is seen; a half without a rule keeps its planes; some steps and then more are all of
-//! them together; steps change planes and position alone; the position goes round the cycle.
+//! at least one; memory is wanted where a text is kept or a reply has rows, and nowhere else
+//! (`may_want_memory` of `specs/AtOnce.antt`). `Machine::work` takes none; its tables are proved to
+//! be the rules' words, or what undoes them. The laws: steps that are done and undone, or undone
+//! and done, give the machine back; a step by rules of blocks changes blocks as a whole, and one by
+//! inverted tables is one undone; a step by tables is the step by the rules' words where the tables
+//! are theirs (`specs/TrueTables.antt`), and so they are at each position, where they lie as the
+//! cycle needs them; an entry's rules by their numbers are its rules by their names
+//! (`specs/Numbers.antt`); what a machine always is (`specs/Always.antt`), which `Machine::limit`
+//! tells of any, the blank one is, and stays whatever it is commanded in UTF-8; no command changes
+//! its limit; the rules that its cycle names run, whatever is seen; a half without a rule keeps its
+//! planes; some steps and then more are all of them together; steps change planes and position
+//! alone; the position goes round the cycle.
 //!
 //! Stands on: `cam6_planes`, `cam6_wiring`, `cam6_forth`, `cam6_table`, `cam6_block`, `cam6_band`,
-//! `cam6_view`, `cam6_cycle`, and on `arrayvec` and `indexmap`.
+//! `cam6_view`, `cam6_cycle`, `cam6_commands`, and on `arrayvec` and `indexmap`.
 //!
-//! Read next: `commands`, `rows`, `replies` and `faults`; `rules` and `cycles`, what a machine
-//! keeps; `tables`, by which it steps, `steps`, one step, and `runs`, steps along a cycle, forward
-//! and backward; `refusals`, when a command is refused, and `undoing`, whether rules can be undone;
+//! Read next: `replies`, what is said at once; `rules` and `cycles`, what a machine keeps;
+//! `tables`, by which it steps, `steps`, one step, and `runs`, steps along a cycle, forward and
+//! backward; `refusals`, when a command is refused, and `undoing`, whether rules can be undone;
 //! then `machines` and `alone`; and `laws`.
 #![tactic(auto)]
 
 mod alone;
-mod commands;
 mod cycles;
-mod faults;
 pub mod laws;
 mod machines;
 mod refusals;
@@ -52,15 +50,13 @@ mod rules;
 mod runs;
 mod steps;
 mod tables;
-mod texts;
 mod undoing;
 
 pub use alone::replies_alone;
+pub use cam6_commands::{
+    Command, Done, Fault, MAX_COLOUR, MAX_MASK, MAX_NAME, MAX_RULES, MAX_STEPS, NamedEntries,
+    NamedEntry, Names, PlaneRows, Refusal, Reply, RowColours, RowText, Text,
+};
 pub use cam6_cycle::Direction;
-pub use commands::{Command, MAX_COLOUR, MAX_MASK, MAX_STEPS, NamedEntries, NamedEntry};
-pub use faults::Fault;
 pub use machines::Machine;
-pub use replies::{Now, Reply};
-pub use rows::{PlaneRows, RowColours, RowText};
-pub use rules::MAX_RULES;
-pub use texts::{Names, Text};
+pub use replies::Now;

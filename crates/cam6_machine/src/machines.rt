@@ -1,26 +1,26 @@
 //! A user's machine, and what each command does to it.
-ghost use Rattle.std.specs.Prelude.{◌≡◌, ◌<◌, ◌≤◌, ◌/◌, IfOk};
+ghost use Rattle.std.specs.Prelude.{◌≡◌, ◌≤◌, IfOk};
 ghost use Rattle.cam6_planes.specs.Cells.{cells, no_cells};
 ghost use Rattle.cam6_planes.specs.Side.{side_number};
-ghost use Rattle.cam6_planes.specs.Stored.{width};
 ghost use Rattle.cam6_machine.specs.Machine.{first_side};
-ghost use Rattle.cam6_machine.specs.Effects.{plane_rows};
-ghost use Rattle.cam6_machine.specs.Internal.Ways.{reply_at};
+ghost use Rattle.cam6_machine.specs.Internal.Ways.{reply_at, work_or_reply};
 
-use crate::commands::{Command, NamedEntries};
 use crate::cycles::{closed_cycle, entries_of, numbered_cycle};
 use crate::refusals::{
-    colours_refusal, colours_within, count_refusal, cycle_refusal, droppable, plane_refusal,
-    row_refusal, rule_refusal, run_refusal, set_refusal, side_within,
+    accept_colours, accept_cycle, accept_drop, accept_row, accept_rule, accept_run, accept_set,
+    accept_side,
 };
-use crate::replies::{Now, Reply};
-use crate::rows::{PlaneRows, RowColours, RowText};
+use crate::replies::Now;
+use crate::rows::{plane_rows, row_colours};
 use crate::rules::{KeptRule, names_of, put, remove, tried_rule};
 use crate::runs::go_along;
 use crate::tables::fill_tables;
-use crate::texts::{Names, Text};
-use crate::undoing::first_cause;
+use crate::undoing::accept_undoing;
 use cam6_band::AtRest;
+use cam6_commands::{
+    Command, Done, Mask, NamedEntries, Names, PlaneNumber, Refusal, Reply, RowNumber, RowText,
+    StepCount, Text,
+};
 use cam6_cycle::{Cycle, Direction, MAX_TABLES};
 use cam6_planes::{Bits, NoMemory, Planes, Side};
 use cam6_table::{NotCompiled, Table};
@@ -75,15 +75,13 @@ impl Model for Machine {
 }
 
 impl Machine {
-    ghost use Rattle.std.specs.Prelude.{ℕ, false, List, [], Some, None, IsOk, OnErr};
+    ghost use Rattle.std.specs.Prelude.{false, None, IsOk, OnErr};
     ghost use Rattle.cam6_machine.specs.Machine.{blank, machine_of};
     ghost use Rattle.cam6_machine.specs.Refusals.{refusal};
-    ghost use Rattle.cam6_machine.specs.declared.faults.Fault.{Fault};
-    ghost use Rattle.cam6_forth.specs.declared.faults.TextFault.{TextFault};
-    ghost use Rattle.cam6_forth.specs.Reading.{keeps};
     ghost use Rattle.cam6_machine.specs.Alone.{reply, after, work_of, command_of};
     ghost use Rattle.cam6_machine.specs.AtOnce.{work_in, IsReplyTo, machine_then};
-    ghost use Rattle.cam6_machine.specs.AtOnce.{StaysAfter, StaysUnless, may_want_memory, CanWork};
+    ghost use Rattle.cam6_machine.specs.AtOnce.{StaysAfter, StaysUnless, CanWork};
+    ghost use Rattle.cam6_machine.specs.AtOnce.{keeps_text, has_rows, may_want_memory};
     ghost use Rattle.cam6_machine.specs.Always.{IsMachine};
 
     /// A machine with blank planes, no rules and no cycle, whose side is the lesser of 256 and the
@@ -131,18 +129,8 @@ impl Machine {
         ensures others { IfOk result (λ now. StaysUnless now self.old self.new) }
         ensures ready { IfOk result (λ now. CanWork now (machine_of self.new)) }
         ensures err { OnErr result (self.new ≡ self.old) }
-        // Memory is wanted for what is kept of a rule and for the lists of a reply alone; neither
-        // where a number or a name is refused, nor for a text of which nothing is kept, nor to
-        // list the rules of a machine that has none.
-        ensures memory { may_want_memory command ≡ false → IsOk result }
-        ensures refused { (fault : Fault) →
-            refusal (machine_of self.old) command ≡ Some (Reply.Fault fault) → IsOk result }
-        ensures unkept { (name text : List ℕ) (wiring : Wiring) (fault : TextFault) →
-            command ≡ Command.Rule name wiring text →
-            refusal (machine_of self.old) command ≡ Some (Reply.RuleText fault) →
-            keeps wiring text ≡ false → IsOk result }
-        ensures listed { command ≡ Command.Rules →
-            (machine_of self.old).rules ≡ [] → IsOk result }
+        // Memory is wanted where a text is kept, or the reply has rows.
+        ensures memory { may_want_memory (machine_of self.old) command ≡ false → IsOk result }
     {
         match command {
             Command::Set { plane, row, bits } => Ok(Now::Reply(self.set(plane, row, &bits))),
@@ -175,11 +163,12 @@ impl Machine {
         };
         let planes = image.planes_mut();
         let bits = bits.as_slice();
-        if let Some(fault) = set_refusal(planes.side(), plane, row, bits) {
-            return Reply::Fault(fault);
-        }
-        planes.put_row(plane as usize, row as usize, bits);
-        Reply::Set
+        let (plane, row) = match accept_set(planes.side(), plane, row, bits) {
+            Ok(at) => at,
+            Err(fault) => return Reply::Refused(Refusal::Fault(fault)),
+        };
+        planes.put_row(plane.number(), row.number(), bits);
+        Reply::Done(Done::Set)
     }
 
     fn clear(&mut self, plane: u64) -> Reply
@@ -188,14 +177,15 @@ impl Machine {
             ≡ after (machine_of self.old) (Command.Clear plane) }
         ensures others { StaysAfter result self.old self.new }
     {
-        if let Some(fault) = plane_refusal(plane) {
-            return Reply::Fault(fault);
-        }
         let Some(image) = &mut self.image else {
             unreachable!()
         };
-        image.planes_mut().clear_plane(plane as usize);
-        Reply::Clear
+        let plane = match PlaneNumber::of(plane) {
+            Ok(plane) => plane,
+            Err(fault) => return Reply::Refused(Refusal::Fault(fault)),
+        };
+        image.planes_mut().clear_plane(plane.number());
+        Reply::Done(Done::Clear)
     }
 
     fn set_side(&mut self, number: u64) -> Reply
@@ -208,13 +198,13 @@ impl Machine {
             unreachable!()
         };
         let planes = image.planes_mut();
-        match side_within(planes.limit(), number) {
+        match accept_side(planes.limit(), number) {
             Ok(side) => {
                 planes.set_side(side);
                 self.position = 0;
-                Reply::Side
+                Reply::Done(Done::Side)
             }
-            Err(fault) => Reply::Fault(fault),
+            Err(fault) => Reply::Refused(Refusal::Fault(fault)),
         }
     }
 
@@ -225,23 +215,21 @@ impl Machine {
             machine_of self.new ≡ after (machine_of self.old) (Command.Rule name wiring text)) }
         ensures others { IfOk result (λ r. StaysAfter r self.old self.new) }
         ensures err { OnErr result (self.new ≡ self.old) }
-        ensures refused { (fault : Fault) →
-            refusal (machine_of self.old) (Command.Rule name wiring text)
-            ≡ Some (Reply.Fault fault) → IsOk result }
-        ensures unkept { (fault : TextFault) →
-            refusal (machine_of self.old) (Command.Rule name wiring text)
-            ≡ Some (Reply.RuleText fault) → keeps wiring text ≡ false → IsOk result }
+        ensures memory { keeps_text (machine_of self.old) (Command.Rule name wiring text) ≡ false
+            → IsOk result }
     {
-        if let Some(fault) = rule_refusal(&self.rules, entries_of(&self.cycle), &name) {
-            return Ok(Reply::Fault(fault));
+        if let Err(fault) = accept_rule(&self.rules, entries_of(&self.cycle), &name) {
+            return Ok(Reply::Refused(Refusal::Fault(fault)));
         }
         match tried_rule(self.alloc, wiring, text, &mut self.trial) {
             Ok(rule) => {
                 put(&mut self.rules, name, rule)?;
-                Ok(Reply::Rule)
+                Ok(Reply::Done(Done::Rule))
             }
-            Err(NotCompiled::Text(fault)) => Ok(Reply::RuleText(fault)),
-            Err(NotCompiled::Stops { address, fault }) => Ok(Reply::RuleStops { address, fault }),
+            Err(NotCompiled::Text(fault)) => Ok(Reply::Refused(Refusal::Text(fault))),
+            Err(NotCompiled::Stops { address, fault }) => {
+                Ok(Reply::Refused(Refusal::Stops { address, fault }))
+            }
             Err(NotCompiled::NoMemory) => Err(NoMemory),
         }
     }
@@ -253,13 +241,13 @@ impl Machine {
         ensures others { StaysAfter result self.old self.new }
     {
         let cycle = entries_of(&self.cycle);
-        match droppable(&self.rules, cycle, name) {
+        match accept_drop(&self.rules, cycle, name) {
             Ok(number) => {
                 self.cycle = closed_cycle(cycle, number);
                 remove(&mut self.rules, name);
-                Reply::Drop
+                Reply::Done(Done::Drop)
             }
-            Err(fault) => Reply::Fault(fault),
+            Err(fault) => Reply::Refused(Refusal::Fault(fault)),
         }
     }
 
@@ -267,10 +255,11 @@ impl Machine {
         ensures reply { IfOk result (λ r. r ≡ reply (machine_of self.now) Command.Rules) }
         ensures machine { machine_of self.now ≡ after (machine_of self.now) Command.Rules }
         ensures others { IfOk result (λ r. StaysAfter r self.now self.now) }
-        ensures none { (machine_of self.now).rules ≡ [] → IsOk result }
+        ensures memory { has_rows (reply (machine_of self.now) Command.Rules) ≡ false
+            → IsOk result }
     {
         let names = Names::new(names_of(self.alloc, &self.rules)?);
-        Ok(Reply::Rules { names })
+        Ok(Reply::Done(Done::Rules { names }))
     }
 
     fn set_colours(&mut self, colours: &[u64; 16]) -> Reply
@@ -279,12 +268,12 @@ impl Machine {
             ≡ after (machine_of self.old) (Command.Map colours.now) }
         ensures others { StaysAfter result self.old self.new }
     {
-        match colours_within(colours) {
+        match accept_colours(colours) {
             Ok(kept) => {
                 self.colours = kept;
-                Reply::Map
+                Reply::Done(Done::Map)
             }
-            Err(fault) => Reply::Fault(fault),
+            Err(fault) => Reply::Refused(Refusal::Fault(fault)),
         }
     }
 
@@ -294,12 +283,12 @@ impl Machine {
             ≡ after (machine_of self.old) (Command.Cycle entries.now) }
         ensures others { StaysAfter result self.old self.new }
     {
-        if let Some(fault) = cycle_refusal(&self.rules, entries) {
-            return Reply::Fault(fault);
+        if let Err(fault) = accept_cycle(&self.rules, entries) {
+            return Reply::Refused(Refusal::Fault(fault));
         }
         self.cycle = numbered_cycle(&self.rules, entries.as_slice());
         self.position = 0;
-        Reply::Cycle
+        Reply::Done(Done::Cycle)
     }
 
     /// The steps that a run has to do, or the reply where there are none.
@@ -311,15 +300,10 @@ impl Machine {
         ensures others { StaysUnless result self.now self.now }
         ensures ready { CanWork result (machine_of self.now) }
     {
-        if let Some(fault) = run_refusal(entries_of(&self.cycle), n) {
-            return Now::Reply(Reply::Fault(fault));
+        match accept_run(entries_of(&self.cycle), n) {
+            Ok(steps) => work_or_reply(steps, Direction::Forward, self.position),
+            Err(fault) => Now::Reply(Reply::Refused(Refusal::Fault(fault))),
         }
-        if n == 0 {
-            return Now::Reply(Reply::Run {
-                position: self.position,
-            });
-        }
-        Now::Work(n as u16, Direction::Forward)
     }
 
     /// The steps that have to be undone, or the reply where there are none.
@@ -332,23 +316,15 @@ impl Machine {
         ensures ready { CanWork result (machine_of self.new) }
     {
         let entries = entries_of(&self.cycle);
-        if let Some(fault) = run_refusal(entries, n) {
-            return Now::Reply(Reply::Fault(fault));
+        let steps = match accept_run(entries, n) {
+            Ok(steps) => steps,
+            Err(fault) => return Now::Reply(Reply::Refused(Refusal::Fault(fault))),
+        };
+        let (straight, inverse) = (&mut self.trial, &mut self.inverse);
+        match accept_undoing(&self.rules, entries, straight, inverse) {
+            Ok(()) => work_or_reply(steps, Direction::Backward, self.position),
+            Err(refusal) => Now::Reply(Reply::Refused(refusal)),
         }
-        if let Some(refused) = first_cause(
-            &self.rules,
-            entries,
-            &mut self.trial,
-            &mut self.inverse,
-        ) {
-            return Now::Reply(refused);
-        }
-        if n == 0 {
-            return Now::Reply(Reply::Back {
-                position: self.position,
-            });
-        }
-        Now::Work(n as u16, Direction::Backward)
     }
 
     fn show_row(&self, plane: u64, row: u64) -> Reply
@@ -361,11 +337,13 @@ impl Machine {
             unreachable!()
         };
         let planes = image.planes();
-        if let Some(fault) = row_refusal(planes.side(), plane, row) {
-            return Reply::Fault(fault);
+        match accept_row(planes.side(), plane, row) {
+            Ok((plane, row)) => {
+                let bits = RowText::of(planes, plane.number(), row.number());
+                Reply::Done(Done::Row { bits })
+            }
+            Err(fault) => Reply::Refused(Refusal::Fault(fault)),
         }
-        let bits = RowText::of(planes, plane as usize, row as usize);
-        Reply::Row { bits }
     }
 
     fn show(&self, plane: u64) -> Result<Reply, NoMemory>
@@ -373,19 +351,19 @@ impl Machine {
             r ≡ reply (machine_of self.now) (Command.Plane plane)) }
         ensures machine { machine_of self.now ≡ after (machine_of self.now) (Command.Plane plane) }
         ensures others { IfOk result (λ r. StaysAfter r self.now self.now) }
-        ensures refused { (fault : Fault) →
-            refusal (machine_of self.now) (Command.Plane plane)
-            ≡ Some (Reply.Fault fault) → IsOk result }
+        ensures memory { has_rows (reply (machine_of self.now) (Command.Plane plane)) ≡ false
+            → IsOk result }
     {
-        if let Some(fault) = plane_refusal(plane) {
-            return Ok(Reply::Fault(fault));
-        }
         let Some(image) = &self.image else {
             unreachable!()
         };
-        let rows = plane_rows(self.alloc, image.planes(), plane as usize)?;
-        let rows = PlaneRows::new(rows);
-        Ok(Reply::Plane { rows })
+        match PlaneNumber::of(plane) {
+            Ok(plane) => {
+                let rows = plane_rows(self.alloc, image.planes(), plane.number())?;
+                Ok(Reply::Done(Done::Plane { rows }))
+            }
+            Err(fault) => Ok(Reply::Refused(Refusal::Fault(fault))),
+        }
     }
 
     fn show_colours(&self, row: u64) -> Reply
@@ -396,11 +374,13 @@ impl Machine {
         let Some(image) = &self.image else {
             unreachable!()
         };
-        if let Some(fault) = colours_refusal(image.planes().side(), row) {
-            return Reply::Fault(fault);
+        match RowNumber::of(image.planes().side(), row) {
+            Ok(row) => {
+                let colours = row_colours(image, &self.colours, row.number());
+                Reply::Done(Done::Colours { colours })
+            }
+            Err(fault) => Reply::Refused(Refusal::Fault(fault)),
         }
-        let colours = RowColours::of(image, &self.colours, row as usize);
-        Reply::Colours { colours }
     }
 
     fn count_cells(&self, mask: u64) -> Reply
@@ -408,14 +388,16 @@ impl Machine {
         ensures machine { machine_of self.now ≡ after (machine_of self.now) (Command.Count mask) }
         ensures others { StaysAfter result self.now self.now }
     {
-        if let Some(fault) = count_refusal(mask) {
-            return Reply::Fault(fault);
-        }
         let Some(image) = &self.image else {
             unreachable!()
         };
-        let count = count(image, mask as u16);
-        Reply::Count { count }
+        match Mask::of(mask) {
+            Ok(mask) => {
+                let count = count(image, mask.bits());
+                Reply::Done(Done::Count { count })
+            }
+            Err(fault) => Reply::Refused(Refusal::Fault(fault)),
+        }
     }
 
     /// Does the steps of a command, and replies to it. It takes no memory.
@@ -453,15 +435,7 @@ impl Machine {
             machine_of self.new ≡ after (machine_of self.old) command) }
         ensures err { OnErr result (self.new ≡ self.old) }
         // Memory is wanted as by `now`.
-        ensures memory { may_want_memory command ≡ false → IsOk result }
-        ensures refused { (fault : Fault) →
-            refusal (machine_of self.old) command ≡ Some (Reply.Fault fault) → IsOk result }
-        ensures unkept { (name text : List ℕ) (wiring : Wiring) (fault : TextFault) →
-            command ≡ Command.Rule name wiring text →
-            refusal (machine_of self.old) command ≡ Some (Reply.RuleText fault) →
-            keeps wiring text ≡ false → IsOk result }
-        ensures listed { command ≡ Command.Rules →
-            (machine_of self.old).rules ≡ [] → IsOk result }
+        ensures memory { may_want_memory (machine_of self.old) command ≡ false → IsOk result }
     {
         match self.now(command)? {
             Now::Reply(reply) => Ok(reply),
@@ -470,13 +444,23 @@ impl Machine {
     }
 }
 
+/// So many steps that are left to do; with none the position is replied.
+fn work_or_reply(steps: StepCount, direction: Direction, position: usize) -> Now
+    ensures { result ≡ work_or_reply steps direction position }
+{
+    match steps.number() {
+        0 => Now::Reply(reply_at(direction, position)),
+        n => Now::Work(n, direction),
+    }
+}
+
 /// The reply once a machine has come to a position.
 fn reply_at(direction: Direction, position: usize) -> Reply
     ensures { result ≡ reply_at direction position }
 {
     match direction {
-        Direction::Forward => Reply::Run { position },
-        Direction::Backward => Reply::Back { position },
+        Direction::Forward => Reply::Done(Done::Run { position }),
+        Direction::Backward => Reply::Done(Done::Back { position }),
     }
 }
 
@@ -500,18 +484,4 @@ fn first_side(limit: Side) -> Side
         Side::S128 => Side::S128,
         Side::S256 | Side::S512 => Side::S256,
     }
-}
-
-/// The text of each row of plane `p`.
-fn plane_rows(alloc: Global, planes: &Planes, p: usize) -> Result<Vec<RowText>, NoMemory>
-    requires { p < 4 }
-    ensures { let s = width planes.now in
-        IfOk result (λ rows. rows.items ≡ plane_rows s (s / 4) (cells planes.now) p) }
-{
-    let side = planes.side().number();
-    let mut rows = Vec::with_capacity(alloc, side)?;
-    for y in 0..side {
-        rows.push(RowText::of(planes, p, y))?;
-    }
-    Ok(rows)
 }

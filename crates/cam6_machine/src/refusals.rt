@@ -1,51 +1,75 @@
-//! Which fault a command is refused for, before anything is done.
-ghost use Rattle.std.specs.Prelude.{◌≡◌, ◌<◌, ◌≤◌, ◌*◌, false, List, length, IfNone, Some, None};
-ghost use Rattle.std.specs.Prelude.{IfOk};
-ghost use Rattle.std.specs.Prelude.{IfErr};
+//! Whether a command is accepted, before anything is done: its numbers and names are looked at, and
+//! come back as what they are within.
+ghost use Rattle.std.specs.Prelude.{◌≡◌, ◌<◌, ◌≤◌, ◌*◌, false, List, length, Some};
+ghost use Rattle.std.specs.Result.{result_err};
+ghost use Rattle.std.specs.Prelude.{IfOk, nat_le};
 ghost use Rattle.std.specs.List.{list_any};
 ghost use Rattle.std.specs.Bool.{OnTrue};
 ghost use Rattle.cam6_planes.specs.Side.{side_number, side_of};
-ghost use Rattle.cam6_machine.specs.declared.commands.TheConstants.{MAX_STEPS, MAX_MASK};
+ghost use Rattle.cam6_commands.specs.Limits.{max_colour};
+ghost use Rattle.cam6_commands.specs.Checks.{unless};
+ghost use Rattle.cam6_commands.specs.declared.faults.Fault.TheVariants.{OutOfRange};
 ghost use Rattle.cam6_cycle.specs.declared.cycles.TheConstants.{MAX_ENTRIES};
 ghost use Rattle.cam6_machine.specs.Rules.{Rule};
 ghost use Rattle.cam6_machine.specs.Numbers.{named_entries, number_in};
-ghost use Rattle.cam6_machine.specs.Internal.Numbered.{rules_of, uses_number, is_number, rule_number};
-ghost use Rattle.cam6_machine.specs.Refusals.{set_refusal, row_refusal, plane_refusal};
+ghost use Rattle.cam6_machine.specs.Internal.Numbered.{rules_of, uses_number, is_number};
+ghost use Rattle.cam6_machine.specs.Internal.Numbered.{rule_number};
+ghost use Rattle.cam6_machine.specs.Refusals.{plane_row_refusal, set_refusal};
 ghost use Rattle.cam6_machine.specs.Refusals.{run_refusal, side_refusal};
-ghost use Rattle.cam6_machine.specs.Refusals.{rule_refusal, cycle_refusal, is_named_cycle, have_phases};
+ghost use Rattle.cam6_machine.specs.Refusals.{rule_refusal, cycle_refusal, is_named_cycle};
+ghost use Rattle.cam6_machine.specs.Refusals.{have_phases};
 ghost use Rattle.cam6_machine.specs.Refusals.{first_refusal, entry_refusal, half_refusal};
-ghost use Rattle.cam6_machine.specs.Refusals.{drop_refusal, map_refusal, colours_refusal};
-ghost use Rattle.cam6_machine.specs.Refusals.{count_refusal};
+ghost use Rattle.cam6_machine.specs.Refusals.{drop_refusal, map_refusal};
 ghost use Rattle.cam6_machine.specs.Always.{HaveOwnNames};
 
-use crate::commands::{MAX_COLOUR, MAX_MASK, MAX_STEPS, NamedEntries, NamedEntry};
-use crate::faults::Fault;
-use crate::rules::{KeptRule, MAX_RULES, is_rule_name, rule_number, wiring_of};
-use crate::texts::Text;
+use crate::rules::{KeptRule, rule_number, wiring_of};
+use cam6_commands::{
+    Fault, MAX_COLOUR, MAX_RULES, NamedEntries, NamedEntry, PlaneNumber, RowNumber, StepCount, Text,
+};
 use cam6_cycle::{Entry, HalfRule, MAX_ENTRIES};
 use cam6_planes::Side;
 use cam6_wiring::Half;
 use indexmap::IndexMap;
 
-/// Planes are 0 to 3, rows 0 to below the side, and a row has a bit for each column.
-pub(crate) fn set_refusal(side: Side, plane: u64, row: u64, bits: &[u8]) -> Option<Fault>
-    ensures refusal { result ≡ set_refusal side plane row bits.now }
-    ensures within { IfNone result ((plane < 4) × (row < side_number side)
-        × (8 * length bits.now ≡ side_number side)) }
+/// A row of a plane, at this side.
+pub(crate) fn accept_row(
+    side: Side,
+    plane: u64,
+    row: u64,
+) -> Result<(PlaneNumber, RowNumber), Fault>
+    ensures refusal { result_err result ≡ plane_row_refusal side plane row }
+    ensures plane { IfOk result (λ at. at.0 ≡ plane) }
+    ensures row { IfOk result (λ at. at.1 ≡ record { side = side; number = row }) }
 {
-    let side = side.number();
-    if plane >= 4 || row >= side as u64 || bits.len() != side / 8 {
-        return Some(Fault::OutOfRange);
+    let plane = PlaneNumber::of(plane)?;
+    let row = RowNumber::of(side, row)?;
+    Ok((plane, row))
+}
+
+/// A row of a plane that is to be set: it has a bit for each column.
+pub(crate) fn accept_set(
+    side: Side,
+    plane: u64,
+    row: u64,
+    bits: &[u8],
+) -> Result<(PlaneNumber, RowNumber), Fault>
+    ensures refusal { result_err result ≡ set_refusal side plane row bits.now }
+    ensures plane { IfOk result (λ at. at.0 ≡ plane) }
+    ensures row { IfOk result (λ at. at.1 ≡ record { side = side; number = row }) }
+    ensures bits { IfOk result (λ _. 8 * length bits.now ≡ side_number side) }
+{
+    let at = accept_row(side, plane, row)?;
+    if bits.len() != side.number() / 8 {
+        return Err(Fault::OutOfRange);
     }
-    None
+    Ok(at)
 }
 
 /// The side of a number: one of the three, and then not above the limit.
-pub(crate) fn side_within(limit: Side, number: u64) -> Result<Side, Fault>
-    ensures ok { IfOk result (λ side. side_refusal limit number ≡ None) }
+pub(crate) fn accept_side(limit: Side, number: u64) -> Result<Side, Fault>
+    ensures refusal { result_err result ≡ side_refusal limit number }
     ensures side { IfOk result (λ side. side_of number ≡ Some side) }
     ensures within { IfOk result (λ side. side_number side ≤ side_number limit) }
-    ensures err { IfErr result (λ fault. side_refusal limit number ≡ Some fault) }
 {
     let Some(side) = Side::of(number) else {
         return Err(Fault::OutOfRange);
@@ -56,100 +80,54 @@ pub(crate) fn side_within(limit: Side, number: u64) -> Result<Side, Fault>
     Ok(side)
 }
 
-/// Planes are 0 to 3, and rows 0 to below the side.
-pub(crate) fn row_refusal(side: Side, plane: u64, row: u64) -> Option<Fault>
-    ensures refusal { result ≡ row_refusal side plane row }
-    ensures within { IfNone result ((plane < 4) × (row < side_number side)) }
-{
-    if plane >= 4 || row >= side.number() as u64 {
-        return Some(Fault::OutOfRange);
-    }
-    None
-}
-
-/// Rows are 0 to below the side.
-pub(crate) fn colours_refusal(side: Side, row: u64) -> Option<Fault>
-    ensures refusal { result ≡ colours_refusal side row }
-    ensures within { IfNone result (row < side_number side) }
-{
-    if row >= side.number() as u64 {
-        return Some(Fault::OutOfRange);
-    }
-    None
-}
-
-/// A mask has a bit for each of sixteen states.
-pub(crate) fn count_refusal(mask: u64) -> Option<Fault>
-    ensures refusal { result ≡ count_refusal mask }
-    ensures within { IfNone result (mask ≤ MAX_MASK) }
-{
-    if mask > MAX_MASK {
-        return Some(Fault::OutOfRange);
-    }
-    None
-}
-
-pub(crate) fn plane_refusal(plane: u64) -> Option<Fault>
-    ensures refusal { result ≡ plane_refusal plane }
-    ensures within { IfNone result (plane < 4) }
-{
-    if plane >= 4 {
-        return Some(Fault::OutOfRange);
-    }
-    None
-}
-
-/// At most 65,535 steps, and then a cycle.
-pub(crate) fn run_refusal(cycle: &[Entry], n: u64) -> Option<Fault>
+/// The steps of a run: at most 65,535, and then there is a cycle.
+pub(crate) fn accept_run(cycle: &[Entry], n: u64) -> Result<StepCount, Fault>
     // Whatever rules the numbers are of.
     ensures refusal { (rules : List Rule) →
-        result ≡ run_refusal (named_entries rules cycle.now) n }
-    ensures within { IfNone result (n ≤ MAX_STEPS) }
+        result_err result ≡ run_refusal (named_entries rules cycle.now) n }
+    ensures steps { IfOk result (λ steps. steps ≡ n) }
 {
-    if n > MAX_STEPS {
-        return Some(Fault::OutOfRange);
-    }
+    let steps = StepCount::of(n)?;
     if cycle.is_empty() {
-        return Some(Fault::NoCycle);
+        return Err(Fault::NoCycle);
     }
-    None
+    Ok(steps)
 }
 
-pub(crate) fn rule_refusal(
+/// A rule's name is one, the cycle doesn't use a rule that has it, and there is room for a new one.
+pub(crate) fn accept_rule(
     rules: &IndexMap<String, KeptRule>,
     cycle: &[Entry],
     name: &Text,
-) -> Option<Fault>
+) -> Result<(), Fault>
     requires names { HaveOwnNames (rules_of rules.now.entries) }
-    ensures { result ≡ rule_refusal (rules_of rules.now.entries)
+    ensures { result_err result ≡ rule_refusal (rules_of rules.now.entries)
         (named_entries (rules_of rules.now.entries) cycle.now) name.now }
 {
-    if !is_rule_name(name) {
-        return Some(Fault::OutOfRange);
+    if !name.is_rule_name() {
+        return Err(Fault::OutOfRange);
     }
     match rule_number(rules, name) {
-        Some(number) if is_used(cycle, number) => Some(Fault::RuleInUse),
-        Some(_) => None,
-        None if rules.len() >= MAX_RULES => Some(Fault::TooManyRules),
-        None => None,
+        Some(number) if is_used(cycle, number) => Err(Fault::RuleInUse),
+        Some(_) => Ok(()),
+        None if rules.len() >= MAX_RULES => Err(Fault::TooManyRules),
+        None => Ok(()),
     }
 }
 
 /// The number of the rule that has the name, where it can be dropped: it is there, and the cycle
 /// doesn't use it.
-pub(crate) fn droppable(
+pub(crate) fn accept_drop(
     rules: &IndexMap<String, KeptRule>,
     cycle: &[Entry],
     name: &Text,
 ) -> Result<usize, Fault>
     requires names { HaveOwnNames (rules_of rules.now.entries) }
+    ensures refusal { result_err result ≡ drop_refusal (rules_of rules.now.entries)
+        (named_entries (rules_of rules.now.entries) cycle.now) name.now }
     ensures number { IfOk result (λ number.
         rule_number name.now (rules_of rules.now.entries) ≡ Some number) }
     ensures unused { IfOk result (λ number. list_any (uses_number number) cycle.now ≡ false) }
-    ensures ok { IfOk result (λ _. drop_refusal (rules_of rules.now.entries)
-        (named_entries (rules_of rules.now.entries) cycle.now) name.now ≡ None) }
-    ensures err { IfErr result (λ fault. drop_refusal (rules_of rules.now.entries)
-        (named_entries (rules_of rules.now.entries) cycle.now) name.now ≡ Some fault) }
 {
     match rule_number(rules, name) {
         Some(number) if is_used(cycle, number) => Err(Fault::RuleInUse),
@@ -159,20 +137,26 @@ pub(crate) fn droppable(
 }
 
 /// The colours of the states as they are kept: each is at most 15.
-pub(crate) fn colours_within(colours: &[u64; 16]) -> Result<[u8; 16], Fault>
-    ensures ok { IfOk result (λ _. map_refusal colours.now ≡ None) }
+pub(crate) fn accept_colours(colours: &[u64; 16]) -> Result<[u8; 16], Fault>
+    ensures refusal { result_err result ≡ map_refusal colours.now }
     ensures colours { IfOk result (λ kept. kept ≡ colours.now) }
-    ensures err { IfErr result (λ fault. map_refusal colours.now ≡ Some fault) }
 {
     let mut kept = [0; 16];
     for state in 0..16 {
-        let colour = colours[state];
-        if colour > MAX_COLOUR {
-            return Err(Fault::OutOfRange);
-        }
-        kept[state] = colour as u8;
+        kept[state] = accept_colour(colours[state])?;
     }
     Ok(kept)
+}
+
+/// A colour, 0 to 15.
+fn accept_colour(colour: u64) -> Result<u8, Fault>
+    ensures refusal { result_err result ≡ unless (nat_le colour max_colour) OutOfRange }
+    ensures colour { IfOk result (λ kept. kept ≡ colour) }
+{
+    if colour > MAX_COLOUR {
+        return Err(Fault::OutOfRange);
+    }
+    Ok(colour as u8)
 }
 
 /// Whether an entry of the cycle has the rule at this number.
@@ -198,19 +182,20 @@ fn is_number(number: usize, rule: Option<HalfRule>) -> bool
     }
 }
 
-pub(crate) fn cycle_refusal(
+/// A cycle has 1 to 16 entries, each with a phase, and the rules that they name are there, and of
+/// the halves for which they are named.
+pub(crate) fn accept_cycle(
     rules: &IndexMap<String, KeptRule>,
     entries: &NamedEntries,
-) -> Option<Fault>
-    ensures refusal { result ≡ cycle_refusal (rules_of rules.now.entries) entries.now }
-    ensures within { IfNone result (length entries.now ≤ MAX_ENTRIES) }
+) -> Result<(), Fault>
+    ensures refusal { result_err result ≡ cycle_refusal (rules_of rules.now.entries) entries.now }
+    ensures within { IfOk result (λ _. length entries.now ≤ MAX_ENTRIES) }
 {
     let entries = entries.as_slice();
-    if is_named_cycle(entries) {
-        first_refusal(rules, entries)
-    } else {
-        Some(Fault::OutOfRange)
+    if !is_named_cycle(entries) {
+        return Err(Fault::OutOfRange);
     }
+    accept_entries(rules, entries)
 }
 
 fn is_named_cycle(entries: &[NamedEntry]) -> bool
@@ -227,40 +212,36 @@ fn have_phases(entries: &[NamedEntry]) -> bool
 }
 
 /// The first fault of an entry, in the order of the entries.
-fn first_refusal(rules: &IndexMap<String, KeptRule>, entries: &[NamedEntry]) -> Option<Fault>
-    ensures { result ≡ first_refusal (rules_of rules.now.entries) entries.now }
+fn accept_entries(rules: &IndexMap<String, KeptRule>, entries: &[NamedEntry]) -> Result<(), Fault>
+    ensures { result_err result ≡ first_refusal (rules_of rules.now.entries) entries.now }
 {
     for entry in entries {
-        if let Some(fault) = entry_refusal(rules, entry) {
-            return Some(fault);
-        }
+        accept_entry(rules, entry)?;
     }
-    None
+    Ok(())
 }
 
-fn entry_refusal(rules: &IndexMap<String, KeptRule>, entry: &NamedEntry) -> Option<Fault>
-    ensures { result ≡ entry_refusal (rules_of rules.now.entries) entry.now }
+fn accept_entry(rules: &IndexMap<String, KeptRule>, entry: &NamedEntry) -> Result<(), Fault>
+    ensures { result_err result ≡ entry_refusal (rules_of rules.now.entries) entry.now }
 {
-    if let Some(fault) = half_refusal(rules, Half::A, &entry.a) {
-        return Some(fault);
-    }
-    half_refusal(rules, Half::B, &entry.b)
+    accept_half(rules, Half::A, &entry.a)?;
+    accept_half(rules, Half::B, &entry.b)
 }
 
-/// The fault of a name that an entry has for a half.
-fn half_refusal(
+/// The name that an entry has for a half, if it has one, is that of a rule of this half.
+fn accept_half(
     rules: &IndexMap<String, KeptRule>,
     half: Half,
     name: &Option<Text>,
-) -> Option<Fault>
-    ensures { result ≡ half_refusal (rules_of rules.now.entries) half name.now }
+) -> Result<(), Fault>
+    ensures { result_err result ≡ half_refusal (rules_of rules.now.entries) half name.now }
 {
     let Some(name) = name else {
-        return None;
+        return Ok(());
     };
     match wiring_of(rules, name) {
-        Some(wiring) if wiring.half == half => None,
-        Some(_) => Some(Fault::WrongHalf),
-        None => Some(Fault::NoRule),
+        Some(wiring) if wiring.half == half => Ok(()),
+        Some(_) => Err(Fault::WrongHalf),
+        None => Err(Fault::NoRule),
     }
 }

@@ -1,129 +1,39 @@
-//! Rows as replies have them.
-ghost use Rattle.std.specs.Prelude.{◌≡◌, ◌<◌, ◌≤◌, ◌/◌, take};
+//! Rows as replies have them, made of planes.
+ghost use Rattle.std.specs.Prelude.{◌≡◌, ◌<◌, ◌≤◌, ◌/◌, IfOk};
 ghost use Rattle.std.specs.List.{AllByRecursion};
-ghost use Rattle.std.specs.Str.{IsAscii};
-ghost use Rattle.cam6_planes.specs.Stored.{width};
 ghost use Rattle.cam6_planes.specs.Cells.{cells};
-ghost use Rattle.cam6_planes.specs.Digits.{row_text};
-ghost use Rattle.cam6_machine.specs.Limits.{max_colour};
+ghost use Rattle.cam6_planes.specs.Stored.{width};
+ghost use Rattle.cam6_view.specs.States.{row_colours};
+ghost use Rattle.cam6_commands.specs.Limits.{max_colour};
+ghost use Rattle.cam6_machine.specs.Effects.{plane_rows};
 
 use cam6_band::AtRest;
-use cam6_planes::{DIGITS, Planes};
+use cam6_commands::{PlaneRows, RowColours, RowText};
+use cam6_planes::{NoMemory, Planes};
 use cam6_view::{COLOURS, colour_row};
-use std::marker::Model;
+use std::alloc::Global;
 
-/// The text of a row: a lower case hexadecimal digit for every four columns. Contracts see it as
-/// its bytes.
-#[derive(Debug, Drop)]
-pub struct RowText {
-    digits: usize,
-    text: [u8; DIGITS],
+/// The colours of row `y`, by a colour for each state.
+pub(crate) fn row_colours(rest: &AtRest, map: &[u8; 16], y: usize) -> RowColours
+    requires row { y < width rest.now.planes }
+    requires colours { AllByRecursion (λ colour. colour ≤ max_colour) map.now }
+    ensures { result ≡ row_colours (width rest.now.planes) map.now (cells rest.now.planes) y }
+{
+    let mut colours = [0; COLOURS];
+    let count = colour_row(rest, map, y, &mut colours);
+    RowColours::new(count, colours)
 }
 
-impl Model for RowText {
-    ghost use Rattle.std.specs.Prelude.{List, ℕ, ◌≤◌, take};
-    ghost use Rattle.std.specs.Str.{IsAscii};
-    ghost use Rattle.cam6_planes.specs.declared.row.TheConstants.{DIGITS};
-
-    ghost Value = { List ℕ };
-
-    ghost view = { λ t. take t.digits t.text };
-
-    ghost invariant = { λ t. (t.digits ≤ DIGITS) × IsAscii (take t.digits t.text) };
-}
-
-impl RowText {
-    /// The text of row `y` of plane `p`.
-    pub fn of(planes: &Planes, p: usize, y: usize) -> RowText
-        requires plane { p < 4 }
-        requires row { y < width planes.now }
-        ensures { result ≡ row_text (width planes.now / 4) (λ x. cells planes.now p x y) }
-    {
-        let mut text = [0; DIGITS];
-        let digits = planes.row_hex(p, y, &mut text);
-        RowText { digits, text }
+/// The text of each row of plane `p`.
+pub(crate) fn plane_rows(alloc: Global, planes: &Planes, p: usize) -> Result<PlaneRows, NoMemory>
+    requires { p < 4 }
+    ensures { let s = width planes.now in
+        IfOk result (λ rows. rows ≡ plane_rows s (s / 4) (cells planes.now) p) }
+{
+    let side = planes.side().number();
+    let mut rows = Vec::with_capacity(alloc, side)?;
+    for y in 0..side {
+        rows.push(RowText::of(planes, p, y))?;
     }
-
-    pub fn as_slice(&self) -> &[u8]
-        ensures digits { result.now ≡ self.now }
-        ensures ascii { IsAscii result.now }
-    {
-        &self.text[..self.digits]
-    }
-}
-
-/// The colours of a row's cells, from column 0 on. Contracts see them as a list.
-#[derive(Debug, Drop)]
-pub struct RowColours {
-    count: usize,
-    colours: [u8; COLOURS],
-}
-
-impl Model for RowColours {
-    ghost use Rattle.std.specs.Prelude.{List, ℕ, ◌≤◌, take};
-    ghost use Rattle.std.specs.List.{AllByRecursion};
-    ghost use Rattle.cam6_view.specs.declared.colours.TheConstants.{COLOURS};
-    ghost use Rattle.cam6_machine.specs.Limits.{max_colour};
-
-    ghost Value = { List ℕ };
-
-    ghost view = { λ r. take r.count r.colours };
-
-    ghost invariant = { λ r.
-        (r.count ≤ COLOURS)
-        × AllByRecursion (λ colour. colour ≤ max_colour) (take r.count r.colours) };
-}
-
-impl RowColours {
-    ghost use Rattle.std.specs.Prelude.{◌≡◌, length};
-    ghost use Rattle.cam6_view.specs.declared.colours.TheConstants.{COLOURS};
-    ghost use Rattle.cam6_view.specs.States.{row_colours};
-
-    /// The colours of row `y`, by a colour for each state.
-    pub fn of(rest: &AtRest, map: &[u8; 16], y: usize) -> RowColours
-        requires row { y < width rest.now.planes }
-        requires colours { AllByRecursion (λ colour. colour ≤ max_colour) map.now }
-        ensures { result
-            ≡ row_colours (width rest.now.planes) map.now (cells rest.now.planes) y }
-    {
-        let mut colours = [0; COLOURS];
-        let count = colour_row(rest, map, y, &mut colours);
-        RowColours { count, colours }
-    }
-
-    pub fn as_slice(&self) -> &[u8]
-        ensures value { result.now ≡ self.now }
-        ensures few { length result.now ≤ COLOURS }
-        ensures small { AllByRecursion (λ colour. colour ≤ max_colour) result.now }
-    {
-        &self.colours[..self.count]
-    }
-}
-
-/// The texts of a plane's rows, in order. Contracts see them as a list.
-#[derive(Debug, Drop)]
-pub struct PlaneRows {
-    rows: Vec<RowText>,
-}
-
-impl Model for PlaneRows {
-    ghost use Rattle.std.specs.Prelude.{List, ℕ};
-
-    ghost Value = { List (List ℕ) };
-
-    ghost view = { λ r. r.rows.items };
-}
-
-impl PlaneRows {
-    pub fn new(rows: Vec<RowText>) -> PlaneRows
-        ensures { result ≡ rows.items }
-    {
-        PlaneRows { rows }
-    }
-
-    pub fn as_slice(&self) -> &[RowText]
-        ensures { result.now ≡ self.now }
-    {
-        self.rows.as_slice()
-    }
+    Ok(PlaneRows::new(rows))
 }

@@ -1,17 +1,13 @@
 //! The rules of a machine, by name, in the order in which their names came first.
-ghost use Rattle.std.specs.Prelude.{◌≡◌, ◌≢◌, false, [], map, Some, Err, IfOk, IsOk, OnOk, OnErr};
-ghost use Rattle.std.specs.List.{list_all};
-ghost use Rattle.cam6_forth.specs.Reading.{read_text, keeps};
-ghost use Rattle.cam6_forth.specs.declared.faults.TextFault.{TextFault};
+ghost use Rattle.std.specs.Prelude.{◌≡◌, ◌≢◌, false, [], map, Err, IfOk, IsOk, OnOk, OnErr};
+ghost use Rattle.cam6_forth.specs.Reading.{keeps};
 ghost use Rattle.cam6_machine.specs.Effects.{with_rule, without_rule};
-ghost use Rattle.cam6_machine.specs.Refusals.{text_refusal};
-ghost use Rattle.cam6_machine.specs.Rules.{wiring_of, is_rule_name, is_name_byte};
+ghost use Rattle.cam6_machine.specs.Rules.{wiring_of};
 ghost use Rattle.cam6_machine.specs.Internal.Numbered.{rules_of, rule_number, wiring_at};
 ghost use Rattle.cam6_machine.specs.Internal.Verdicts.{IsVerdict};
-ghost use Rattle.cam6_machine.specs.declared.replies.Reply.{Reply};
 
-use crate::texts::Text;
 use cam6_block::{NotReversible, fill_by};
+use cam6_commands::Text;
 use cam6_cycle::Direction;
 use cam6_planes::NoMemory;
 use cam6_table::{Code, NotCompiled, Table, compile};
@@ -19,12 +15,6 @@ use cam6_wiring::Wiring;
 use indexmap::IndexMap;
 use std::alloc::Global;
 use std::marker::Model;
-
-/// Rules that a machine can keep.
-pub const MAX_RULES: usize = 16;
-
-/// Bytes that a rule's name can have.
-pub const MAX_NAME: usize = 24;
 
 /// A rule as a machine keeps it, without its name: what it is written for, its text, and the code
 /// that does what the words of the text mean. It stops nowhere.
@@ -94,35 +84,10 @@ pub(crate) fn tried_rule(
 ) -> Result<KeptRule, NotCompiled>
     ensures verdict { IsVerdict wiring text result }
     // No memory is wanted for a text of which nothing is kept.
-    ensures unkept { (fault : TextFault) →
-        text_refusal (read_text wiring text) ≡ Some (Reply.RuleText fault) →
-        keeps wiring text ≡ false → result ≢ Err NotCompiled.NoMemory }
+    ensures unkept { keeps wiring text ≡ false → result ≢ Err NotCompiled.NoMemory }
 {
     let code = compile(alloc, wiring, text.as_str(), trial)?;
     Ok(KeptRule::new(wiring, text, code))
-}
-
-/// Whether a text can be a rule's name: 1 to 24 printable bytes without `"` and `\`, and not `-`.
-pub(crate) fn is_rule_name(name: &Text) -> bool
-    ensures { result ≡ is_rule_name name.now }
-{
-    let bytes = name.as_str().as_bytes();
-    !bytes.is_empty()
-        && bytes.len() <= MAX_NAME
-        && bytes != b"-".as_slice()
-        && are_name_bytes(bytes)
-}
-
-fn are_name_bytes(bytes: &[u8]) -> bool
-    ensures { result ≡ list_all is_name_byte bytes.now }
-{
-    bytes.iter().all(|byte| is_name_byte(*byte))
-}
-
-fn is_name_byte(byte: u8) -> bool
-    ensures { result ≡ is_name_byte byte }
-{
-    matches!(byte, 0x21..=0x7E) && byte != b'"' && byte != b'\\'
 }
 
 /// The number of the rule that has the name.

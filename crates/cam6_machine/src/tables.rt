@@ -69,8 +69,8 @@ fn first_use(needed: &[NeededTable], number: usize) -> Option<usize>
     needed.iter().position(|table| table.rule.number == number)
 }
 
-/// Fills the table of the rule at this number, if there is one. It isn't refused: what is to be undone
-/// can be.
+/// Fills the table of the rule at this number, if there is one. It isn't refused: what is to be
+/// undone can be.
 fn fill_table(
     rules: &IndexMap<String, KeptRule>,
     number: usize,

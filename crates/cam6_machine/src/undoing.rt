@@ -1,5 +1,6 @@
 //! Whether the rules of a cycle can be undone.
 ghost use Rattle.std.specs.Prelude.{◌≡◌};
+ghost use Rattle.std.specs.Result.{result_err};
 ghost use Rattle.std.specs.List.{AllByRecursion};
 ghost use Rattle.cam6_machine.specs.Refusals.{rule_cause, first_cause};
 ghost use Rattle.cam6_machine.specs.Always.{HaveOwnNames};
@@ -8,43 +9,43 @@ ghost use Rattle.cam6_machine.specs.Internal.Numbered.{rules_of};
 ghost use Rattle.cam6_machine.specs.Internal.Uses.{HasNoCause};
 
 use crate::refusals::is_used;
-use crate::replies::Reply;
 use crate::rules::KeptRule;
 use cam6_block::NotReversible;
+use cam6_commands::Refusal;
 use cam6_cycle::{Direction, Entry, HalfRule};
 use cam6_table::Table;
 use cam6_wiring::Half;
 use indexmap::IndexMap;
 
-/// The reply for the first entry, and of it half A before half B, that has a rule which can't be
-/// undone. The tables are room for the trial.
-pub(crate) fn first_cause(
+/// Every rule of the cycle can be undone, or else the refusal is for the first entry, and of it half
+/// A before half B, that has one which can't. The tables are room for the trial.
+pub(crate) fn accept_undoing(
     rules: &IndexMap<String, KeptRule>,
     cycle: &[Entry],
     straight: &mut Table,
     inverse: &mut Table,
-) -> Option<Reply>
+) -> Result<(), Refusal>
     requires names { HaveOwnNames (rules_of rules.now.entries) }
     ensures { let rules = rules_of rules.now.entries in
-        result ≡ first_cause rules 0 (named_entries rules cycle.now) }
+        result_err result ≡ first_cause rules 0 (named_entries rules cycle.now) }
 {
     for number in 0..cycle.len() {
         let Entry { a, b, .. } = cycle[number];
         let before = &cycle[..number];
         if let Some(cause) = new_cause(rules, before, a, straight, inverse) {
-            return Some(not_reversible(number, Half::A, cause));
+            return Err(not_reversible(number, Half::A, cause));
         }
         if let Some(cause) = new_cause(rules, before, b, straight, inverse) {
-            return Some(not_reversible(number, Half::B, cause));
+            return Err(not_reversible(number, Half::B, cause));
         }
     }
-    None
+    Ok(())
 }
 
-fn not_reversible(entry: usize, half: Half, cause: NotReversible) -> Reply
-    ensures { result ≡ Reply.NotReversible entry half cause }
+fn not_reversible(entry: usize, half: Half, cause: NotReversible) -> Refusal
+    ensures { result ≡ Refusal.NotReversible entry half cause }
 {
-    Reply::NotReversible { entry, half, cause }
+    Refusal::NotReversible { entry, half, cause }
 }
 
 /// Why a half's rule can't be undone, if it can't, where the entries before have no rule that can't

@@ -3,67 +3,82 @@ use Rattle.std.proofs.Common.{◌≡◌, ℕ, List, [], ◌∷◌, ◌++◌, Opt
 use Rattle.std.proofs.Common.{subst, inl, inr, append-nil, append_assoc, true, false}
 use Rattle.cam6_planes.specs.declared.sides.Side.{Side}
 use Rattle.cam6_machine.specs.Machine.{Machine, blank}
+use Rattle.cam6_wire.specs.Commands.{command}
 use Rattle.cam6_session.specs.Lines.{lines}
-use Rattle.cam6_session.specs.Answering.{Answering, answers, after_lines}
-use Rattle.cam6_session.specs.Answers.{by_machine}
+use Rattle.cam6_session.specs.Answering.{Answering, AreAnswered}
+use Rattle.cam6_session.specs.Answers.{text_to, after_line, by_machine}
 use Rattle.cam6_session.proofs.Splitting.{ended_lines_are_first}
-use Rattle.cam6_session.proofs.Answering.{answers_to_both, answers_are_replies}
+use Rattle.cam6_session.proofs.Answering.{answered_both, only_replies}
 use Rattle.cam6_session.specs.Sessions.{StopsAt, AnswersUntil, AnswersReader}
 use Rattle.cam6_session.specs.Headline.{WritesRepliesAlone}
 use Rattle.cam6_session.specs.declared.sessions.End.{End}
 use Rattle.cam6_session.specs.declared.sessions.End.TheVariants as end
 
-module _ {S : Type 0} (by : Answering S) where
-  -- of the answers to all lines a front was written, or all of them
+-- whatever line comes, it has an answer
+abbrev AnswersAll : {S : Type 0} → Answering S → Type 0
+AnswersAll {S} by = (s : S) (line : List ℕ) → (text : List ℕ) × (t : S) × by.answers s line text t
+
+module _ {S : Type 0} (by : Answering S) (answer_to : AnswersAll by) where
+  -- and so have lines, one after another
+  answers_to : (s : S) (later : List (List ℕ))
+      → (text : List ℕ) × (t : S) × AreAnswered by s later text t
+  answers_to s [] = ([], s, (refl, refl))
+  answers_to s (line ∷ later) =
+      let first = answer_to s line in
+      let rest = answers_to first.1 later in
+      (first.0 ++ rest.0, rest.1, (first.0, rest.0, first.1, first.2, refl, rest.2))
+
+  -- of answers to all lines a front was written, or all of them
   record IsFront (e : End) (s : S) (all written : List ℕ) : Type 0 where
     pub missing : List ℕ
-    pub is : answers by s (lines all) ≡ written ++ missing
+    pub last : S
+    pub is : AreAnswered by s (lines all) (written ++ missing) last
     pub whole : e ≡ end.EndOfInput → missing ≡ []
 
-  module _ (s : S) (all written : List ℕ) (done later : List (List ℕ))
-      (are : lines all ≡ done ++ later) where
-    abbrev after_done : List ℕ
-    after_done = answers by (after_lines by s done) later
+  front_of_done : (e : End) (s t : S) (all written : List ℕ) (done later : List (List ℕ))
+      → lines all ≡ done ++ later → (e ≡ end.EndOfInput → later ≡ [])
+      → AreAnswered by s done written t → IsFront e s all written
+  front_of_done e s t all written done later are whole answered =
+      let rest = answers_to t later in
+      record {
+        missing = rest.0;
+        last = rest.1;
+        is = subst (λ ls. AreAnswered by s ls (written ++ rest.0) rest.1) (sym are)
+            (answered_both by s t rest.1 done later written rest.0 answered rest.2);
+        whole = λ same. (subst (λ ls. AreAnswered by t ls rest.0 rest.1) (whole same) rest.2).0;
+      }
 
-    both : answers by s (lines all) ≡ answers by s done ++ after_done
-    both = ap (answers by s) are ∙ answers_to_both by s done later
-
-    front_of_done : (e : End) → (e ≡ end.EndOfInput → after_done ≡ []) → written ≡ answers by s done
-        → IsFront e s all written
-    front_of_done e whole is = record {
-      missing = after_done;
-      is = both ∙ ap (λ l. l ++ after_done) (sym is);
-      whole = whole;
-    }
-
-  module _ (s : S) (taken unread written : List ℕ) (stop : StopsAt taken unread) where
+  module _ (s t : S) (taken unread : List ℕ) (stop : StopsAt taken unread) where
     -- the lines before the one at which it stopped, and that one with those behind it
     lines_of : lines (taken ++ unread) ≡ stop.done ++ (stop.line ∷ lines unread)
     lines_of =
         stop.whole ∙ ap (λ ls. ls ++ lines unread) stop.are
         ∙ append_assoc stop.done (stop.line ∷ []) (lines unread)
 
-    front_before : (e : End) → (e ≡ end.EndOfInput → ⊥) → written ≡ answers by s stop.done
-        → IsFront e s (taken ++ unread) written
-    front_before e other is =
-        front_of_done s (taken ++ unread) written stop.done (stop.line ∷ lines unread) lines_of e
-        (λ same. absurd (other same)) is
+    front_before : (e : End) (written : List ℕ) → (e ≡ end.EndOfInput → ⊥)
+        → AreAnswered by s stop.done written t → IsFront e s (taken ++ unread) written
+    front_before e written other =
+        front_of_done e s t (taken ++ unread) written stop.done (stop.line ∷ lines unread) lines_of
+        (λ same. absurd (other same))
 
-    front_within : (front rest : List ℕ)
-        → by.answer (after_lines by s stop.done) stop.line ≡ front ++ rest
-        → written ≡ answers by s stop.done ++ front
-        → IsFront end.WriteFault s (taken ++ unread) written
-    front_within front rest parts is =
-        let first = answers by s stop.done in
-        let stopped = by.after_line (after_lines by s stop.done) stop.line in
-        let later = answers by stopped (lines unread) in
+    front_within : (u : S) (before front rest : List ℕ) → AreAnswered by s stop.done before u
+        → by.answers u stop.line (front ++ rest) t
+        → IsFront end.WriteFault s (taken ++ unread) (before ++ front)
+    front_within u before front rest answered stopped =
+        let later = answers_to t (lines unread) in
+        let behind = (front ++ rest) ++ later.0 in
+        let all = answered_both by s u later.1 stop.done (stop.line ∷ lines unread) before behind
+        answered (front ++ rest, later.0, t, stopped, refl, later.2) in
+        let is : before ++ behind ≡ (before ++ front) ++ (rest ++ later.0) =
+        ap (λ l. before ++ l) (append_assoc front rest later.0)
+        ∙ sym (append_assoc before front (rest ++ later.0)) in
         record {
-          missing = rest ++ later;
-          is = both s (taken ++ unread) written stop.done (stop.line ∷ lines unread) lines_of
-              ∙ ap (λ l. first ++ (l ++ later)) parts
-              ∙ ap (λ l. first ++ l) (append_assoc front rest later)
-              ∙ sym (append_assoc first front (rest ++ later))
-              ∙ ap (λ l. l ++ (rest ++ later)) (sym is);
+          missing = rest ++ later.0;
+          last = later.1;
+          is = subst (λ ls. AreAnswered by s ls ((before ++ front) ++ (rest ++ later.0)) later.1)
+              (sym lines_of)
+              (subst (λ l. AreAnswered by s (stop.done ++ (stop.line ∷ lines unread)) l later.1) is
+              all);
           whole = λ same. let never : ⊥ = cc in absurd never;
         }
 
@@ -73,37 +88,47 @@ module _ {S : Type 0} (by : Answering S) where
       let are : lines (taken ++ unread) ≡ lines taken ++ [] =
       ap (λ l. lines (taken ++ l)) serves.0 ∙ ap lines (append-nil taken)
       ∙ sym (append-nil (lines taken)) in
-      front_of_done s (taken ++ unread) written (lines taken) [] are end.EndOfInput (λ same. refl)
-      serves.1.0
+      front_of_done end.EndOfInput s t (taken ++ unread) written (lines taken) [] are (λ same. refl)
+      serves.1
   is_front end.ReadFault s t taken unread written serves =
       let first = ended_lines_are_first taken unread in
-      front_of_done s (taken ++ unread) written _ first.0 first.1 end.ReadFault
-      (λ same. let never : ⊥ = cc in absurd never) serves.0
+      front_of_done end.ReadFault s t (taken ++ unread) written _ first.0 first.1
+      (λ same. let never : ⊥ = cc in absurd never) serves
   is_front end.TurnBound s t taken unread written serves =
       let first = ended_lines_are_first taken unread in
-      front_of_done s (taken ++ unread) written _ first.0 first.1 end.TurnBound
-      (λ same. let never : ⊥ = cc in absurd never) serves.0
+      front_of_done end.TurnBound s t (taken ++ unread) written _ first.0 first.1
+      (λ same. let never : ⊥ = cc in absurd never) serves
   is_front end.WriteFault s t taken unread written serves =
-      front_within s taken unread written serves.0 serves.1 serves.2 serves.3 serves.4
+      subst (IsFront end.WriteFault s (taken ++ unread)) (sym serves.7)
+      (front_within s t taken unread serves.0 serves.4 serves.1 serves.2 serves.3 serves.5 serves.6)
   is_front (end.NoMemory true) s t taken unread written serves =
-      front_before s taken unread written serves.0 (end.NoMemory true) (λ same. cc) serves.1
+      front_before s serves.2 taken unread serves.0 (end.NoMemory true) written (λ same. cc)
+      serves.3
   is_front (end.NoMemory false) s t taken unread written (inl none) =
-      front_of_done s (taken ++ unread) written [] (lines (taken ++ unread)) refl (end.NoMemory false)
-      (λ same. let never : ⊥ = cc in absurd never) none.1.0
+      front_of_done (end.NoMemory false) s t (taken ++ unread) written []
+      (lines (taken ++ unread)) refl (λ same. let never : ⊥ = cc in absurd never) none.1
   is_front (end.NoMemory false) s t taken unread written (inr stopped) =
-      front_before s taken unread written stopped.0 (end.NoMemory false) (λ same. cc) stopped.1.0
+      front_before s t taken unread stopped.0 (end.NoMemory false) written (λ same. cc) stopped.1
 
-writes_from_blank : (limit : Side) (e : End) (read remaining old new : Option (List ℕ)) (n : Machine) →
-    AnswersReader by_machine e read remaining old new (blank limit) n →
+-- so it is where the machine answers
+machine_answers : AnswersAll by_machine
+machine_answers m line =
+    (text_to m (command line) ++ 10 ∷ [], after_line m (command line), (refl, refl))
+
+writes_from_blank : (limit : Side) (e : End) (read remaining old new : Option (List ℕ))
+    (n : Machine) → AnswersReader by_machine e read remaining old new (blank limit) n →
     WritesRepliesAlone limit e read old new
 writes_from_blank limit e None remaining old new n served = tt
 writes_from_blank limit e (Some all) remaining None new n served = tt
 writes_from_blank limit e (Some all) remaining (Some out) new n served =
+    let m = blank limit in
     let written = served.2 in
-    let front = is_front by_machine e (blank limit) n served.0 served.1 written served.6 in
-    let are = sym (answers_are_replies (blank limit) (lines all)).0
-    ∙ ap (λ l. answers by_machine (blank limit) (lines l)) served.3 ∙ front.is in
-    (written, front.missing, are, served.5, front.whole)
+    let front = is_front by_machine machine_answers e m n served.0 served.1 written served.6 in
+    let answered =
+    subst (λ l. AreAnswered by_machine m (lines l) (written ++ front.missing) front.last)
+    (sym served.3) front.is in
+    let are = (only_replies m front.last (lines all) (written ++ front.missing) answered).0 in
+    (written, front.missing, sym are, served.5, front.whole)
 
 pub writes_alone : (limit : Side) (e : End) (read remaining old new : Option (List ℕ))
     (m n : Machine) → m ≡ blank limit → AnswersReader by_machine e read remaining old new m n →

@@ -28,7 +28,8 @@ module _ {S : Type 0} (by : Answering S) where
   -- a session so far, where the reader and the writer tell their bytes
   abbrev pub Runs : Option (List ℕ) → Option (List ℕ) → Option (List ℕ) → Option (List ℕ)
       → S → S → Type 0
-  Runs read remaining old new s t = IfKnown read old (λ all out. HasRun by s all out remaining new t)
+  Runs read remaining old new s t =
+      IfKnown read old (λ all out. HasRun by s all out remaining new t)
 
   pub runs_at_first : (read old : Option (List ℕ)) (s : S) → Runs read read old old s s
   runs_at_first None old s = tt
@@ -39,8 +40,9 @@ module _ {S : Type 0} (by : Answering S) where
     free = All-nil HasNoLf;
     taken = refl;
     leaves = refl;
+    written = [];
     writes = ap Some (sym (append-nil out));
-    stands = refl;
+    answered = (refl, refl);
   }
 
   -- without a buffer no line is taken

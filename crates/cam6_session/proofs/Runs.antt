@@ -5,10 +5,10 @@ use Rattle.std.proofs.lemmas.List.Elements.{All-push}
 use Rattle.std.specs.Prelude.{All}
 use Rattle.std.specs.Io.KnownBytes.{Appends, Keeps}
 use Rattle.cam6_session.specs.Lines.{lines, ended_lines, joined}
-use Rattle.cam6_session.specs.Answering.{Answering, answers, after_lines}
+use Rattle.cam6_session.specs.Answering.{Answering, AreAnswered}
 use Rattle.cam6_wire.specs.OneLine.{HasNoLf}
 use Rattle.cam6_session.proofs.Splitting as split
-use Rattle.cam6_session.proofs.Answering.{answers_to_more, after_more}
+use Rattle.cam6_session.proofs.Answering.{answered_more}
 use Rattle.cam6_session.specs.Held.{Held, Holds}
 use Rattle.cam6_session.specs.Reading.{Reads}
 use Rattle.cam6_session.specs.Responding.{Responds, end_at}
@@ -42,8 +42,9 @@ module _ {S : Type 0} (by : Answering S) where
     pub free : All HasNoLf done
     pub taken : all ≡ joined done ++ unread
     pub leaves : remaining ≡ Some unread
-    pub writes : new ≡ Some (out ++ answers by s done)
-    pub stands : t ≡ after_lines by s done
+    pub written : List ℕ
+    pub writes : new ≡ Some (out ++ written)
+    pub answered : AreAnswered by s done written t
 
   -- one more whole line has been taken, which isn't answered
   pub record HasTaken (s : S) (all out : List ℕ) (remaining new : Option (List ℕ)) (t : S)
@@ -53,8 +54,9 @@ module _ {S : Type 0} (by : Answering S) where
     pub is : all ≡ taken ++ unread
     pub leaves : remaining ≡ Some unread
     pub stop : StopsAt taken unread
-    pub writes : new ≡ Some (out ++ answers by s stop.done)
-    pub stands : t ≡ after_lines by s stop.done
+    pub written : List ℕ
+    pub writes : new ≡ Some (out ++ written)
+    pub answered : AreAnswered by s stop.done written t
     pub holds : Holds held stop.line
 
   -- the line is responded to so
@@ -78,11 +80,11 @@ module _ {S : Type 0} (by : Answering S) where
         ∙ ap lines (append-nil (joined run.done)) in (
           joined run.done,
           [],
-          answers by s run.done,
+          run.written,
           run.taken ∙ ap (λ l. joined run.done ++ l) at.2.0,
           at.1 ∙ ap Some at.2.1,
           run.writes,
-          (refl, (ap (answers by s) are, run.stands ∙ ap (after_lines by s) are)),
+          (refl, subst (λ ls. AreAnswered by s ls run.written t) are run.answered),
         )
 
     pub gives_up : (unread part : List ℕ) → after ≡ Some unread → HasNoLf part
@@ -94,12 +96,12 @@ module _ {S : Type 0} (by : Answering S) where
         ∙ sym (split.ended_lines_joined run.done part run.free) in (
           joined run.done ++ part,
           unread,
-          answers by s run.done,
+          run.written,
           run.taken ∙ ap (λ l. joined run.done ++ l) is
               ∙ sym (append_assoc (joined run.done) part unread),
           leaves,
           run.writes,
-          (ap (answers by s) are, run.stands ∙ ap (after_lines by s) are),
+          subst (λ ls. AreAnswered by s ls run.written t) are run.answered,
         )
 
     pub fails_reading : Reads read.ReadFault remaining after held
@@ -143,8 +145,9 @@ module _ {S : Type 0} (by : Answering S) where
             are = are;
             whole = behind at.0 ∙ ap (λ ls. ls ++ lines at.0) (sym are);
           };
+          written = run.written;
           writes = run.writes;
-          stands = run.stands;
+          answered = run.answered;
           holds = at.2.3;
         }
 
@@ -168,8 +171,9 @@ module _ {S : Type 0} (by : Answering S) where
               are = are;
               whole = ap lines (append-nil taken) ∙ sym (append-nil (lines taken));
             };
+            written = run.written;
             writes = run.writes;
-            stands = run.stands;
+            answered = run.answered;
             holds = at.2.5;
           },
           refl,
@@ -182,7 +186,6 @@ module _ {S : Type 0} (by : Answering S) where
         let at = subst (λ u. Reads read.Ended u after held) run.leaves reads in
         let line = at.2.0 in
         let done = responds line at.2.3 in
-        let written = subst (λ x. Appends new then (by.answer x line)) run.stands done.0 in
         record {
           done = run.done ++ line ∷ [];
           unread = at.0;
@@ -190,50 +193,46 @@ module _ {S : Type 0} (by : Answering S) where
           taken = run.taken ∙ ap (λ l. joined run.done ++ l) at.2.2
               ∙ sym (split.joined_more run.done line at.0);
           leaves = at.1;
-          writes = appended new then _ _ run.writes written
-              ∙ ap Some (append_assoc out (answers by s run.done) _
-              ∙ ap (λ l. out ++ l) (sym (answers_to_more by s run.done line)));
-          stands = done.1 ∙ ap (λ x. by.after_line x line) run.stands
-              ∙ sym (after_more by s run.done line);
+          written = run.written ++ done.0;
+          writes = appended new then _ _ run.writes done.2
+              ∙ ap Some (append_assoc out run.written done.0);
+          answered = answered_more by s t u run.done line run.written done.0 run.answered done.1;
         }
 
   module _ (s : S) (all out : List ℕ) (after new then : Option (List ℕ)) (t u : S)
       (held : Held) (took : HasTaken s all out after new t held) where
-    stands_after : u ≡ by.after_line t took.stop.line
-        → u ≡ after_lines by s (took.stop.done ++ took.stop.line ∷ [])
-    stands_after is =
-        is ∙ ap (λ x. by.after_line x took.stop.line) took.stands
-        ∙ sym (after_more by s took.stop.done took.stop.line)
-
     served : (e : End) (written : List ℕ) → then ≡ Some (out ++ written)
         → AnswersUntil by e s took.taken took.unread written u
         → AnswersReader by e (Some all) after (Some out) then s u
-    served e written is serves = (took.taken, took.unread, written, took.is, took.leaves, is, serves)
+    served e written is serves =
+        (took.taken, took.unread, written, took.is, took.leaves, is, serves)
 
     fails_writing : RespondsTo (Err stop.WriteFault) held new then t u
         → AnswersReader by end.WriteFault (Some all) after (Some out) then s u
     fails_writing responds =
         let at = responds took.stop.line took.holds in
-        let front = at.0.0 in
-        let is = ap (λ x. by.answer x took.stop.line) (sym took.stands) ∙ at.0.2 in
-        let writes = appended new then _ front took.writes at.0.3
-        ∙ ap Some (append_assoc out (answers by s took.stop.done) front) in
-        served end.WriteFault (answers by s took.stop.done ++ front) writes
-        (took.stop, front, at.0.1, is, refl, stands_after at.1)
+        let front = at.2.0 in
+        let writes = appended new then _ front took.writes at.2.3
+        ∙ ap Some (append_assoc out took.written front) in
+        let answered = subst (λ l. by.answers t took.stop.line l u) at.2.2 at.1 in
+        served end.WriteFault (took.written ++ front) writes
+        (took.stop, took.written, front, at.2.1, t, took.answered, answered, refl)
 
     finds_none_done : RespondsTo (Err (stop.NoMemory true)) held new then t u
         → AnswersReader by (end.NoMemory true) (Some all) after (Some out) then s u
     finds_none_done responds =
         let at = responds took.stop.line took.holds in
-        served (end.NoMemory true) (answers by s took.stop.done) (kept new then _ took.writes at.0)
-        (took.stop, refl, stands_after at.1, at.2)
+        served (end.NoMemory true) took.written (kept new then _ took.writes at.3)
+        (took.stop, at.0, t, took.answered, at.1, at.2)
 
     finds_none_undone : RespondsTo (Err (stop.NoMemory false)) held new then t u
         → AnswersReader by (end.NoMemory false) (Some all) after (Some out) then s u
     finds_none_undone responds =
         let at = responds took.stop.line took.holds in
-        served (end.NoMemory false) (answers by s took.stop.done) (kept new then _ took.writes at.0)
-        (inr (took.stop, (refl, at.1 ∙ took.stands), at.2))
+        let answered =
+        subst (AreAnswered by s took.stop.done took.written) (sym at.1) took.answered in
+        served (end.NoMemory false) took.written (kept new then _ took.writes at.0)
+        (inr (took.stop, answered, at.2))
 
     -- a line was taken, and the session stops at it
     pub stops : (at : Stop) → RespondsTo (Err at) held new then t u
@@ -247,10 +246,10 @@ module _ {S : Type 0} (by : Answering S) where
         → AnswersReader by end.EndOfInput (Some all) after (Some out) then s u
     answers_last none responds =
         let at = responds took.stop.line took.holds in
-        let written = subst (λ x. Appends new then (by.answer x took.stop.line)) took.stands at.0 in
-        let writes = appended new then _ _ took.writes written
-        ∙ ap Some (append_assoc out (answers by s took.stop.done) _
-        ∙ ap (λ l. out ++ l) (sym (answers_to_more by s took.stop.done took.stop.line)
-        ∙ ap (answers by s) (sym took.stop.are))) in
-        served end.EndOfInput (answers by s (lines took.taken)) writes
-        (none, (refl, stands_after at.1 ∙ ap (after_lines by s) (sym took.stop.are)))
+        let written = took.written ++ at.0 in
+        let writes = appended new then _ _ took.writes at.2
+        ∙ ap Some (append_assoc out took.written at.0) in
+        let answered = answered_more by s t u took.stop.done took.stop.line took.written at.0
+        took.answered at.1 in
+        served end.EndOfInput written writes
+        (none, subst (λ ls. AreAnswered by s ls written u) (sym took.stop.are) answered)

@@ -1,6 +1,6 @@
 -- For which lines memory is taken.
 use Rattle.std.proofs.Common.{◌≡◌, ◌≢◌, ◌<◌, ℕ, List, [], ◌∷◌, length, Ok, arith}
-use Rattle.cam6_machine.specs.declared.commands.Command.{Command}
+use Rattle.cam6_commands.specs.declared.commands.Command.{Command}
 use Rattle.cam6_wire.specs.Commands.{command}
 use Rattle.cam6_wire.proofs.Showing.{said_is_shown, said_not_empty}
 use Rattle.cam6_session.specs.Responding.{TakesMemory}

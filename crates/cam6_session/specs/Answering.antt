@@ -1,19 +1,16 @@
 -- Ways of answering lines, of which the machine's is one.
-use Rattle.std.specs.Prelude.{ℕ, List, [], ◌∷◌, ◌++◌, Bool}
+use Rattle.std.specs.Prelude.{◌≡◌, ℕ, List, [], ◌∷◌, ◌++◌, Bool}
 
--- how lines are answered: the text that answers a line, with its LF, what is asked after the line,
--- and whether the line says something to be done
-pub record Answering (S : Type 0) : Type 0 where
-  pub answer : S → List ℕ → List ℕ
-  pub after_line : S → List ℕ → S
+-- how lines are answered: from where what is asked stands, a line may be answered by these bytes,
+-- its LF among them, and then what is asked stands there; and whether a line says something to be
+-- done
+pub record Answering (S : Type 0) : Type 1 where
+  pub answers : S → List ℕ → List ℕ → S → Type 0
   pub says : List ℕ → Bool
 
--- the answers to lines, one after another
-abbrev pub answers : {S : Type 0} → Answering S → S → List (List ℕ) → List ℕ
-answers by s [] = []
-answers by s (line ∷ later) = by.answer s line ++ answers by (by.after_line s line) later
-
--- what is asked after them
-abbrev pub after_lines : {S : Type 0} → Answering S → S → List (List ℕ) → S
-after_lines by s [] = s
-after_lines by s (line ∷ later) = after_lines by (by.after_line s line) later
+-- lines may be answered by these bytes, one after another, from s on, and then it is t
+abbrev pub AreAnswered : {S : Type 0} → Answering S → S → List (List ℕ) → List ℕ → S → Type 0
+AreAnswered by s [] written t = (written ≡ []) × (t ≡ s)
+AreAnswered {S} by s (line ∷ later) written t =
+    (text rest : List ℕ) × (u : S) × by.answers s line text u × (written ≡ text ++ rest) ×
+    AreAnswered by u later rest t

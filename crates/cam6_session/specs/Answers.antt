@@ -1,9 +1,9 @@
 -- What a machine answers to lines.
-use Rattle.std.specs.Prelude.{ℕ, List, [], ◌∷◌, ◌++◌, Result, Ok, Err, is_ok}
+use Rattle.std.specs.Prelude.{◌≡◌, ℕ, List, [], ◌∷◌, ◌++◌, Result, Ok, Err, is_ok}
 use Rattle.cam6_machine.specs.Machine.{Machine}
 use Rattle.cam6_machine.specs.Alone.{reply, after}
-use Rattle.cam6_machine.specs.declared.commands.Command.{Command}
-use Rattle.cam6_machine.specs.declared.replies.Reply.{Reply}
+use Rattle.cam6_commands.specs.declared.commands.Command.{Command}
+use Rattle.cam6_commands.specs.declared.replies.Reply.{Reply}
 use Rattle.cam6_wire.specs.declared.faults.LineFault.{LineFault}
 use Rattle.cam6_wire.specs.Commands.{command}
 use Rattle.cam6_wire.specs.Replies.{reply_bytes, fault_bytes}
@@ -22,8 +22,8 @@ after_line m (Err fault) = m
 -- the machine answers what a line says, and does the command that it says
 abbrev pub by_machine : Answering Machine
 by_machine = record {
-  answer = λ m line. text_to m (command line) ++ 10 ∷ [];
-  after_line = λ m line. after_line m (command line);
+  answers = λ m line text n.
+      (text ≡ text_to m (command line) ++ 10 ∷ []) × (n ≡ after_line m (command line));
   says = λ line. is_ok (command line);
 }
 

@@ -3,7 +3,7 @@ use Rattle.std.specs.Prelude.{◌≡◌, ℕ, List, [], ◌++◌, Option, Some, 
 use Rattle.cam6_planes.specs.declared.sides.Side.{Side}
 use Rattle.cam6_machine.specs.Machine.{blank}
 use Rattle.cam6_machine.specs.Alone.{replies}
-use Rattle.cam6_machine.specs.declared.commands.Command.{Command}
+use Rattle.cam6_commands.specs.declared.commands.Command.{Command}
 use Rattle.cam6_wire.specs.declared.faults.LineFault.{LineFault}
 use Rattle.cam6_wire.specs.Commands.{command}
 use Rattle.cam6_session.specs.Lines.{lines}

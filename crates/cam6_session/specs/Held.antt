@@ -1,7 +1,7 @@
 -- What is kept of a line.
 use Rattle.std.specs.Prelude.{◌≡◌, ◌<◌, ◌≤◌, ℕ, List, ◌++◌, length, MatchBool, Bool, not, ◌&&◌}
 use Rattle.std.specs.Prelude.{◌==◌}
-use Rattle.cam6_wire.specs.Limits.{max_line}
+use Rattle.cam6_wire.specs.Limits.{limit_of}
 
 -- the bytes of a line, unless there are too many
 pub record Held : Type 0 where
@@ -11,8 +11,8 @@ pub record Held : Type 0 where
 -- what is kept stands for this line
 abbrev pub Holds : Held → List ℕ → Type 0
 Holds held line =
-    MatchBool held.is_long (max_line < length line)
-    ((held.bytes ≡ line) × (length line ≤ max_line))
+    MatchBool held.is_long (limit_of line < length line)
+    ((held.bytes ≡ line) × (length line ≤ limit_of line))
 
 -- where the old stands for some line, the new stands for that line with a part behind it
 abbrev pub Grows : Held → Held → List ℕ → Type 0

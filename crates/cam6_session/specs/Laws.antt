@@ -1,11 +1,11 @@
 -- The laws of the lines of a text, and that lines are answered as the machine alone replies.
-use Rattle.std.specs.Prelude.{◌≡◌, ◌≢◌, List, ℕ, [], ◌∷◌, ◌++◌, map, All}
+use Rattle.std.specs.Prelude.{◌≡◌, ◌≢◌, ◌↔◌, List, ℕ, [], ◌∷◌, ◌++◌, map, All}
 use Rattle.cam6_machine.specs.Machine.{Machine}
 use Rattle.cam6_machine.specs.Alone.{replies, after_all}
 use Rattle.cam6_wire.specs.Commands.{command}
 use Rattle.cam6_wire.specs.OneLine.{HasNoLf}
 use Rattle.cam6_session.specs.Lines.{lines, ended_lines, joined}
-use Rattle.cam6_session.specs.Answering.{Answering, answers, after_lines}
+use Rattle.cam6_session.specs.Answering.{Answering, AreAnswered}
 use Rattle.cam6_session.specs.Answers.{by_machine, commands, texts_of}
 
 -- a text has the lines that it was joined of, and what is behind them is one more if it isn't empty
@@ -21,14 +21,15 @@ LinesAreFound =
 -- faults of the others, in the order of the lines
 abbrev pub AnswersAreReplies : Type 0
 AnswersAreReplies =
-    (m : Machine) (taken : List (List ℕ)) →
-    (answers by_machine m taken
-    ≡ texts_of (map command taken) (replies m (commands (map command taken)))) ×
-    (after_lines by_machine m taken ≡ after_all m (commands (map command taken)))
+    (m n : Machine) (taken : List (List ℕ)) (written : List ℕ) →
+    AreAnswered by_machine m taken written n
+    ↔ ((written ≡ texts_of (map command taken) (replies m (commands (map command taken))))
+    × (n ≡ after_all m (commands (map command taken))))
 
 -- lines are answered as others before them left what is asked, so a session can be taken up again
 abbrev pub AnswersGoOn : {S : Type 0} → Answering S → Type 0
 AnswersGoOn {S} by =
-    (s : S) (done later : List (List ℕ)) →
-    (answers by s (done ++ later) ≡ answers by s done ++ answers by (after_lines by s done) later) ×
-    (after_lines by s (done ++ later) ≡ after_lines by (after_lines by s done) later)
+    (s t : S) (done later : List (List ℕ)) (written : List ℕ) →
+    AreAnswered by s (done ++ later) written t
+    ↔ ((before after : List ℕ) × (u : S) × AreAnswered by s done before u
+    × AreAnswered by u later after t × (written ≡ before ++ after))

@@ -2,15 +2,11 @@
 -- then; it stood at s.
 use Rattle.std.specs.Prelude.{◌≡◌, ℕ, List, [], ◌∷◌, ◌++◌, Option, Some, IfSome, ◌⊎◌, true, false}
 use Rattle.cam6_session.specs.Lines.{lines, ended_lines}
-use Rattle.cam6_session.specs.Answering.{Answering, answers, after_lines}
+use Rattle.cam6_session.specs.Answering.{Answering, AreAnswered}
 use Rattle.cam6_session.specs.Responding.{TakesMemory}
 use Rattle.cam6_session.specs.declared.sessions.End.{End}
 use Rattle.cam6_session.specs.declared.sessions.End.TheVariants.{EndOfInput, ReadFault, TurnBound}
 use Rattle.cam6_session.specs.declared.sessions.End.TheVariants.{WriteFault, NoMemory}
-
--- what was written is the answers to these lines from s on, and t is what is asked after them
-abbrev pub AreAnswered : {S : Type 0} → Answering S → S → List (List ℕ) → List ℕ → S → Type 0
-AreAnswered by s done written t = (written ≡ answers by s done) × (t ≡ after_lines by s done)
 
 -- whole lines were taken, the last of them the one at which serving stops; the others are unread
 pub record StopsAt (taken unread : List ℕ) : Type 0 where
@@ -21,17 +17,17 @@ pub record StopsAt (taken unread : List ℕ) : Type 0 where
 
 -- the lines before it were answered, and a front of its answer was written; what it says is done
 abbrev pub StopsWriting : {S : Type 0} → Answering S → S → List ℕ → List ℕ → List ℕ → S → Type 0
-StopsWriting by s taken unread written t =
-    (stop : StopsAt taken unread) × (front rest : List ℕ) ×
-    (by.answer (after_lines by s stop.done) stop.line ≡ front ++ rest) ×
-    (written ≡ answers by s stop.done ++ front) ×
-    (t ≡ after_lines by s (stop.done ++ stop.line ∷ []))
+StopsWriting {S} by s taken unread written t =
+    (stop : StopsAt taken unread) × (before front rest : List ℕ) × (u : S) ×
+    AreAnswered by s stop.done before u × by.answers u stop.line (front ++ rest) t ×
+    (written ≡ before ++ front)
 
 -- the lines before it were answered, and it says something to be done, which is done
 abbrev pub StopsDone : {S : Type 0} → Answering S → S → List ℕ → List ℕ → List ℕ → S → Type 0
-StopsDone by s taken unread written t =
-    (stop : StopsAt taken unread) × (written ≡ answers by s stop.done) ×
-    (t ≡ after_lines by s (stop.done ++ stop.line ∷ [])) × (by.says stop.line ≡ true)
+StopsDone {S} by s taken unread written t =
+    (stop : StopsAt taken unread) × (text : List ℕ) × (u : S) ×
+    AreAnswered by s stop.done written u × by.answers u stop.line text t ×
+    (by.says stop.line ≡ true)
 
 -- the lines before it were answered, and memory is taken for it, but what it says isn't done; or no
 -- line was taken

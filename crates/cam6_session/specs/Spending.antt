@@ -22,4 +22,5 @@ TakesAByteEach line.TurnBound before after read remaining = TookAsMany before af
 -- turns
 abbrev pub SpendsItsTurns : End → ℕ → Option (List ℕ) → Option (List ℕ) → Type 0
 SpendsItsTurns end turns read remaining =
-    end ≡ TurnBound → IfSome read (λ all. IfSome remaining (λ unread. turns + length unread ≤ length all))
+    end ≡ TurnBound →
+    IfSome read (λ all. IfSome remaining (λ unread. turns + length unread ≤ length all))

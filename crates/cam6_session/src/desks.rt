@@ -1,6 +1,7 @@
 //! Who answers commands.
 
-use cam6_machine::{Command, Machine, Reply};
+use cam6_commands::{Command, Reply};
+use cam6_machine::Machine;
 use cam6_planes::NoMemory;
 
 /// Something that stands at a machine, and answers commands as that machine does.
@@ -25,15 +26,10 @@ pub trait Ask {
 }
 
 impl Ask for Machine {
-    ghost use Rattle.std.specs.Prelude.{◌≡◌, ℕ, false, List, [], Some, IfOk, IsOk, OnOk, OnErr, ⊤};
-    ghost use Rattle.cam6_forth.specs.Reading.{keeps};
-    ghost use Rattle.cam6_forth.specs.declared.faults.TextFault.{TextFault};
-    ghost use Rattle.cam6_wiring.specs.declared.wirings.Wiring.{Wiring};
-    ghost use Rattle.cam6_machine.specs.declared.faults.Fault.{Fault};
+    ghost use Rattle.std.specs.Prelude.{◌≡◌, false, IfOk, IsOk, OnOk, OnErr, ⊤};
     ghost use Rattle.cam6_machine.specs.Machine.{machine_of};
     ghost use Rattle.cam6_machine.specs.Alone.{reply, after};
     ghost use Rattle.cam6_machine.specs.AtOnce.{may_want_memory};
-    ghost use Rattle.cam6_machine.specs.Refusals.{refusal};
 
     ghost stands_at = { λ m. machine_of m };
 
@@ -48,15 +44,7 @@ impl Ask for Machine {
         ensures err { OnErr result (machine_of self.new ≡ machine_of self.old) }
         ensures ready { ⊤ }
         // Memory is wanted as by `Machine::reply_to`.
-        ensures memory { may_want_memory command ≡ false → IsOk result }
-        ensures refused { (fault : Fault) →
-            refusal (machine_of self.old) command ≡ Some (Reply.Fault fault) → IsOk result }
-        ensures unkept { (name text : List ℕ) (wiring : Wiring) (fault : TextFault) →
-            command ≡ Command.Rule name wiring text →
-            refusal (machine_of self.old) command ≡ Some (Reply.RuleText fault) →
-            keeps wiring text ≡ false → IsOk result }
-        ensures listed { command ≡ Command.Rules →
-            (machine_of self.old).rules ≡ [] → IsOk result }
+        ensures memory { may_want_memory (machine_of self.old) command ≡ false → IsOk result }
     {
         self.reply_to(command)
     }

@@ -1,7 +1,8 @@
 //! Laws of the lines of a text, and that lines are answered as the machine alone replies. Each is
 //! the contract of a function that does nothing.
-ghost use Rattle.cam6_session.specs.Answers.{by_machine};
 ghost use Rattle.cam6_session.specs.Laws.{LinesAreFound, AnswersAreReplies, AnswersGoOn};
+
+use crate::answerers::Answerer;
 
 /// A text has the lines that it was joined of, and what is behind them is one more if it isn't
 /// empty.
@@ -9,13 +10,14 @@ pub fn a_text_has_its_lines()
     ensures law { LinesAreFound }
 {}
 
-/// The answers to lines are the replies of the machine alone to the commands among them, and the
-/// faults of the others, in the order of the lines.
+/// What a machine answers to lines is the replies of the machine alone to the commands among them,
+/// and the faults of the others, in the order of the lines, and nothing else.
 pub fn answers_are_the_replies()
     ensures law { AnswersAreReplies }
 {}
 
-/// A machine answers lines as others before them left it, so a session can be taken up again.
-pub fn answers_go_on()
-    ensures law { AnswersGoOn by_machine }
+/// Whatever answers lines, they are answered as others before them left what is asked, so a session
+/// can be taken up again.
+pub fn answers_go_on<A: Answerer>()
+    ensures law { AnswersGoOn A.answering }
 {}

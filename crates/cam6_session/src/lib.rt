@@ -2,29 +2,31 @@
 //!
 //! Contract: `serve_alone` writes the texts of a blank machine's replies to the commands among its
 //! input's lines, and of the faults of the others, in their order (`specs/Headline.antt`). `serve`
-//! does this for anything that stands at a machine and answers as it does: for each of its five
-//! ends it is exact which lines were taken, what was written, and at which machine the one that was
-//! asked then stands (`specs/Sessions.antt`), so that a session can be taken up again where it
-//! ended. For want of memory it ends only at a line for which memory is taken, and for want of
-//! turns only where as many bytes were taken of the reader as there were turns, so not at once
-//! (`specs/Spending.antt`). `next_line` takes exactly one line, or says why it stopped, and counts
-//! its turns. The premise is that the reader and the writer tell their bytes, as those over memory
-//! do.
+//! does this for anything that stands at a machine and answers as it does. Both go by
+//! `answer_lines`, which serves whatever answers lines in a way of its own (`Answerer`,
+//! `specs/Answering.antt`): for each of its five ends it is exact which lines were taken, what was
+//! written, and where the one that was asked then stands (`specs/Sessions.antt`), so that a session
+//! can be taken up again where it ended. For want of memory it ends only at a line for which memory
+//! is taken, and for want of turns only where as many bytes were taken of the reader as there were
+//! turns, so not at once (`specs/Spending.antt`). `next_line` takes exactly one line, or says why
+//! it stopped, and counts its turns. The premise is that the reader and the writer tell their
+//! bytes, as those over memory do.
 //!
 //! So of the two lines `{"do":"run","n":1}` and `{"do":"fly"}` the machine alone makes the two
 //! lines `{"fault":63}` and `{"fault":3}`: no cycle is set, and the second says no command.
 //!
-//! The laws: a text has the lines that it was joined of; the answers to lines are the machine's
-//! replies to the commands among them, and the faults of the others, in the order of the lines, and
-//! go on from where lines before left the machine.
+//! The laws: a text has the lines that it was joined of; a machine's answers to lines are its
+//! replies to the commands among them, and the faults of the others, in the order of the lines; and
+//! whatever answers lines goes on from where lines before left it.
 //!
 //! Stands on: `cam6_planes`, `cam6_wiring`, `cam6_forth`, `cam6_machine`, `cam6_wire`.
 //!
-//! Read next: `sessions` and `alone`; then their parts, `line_buffer`, `lines`, `desks` and
-//! `writers`; and `laws`.
+//! Read next: `sessions` and `alone`; then their parts, `line_buffer`, `lines`, `answerers`,
+//! `desks` and `writers`; and `laws`.
 #![tactic(auto)]
 
 mod alone;
+mod answerers;
 mod desks;
 pub mod laws;
 mod line_buffer;
@@ -33,8 +35,9 @@ mod sessions;
 mod writers;
 
 pub use alone::serve_alone;
+pub use answerers::Answerer;
 pub use desks::Ask;
 pub use line_buffer::LineBuf;
 pub use lines::{Line, next_line};
-pub use sessions::{End, Stop, serve};
+pub use sessions::{End, Stop, answer_lines, serve};
 pub use writers::{WriteFault, send};

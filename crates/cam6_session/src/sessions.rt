@@ -1,20 +1,14 @@
 //! A stream of command lines, each answered by one line.
-ghost use Rattle.std.specs.Prelude.{◌≡◌, List, ℕ, Ok, Err};
-ghost use Rattle.cam6_machine.specs.Machine.{Machine};
-ghost use Rattle.cam6_wire.specs.declared.faults.LineFault.TheVariants.{NoMemory};
-ghost use Rattle.cam6_wire.specs.Commands.{command as what_is_said, IsFaultOf, IsSaid};
+ghost use Rattle.std.specs.Prelude.{◌≡◌};
 ghost use Rattle.cam6_session.specs.Answers.{by_machine};
-ghost use Rattle.cam6_session.specs.Held.{Holds};
-ghost use Rattle.cam6_session.specs.Responding.{Responds, TakesMemory};
 ghost use Rattle.cam6_session.specs.Sessions.{AnswersReader};
 ghost use Rattle.cam6_session.specs.Spending.{SpendsItsTurns};
 
+use crate::answerers::Answerer;
 use crate::desks::Ask;
 use crate::line_buffer::LineBuf;
 use crate::lines::{Line, next_line};
-use crate::writers::{WriteFault, send};
-use cam6_machine::Command;
-use cam6_wire::{LineFault, fault_text, read_command, reply_text};
+use crate::writers::WriteFault;
 use std::alloc::Global;
 use std::io::{BufRead, Write};
 
@@ -71,8 +65,8 @@ impl From<Stop> for End {
     }
 }
 
-/// Answers each line of the reader by one line, until the input ends or something fails. Each look
-/// at the reader takes a turn.
+/// Answers each line of the reader by one line, as a machine does that gets all commands among
+/// them, until the input ends or something fails. Each look at the reader takes a turn.
 pub fn serve<R: BufRead, W: Write, D: Ask>(
     alloc: Global,
     reader: &mut R,
@@ -89,6 +83,27 @@ pub fn serve<R: BufRead, W: Write, D: Ask>(
     ensures turns { SpendsItsTurns result turns
         (R.remaining reader.old) (R.remaining reader.new) }
 {
+    answer_lines(alloc, reader, writer, desk, turns)
+}
+
+/// Answers each line of the reader by one line, until the input ends or something fails. Each look
+/// at the reader takes a turn.
+pub fn answer_lines<R: BufRead, W: Write, A: Answerer>(
+    alloc: Global,
+    reader: &mut R,
+    writer: &mut W,
+    answerer: &mut A,
+    turns: u64,
+) -> End
+    requires { A.may_answer answerer.old }
+    ensures ready { A.may_answer answerer.new }
+    ensures served { AnswersReader A.answering result
+        (R.remaining reader.old) (R.remaining reader.new)
+        (W.contents writer.old) (W.contents writer.new)
+        (A.asked answerer.old) (A.asked answerer.new) }
+    ensures turns { SpendsItsTurns result turns
+        (R.remaining reader.old) (R.remaining reader.new) }
+{
     let Ok(mut line) = LineBuf::new(alloc) else {
         return End::NoMemory { done: false };
     };
@@ -99,83 +114,16 @@ pub fn serve<R: BufRead, W: Write, D: Ask>(
             Line::ReadFault => return End::ReadFault,
             Line::TurnBound => return End::TurnBound,
             Line::Ended => {
-                if let Err(stop) = respond(alloc, &line, writer, desk) {
+                if let Err(stop) = answerer.respond(alloc, &line, writer) {
                     return End::from(stop);
                 }
             }
             Line::Last => {
-                return match respond(alloc, &line, writer, desk) {
+                return match answerer.respond(alloc, &line, writer) {
                     Ok(()) => End::EndOfInput,
                     Err(stop) => End::from(stop),
                 };
             }
-        }
-    }
-}
-
-/// Answers a whole line, or says why serving stops there.
-fn respond<W: Write, D: Ask>(
-    alloc: Global,
-    line: &LineBuf,
-    writer: &mut W,
-    desk: &mut D,
-) -> Result<(), Stop>
-    requires { D.is_ready desk.old }
-    ensures ready { D.is_ready desk.new }
-    ensures responds { (l : List ℕ) → Holds line.now l → Responds by_machine result l
-        (W.contents writer.old) (W.contents writer.new)
-        (D.stands_at desk.old) (D.stands_at desk.new) }
-{
-    match said(alloc, line) {
-        Ok(command) => respond_to(alloc, command, writer, desk),
-        Err(fault) => respond_fault(fault, writer),
-    }
-}
-
-/// What a line says.
-fn said(alloc: Global, line: &LineBuf) -> Result<Command, LineFault>
-    ensures said { (l : List ℕ) → Holds line.now l → IsSaid result (what_is_said l) }
-    ensures memory { (l : List ℕ) → Holds line.now l → result ≡ Err NoMemory → TakesMemory l }
-{
-    let Some(bytes) = line.bytes() else {
-        return Err(LineFault::TooLong);
-    };
-    read_command(alloc, bytes)
-}
-
-#[tactic(auto, using(crate::proofs::Taking::command_takes_memory))]
-fn respond_to<W: Write, D: Ask>(
-    alloc: Global,
-    command: Command,
-    writer: &mut W,
-    desk: &mut D,
-) -> Result<(), Stop>
-    requires { D.is_ready desk.old }
-    ensures ready { D.is_ready desk.new }
-    ensures responds { (l : List ℕ) → what_is_said l ≡ Ok command → Responds by_machine result l
-        (W.contents writer.old) (W.contents writer.new)
-        (D.stands_at desk.old) (D.stands_at desk.new) }
-{
-    let Ok(reply) = desk.ask(command) else {
-        return Err(Stop::NoMemory { done: false });
-    };
-    let Ok(text) = reply_text(alloc, &reply) else {
-        return Err(Stop::NoMemory { done: true });
-    };
-    send(writer, text.as_bytes())?;
-    Ok(())
-}
-
-fn respond_fault<W: Write>(fault: LineFault, writer: &mut W) -> Result<(), Stop>
-    ensures { (l : List ℕ) (m : Machine) → IsFaultOf fault (what_is_said l) →
-        (fault ≡ NoMemory → TakesMemory l) →
-        Responds by_machine result l (W.contents writer.old) (W.contents writer.new) m m }
-{
-    match fault {
-        LineFault::NoMemory => Err(Stop::NoMemory { done: false }),
-        _ => {
-            send(writer, fault_text(fault).as_bytes())?;
-            Ok(())
         }
     }
 }

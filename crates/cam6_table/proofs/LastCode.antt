@@ -1,5 +1,5 @@
 -- The last code of a rule's definitions is the rule's code.
-use Rattle.std.proofs.Common.{◌≡◌, ℕ, ◌+◌, ◌-◌, ◌<◌, ◌≤◌, List, [], ◌∷◌, length, refl, ap}
+use Rattle.std.proofs.Common.{◌≡◌, ℕ, ◌+◌, ◌-◌, ◌<◌, ◌≤◌, List, [], ◌∷◌, length, ap}
 use Rattle.std.proofs.Common.{◌∙◌, ◌++◌, sym, length-append, arith, Option, Some, None}
 use Rattle.std.proofs.Common.{MatchOption, slice_index_or}
 use Rattle.cam6_wiring.specs.declared.wirings.Wiring.{Wiring}

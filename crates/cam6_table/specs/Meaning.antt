@@ -109,7 +109,8 @@ entry_in sees (Err fault) = Err fault
 
 -- a rule as a function of what its names mean: the two new bits, or the first fault
 unfoldable pub meaning : Wiring → List Part → Sees → Result ℕ RuleFault
-meaning wiring parts sees = entry_in sees (last_meaning (meanings sees wiring [] [] parts) untouched)
+meaning wiring parts sees =
+    entry_in sees (last_meaning (meanings sees wiring [] [] parts) untouched)
 
 -- a rule at an address; a line without a name is ignored
 abbrev pub at_address : Wiring → List Part → ℕ → Result ℕ RuleFault

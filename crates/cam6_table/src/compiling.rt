@@ -1,6 +1,6 @@
 //! A text is compiled: it becomes the code of its rule, or it is told why not.
-ghost use Rattle.std.specs.Prelude.{◌≡◌, ◌≢◌, ℕ, false, Err, IfOk, OnOk};
-ghost use Rattle.cam6_forth.specs.Reading.{read_text, keeps};
+ghost use Rattle.std.specs.Prelude.{◌≡◌, ◌≢◌, false, Err, IfOk, OnOk};
+ghost use Rattle.cam6_forth.specs.Reading.{keeps};
 ghost use Rattle.cam6_table.specs.RuleTexts.{IsCodeFor, IsTableOf};
 ghost use Rattle.cam6_table.specs.Compiling.{fault_in, IsRefusedFor};
 
@@ -46,9 +46,8 @@ pub fn compile(
 
     // A text is refused exactly where there is a fault in it, and for that, unless memory runs out.
     ensures refused { IsRefusedFor (fault_in wiring text.now) result }
-    // No memory is wanted for a text with a fault of which nothing is kept.
-    ensures unkept { (fault : ℕ × ℕ) → read_text wiring text.now ≡ Err fault →
-        keeps wiring text.now ≡ false → result ≢ Err NotCompiled.NoMemory }
+    // No memory is wanted for a text of which nothing is kept.
+    ensures unkept { keeps wiring text.now ≡ false → result ≢ Err NotCompiled.NoMemory }
 {
     let rule = match parse_under(alloc, text, wiring) {
         Ok(rule) => rule,

@@ -5,8 +5,9 @@ ghost use Rattle.std.specs.Prelude.{IfSome};
 ghost use Rattle.cam6_table.specs.RuleTexts.{IsCodeFor};
 
 use cam6_cache::{Key, TableCache};
+use cam6_commands::{Command, Done, Fault, Refusal, Reply};
 use cam6_forth::{ParseFault, Rule, parse};
-use cam6_machine::{Command, Fault, Machine, Now, Reply, replies_alone};
+use cam6_machine::{Machine, Now, replies_alone};
 use cam6_planes::{NoMemory, Planes, Side};
 use cam6_session::{Ask, End, Line, LineBuf, next_line, serve, serve_alone};
 use cam6_table::{Code, Table, compile};
@@ -79,7 +80,7 @@ fn tables_are_kept(rt: HostRuntime) -> Result<(), Fail> {
 fn machines_answer_now(rt: HostRuntime) -> Result<(), Fail> {
     let mut machine = Machine::new(rt.alloc(), Side::S256)?;
     let now = machine.now(Command::Run { n: 0 })?;
-    assert!(rt; matches!(&now, Now::Reply(Reply::Fault(_))));
+    assert!(rt; matches!(&now, Now::Reply(Reply::Refused(_))));
     Ok(())
 }
 
@@ -88,9 +89,9 @@ fn machines_answer(rt: HostRuntime) -> Result<(), Fail> {
     let mut machine = Machine::new(rt.alloc(), Side::S256)?;
     assert_eq!(rt; machine.limit(), Side::S256);
     let reply = machine.reply_to(Command::Run { n: 0 })?;
-    assert!(rt; matches!(&reply, Reply::Fault(_)));
+    assert!(rt; matches!(&reply, Reply::Refused(_)));
     let reply = machine.ask(Command::Run { n: 0 })?;
-    assert!(rt; matches!(&reply, Reply::Fault(_)));
+    assert!(rt; matches!(&reply, Reply::Refused(_)));
     Ok(())
 }
 
@@ -111,13 +112,13 @@ fn command(number: usize) -> Command {
 /// 16,384.
 fn is_its_reply(number: usize, reply: &Reply) -> bool {
     match number {
-        0 => matches!(reply, Reply::Clear),
-        1 => matches!(reply, Reply::Count { count: 65_536 }),
-        2 => matches!(reply, Reply::Fault(Fault::NoCycle)),
-        3 => matches!(reply, Reply::Side),
-        4 => matches!(reply, Reply::Count { count: 16_384 }),
-        5 => matches!(reply, Reply::Map),
-        _ => matches!(reply, Reply::Fault(Fault::OutOfRange)),
+        0 => matches!(reply, Reply::Done(Done::Clear)),
+        1 => matches!(reply, Reply::Done(Done::Count { count: 65_536 })),
+        2 => matches!(reply, Reply::Refused(Refusal::Fault(Fault::NoCycle))),
+        3 => matches!(reply, Reply::Done(Done::Side)),
+        4 => matches!(reply, Reply::Done(Done::Count { count: 16_384 })),
+        5 => matches!(reply, Reply::Done(Done::Map)),
+        _ => matches!(reply, Reply::Refused(Refusal::Fault(Fault::OutOfRange))),
     }
 }
 
@@ -153,7 +154,7 @@ fn values_show_commands(rt: HostRuntime) -> Result<(), Fail> {
 
 #[test]
 fn replies_are_texts(rt: HostRuntime) -> Result<(), Fail> {
-    let text = reply_text(rt.alloc(), &Reply::Set)?;
+    let text = reply_text(rt.alloc(), &Reply::Done(Done::Set))?;
     assert_eq!(rt; text.as_str(), r#"{"ok":"set"}"#);
     Ok(())
 }

@@ -1,7 +1,8 @@
 //! Readers and writers that fail at one of their calls, and one that stands at a machine and finds
 //! no memory at one of its calls.
 
-use cam6_machine::{Command, Machine, Reply};
+use cam6_commands::{Command, Reply};
+use cam6_machine::Machine;
 use cam6_planes::{NoMemory, Side};
 use cam6_session::{Ask, End, serve};
 use std::alloc::Global;

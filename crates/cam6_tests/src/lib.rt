@@ -6,10 +6,10 @@
 //!
 //! Stands on: all libraries of the repository.
 //!
-//! Read next: `ample_memory`, each call that takes memory; `planes` and `rows`; `blocks`, `corners`,
-//! `addresses` and `lines`, what a cell sees; `bands`, a step that is moved or given up; `steps`,
-//! those of a run and of a rule; then `failing`, readers, writers and desks that fail, with the
-//! sessions over them in `sessions`.
+//! Read next: `ample_memory`, each call that takes memory; `planes` and `rows`; `blocks`,
+//! `corners`, `addresses` and `lines`, what a cell sees; `bands`, a step that is moved or given up;
+//! `steps`, those of a run and of a rule; then `failing`, readers, writers and desks that fail,
+//! with the sessions over them in `sessions`.
 #![tactic(auto)]
 
 #[cfg(test)]

@@ -1,9 +1,10 @@
-//! Copies of cycles, steps that a run leaves to be done, turns that a rule takes, and the numbers of
-//! line faults.
+//! Copies of cycles, steps that a run leaves to be done, turns that a rule takes, and the numbers
+//! of line faults.
 
+use cam6_commands::{Command, Done, NamedEntries, NamedEntry, Reply};
 use cam6_cycle::{Cycle, Entry};
 use cam6_forth::parse;
-use cam6_machine::{Command, Machine, NamedEntries, NamedEntry, Now, Reply};
+use cam6_machine::{Machine, Now};
 use cam6_planes::{NoMemory, Side};
 use cam6_table::{Code, MAX_TURNS, eval};
 use cam6_wire::LineFault;
@@ -57,7 +58,7 @@ fn with_cycle(alloc: Global) -> Result<Option<Machine>, NoMemory> {
 /// The position that a run of no steps tells.
 fn position(machine: &mut Machine) -> Result<Option<usize>, NoMemory> {
     match machine.now(Command::Run { n: 0 })? {
-        Now::Reply(Reply::Run { position }) => Ok(Some(position)),
+        Now::Reply(Reply::Done(Done::Run { position })) => Ok(Some(position)),
         _ => Ok(None),
     }
 }

@@ -6,7 +6,7 @@ use Rattle.std.proofs.Common.{Some, None, IfSome, option_and_then, refl, sym, ap
 use Rattle.std.proofs.lemmas.Bool.{eqb-true}
 use Rattle.serde_json.specs.View.{view, items_view}
 use Rattle.serde_json.specs.declared.value.Value.{Value}
-use Rattle.cam6_machine.specs.Limits.{cell_states}
+use Rattle.cam6_commands.specs.Limits.{cell_states}
 use Rattle.cam6_wire.specs.Fields.{number_in, numbers_of, of_states, ◌>>=◌}
 use Rattle.cam6_wire.proofs.Steps.{of_step}
 

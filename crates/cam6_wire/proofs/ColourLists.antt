@@ -5,7 +5,7 @@ use Rattle.std.proofs.lemmas.Bool.{eq-eqb, eqb-true}
 use Rattle.serde_json.specs.Data.{Data, null, boolean, number, string, array, object}
 use Rattle.serde_json.specs.Data.{Items, no_items, item}
 use Rattle.serde_json.specs.Find.{get, as_array}
-use Rattle.cam6_machine.specs.Limits.{cell_states}
+use Rattle.cam6_commands.specs.Limits.{cell_states}
 use Rattle.cam6_wire.specs.Fields.{number_in, numbers_of, of_states, colours_at, ◌>>=◌}
 use Rattle.cam6_wire.specs.Replies.{natural, naturals}
 use Rattle.cam6_wire.proofs.Steps.{of_step, of_test}

@@ -5,7 +5,7 @@ use Rattle.std.specs.Str.{is_utf8}
 use Rattle.serde_json.specs.Data.{Data}
 use Rattle.serde_json.specs.Read.{read}
 use Rattle.cam6_wiring.specs.declared.wirings.Wiring.{Wiring}
-use Rattle.cam6_machine.specs.declared.commands.Command.TheVariants.{Rule}
+use Rattle.cam6_commands.specs.declared.commands.Command.TheVariants.{Rule}
 use Rattle.cam6_wire.specs.Fields.{text_at}
 use Rattle.cam6_wire.specs.Commands.{command}
 use Rattle.cam6_wire.proofs.Showing.{said_is_shown}

@@ -12,12 +12,12 @@ use Rattle.serde_json.specs.Find.{get}
 use Rattle.serde_json.specs.Read.{read}
 use Rattle.cam6_wiring.specs.Wiring.{wired}
 use Rattle.cam6_wiring.specs.declared.wirings.Wiring.{Wiring}
-use Rattle.cam6_machine.specs.declared.commands.Command.{Command}
-use Rattle.cam6_machine.specs.declared.commands.Command.TheVariants.{Set, Rule, Cycle, Run, Back}
-use Rattle.cam6_machine.specs.declared.commands.Command.TheVariants.{Row, Plane, Clear}
-use Rattle.cam6_machine.specs.declared.commands.Command.TheVariants.{Drop as DropRule, Rules, Map}
-use Rattle.cam6_machine.specs.declared.commands.Command.TheVariants.{Side as SetSide, Colours}
-use Rattle.cam6_machine.specs.declared.commands.Command.TheVariants.{Count}
+use Rattle.cam6_commands.specs.declared.commands.Command.{Command}
+use Rattle.cam6_commands.specs.declared.commands.Command.TheVariants.{Set, Rule, Cycle, Run, Back}
+use Rattle.cam6_commands.specs.declared.commands.Command.TheVariants.{Row, Plane, Clear}
+use Rattle.cam6_commands.specs.declared.commands.Command.TheVariants.{Drop as DropRule, Rules, Map}
+use Rattle.cam6_commands.specs.declared.commands.Command.TheVariants.{Side as SetSide, Colours}
+use Rattle.cam6_commands.specs.declared.commands.Command.TheVariants.{Count}
 use Rattle.cam6_wire.specs.declared.faults.LineFault.{LineFault}
 use Rattle.cam6_wire.specs.declared.faults.LineFault.TheVariants.{NoCommand, TooLong}
 use Rattle.cam6_wire.specs.Fields.{count, number_at, text_at, bits_at, colours_at}
@@ -27,7 +27,7 @@ use Rattle.cam6_wiring.specs.Texts.{half_text, hood_text, minor_text}
 use Rattle.cam6_wiring.specs.Texts.{half_named, hood_named, minor_named}
 use Rattle.cam6_wire.specs.Wirings.{wiring_in}
 use Rattle.cam6_wire.specs.Entries.{entries_at}
-use Rattle.cam6_wire.specs.Limits.{max_line}
+use Rattle.cam6_wire.specs.Limits.{limit_of}
 use Rattle.cam6_wire.specs.Commands.{set_fields, set_of, sole_number, clear_of, rule_fields}
 use Rattle.cam6_wire.specs.Commands.{rule_of, drop_of, listing_of, cycle_of, run_of, back_of}
 use Rattle.cam6_wire.specs.Commands.{row_fields, row_of, plane_of, side_of, map_of, colours_of}
@@ -281,27 +281,26 @@ command_shown d ordered =
     (text_at (codes "do") d) (text_found (codes "do") d)
 
 -- a line that says a command isn't too long
-not_too_long : (n : ℕ) (said : Result Command LineFault) (c : Command) (b : Bool) →
-    nat_lt max_line n ≡ b → cond b (Err TooLong) said ≡ Ok c → (n ≤ max_line) × (said ≡ Ok c)
-not_too_long n said c true is e = let never : ⊥ = cc in absurd never
-not_too_long n said c false is e = (grind arith, e)
+not_too_long : (limit n : ℕ) (said : Result Command LineFault) (c : Command) (b : Bool) →
+    nat_lt limit n ≡ b → cond b (Err TooLong) said ≡ Ok c → (n ≤ limit) × (said ≡ Ok c)
+not_too_long limit n said c true is e = let never : ⊥ = cc in absurd never
+not_too_long limit n said c false is e = (grind arith, e)
 
 -- it has a value, which is a command
 has_command : (o : Option Command) (c : Command) → ok_or o NoCommand ≡ Ok c → o ≡ Some c
 has_command None c e = let never : ⊥ = cc in absurd never
 has_command (Some x) c e = let same : x ≡ c = cc in ap Some same
 
-has_value : (o : Option Data) (c : Command) → from_value o ≡ Ok c →
+has_value : (line : List ℕ) (o : Option Data) (c : Command) → from_value line o ≡ Ok c →
     (d : Data) × (o ≡ Some d) × (shown_in d ≡ Some c)
-has_value None c e = let never : ⊥ = cc in absurd never
-has_value (Some d) c e = (d, refl, has_command (shown_in d) c e)
+has_value line None c e = let never : ⊥ = cc in absurd never
+has_value line (Some d) c e = (d, refl, has_command (shown_in d) c e)
 
 pub said_is_shown : SaidIsShown
 said_is_shown line c said =
     let short =
-    not_too_long (length line) (from_value (value_of line)) c (nat_lt max_line (length line)) refl
-    said in
-    let value = has_value (value_of line) c short.1 in
+    not_too_long (limit_of line) (length line) (from_value line (value_of line)) c _ refl said in
+    let value = has_value line (value_of line) c short.1 in
     let ordered = of_value IsOrdered (value_of line) value.0 (value_is_ordered line) value.1 in
     let is = of_value (Shows value.0) (shown_in value.0) c (command_shown value.0 ordered) value.2 in
     (short.0, (value.0, value.1, is))

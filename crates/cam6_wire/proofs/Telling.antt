@@ -1,5 +1,5 @@
 -- A line whose value shows a command says it.
-use Rattle.std.proofs.Common.{◌≡◌, ℕ, ◌*◌, ◌/◌, List, [], ◌∷◌, length, codes, arith}
+use Rattle.std.proofs.Common.{◌≡◌, ℕ, ◌/◌, List, [], ◌∷◌, length, codes}
 use Rattle.std.proofs.Common.{Option, Some, Ok, ok_or, option_and_then, option_map, refl, ap, ◌∙◌}
 use Rattle.cam6_planes.specs.Side.{side_number}
 use Rattle.cam6_planes.specs.declared.sides.Side.{Side}
@@ -9,14 +9,14 @@ use Rattle.serde_json.specs.Data.{Data, string, array, object}
 use Rattle.serde_json.specs.Data.{Items, no_items, item, no_members, member}
 use Rattle.cam6_wiring.specs.declared.wirings.Wiring.{Wiring}
 use Rattle.cam6_wiring.specs.Wiring.{wired}
-use Rattle.cam6_machine.specs.declared.commands.Command.{Command}
-use Rattle.cam6_machine.specs.declared.commands.Command.TheVariants.{Set, Rule, Cycle, Run, Back}
-use Rattle.cam6_machine.specs.declared.commands.Command.TheVariants.{Row, Plane, Clear}
-use Rattle.cam6_machine.specs.declared.commands.Command.TheVariants.{Drop as DropRule, Rules, Map}
-use Rattle.cam6_machine.specs.declared.commands.Command.TheVariants.{Side as SetSide, Colours}
-use Rattle.cam6_machine.specs.declared.commands.Command.TheVariants.{Count}
-use Rattle.cam6_machine.specs.Limits.{cell_states}
-use Rattle.cam6_machine.specs.declared.commands.NamedEntry.{NamedEntry}
+use Rattle.cam6_commands.specs.declared.commands.Command.{Command}
+use Rattle.cam6_commands.specs.declared.commands.Command.TheVariants.{Set, Rule, Cycle, Run, Back}
+use Rattle.cam6_commands.specs.declared.commands.Command.TheVariants.{Row, Plane, Clear}
+use Rattle.cam6_commands.specs.declared.commands.Command.TheVariants.{Drop as DropRule, Rules, Map}
+use Rattle.cam6_commands.specs.declared.commands.Command.TheVariants.{Side as SetSide, Colours}
+use Rattle.cam6_commands.specs.declared.commands.Command.TheVariants.{Count}
+use Rattle.cam6_commands.specs.Limits.{cell_states}
+use Rattle.cam6_commands.specs.declared.commands.NamedEntry.{NamedEntry}
 use Rattle.cam6_wire.specs.declared.faults.LineFault.TheVariants.{NoCommand}
 use Rattle.cam6_wire.specs.Fields.{text_at, ◌>>=◌}
 use Rattle.cam6_wire.specs.Replies.{natural, naturals}
@@ -216,5 +216,5 @@ says_shown d (SetSide n) shows =
 
 pub shown_is_said : ShownIsSaid
 shown_is_said line d c short is shows =
-    short_line line short ∙ ap from_value is ∙
+    short_line line short ∙ ap (from_value line) is ∙
     ap (λ o. ok_or o NoCommand) (says_shown d c shows)

@@ -6,17 +6,17 @@ use Rattle.std.specs.Option.{option_map_or}
 use Rattle.std.specs.Str.{bytes_eq, is_utf8}
 use Rattle.serde_json.specs.Data.{Data}
 use Rattle.serde_json.specs.Read.{read}
-use Rattle.cam6_machine.specs.declared.commands.Command.{Command}
-use Rattle.cam6_machine.specs.declared.commands.Command.TheVariants.{Set, Rule, Cycle, Run, Back}
-use Rattle.cam6_machine.specs.declared.commands.Command.TheVariants.{Row, Plane, Clear}
-use Rattle.cam6_machine.specs.declared.commands.Command.TheVariants.{Drop as DropRule, Rules, Map}
-use Rattle.cam6_machine.specs.declared.commands.Command.TheVariants.{Side as SetSide, Colours}
-use Rattle.cam6_machine.specs.declared.commands.Command.TheVariants.{Count}
-use Rattle.cam6_machine.specs.declared.commands.NamedEntry.{NamedEntry}
+use Rattle.cam6_commands.specs.declared.commands.Command.{Command}
+use Rattle.cam6_commands.specs.declared.commands.Command.TheVariants.{Set, Rule, Cycle, Run, Back}
+use Rattle.cam6_commands.specs.declared.commands.Command.TheVariants.{Row, Plane, Clear}
+use Rattle.cam6_commands.specs.declared.commands.Command.TheVariants.{Drop as DropRule, Rules, Map}
+use Rattle.cam6_commands.specs.declared.commands.Command.TheVariants.{Side as SetSide, Colours}
+use Rattle.cam6_commands.specs.declared.commands.Command.TheVariants.{Count}
+use Rattle.cam6_commands.specs.declared.commands.NamedEntry.{NamedEntry}
 use Rattle.cam6_wire.specs.declared.faults.LineFault.{LineFault}
 use Rattle.cam6_wire.specs.declared.faults.LineFault.TheVariants.{NoMemory, TooLong}
 use Rattle.cam6_wire.specs.declared.faults.LineFault.TheVariants.{NoJson, NoCommand}
-use Rattle.cam6_wire.specs.Limits.{max_line}
+use Rattle.cam6_wire.specs.Limits.{limit_of}
 use Rattle.cam6_wire.specs.Fields.{has_size, number_at, text_at, bits_at, colours_at}
 use Rattle.cam6_wire.specs.Fields.{◌>>=◌}
 use Rattle.cam6_wire.specs.Wirings.{wiring_in}
@@ -150,14 +150,15 @@ takes_text d = option_map_or keeps_text (shown_in d) false
 abbrev pub value_of : List ℕ → Option Data
 value_of line = if is_utf8 line then read line else None
 
--- what a value says, or the fault where there is none or it is no command
-abbrev pub from_value : Option Data → Result Command LineFault
-from_value None = Err NoJson
-from_value (Some d) = ok_or (shown_in d) NoCommand
+-- what a line says by its value, or the fault where it has none or it is no command
+abbrev pub from_value : List ℕ → Option Data → Result Command LineFault
+from_value line None = Err NoJson
+from_value line (Some d) = ok_or (shown_in d) NoCommand
 
 -- what a line says
 abbrev pub command : List ℕ → Result Command LineFault
-command line = if nat_lt max_line (length line) then Err TooLong else from_value (value_of line)
+command line =
+    if nat_lt (limit_of line) (length line) then Err TooLong else from_value line (value_of line)
 
 -- the fault that was answered is what the line says, unless memory ran out
 abbrev pub IsFaultOf : LineFault → Result Command LineFault → Type 0

@@ -6,7 +6,7 @@ use Rattle.std.specs.Option.{option_map_or}
 use Rattle.cam6_planes.specs.Digits.{bits_of_digits}
 use Rattle.serde_json.specs.Data.{Data, Items, no_items, item, Members, no_members, member}
 use Rattle.serde_json.specs.Find.{get, as_number, as_u64, as_str, as_array, as_object}
-use Rattle.cam6_machine.specs.Limits.{cell_states}
+use Rattle.cam6_commands.specs.Limits.{cell_states}
 
 -- the second step, if the first gave a value
 infixl 10 ◌>>=◌

@@ -4,11 +4,11 @@ use Rattle.std.specs.Prelude.{◌≡◌, ◌≤◌, ℕ, List, length, Some, Ok}
 use Rattle.std.specs.Str.{IsUtf8}
 use Rattle.serde_json.specs.Data.{Data}
 use Rattle.cam6_wiring.specs.declared.wirings.Wiring.{Wiring}
-use Rattle.cam6_machine.specs.declared.commands.Command.{Command}
-use Rattle.cam6_machine.specs.declared.commands.Command.TheVariants.{Rule}
-use Rattle.cam6_machine.specs.declared.replies.Reply.{Reply}
+use Rattle.cam6_commands.specs.declared.commands.Command.{Command}
+use Rattle.cam6_commands.specs.declared.commands.Command.TheVariants.{Rule}
+use Rattle.cam6_commands.specs.declared.replies.Reply.{Reply}
 use Rattle.cam6_wire.specs.declared.faults.LineFault.{LineFault}
-use Rattle.cam6_wire.specs.Limits.{max_line}
+use Rattle.cam6_wire.specs.Limits.{limit_of}
 use Rattle.cam6_wire.specs.Commands.{command, value_of}
 use Rattle.cam6_wire.specs.Replies.{reply_bytes, fault_bytes}
 use Rattle.cam6_wire.specs.OneLine.{HasNoLf}
@@ -17,14 +17,14 @@ use Rattle.cam6_wire.specs.Shown.{Shows}
 -- a line whose value shows a command says it
 abbrev pub ShownIsSaid : Type 0
 ShownIsSaid =
-    (line : List ℕ) (d : Data) (c : Command) → length line ≤ max_line → value_of line ≡ Some d →
-    Shows d c → command line ≡ Ok c
+    (line : List ℕ) (d : Data) (c : Command) → length line ≤ limit_of line →
+    value_of line ≡ Some d → Shows d c → command line ≡ Ok c
 
 -- a line says no other command
 abbrev pub SaidIsShown : Type 0
 SaidIsShown =
     (line : List ℕ) (c : Command) → command line ≡ Ok c →
-    (length line ≤ max_line) × ((d : Data) × (value_of line ≡ Some d) × Shows d c)
+    (length line ≤ limit_of line) × ((d : Data) × (value_of line ≡ Some d) × Shows d c)
 
 -- the text of a rule that a line defines is UTF-8
 abbrev pub TextIsUtf8 : Type 0

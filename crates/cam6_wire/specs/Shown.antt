@@ -5,14 +5,14 @@ use Rattle.serde_json.specs.Data.{Data, string, array, object}
 use Rattle.cam6_planes.specs.Side.{side_number}
 use Rattle.cam6_planes.specs.declared.sides.Side.{Side}
 use Rattle.serde_json.specs.Data.{Items, no_items, item, no_members, member}
-use Rattle.cam6_machine.specs.declared.commands.Command.{Command}
-use Rattle.cam6_machine.specs.declared.commands.Command.TheVariants.{Set, Rule, Cycle, Run, Back}
-use Rattle.cam6_machine.specs.declared.commands.Command.TheVariants.{Row, Plane, Clear}
-use Rattle.cam6_machine.specs.declared.commands.Command.TheVariants.{Drop as DropRule, Rules, Map}
-use Rattle.cam6_machine.specs.declared.commands.Command.TheVariants.{Side as SetSide, Colours}
-use Rattle.cam6_machine.specs.declared.commands.Command.TheVariants.{Count}
-use Rattle.cam6_machine.specs.Limits.{cell_states}
-use Rattle.cam6_machine.specs.declared.commands.NamedEntry.{NamedEntry}
+use Rattle.cam6_commands.specs.declared.commands.Command.{Command}
+use Rattle.cam6_commands.specs.declared.commands.Command.TheVariants.{Set, Rule, Cycle, Run, Back}
+use Rattle.cam6_commands.specs.declared.commands.Command.TheVariants.{Row, Plane, Clear}
+use Rattle.cam6_commands.specs.declared.commands.Command.TheVariants.{Drop as DropRule, Rules, Map}
+use Rattle.cam6_commands.specs.declared.commands.Command.TheVariants.{Side as SetSide, Colours}
+use Rattle.cam6_commands.specs.declared.commands.Command.TheVariants.{Count}
+use Rattle.cam6_commands.specs.Limits.{cell_states}
+use Rattle.cam6_commands.specs.declared.commands.NamedEntry.{NamedEntry}
 use Rattle.cam6_wire.specs.Replies.{natural, naturals}
 use Rattle.cam6_wiring.specs.Texts.{half_text, hood_text, minor_text, grid_text}
 use Rattle.cam6_wire.specs.Entries.{rule_name_in}

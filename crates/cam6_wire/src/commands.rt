@@ -3,18 +3,18 @@ ghost use Rattle.std.specs.Prelude.{◌≡◌, ◌<◌, ◌≤◌, length, Err, 
 ghost use Rattle.std.specs.Option.{option_map_or};
 ghost use Rattle.cam6_wire.specs.declared.faults.LineFault.TheVariants.{NoMemory};
 ghost use Rattle.serde_json.specs.View.{view};
-ghost use Rattle.cam6_machine.specs.Always.{HasText};
+ghost use Rattle.cam6_commands.specs.RuleTexts.{HasText};
 ghost use Rattle.cam6_wire.specs.Commands.{set_of, sole_number, rule_of, drop_of, listing_of};
 ghost use Rattle.cam6_wire.specs.Commands.{cycle_of, row_of, map_of, by_word};
 ghost use Rattle.cam6_wire.specs.Commands.{shown_in, command, IsSaid};
 ghost use Rattle.cam6_wire.specs.Commands.{keeps_text, takes_text};
-ghost use Rattle.cam6_wire.specs.Limits.{max_line};
+ghost use Rattle.cam6_wire.specs.Limits.{limit_of};
 
 use crate::entries::entries_at;
 use crate::faults::LineFault;
 use crate::fields::{bits_at, colours_at, has_size, number_at, text_at};
 use crate::wirings::wiring_in;
-use cam6_machine::{Command, Text};
+use cam6_commands::{Command, Text};
 use serde_json::{Category, Value};
 use std::alloc::{AllocError, Global};
 
@@ -25,7 +25,8 @@ pub const LINE_LIMIT: usize = 16_384;
 pub fn read_command(alloc: Global, line: &[u8]) -> Result<Command, LineFault>
     ensures said { IsSaid result (command line.now) }
     // No memory is wanted for an empty line, nor for one that is too long.
-    ensures memory { result ≡ Err NoMemory → (0 < length line.now) × (length line.now ≤ max_line) }
+    ensures memory { result ≡ Err NoMemory →
+        (0 < length line.now) × (length line.now ≤ limit_of line.now) }
     ensures texts { IfOk result (λ command. HasText command) }
 {
     if line.len() > LINE_LIMIT {

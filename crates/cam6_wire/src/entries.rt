@@ -6,7 +6,7 @@ ghost use Rattle.cam6_wire.specs.Commands.{are_some};
 ghost use Rattle.cam6_wire.specs.Entries.{rule_name_in, entry_in, entries_in, entries_at};
 
 use crate::fields::{has_size, number_at, text_at};
-use cam6_machine::{NamedEntries, NamedEntry, Text};
+use cam6_commands::{NamedEntries, NamedEntry, Text};
 use cam6_wiring::Grid;
 use serde_json::Value;
 use std::alloc::{AllocError, Global};

@@ -12,7 +12,8 @@
 //! shows the command, with its keys and no others; the text of a rule that a line defines is UTF-8;
 //! the text of a reply, and of a line's fault, is one line.
 //!
-//! Stands on: `cam6_planes`, `cam6_wiring`, `cam6_forth`, `cam6_table`, `cam6_machine`;
+//! Stands on: `cam6_planes`, `cam6_wiring`, `cam6_forth`, `cam6_table`, `cam6_block`,
+//! `cam6_commands`;
 //! `serde_json` with its grammar in `json`, and `hex`.
 //!
 //! Read next: `faults`, `commands` and `replies`; what they read, `fields`, `wirings` and

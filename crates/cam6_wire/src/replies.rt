@@ -8,14 +8,14 @@ ghost use Rattle.serde_json.specs.Read.{read};
 ghost use Rattle.serde_json.specs.View.{view};
 ghost use Rattle.cam6_wire.specs.Replies.{texts, colour_digit, done, reply_data, reply_bytes};
 ghost use Rattle.cam6_wire.specs.Replies.{fault_bytes, natural, cause_data};
-ghost use Rattle.cam6_machine.specs.Limits.{max_colour};
-ghost use Rattle.cam6_view.specs.declared.colours.TheConstants.{COLOURS};
+ghost use Rattle.cam6_wire.specs.Replies.{done_data, refusal_data};
+ghost use Rattle.cam6_commands.specs.Limits.{max_colour};
+ghost use Rattle.cam6_planes.specs.declared.row.TheConstants.{COLUMNS};
 
 use crate::faults::LineFault;
 use cam6_block::NotReversible;
-use cam6_machine::{Names, PlaneRows, Reply, RowColours};
-use cam6_planes::NoMemory;
-use cam6_view::COLOURS;
+use cam6_commands::{Done, Names, PlaneRows, Refusal, Reply, RowColours};
+use cam6_planes::{COLUMNS, NoMemory};
 use cam6_wiring::Half;
 use serde_json::{Value, json};
 use std::alloc::{AllocError, Global};
@@ -47,38 +47,54 @@ fn reply_value(alloc: Global, reply: &Reply) -> Result<Value, AllocError>
     ensures { IfOk result (λ value. view value ≡ reply_data reply.now) }
 {
     match reply {
-        Reply::Set => done(alloc, "set"),
-        Reply::Clear => done(alloc, "clear"),
-        Reply::Rule => done(alloc, "rule"),
-        Reply::Drop => done(alloc, "drop"),
-        Reply::Rules { names } => {
+        Reply::Done(done) => done_value(alloc, done),
+        Reply::Refused(refusal) => refusal_value(alloc, *refusal),
+    }
+}
+
+fn done_value(alloc: Global, done: &Done) -> Result<Value, AllocError>
+    ensures { IfOk result (λ value. view value ≡ done_data done.now) }
+{
+    match done {
+        Done::Set => ok_value(alloc, "set"),
+        Done::Clear => ok_value(alloc, "clear"),
+        Done::Rule => ok_value(alloc, "rule"),
+        Done::Drop => ok_value(alloc, "drop"),
+        Done::Rules { names } => {
             let names = names_value(alloc, names)?;
             json!(in alloc; {"names": names, "ok": "rules"})
         }
-        Reply::Cycle => done(alloc, "cycle"),
-        Reply::Side => done(alloc, "side"),
-        Reply::Map => done(alloc, "map"),
-        Reply::Run { position } => moved(alloc, "run", *position),
-        Reply::Back { position } => moved(alloc, "back", *position),
-        Reply::Row { bits } => {
+        Done::Cycle => ok_value(alloc, "cycle"),
+        Done::Side => ok_value(alloc, "side"),
+        Done::Map => ok_value(alloc, "map"),
+        Done::Run { position } => moved(alloc, "run", *position),
+        Done::Back { position } => moved(alloc, "back", *position),
+        Done::Row { bits } => {
             let bits = Value::try_from_str(alloc, digits(bits.as_slice()))?;
             json!(in alloc; {"bits": bits, "ok": "row"})
         }
-        Reply::Plane { rows } => {
+        Done::Plane { rows } => {
             let rows = rows_value(alloc, rows)?;
             json!(in alloc; {"ok": "plane", "rows": rows})
         }
-        Reply::Colours { colours } => {
+        Done::Colours { colours } => {
             let colours = colours_value(alloc, colours)?;
             json!(in alloc; {"colours": colours, "ok": "colours"})
         }
-        Reply::Count { count } => json!(in alloc; {"count": *count, "ok": "count"}),
-        Reply::Fault(fault) => json!(in alloc; {"fault": fault.number()}),
-        Reply::RuleText(fault) => { json!(in alloc; {"fault": fault.number, "token": fault.token}) }
-        Reply::RuleStops { address, fault } => {
-            json!(in alloc; {"address": *address, "fault": fault.number()})
+        Done::Count { count } => json!(in alloc; {"count": *count, "ok": "count"}),
+    }
+}
+
+fn refusal_value(alloc: Global, refusal: Refusal) -> Result<Value, AllocError>
+    ensures { IfOk result (λ value. view value ≡ refusal_data refusal) }
+{
+    match refusal {
+        Refusal::Fault(fault) => json!(in alloc; {"fault": fault.number()}),
+        Refusal::Text(fault) => json!(in alloc; {"fault": fault.number, "token": fault.token}),
+        Refusal::Stops { address, fault } => {
+            json!(in alloc; {"address": address, "fault": fault.number()})
         }
-        Reply::NotReversible { entry, half, cause } => cause_value(alloc, *entry, *half, *cause),
+        Refusal::NotReversible { entry, half, cause } => cause_value(alloc, entry, half, cause),
     }
 }
 
@@ -100,18 +116,19 @@ fn cause_value(
     ensures { IfOk result (λ value. view value ≡ cause_data entry half cause) }
 {
     let half = half.text();
+    let fault = cause.number();
     match cause {
         NotReversible::Hood => {
-            json!(in alloc; {"cause": "hood", "entry": entry, "fault": 64, "half": half})
+            json!(in alloc; {"cause": "hood", "entry": entry, "fault": fault, "half": half})
         }
         NotReversible::Centres => {
-            json!(in alloc; {"cause": "centres", "entry": entry, "fault": 64, "half": half})
+            json!(in alloc; {"cause": "centres", "entry": entry, "fault": fault, "half": half})
         }
         NotReversible::Meeting { phase, a, b } => {
             json!(in alloc; {
                 "cause": "meeting",
                 "entry": entry,
-                "fault": 64,
+                "fault": fault,
                 "half": half,
                 "phase": phase.number(),
                 "states": [a, b],
@@ -121,7 +138,7 @@ fn cause_value(
 }
 
 /// The reply to a command of which nothing is told but that it is done.
-fn done(alloc: Global, word: &str) -> Result<Value, AllocError>
+fn ok_value(alloc: Global, word: &str) -> Result<Value, AllocError>
     ensures { IfOk result (λ value. view value ≡ done word.now no_members) }
 {
     json!(in alloc; {"ok": word})
@@ -157,13 +174,13 @@ fn colours_value(alloc: Global, colours: &RowColours) -> Result<Value, AllocErro
 }
 
 /// The digits of colours, from the front on.
-fn colour_digits(colours: &[u8]) -> [u8; COLOURS]
-    requires few { length colours.now ≤ COLOURS }
+fn colour_digits(colours: &[u8]) -> [u8; COLUMNS]
+    requires few { length colours.now ≤ COLUMNS }
     requires small { AllByRecursion (λ colour. colour ≤ max_colour) colours.now }
     ensures digits { take (length colours.now) result ≡ map colour_digit colours.now }
     ensures ascii { IsAscii (take (length colours.now) result) }
 {
-    let mut text = [0; COLOURS];
+    let mut text = [0; COLUMNS];
     for x in 0..colours.len() {
         text[x] = HEX_DIGITS[usize::from(colours[x])];
     }

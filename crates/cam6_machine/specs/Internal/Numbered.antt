@@ -16,7 +16,7 @@ use Rattle.cam6_machine.specs.Rules.{Rule, wiring_for}
 use Rattle.cam6_machine.specs.Cycles.{phase_of}
 use Rattle.cam6_machine.specs.Numbers.{rule_at, number_in, named_entries}
 use Rattle.cam6_machine.specs.Stored.{StoredMachine}
-use Rattle.cam6_machine.specs.declared.commands.NamedEntry.{NamedEntry}
+use Rattle.cam6_commands.specs.declared.commands.NamedEntry.{NamedEntry}
 
 -- a rule as it is kept, beside its name
 pub record Compiled : Type 0 where
@@ -82,7 +82,8 @@ is_number number (Some other) = other == number
 
 -- whether an entry has the rule at this number
 abbrev pub uses_number : ℕ → Entry → Bool
-uses_number number entry = is_number number (number_in entry.a) || is_number number (number_in entry.b)
+uses_number number entry =
+    is_number number (number_in entry.a) || is_number number (number_in entry.b)
 
 -- a number once the rule at a number is gone: those behind it close up
 abbrev pub closed_up : ℕ → ℕ → ℕ

@@ -6,7 +6,7 @@ use Rattle.cam6_table.specs.declared.compiling.NotCompiled.{NotCompiled}
 use Rattle.cam6_table.specs.declared.compiling.NotCompiled.TheVariants.{Text, Stops, NoMemory}
 use Rattle.cam6_machine.specs.Internal.Numbered.{Compiled}
 use Rattle.cam6_machine.specs.Refusals.{words_refusal}
-use Rattle.cam6_machine.specs.declared.replies.Reply.TheVariants as reply
+use Rattle.cam6_commands.specs.declared.refusals.Refusal.TheVariants as refused
 
 -- a text was tried: it is UTF-8 and a rule that stops nowhere and is kept, or it is refused for its
 -- fault, or for the least address at which it stops; for want of memory nothing is said
@@ -14,7 +14,7 @@ abbrev pub IsVerdict : Wiring → List ℕ → Result Compiled NotCompiled → T
 IsVerdict wiring text (Ok rule) =
     (words_refusal wiring text ≡ None) × (rule.wiring ≡ wiring) × (rule.text ≡ text) × IsUtf8 text
 IsVerdict wiring text (Err (Text fault)) =
-    words_refusal wiring text ≡ Some (reply.RuleText fault)
+    words_refusal wiring text ≡ Some (refused.Text fault)
 IsVerdict wiring text (Err (Stops address fault)) =
-    words_refusal wiring text ≡ Some (reply.RuleStops address fault)
+    words_refusal wiring text ≡ Some (refused.Stops address fault)
 IsVerdict wiring text (Err NoMemory) = ⊤

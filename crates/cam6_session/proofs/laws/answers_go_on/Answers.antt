@@ -1,6 +1,5 @@
-use Rattle.cam6_session.specs.Answers.{by_machine}
 use Rattle.cam6_session.proofs.Answering.{answers_go_on}
 use Rattle.cam6_session.proofs.laws.answers_go_on.Goals as goal
 
 pub returns : goal.returns
-returns c = record { law = answers_go_on by_machine }
+returns g c = record { law = answers_go_on g.A.Answerer.answering }

@@ -1,3 +1,4 @@
+use Rattle.cam6_forth.proofs.SomethingKept.{accepted_is_kept}
 use Rattle.cam6_table.specs.RuleTexts.{IsCodeFor, IsTableOf}
 use Rattle.cam6_table.proofs.FaultsOfTexts.{nothing_wrong, its_stop}
 use Rattle.cam6_table.proofs.RuleTexts.{filled_is_of_the_text}
@@ -28,3 +29,9 @@ returns-clause-refused c =
     its_stop c.args.wiring c.args.text.now c.in-Ok.rule c.in_ok-code.code
     c.in-Ok.ensures.accepted c.in-Ok.ensures.exact c.in_ok-code.ensures.meaning
     c.in-Err.address c.in-Err.fault c.in-Err.ensures.fault
+
+pub returns-in_err-code-clause-unkept : goal.returns-in_err-code-clause-unkept
+returns-in_err-code-clause-unkept c = λ unkept refused.
+    let kept = accepted_is_kept c.args.wiring c.args.text.now c.in-Ok.rule.definitions
+    c.in-Ok.ensures.exact.0 in
+    cc (kept, unkept)

@@ -1,10 +1,10 @@
 use Rattle.std.proofs.Common.{◌≡◌, map, take, length}
 use Rattle.cam6_wire.specs.Replies.{colour_digit}
-use Rattle.cam6_view.specs.declared.colours.TheConstants.{COLOURS}
+use Rattle.cam6_planes.specs.declared.row.TheConstants.{COLUMNS}
 use Rattle.cam6_wire.proofs.replies.colour_digits.Given as goal
 
 abbrev pub invariant-loop-x : goal.invariant-loop-x
 invariant-loop-x l = record {
-  long : length l.text ≡ COLOURS;
+  long : length l.text ≡ COLUMNS;
   digits : take l.x l.text ≡ map colour_digit (take l.x l.colours);
 }

@@ -1,4 +1,4 @@
-use Rattle.std.proofs.Common.{◌≡◌, ◌∙◌, None, Ok, ap, sym, subst}
+use Rattle.std.proofs.Common.{◌≡◌, ◌∙◌, None, Ok, ap, sym, subst, true, false}
 use Rattle.cam6_machine.specs.Effects.{with_rule}
 use Rattle.cam6_machine.specs.Stored.{StoredMachine}
 use Rattle.cam6_machine.specs.Machine.{machine_of}
@@ -9,8 +9,10 @@ use Rattle.cam6_machine.specs.Internal.Images.{planes_of}
 use Rattle.cam6_machine.specs.Numbers.{named_entries, AreNumbered}
 use Rattle.cam6_machine.specs.Internal.Numbered.{rules_of, entries_of, stored}
 use Rattle.cam6_machine.specs.Internal.Verdicts.{IsVerdict}
-use Rattle.cam6_machine.specs.declared.commands.Command.TheVariants.{Rule}
-use Rattle.cam6_machine.proofs.Done as done
+use Rattle.cam6_commands.specs.declared.commands.Command.TheVariants.{Rule}
+use Rattle.cam6_machine.proofs.Replying as done
+use Rattle.cam6_machine.specs.AtOnce.{keeps_text}
+use Rattle.cam6_machine.proofs.WantOfMemory.{text_is_kept}
 use Rattle.cam6_machine.proofs.Staying.{stays_machine, numbered_with}
 use Rattle.cam6_machine.proofs.machines.Machine.define.Goals as goal
 
@@ -65,6 +67,23 @@ invariant_of-self-in-Ok c = (
   c.self.invariant.2,
   c.self.invariant.3,
 )
+
+pub returns-in_err-put-in-Ok-clause-memory : goal.returns-in_err-put-in-Ok-clause-memory
+returns-in_err-put-in-Ok-clause-memory c = λ none.
+    let rules = rules_of c.self.inside.rules.entries in
+    let verdict =
+    subst (IsVerdict c.args.wiring c.args.text) c.in-Ok.is c.tried_rule.ensures.verdict in
+    let free : None ≡ rule_refusal rules (named_entries rules (entries_of c.self.inside.cycle)) c.args.name =
+    c.in_default.ensures
+    ∙ ap (λ l. rule_refusal rules (named_entries rules l) c.args.name) c.entries_of.ensures in
+    let m = c.self.inside in
+    let old = stored (planes_of m.image) rules (entries_of m.cycle) m.position m.colours in
+    let command = Rule c.args.name c.args.wiring c.args.text in
+    let kept : keeps_text (machine_of c.args.self.now) command ≡ true =
+    ap (λ k. keeps_text (machine_of k) command) (sym c.self.view_is)
+    ∙ text_is_kept c.args.name c.args.wiring c.args.text (machine_of old) free verdict.0 in
+    let never : true ≡ false = sym kept ∙ none in
+    cc never
 
 pub returns-in-Ok-clause-machine : goal.returns-in-Ok-clause-machine
 returns-in-Ok-clause-machine c =

@@ -10,8 +10,8 @@ use Rattle.cam6_machine.specs.Internal.Images.{planes_of}
 use Rattle.cam6_machine.specs.Numbers.{named_entries, AreNumbered}
 use Rattle.cam6_machine.specs.Internal.Numbered.{rules_of, entries_of, stored, uses_number}
 use Rattle.cam6_machine.specs.Internal.Numbered.{closed_entry}
-use Rattle.cam6_machine.specs.declared.commands.Command.TheVariants.{Drop}
-use Rattle.cam6_machine.proofs.Done.{after-drop, stored-drop}
+use Rattle.cam6_commands.specs.declared.commands.Command.TheVariants.{Drop}
+use Rattle.cam6_machine.proofs.Replying.{after-drop, stored-drop}
 use Rattle.cam6_machine.proofs.Dropped.{numbered_closed}
 use Rattle.cam6_machine.proofs.Staying.{stays_machine}
 use Rattle.cam6_machine.proofs.machines.Machine.drop_rule.Goals as goal
@@ -37,7 +37,7 @@ accepted : (c : goal.After-remove) →
 accepted c =
     let rules = rules_of c.self.inside.rules.entries in
     ap (λ l. drop_refusal rules (named_entries rules l) c.args.name.now)
-    (sym c.entries_of-cycle.ensures) ∙ c.in-Ok.ensures.ok
+    (sym c.entries_of-cycle.ensures) ∙ sym c.in-Ok.ensures.refusal
 
 after_drop : (c : goal.After-remove) →
     let m = c.self.inside in

@@ -1,12 +1,12 @@
 use Rattle.std.proofs.Common.{◌≡◌, ◌∙◌, ap, sym, subst}
 use Rattle.cam6_machine.specs.Machine.{Machine, machine_of}
-use Rattle.cam6_machine.specs.Refusals.{fault_reply}
+use Rattle.cam6_machine.specs.Refusals.{fault_refusal}
 use Rattle.cam6_machine.specs.Alone.{after}
 use Rattle.cam6_machine.specs.Always.{IsMachine}
 use Rattle.cam6_machine.specs.Internal.Images.{planes_of}
 use Rattle.cam6_machine.specs.Internal.Numbered.{rules_of, entries_of, stored}
-use Rattle.cam6_machine.specs.declared.commands.Command.TheVariants.{Map}
-use Rattle.cam6_machine.proofs.Done.{after-accepted}
+use Rattle.cam6_commands.specs.declared.commands.Command.TheVariants.{Map}
+use Rattle.cam6_machine.proofs.Replying.{after-accepted}
 use Rattle.cam6_machine.proofs.Staying.{stays_machine}
 use Rattle.cam6_machine.proofs.machines.Machine.set_colours.Goals as goal
 
@@ -23,7 +23,7 @@ after_set c =
     let old = machine_of (stored (planes_of m.image) (rules_of m.rules.entries)
     (entries_of m.cycle) m.position m.colours) in
     ap {B = Machine} (λ colours. record old { colours = colours }) c.in-Ok.ensures.colours ∙
-    sym (after-accepted old (Map c.args.colours.now) (ap fault_reply c.in-Ok.ensures.ok))
+    sym (after-accepted old (Map c.args.colours.now) (ap fault_refusal (sym c.in-Ok.ensures.refusal)))
 
 pub invariant_of-self : goal.invariant_of-self
 invariant_of-self c =

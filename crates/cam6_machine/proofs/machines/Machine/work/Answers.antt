@@ -12,7 +12,7 @@ use Rattle.cam6_machine.specs.Internal.Numbered.{rules_of, entries_of, stored}
 use Rattle.cam6_machine.specs.Alone.{reply, after, command_of}
 use Rattle.cam6_machine.specs.Refusals.{refusal}
 use Rattle.cam6_machine.specs.Internal.Ways.{moved, CanMove}
-use Rattle.cam6_machine.proofs.Done.{after-moves, reply-moves}
+use Rattle.cam6_machine.proofs.Replying.{after-moves, reply-moves}
 use Rattle.cam6_machine.proofs.NeededTables.{have_tables}
 use Rattle.cam6_machine.proofs.Staying.{moves_begin, moves_are, can_move}
 use Rattle.cam6_machine.proofs.machines.Machine.work.Goals.{After-reply_at}

@@ -1,4 +1,4 @@
-use Rattle.std.proofs.Common.{◌∙◌, arith}
+use Rattle.std.proofs.Common.{◌∙◌}
 use Rattle.cam6_table.proofs.LastCode.{popped_last, never_without, made_of, last-length, last-is_code}
 use Rattle.cam6_table.proofs.Needs.{rule_has}
 use Rattle.cam6_table.proofs.codes.Code.of.Goals as goal

@@ -1,0 +1,28 @@
+-- The numbers of refusals.
+use Rattle.std.specs.Prelude.{ℕ}
+use Rattle.cam6_table.specs.Faults as rule
+use Rattle.cam6_block.specs.Refusals as block
+use Rattle.cam6_commands.specs.declared.faults.Fault.{Fault}
+use Rattle.cam6_commands.specs.declared.faults.Fault.TheVariants.{NoRule, RuleInUse, TooManyRules}
+use Rattle.cam6_commands.specs.declared.faults.Fault.TheVariants.{NoCycle, OutOfRange, WrongHalf}
+use Rattle.cam6_commands.specs.declared.faults.Fault.TheVariants.{AboveLimit}
+use Rattle.cam6_commands.specs.declared.refusals.Refusal.{Refusal}
+use Rattle.cam6_commands.specs.declared.refusals.Refusal.TheVariants as refusal
+
+-- of a number, a name or what the machine has
+abbrev pub fault_number : Fault → ℕ
+fault_number NoRule = 60
+fault_number RuleInUse = 61
+fault_number TooManyRules = 62
+fault_number NoCycle = 63
+fault_number OutOfRange = 65
+fault_number WrongHalf = 66
+fault_number AboveLimit = 67
+
+-- 20 to 28 of a text, 40 to 43 of a rule that stops, 64 of one that can't be undone, and 60 to 67
+-- but for 64 of all else
+abbrev pub refusal_number : Refusal → ℕ
+refusal_number (refusal.Fault fault) = fault_number fault
+refusal_number (refusal.Text fault) = fault.number
+refusal_number (refusal.Stops address fault) = rule.fault_number fault
+refusal_number (refusal.NotReversible entry half cause) = block.cause_number cause

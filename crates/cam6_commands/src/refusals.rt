@@ -1,0 +1,55 @@
+//! Why a command is refused.
+ghost use Rattle.std.specs.Prelude.{◌≡◌};
+ghost use Rattle.cam6_commands.specs.Numbers.{refusal_number};
+
+use crate::faults::Fault;
+use cam6_block::NotReversible;
+use cam6_forth::TextFault;
+use cam6_table::RuleFault;
+use cam6_wiring::Half;
+
+/// Why a command is refused.
+#[derive(Clone, Copy, Debug, PartialEq, Eq)]
+pub enum Refusal {
+    /// For one of its numbers or names, or for what the machine has.
+    Fault(Fault),
+    /// For the first fault of a rule's text.
+    Text(TextFault),
+    /// For a rule that stops: the least address at which it does, and why it stops there.
+    Stops {
+        address: u16,
+        fault: RuleFault,
+    },
+    /// For a rule that can't be undone: the first entry of the cycle, counted from 0, that has one,
+    /// the half for which it has it, half A before half B, and why it can't be undone.
+    NotReversible {
+        entry: usize,
+        half: Half,
+        cause: NotReversible,
+    },
+}
+
+impl Refusal {
+    /// The fault's number in replies.
+    pub fn number(self) -> u8
+        ensures { result ≡ refusal_number self }
+    {
+        match self {
+            Refusal::Fault(fault) => fault.number(),
+            Refusal::Text(fault) => fault.number,
+            Refusal::Stops { fault, .. } => fault.number(),
+            Refusal::NotReversible { cause, .. } => cause.number(),
+        }
+    }
+}
+
+impl From<Fault> for Refusal {
+    ghost use Rattle.std.specs.Prelude.{◌≡◌};
+    ghost use Rattle.cam6_commands.specs.declared.refusals.Refusal.{Refusal};
+
+    ghost from_gives = { λ fault refusal. refusal ≡ Refusal.Fault fault };
+
+    fn from(fault: Fault) -> Refusal {
+        Refusal::Fault(fault)
+    }
+}

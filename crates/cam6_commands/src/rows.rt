@@ -1,0 +1,123 @@
+//! Rows as replies have them.
+ghost use Rattle.std.specs.Prelude.{◌≡◌, ◌<◌, ◌≤◌, ◌/◌, take};
+ghost use Rattle.std.specs.List.{AllByRecursion};
+ghost use Rattle.std.specs.Str.{IsAscii};
+ghost use Rattle.cam6_planes.specs.Stored.{width};
+ghost use Rattle.cam6_planes.specs.Cells.{cells};
+ghost use Rattle.cam6_planes.specs.Digits.{row_text};
+ghost use Rattle.cam6_commands.specs.Limits.{max_colour};
+
+use cam6_planes::{COLUMNS, DIGITS, Planes};
+use std::marker::Model;
+
+/// The text of a row: a lower case hexadecimal digit for every four columns. Contracts see it as
+/// its bytes.
+#[derive(Debug, Drop)]
+pub struct RowText {
+    digits: usize,
+    text: [u8; DIGITS],
+}
+
+impl Model for RowText {
+    ghost use Rattle.std.specs.Prelude.{List, ℕ, ◌≤◌, take};
+    ghost use Rattle.std.specs.Str.{IsAscii};
+    ghost use Rattle.cam6_planes.specs.declared.row.TheConstants.{DIGITS};
+
+    ghost Value = { List ℕ };
+
+    ghost view = { λ t. take t.digits t.text };
+
+    ghost invariant = { λ t. (t.digits ≤ DIGITS) × IsAscii (take t.digits t.text) };
+}
+
+impl RowText {
+    /// The text of row `y` of plane `p`.
+    pub fn of(planes: &Planes, p: usize, y: usize) -> RowText
+        requires plane { p < 4 }
+        requires row { y < width planes.now }
+        ensures { result ≡ row_text (width planes.now / 4) (λ x. cells planes.now p x y) }
+    {
+        let mut text = [0; DIGITS];
+        let digits = planes.row_hex(p, y, &mut text);
+        RowText { digits, text }
+    }
+
+    pub fn as_slice(&self) -> &[u8]
+        ensures digits { result.now ≡ self.now }
+        ensures ascii { IsAscii result.now }
+    {
+        &self.text[..self.digits]
+    }
+}
+
+/// The colours of a row's cells, from column 0 on. Contracts see them as a list.
+#[derive(Debug, Drop)]
+pub struct RowColours {
+    count: usize,
+    colours: [u8; COLUMNS],
+}
+
+impl Model for RowColours {
+    ghost use Rattle.std.specs.Prelude.{List, ℕ, ◌≤◌, take};
+    ghost use Rattle.std.specs.List.{AllByRecursion};
+    ghost use Rattle.cam6_planes.specs.declared.row.TheConstants.{COLUMNS};
+    ghost use Rattle.cam6_commands.specs.Limits.{max_colour};
+
+    ghost Value = { List ℕ };
+
+    ghost view = { λ r. take r.count r.colours };
+
+    ghost invariant = { λ r.
+        (r.count ≤ COLUMNS)
+        × AllByRecursion (λ colour. colour ≤ max_colour) (take r.count r.colours) };
+}
+
+impl RowColours {
+    ghost use Rattle.std.specs.Prelude.{◌≡◌, length};
+    ghost use Rattle.cam6_planes.specs.declared.row.TheConstants.{COLUMNS};
+
+    /// The first so many of these colours.
+    pub fn new(count: usize, colours: [u8; COLUMNS]) -> RowColours
+        requires count { count ≤ COLUMNS }
+        requires colours { AllByRecursion (λ colour. colour ≤ max_colour) (take count colours) }
+        ensures { result ≡ take count colours }
+    {
+        RowColours { count, colours }
+    }
+
+    pub fn as_slice(&self) -> &[u8]
+        ensures value { result.now ≡ self.now }
+        ensures few { length result.now ≤ COLUMNS }
+        ensures small { AllByRecursion (λ colour. colour ≤ max_colour) result.now }
+    {
+        &self.colours[..self.count]
+    }
+}
+
+/// The texts of a plane's rows, in order. Contracts see them as a list.
+#[derive(Debug, Drop)]
+pub struct PlaneRows {
+    rows: Vec<RowText>,
+}
+
+impl Model for PlaneRows {
+    ghost use Rattle.std.specs.Prelude.{List, ℕ};
+
+    ghost Value = { List (List ℕ) };
+
+    ghost view = { λ r. r.rows.items };
+}
+
+impl PlaneRows {
+    pub fn new(rows: Vec<RowText>) -> PlaneRows
+        ensures { result ≡ rows.items }
+    {
+        PlaneRows { rows }
+    }
+
+    pub fn as_slice(&self) -> &[RowText]
+        ensures { result.now ≡ self.now }
+    {
+        self.rows.as_slice()
+    }
+}

@@ -1,0 +1,99 @@
+//! Texts of commands and replies, and which of them are names of rules.
+ghost use Rattle.std.specs.Prelude.{◌≡◌};
+ghost use Rattle.std.specs.List.{list_all};
+ghost use Rattle.cam6_commands.specs.Names.{is_name_byte};
+
+use crate::limits::MAX_NAME;
+use std::marker::Model;
+
+/// A text, which contracts see as its bytes.
+#[derive(Debug, Drop)]
+pub struct Text {
+    text: String,
+}
+
+impl Model for Text {
+    ghost use Rattle.std.specs.Prelude.{List, ℕ, string_bytes};
+
+    ghost Value = { List ℕ };
+
+    ghost view = { λ t. string_bytes t.text };
+}
+
+impl Text {
+    ghost use Rattle.std.specs.Prelude.{◌≡◌, string_bytes};
+    ghost use Rattle.std.specs.Str.{IsUtf8};
+    ghost use Rattle.cam6_commands.specs.Names.{is_rule_name};
+
+    pub fn new(text: String) -> Text
+        ensures { result ≡ string_bytes text }
+    {
+        Text { text }
+    }
+
+    pub fn as_str(&self) -> &str
+        ensures text { result.now ≡ self.now }
+        ensures utf8 { IsUtf8 self.now }
+    {
+        self.text.as_str()
+    }
+
+    pub fn into_string(self) -> String
+        ensures { string_bytes result ≡ self }
+    {
+        self.text
+    }
+
+    /// Whether it can be a rule's name: 1 to 24 printable bytes without `"` and `\`, and not `-`.
+    pub fn is_rule_name(&self) -> bool
+        ensures { result ≡ is_rule_name self.now }
+    {
+        let bytes = self.as_str().as_bytes();
+        !bytes.is_empty()
+            && bytes.len() <= MAX_NAME
+            && bytes != b"-".as_slice()
+            && are_name_bytes(bytes)
+    }
+}
+
+fn are_name_bytes(bytes: &[u8]) -> bool
+    ensures { result ≡ list_all is_name_byte bytes.now }
+{
+    bytes.iter().all(|byte| is_name_byte(*byte))
+}
+
+fn is_name_byte(byte: u8) -> bool
+    ensures { result ≡ is_name_byte byte }
+{
+    matches!(byte, 0x21..=0x7E) && byte != b'"' && byte != b'\\'
+}
+
+/// Names of rules, in order. Contracts see them as a list of their bytes.
+#[derive(Debug, Drop)]
+pub struct Names {
+    names: Vec<Text>,
+}
+
+impl Model for Names {
+    ghost use Rattle.std.specs.Prelude.{List, ℕ};
+
+    ghost Value = { List (List ℕ) };
+
+    ghost view = { λ n. n.names.items };
+}
+
+impl Names {
+    ghost use Rattle.std.specs.Prelude.{◌≡◌};
+
+    pub fn new(names: Vec<Text>) -> Names
+        ensures { result ≡ names.items }
+    {
+        Names { names }
+    }
+
+    pub fn as_slice(&self) -> &[Text]
+        ensures { result.now ≡ self.now }
+    {
+        self.names.as_slice()
+    }
+}

@@ -1,0 +1,132 @@
+//! Who answers lines.
+ghost use Rattle.std.specs.Prelude.{◌≡◌, List, ℕ, Ok, Err};
+ghost use Rattle.cam6_machine.specs.Machine.{Machine};
+ghost use Rattle.cam6_wire.specs.declared.faults.LineFault.TheVariants.{NoMemory};
+ghost use Rattle.cam6_wire.specs.Commands.{command as what_is_said, IsFaultOf, IsSaid};
+ghost use Rattle.cam6_session.specs.Answers.{by_machine};
+ghost use Rattle.cam6_session.specs.Held.{Holds};
+ghost use Rattle.cam6_session.specs.Responding.{Responds, TakesMemory};
+
+use crate::desks::Ask;
+use crate::line_buffer::LineBuf;
+use crate::sessions::Stop;
+use crate::writers::send;
+use cam6_commands::Command;
+use cam6_wire::{LineFault, fault_text, read_command, reply_text};
+use std::alloc::Global;
+use std::io::Write;
+
+/// Something that answers lines, one after another.
+pub trait Answerer {
+    ghost use Rattle.std.specs.Prelude.{List, ℕ};
+    ghost use Rattle.cam6_session.specs.Answering.{Answering};
+    ghost use Rattle.cam6_session.specs.Held.{Holds};
+    ghost use Rattle.cam6_session.specs.Responding.{Responds};
+
+    /// The type of what it stands at.
+    ghost state: { Type 0 };
+
+    /// Where what is asked stands.
+    ghost asked: { Self → state };
+
+    /// Whether it may be given a line.
+    ghost may_answer: { Self → Type 0 };
+
+    /// How it answers lines.
+    ghost answering: { Answering state };
+
+    /// Answers a whole line by one line of text, or says why serving stops there.
+    fn respond<W: Write>(
+        &mut self,
+        alloc: Global,
+        line: &LineBuf,
+        writer: &mut W,
+    ) -> Result<(), Stop>
+        requires { may_answer self.old }
+        ensures ready { may_answer self.new }
+        ensures responds { (l : List ℕ) → Holds line.now l → Responds answering result l
+            (W.contents writer.old) (W.contents writer.new) (asked self.old) (asked self.new) };
+}
+
+/// Whatever stands at a machine answers lines as that machine does.
+impl<D: Ask> Answerer for D {
+    ghost use Rattle.std.specs.Prelude.{List, ℕ};
+    ghost use Rattle.cam6_machine.specs.Machine.{Machine};
+    ghost use Rattle.cam6_session.specs.Answers.{by_machine};
+    ghost use Rattle.cam6_session.specs.Held.{Holds};
+    ghost use Rattle.cam6_session.specs.Responding.{Responds};
+
+    ghost state = { Machine };
+
+    ghost asked = { D.stands_at };
+
+    ghost may_answer = { D.is_ready };
+
+    ghost answering = { by_machine };
+
+    fn respond<W: Write>(
+        &mut self,
+        alloc: Global,
+        line: &LineBuf,
+        writer: &mut W,
+    ) -> Result<(), Stop>
+        requires { D.is_ready self.old }
+        ensures ready { D.is_ready self.new }
+        ensures responds { (l : List ℕ) → Holds line.now l → Responds by_machine result l
+            (W.contents writer.old) (W.contents writer.new)
+            (D.stands_at self.old) (D.stands_at self.new) }
+    {
+        match said(alloc, line) {
+            Ok(command) => respond_to(alloc, command, writer, self),
+            Err(fault) => respond_fault(fault, writer),
+        }
+    }
+}
+
+/// What a line says.
+fn said(alloc: Global, line: &LineBuf) -> Result<Command, LineFault>
+    ensures said { (l : List ℕ) → Holds line.now l → IsSaid result (what_is_said l) }
+    ensures memory { (l : List ℕ) → Holds line.now l → result ≡ Err NoMemory → TakesMemory l }
+{
+    let Some(bytes) = line.bytes() else {
+        return Err(LineFault::TooLong);
+    };
+    read_command(alloc, bytes)
+}
+
+#[tactic(auto, using(crate::proofs::Taking::command_takes_memory))]
+fn respond_to<W: Write, D: Ask>(
+    alloc: Global,
+    command: Command,
+    writer: &mut W,
+    desk: &mut D,
+) -> Result<(), Stop>
+    requires { D.is_ready desk.old }
+    ensures ready { D.is_ready desk.new }
+    ensures responds { (l : List ℕ) → what_is_said l ≡ Ok command → Responds by_machine result l
+        (W.contents writer.old) (W.contents writer.new)
+        (D.stands_at desk.old) (D.stands_at desk.new) }
+{
+    let Ok(reply) = desk.ask(command) else {
+        return Err(Stop::NoMemory { done: false });
+    };
+    let Ok(text) = reply_text(alloc, &reply) else {
+        return Err(Stop::NoMemory { done: true });
+    };
+    send(writer, text.as_bytes())?;
+    Ok(())
+}
+
+fn respond_fault<W: Write>(fault: LineFault, writer: &mut W) -> Result<(), Stop>
+    ensures { (l : List ℕ) (m : Machine) → IsFaultOf fault (what_is_said l) →
+        (fault ≡ NoMemory → TakesMemory l) →
+        Responds by_machine result l (W.contents writer.old) (W.contents writer.new) m m }
+{
+    match fault {
+        LineFault::NoMemory => Err(Stop::NoMemory { done: false }),
+        _ => {
+            send(writer, fault_text(fault).as_bytes())?;
+            Ok(())
+        }
+    }
+}
