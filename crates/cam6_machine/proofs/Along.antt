@@ -15,21 +15,21 @@ use Rattle.cam6_cycle.specs.Tables.{tables_needed}
 use Rattle.cam6_cycle.specs.declared.entries.Entry.{Entry}
 use Rattle.cam6_cycle.specs.declared.tables.Direction.{Direction}
 use Rattle.cam6_cycle.specs.declared.tables.Direction.TheVariants.{Forward, Backward}
-use Rattle.cam6_machine.specs.Rules.{Rule}
-use Rattle.cam6_machine.specs.Cycles.{entry_rules, rule_for}
-use Rattle.cam6_machine.specs.Undoing.{IsReversibleEntry}
-use Rattle.cam6_machine.specs.Always.{HaveOwnNames}
-use Rattle.cam6_machine.specs.Machine.{Machine, machine_of, stepped_by, unstepped_by}
+use Rattle.cam6_model.specs.Rules.{Rule}
+use Rattle.cam6_model.specs.Cycles.{entry_rules, rule_for}
+use Rattle.cam6_model.specs.Undoing.{IsReversibleEntry}
+use Rattle.cam6_model.specs.Always.{HaveOwnNames}
+use Rattle.cam6_model.specs.Machine.{Machine, stepped_by, unstepped_by}
+use Rattle.cam6_machine.specs.Stored.{machine_of}
 use Rattle.cam6_machine.specs.Numbers.{named_entry, named_entries, rules_at}
 use Rattle.cam6_machine.specs.Numbers.{AreNumbered, AreTables}
 use Rattle.cam6_machine.specs.Internal.Numbered.{stored}
-use Rattle.cam6_machine.specs.Internal.Ways.{one_moved, moved, CanMove}
+use Rattle.cam6_model.specs.Moves.{planes_moved, one_moved, moved, CanMove}
 use Rattle.cam6_commands.specs.declared.commands.NamedEntry.{NamedEntry}
 use Rattle.cam6_machine.proofs.Naming.{same_rules}
-use Rattle.cam6_machine.proofs.RulesOfEntries.{of_entry}
-use Rattle.cam6_machine.proofs.StepsByTables.{CanGoBy, planes_after, step_by_tables}
-use Rattle.cam6_machine.proofs.StepsByTables.{can_be_undone}
-use Rattle.cam6_machine.proofs.StepsOfATorus.{side_some, side_even}
+use Rattle.cam6_model.proofs.RulesOfEntries.{of_entry}
+use Rattle.cam6_model.proofs.StepsByTables.{CanGoBy, step_by_tables, can_be_undone}
+use Rattle.cam6_model.proofs.StepsOfATorus.{side_some, side_even}
 use Rattle.cam6_machine.proofs.TablesOfPositions.{tables_by_use}
 
 -- no steps leave a machine, and one step more comes after the others
@@ -53,7 +53,7 @@ moved_by : (direction : Direction) (m : Machine) (entry : NamedEntry) →
     slice_get m.cycle (entry_index direction (length m.cycle) m.position) ≡ Some entry →
     record m {
       planes =
-          planes_after direction (side_number m.side) (entry_rules m.rules entry) m.planes;
+          planes_moved direction (side_number m.side) (entry_rules m.rules entry) m.planes;
       position = position_after direction (length m.cycle) m.position;
     }
     ≡ one_moved direction m
@@ -85,7 +85,7 @@ module _ (direction : Direction) (rules : List Rule) (cycle : List Entry) (colou
   -- by an entry with numbers, the planes after it and the position after it are those of one step
   by_numbers : (entry : Entry) →
       slice_get cycle (entry_index direction (length cycle) position) ≡ Some entry →
-      cells new ≡ planes_after direction (side_number old.side) (rules_at rules entry) (cells old) →
+      cells new ≡ planes_moved direction (side_number old.side) (rules_at rules entry) (cells old) →
       machine_of (stored new rules cycle (position_after direction (length cycle) position) colours)
       ≡ one_moved direction (machine_of (stored old rules cycle position colours))
   by_numbers entry found made =
@@ -100,9 +100,9 @@ module _ (direction : Direction) (rules : List Rule) (cycle : List Entry) (colou
       slice_get-map (named_entry rules) cycle (entry_index direction (length cycle) position) ∙
       ap (option_map (named_entry rules)) found in
       let by_names : cells new
-      ≡ planes_after direction s (entry_rules rules (named_entry rules entry)) (cells old) =
+      ≡ planes_moved direction s (entry_rules rules (named_entry rules entry)) (cells old) =
       made ∙
-      ap (λ e. planes_after direction s e (cells old)) (sym (same_rules rules entry own)) in
+      ap (λ e. planes_moved direction s e (cells old)) (sym (same_rules rules entry own)) in
       ap {B = Machine} (λ n. record m {
         side = n;
         limit = new.limit;
@@ -113,7 +113,7 @@ module _ (direction : Direction) (rules : List Rule) (cycle : List Entry) (colou
       alike.limit ∙
       ap {B = Machine} (λ (f : Cells). record m { planes = f; position = after }) by_names ∙
       ap {B = Machine} (λ n. record m {
-        planes = planes_after direction s (entry_rules rules (named_entry rules entry)) (cells old);
+        planes = planes_moved direction s (entry_rules rules (named_entry rules entry)) (cells old);
         position = position_after direction n position;
       }) (sym all) ∙
       moved_by direction m (named_entry rules entry) at

@@ -1,25 +1,20 @@
--- Rules after one was dropped: what held of them holds, and numbers and names still say the same.
+-- Numbers of rules after one was dropped: they and the names still say the same.
 use Rattle.std.proofs.Common.{◌≡◌, ◌≤◌, ◌<◌, ◌-◌, ℕ, zero, suc, Bool, true, false, ◌||◌, ◌==◌, List}
-use Rattle.std.proofs.Common.{[], ◌∷◌, map, length, Option, Some, None, cond, refl, sym, ap, ◌∙◌}
-use Rattle.std.proofs.Common.{arith, subst, option_map, slice_get}
-use Rattle.std.specs.List.{AllByRecursion, list_any}
+use Rattle.std.proofs.Common.{[], ◌∷◌, map, Option, Some, None, cond, refl, sym, ap, ◌∙◌, arith}
+use Rattle.std.proofs.Common.{subst, option_map, slice_get}
+use Rattle.std.specs.List.{list_any}
 use Rattle.std.specs.Str.{bytes_eq}
 use Rattle.std.proofs.lemmas.Bool.{lt-ltb, le-ltb, eq-eqb}
-use Rattle.std.proofs.lemmas.Map.Keys.{IsDistinct-head, IsDistinct-tail, IsDistinct-cons}
 use native.Mathlib.Decide.{dec_lt}
-use Rattle.cam6_wiring.specs.declared.names.Half.{Half}
 use Rattle.cam6_cycle.specs.declared.entries.Entry.{Entry}
 use Rattle.cam6_cycle.specs.declared.entries.HalfRule.{HalfRule}
-use Rattle.cam6_machine.specs.Rules.{Rule, rule_named}
-use Rattle.cam6_machine.specs.Effects.{without_rule}
-use Rattle.cam6_machine.specs.Always.{HaveOwnNames, IsNamed, IsEntry}
-use Rattle.cam6_machine.specs.Refusals.{is_name, uses}
+use Rattle.cam6_model.specs.Rules.{Rule}
+use Rattle.cam6_model.specs.Effects.{without_rule}
 use Rattle.cam6_machine.specs.Numbers.{rule_at, name_of, number_in, named_entry, named_entries}
 use Rattle.cam6_machine.specs.Numbers.{IsNumbered, AreNumbered}
 use Rattle.cam6_machine.specs.Internal.Numbered.{rule_number, is_number, uses_number, closed_up}
 use Rattle.cam6_machine.specs.Internal.Numbered.{closed_half, closed_entry}
 use Rattle.cam6_commands.specs.declared.commands.NamedEntry.{NamedEntry}
-use Rattle.cam6_machine.proofs.Naming.{names_of, same_bytes}
 
 neither : (a b : Bool) → (a || b) ≡ false → (a ≡ false) × (b ≡ false)
 neither true b e = cc e
@@ -27,94 +22,6 @@ neither false b e = (refl, e)
 
 differ : (a b : ℕ) → (a == b) ≡ false → a ≡ b → ⊥
 differ a b e same = cc (e, eq-eqb a b same)
-
-pub length_without : (name : List ℕ) (rules : List Rule) →
-    length (without_rule name rules) ≤ length rules
-length_without name [] = omega arith
-length_without name (rule ∷ rules) =
-    by_test (bytes_eq name rule.name) (length_without name rules)
-  where
-    by_test : (b : Bool) → length (without_rule name rules) ≤ length rules →
-        length (cond b rules (rule ∷ without_rule name rules)) ≤ length (rule ∷ rules)
-    by_test true rest = omega arith
-    by_test false rest = omega (arith, rest)
-
-pub all_without : (Q : Rule → Type 0) (name : List ℕ) (rules : List Rule) →
-    AllByRecursion Q rules → AllByRecursion Q (without_rule name rules)
-all_without Q name [] all = tt
-all_without Q name (rule ∷ rules) all =
-    by_test (bytes_eq name rule.name) (all_without Q name rules all.1)
-  where
-    by_test : (b : Bool) → AllByRecursion Q (without_rule name rules) →
-        AllByRecursion Q (cond b rules (rule ∷ without_rule name rules))
-    by_test true rest = all.1
-    by_test false rest = (all.0, rest)
-
-names_without : (P : List ℕ → Type 0) (name : List ℕ) (rules : List Rule) →
-    AllByRecursion P (names_of rules) → AllByRecursion P (names_of (without_rule name rules))
-names_without P name [] all = tt
-names_without P name (rule ∷ rules) all =
-    by_test (bytes_eq name rule.name) (names_without P name rules all.1)
-  where
-    by_test : (b : Bool) → AllByRecursion P (names_of (without_rule name rules)) →
-        AllByRecursion P (names_of (cond b rules (rule ∷ without_rule name rules)))
-    by_test true rest = all.1
-    by_test false rest = (all.0, rest)
-
-pub own_without : (name : List ℕ) (rules : List Rule) → HaveOwnNames rules →
-    HaveOwnNames (without_rule name rules)
-own_without name [] own = own
-own_without name (rule ∷ rules) own =
-    by_test (bytes_eq name rule.name)
-    (own_without name rules (IsDistinct-tail bytes_eq rule.name (names_of rules) own))
-  where
-    by_test : (b : Bool) → HaveOwnNames (without_rule name rules) →
-        HaveOwnNames (cond b rules (rule ∷ without_rule name rules))
-    by_test true rest = IsDistinct-tail bytes_eq rule.name (names_of rules) own
-    by_test false rest =
-        IsDistinct-cons bytes_eq rule.name (names_of (without_rule name rules))
-        (names_without (λ other. bytes_eq rule.name other ≡ false) name rules
-        (IsDistinct-head bytes_eq rule.name (names_of rules) own))
-        rest
-
--- another name's rule stays
-named_without : (name other : List ℕ) (rules : List Rule) → bytes_eq other name ≡ false →
-    rule_named other (without_rule name rules) ≡ rule_named other rules
-named_without name other [] apart = refl
-named_without name other (rule ∷ rules) apart =
-    by_test (bytes_eq name rule.name) refl (named_without name other rules apart)
-  where
-    by_test : (b : Bool) → bytes_eq name rule.name ≡ b →
-        rule_named other (without_rule name rules) ≡ rule_named other rules →
-        rule_named other (cond b rules (rule ∷ without_rule name rules))
-        ≡ cond (bytes_eq other rule.name) (Some rule) (rule_named other rules)
-    by_test true e rest =
-        let none : bytes_eq other rule.name ≡ false =
-        sym (ap (bytes_eq other) (same_bytes name rule.name e)) ∙ apart in
-        sym (ap (λ b. cond b (Some rule) (rule_named other rules)) none)
-    by_test false e rest = ap (λ o. cond (bytes_eq other rule.name) (Some rule) o) rest
-
-half_without : (name : List ℕ) (rules : List Rule) (half : Half) (o : Option (List ℕ)) →
-    is_name name o ≡ false → IsNamed rules half o → IsNamed (without_rule name rules) half o
-half_without name rules half None apart named = tt
-half_without name rules half (Some other) apart (rule, found, of_half) =
-    (rule, named_without name other rules apart ∙ found, of_half)
-
--- the entries of a cycle that doesn't use it
-pub entries_without : (name : List ℕ) (rules : List Rule) (cycle : List NamedEntry) →
-    list_any (uses name) cycle ≡ false → AllByRecursion (IsEntry rules) cycle →
-    AllByRecursion (IsEntry (without_rule name rules)) cycle
-entries_without name rules [] unused are = tt
-entries_without name rules (entry ∷ cycle) unused are =
-    let (here, later) = neither (uses name entry) (list_any (uses name) cycle) unused in
-    let (a, b) = neither (is_name name entry.a) (is_name name entry.b) here in (
-      (
-        half_without name rules _ entry.a a are.0.0,
-        half_without name rules _ entry.b b are.0.1,
-        are.0.2,
-      ),
-      entries_without name rules cycle later are.1,
-    )
 
 -- numbers behind it, and before it
 behind : (number other : ℕ) → number < other → closed_up number other ≡ other - 1

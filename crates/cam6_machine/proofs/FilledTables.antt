@@ -13,8 +13,8 @@ use Rattle.cam6_cycle.specs.declared.entries.HalfRule.{HalfRule}
 use Rattle.cam6_cycle.specs.declared.tables.Direction.{Direction}
 use Rattle.cam6_cycle.specs.declared.tables.NeededTable.{NeededTable}
 use Rattle.cam6_cycle.proofs.Needed as needed
-use Rattle.cam6_machine.specs.Rules.{Rule}
-use Rattle.cam6_machine.specs.TrueTables.{IsTableFor}
+use Rattle.cam6_model.specs.Rules.{Rule}
+use Rattle.cam6_model.specs.TrueTables.{IsTableFor}
 use Rattle.cam6_machine.specs.Numbers.{rule_at, number_in, IsNumbered, AreNumbered, AreTables}
 use Rattle.cam6_machine.specs.Internal.Uses.{IsUse}
 

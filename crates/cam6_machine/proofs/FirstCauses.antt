@@ -7,10 +7,10 @@ use Rattle.std.proofs.lemmas.Bool.{eqb-true}
 use Rattle.cam6_block.specs.declared.refusals.NotReversible.{NotReversible}
 use Rattle.cam6_cycle.specs.declared.entries.Entry.{Entry}
 use Rattle.cam6_wiring.specs.declared.names.Half.TheVariants.{A, B}
-use Rattle.cam6_machine.specs.Rules.{Rule}
-use Rattle.cam6_machine.specs.Cycles.{EntryRules}
-use Rattle.cam6_machine.specs.Refusals.{or_then, rule_cause, cause_refusal, entry_cause, first_cause}
-use Rattle.cam6_machine.specs.Always.{HaveOwnNames}
+use Rattle.cam6_model.specs.Rules.{Rule}
+use Rattle.cam6_model.specs.Cycles.{EntryRules}
+use Rattle.cam6_model.specs.Refusals.{or_then, rule_cause, cause_refusal, entry_cause, first_cause}
+use Rattle.cam6_model.specs.Always.{HaveOwnNames}
 use Rattle.cam6_machine.specs.Numbers.{named_entries, rules_at, rule_at, number_in}
 use Rattle.cam6_machine.specs.Internal.Numbered.{is_number, uses_number}
 use Rattle.cam6_machine.specs.Internal.Uses.{HasNoCause}

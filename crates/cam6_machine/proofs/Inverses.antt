@@ -10,7 +10,7 @@ use Rattle.cam6_block.specs.RuleTables.{IsTableBy}
 use Rattle.cam6_block.proofs.Causes.{cause_is_found}
 use Rattle.cam6_block.proofs.RuleTables.{never_refused}
 use Rattle.cam6_block.specs.declared.refusals.NotReversible.{NotReversible}
-use Rattle.cam6_machine.specs.Rules.{Rule}
+use Rattle.cam6_model.specs.Rules.{Rule}
 use Rattle.cam6_machine.specs.Internal.Uses.{IsUsable}
 
 -- what is told of a try is the cause

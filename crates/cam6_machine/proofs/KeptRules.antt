@@ -9,8 +9,8 @@ use Rattle.std.proofs.lemmas.Iterator.Adapters.{position_from-zero}
 use Rattle.std.specs.String.{string_eq}
 use Rattle.std.proofs.lemmas.Option.{slice_get-map}
 use Rattle.indexmap.specs.IndexMap.{insert_entry}
-use Rattle.cam6_machine.specs.Effects.{with_rule, without_rule}
-use Rattle.cam6_machine.specs.Rules.{Rule, rule_named, wiring_for, wiring_of}
+use Rattle.cam6_model.specs.Effects.{with_rule, without_rule}
+use Rattle.cam6_model.specs.Rules.{Rule, rule_named, wiring_for, wiring_of}
 use Rattle.cam6_machine.specs.Numbers.{rule_at}
 use Rattle.cam6_machine.specs.Internal.Numbered.{rules_of, rule_number}
 use Rattle.cam6_machine.specs.declared.rules.KeptRule.{KeptRule}

@@ -1,13 +1,11 @@
 -- Numbers of rules, and their names: they say the same where the names are the rules' own.
-use Rattle.std.proofs.Common.{◌≡◌, ◌<◌, ℕ, zero, suc, Bool, true, false, ◌||◌, ◌==◌, List}
-use Rattle.std.proofs.Common.{[], ◌∷◌, map, length, Option, Some, None, cond, refl, sym, ap, ◌∙◌}
-use Rattle.std.proofs.Common.{arith, subst, inl, inr, option_map, slice_get, nat_le}
+use Rattle.std.proofs.Common.{◌≡◌, ◌<◌, ℕ, zero, suc, Bool, true, false, ◌||◌, ◌==◌, List, [], ◌∷◌}
+use Rattle.std.proofs.Common.{map, length, Option, Some, None, cond, refl, sym, ap, ◌∙◌, arith}
+use Rattle.std.proofs.Common.{subst, inl, inr, option_map, slice_get, nat_le}
 use Rattle.std.specs.List.{AllByRecursion, list_any}
 use Rattle.std.specs.Str.{bytes_eq}
 use Rattle.std.proofs.lemmas.Bool.Decides.{eqb_tells}
-use Rattle.std.proofs.lemmas.Map.Keys.{IsDistinct-head, IsDistinct-tail}
 use Rattle.std.proofs.lemmas.Option.{slice_get_within}
-use Rattle.std.proofs.lemmas.Slice.Eq.{bytes_eq-Decides}
 use Rattle.cam6_wiring.specs.declared.names.Half.{Half}
 use Rattle.cam6_wiring.specs.declared.names.Half.TheVariants.{A, B}
 use Rattle.cam6_wiring.specs.Name.{phase_number}
@@ -17,50 +15,22 @@ use Rattle.cam6_cycle.specs.declared.entries.Entry.{Entry}
 use Rattle.cam6_cycle.specs.declared.entries.HalfRule.{HalfRule}
 use Rattle.cam6_commands.specs.Limits.{max_rules}
 use Rattle.cam6_commands.specs.Names.{is_rule_name}
-use Rattle.cam6_machine.specs.Rules.{Rule, rule_named, rule_if_named}
-use Rattle.cam6_machine.specs.Cycles.{EntryRules, phase_of, entry_rules}
-use Rattle.cam6_machine.specs.Effects.{with_rule}
-use Rattle.cam6_machine.specs.Always.{HaveOwnNames, IsNamed, IsEntry}
-use Rattle.cam6_machine.specs.Refusals.{is_name, is_used, room_refusal, rule_refusal}
-use Rattle.cam6_machine.specs.Refusals.{gone_refusal, drop_refusal}
+use Rattle.cam6_model.specs.Rules.{Rule, rule_named, rule_if_named}
+use Rattle.cam6_model.specs.Cycles.{EntryRules, phase_of, entry_rules}
+use Rattle.cam6_model.specs.Effects.{with_rule}
+use Rattle.cam6_model.specs.Always.{HaveOwnNames, IsNamed, IsEntry}
+use Rattle.cam6_model.specs.Refusals.{is_name, is_used, room_refusal, rule_refusal, gone_refusal}
+use Rattle.cam6_model.specs.Refusals.{drop_refusal}
 use Rattle.cam6_machine.specs.Numbers.{rule_at, name_of, named_entry, named_entries, rules_at}
 use Rattle.cam6_machine.specs.Numbers.{AreNumbered, number_in, IsNumbered}
-use Rattle.cam6_machine.specs.Internal.Numbered.{rule_number, number_if_named, numbered_entry, IsNumber}
-use Rattle.cam6_machine.specs.Internal.Numbered.{is_number, uses_number, half_rule, half_rule_at}
+use Rattle.cam6_machine.specs.Internal.Numbered.{rule_number, number_if_named, numbered_entry}
+use Rattle.cam6_machine.specs.Internal.Numbered.{IsNumber, is_number, uses_number, half_rule}
+use Rattle.cam6_machine.specs.Internal.Numbered.{half_rule_at}
 use Rattle.cam6_commands.specs.declared.commands.NamedEntry.{NamedEntry}
 use Rattle.cam6_commands.specs.declared.faults.Fault.TheVariants.{RuleInUse, TooManyRules}
 use Rattle.cam6_commands.specs.declared.faults.Fault.TheVariants.{OutOfRange, NoRule}
-
--- names of rules
-abbrev pub names_of : List Rule → List (List ℕ)
-names_of rules = map (λ rule. rule.name) rules
-
-pub same_bytes : (a b : List ℕ) → bytes_eq a b ≡ true → a ≡ b
-same_bytes a b e = (bytes_eq-Decides a b).0 e
-
-pub bytes_eq-self : (a : List ℕ) → bytes_eq a a ≡ true
-bytes_eq-self a = (bytes_eq-Decides a a).1 refl
-
--- names that differ by their bytes are not one
-apart_names : (a b : List ℕ) → bytes_eq a b ≡ false → a ≡ b → ⊥
-apart_names a b e same = let one = (bytes_eq-Decides a b).1 same in cc (e, one)
-
-pub bytes_eq-flip : (a b : List ℕ) (t : Bool) → bytes_eq a b ≡ t → bytes_eq b a ≡ t
-bytes_eq-flip a b true e = (bytes_eq-Decides b a).1 (sym (same_bytes a b e))
-bytes_eq-flip a b false e = by_test (bytes_eq b a) refl
-  where
-    by_test : (t : Bool) → bytes_eq b a ≡ t → bytes_eq b a ≡ false
-    by_test false f = f
-    by_test true f = absurd (apart_names a b e (sym (same_bytes b a f)))
-
--- the first rule's name is none of the others', which are their own
-first_own : (first : Rule) (rules : List Rule) → HaveOwnNames (first ∷ rules) →
-    AllByRecursion (λ other. bytes_eq first.name other ≡ false) (names_of rules)
-first_own first rules own = IsDistinct-head bytes_eq first.name (names_of rules) own
-
-later_own : (first : Rule) (rules : List Rule) → HaveOwnNames (first ∷ rules) →
-    HaveOwnNames rules
-later_own first rules own = IsDistinct-tail bytes_eq first.name (names_of rules) own
+use Rattle.cam6_model.proofs.Names.{names_of, same_bytes, bytes_eq-self, apart_names, bytes_eq-flip}
+use Rattle.cam6_model.proofs.Names.{first_own, later_own, name_at_number}
 
 -- a name that is not among others is none of theirs
 not_later : (name : List ℕ) (rules : List Rule) (number : ℕ) (rule : Rule) →
@@ -208,21 +178,6 @@ own_number (head ∷ rules) (suc first) zero rule other own a b same =
     absurd (apart_names head.name rule.name apart equal)
 own_number (head ∷ rules) (suc first) (suc second) rule other own a b same =
     ap suc (own_number rules first second rule other (later_own head rules own) a b same)
-
--- the rule at a name's number has the name
-pub name_at_number : (name : List ℕ) (rules : List Rule) (rule : Rule) →
-    rule_named name rules ≡ Some rule → name ≡ rule.name
-name_at_number name [] rule found = cc found
-name_at_number name (first ∷ rules) rule found =
-    by_test (bytes_eq name first.name) refl found (λ f. name_at_number name rules rule f)
-  where
-    by_test : (b : Bool) → bytes_eq name first.name ≡ b →
-        cond b (Some first) (rule_named name rules) ≡ Some rule →
-        (rule_named name rules ≡ Some rule → name ≡ rule.name) → name ≡ rule.name
-    by_test true e found rest =
-        let is : first ≡ rule = cc found in
-        same_bytes name first.name e ∙ ap (λ r. r.name) is
-    by_test false e found rest = rest found
 
 module _ (rules : List Rule) (name : List ℕ) (number : ℕ) (rule : Rule) (own : HaveOwnNames rules)
     (here : slice_get rules number ≡ Some rule) (named : name ≡ rule.name) where

@@ -11,15 +11,15 @@ use Rattle.cam6_cycle.specs.declared.entries.HalfRule.{HalfRule}
 use Rattle.cam6_cycle.specs.declared.tables.Direction.{Direction}
 use Rattle.cam6_cycle.specs.declared.tables.Direction.TheVariants.{Forward, Backward}
 use Rattle.cam6_cycle.specs.declared.tables.NeededTable.{NeededTable}
-use Rattle.cam6_machine.specs.Rules.{Rule}
-use Rattle.cam6_machine.specs.Cycles.{entry_rules}
-use Rattle.cam6_machine.specs.Undoing.{IsReversibleEntry}
-use Rattle.cam6_machine.specs.Always.{HaveOwnNames}
-use Rattle.cam6_machine.specs.Machine.{machine_of}
+use Rattle.cam6_model.specs.Rules.{Rule}
+use Rattle.cam6_model.specs.Cycles.{entry_rules}
+use Rattle.cam6_model.specs.Undoing.{IsReversibleEntry}
+use Rattle.cam6_model.specs.Always.{HaveOwnNames}
+use Rattle.cam6_machine.specs.Stored.{machine_of}
 use Rattle.cam6_machine.specs.Numbers.{rule_at, rules_at, number_in, named_entries}
 use Rattle.cam6_machine.specs.Internal.Numbered.{stored}
 use Rattle.cam6_machine.specs.Internal.Uses.{IsUsable, AreUsable}
-use Rattle.cam6_machine.specs.Internal.Ways.{CanMove}
+use Rattle.cam6_model.specs.Moves.{CanMove}
 use Rattle.cam6_machine.proofs.Naming.{same_rules}
 
 -- of uses one behind the other

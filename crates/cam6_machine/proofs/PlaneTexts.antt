@@ -7,7 +7,7 @@ use Rattle.std.proofs.lemmas.List.FromFn.{map-range_with_len_more}
 use Rattle.cam6_planes.specs.Digits.{row_text}
 use Rattle.cam6_planes.specs.Cells.{Cells}
 use Rattle.cam6_planes.proofs.AsciiTexts.{row_text-ascii}
-use Rattle.cam6_machine.specs.Effects.{plane_rows}
+use Rattle.cam6_model.specs.Effects.{plane_rows}
 
 pub plane_rows-zero : (n : ℕ) (f : Cells) (p : ℕ) → plane_rows 0 n f p ≡ []
 unfolding plane_rows

@@ -1,85 +1,36 @@
--- The reply to a command and the machine after it, where it is refused and where it is not.
-use Rattle.std.proofs.Common.{◌≡◌, ◌∙◌, ℕ, zero, suc, false, List, map, Option, Some, None, sym, ap}
+-- The machine after a command, by what is stored then.
+use Rattle.std.proofs.Common.{◌≡◌, ◌∙◌, ℕ, false, List, map, Some, None, sym, ap}
 use Rattle.std.specs.List.{AllByRecursion, list_any}
-use Rattle.std.proofs.lemmas.Option.{same_Some}
 use Rattle.cam6_planes.specs.Row.{byte_column}
 use Rattle.cam6_planes.specs.Side.{side_number}
 use Rattle.cam6_planes.specs.Stored.{Stored, AreAlike}
 use Rattle.cam6_planes.specs.Cells.{Cells, cells, with_row, without_plane}
 use Rattle.cam6_wiring.specs.declared.wirings.Wiring.{Wiring}
-use Rattle.cam6_machine.specs.Rules as rule
-use Rattle.cam6_machine.specs.Stored.{StoredMachine}
-use Rattle.cam6_machine.specs.Machine.{Machine, machine_of}
-use Rattle.cam6_machine.specs.Refusals.{or_then, set_refusal, rule_refusal, cycle_refusal}
+use Rattle.cam6_model.specs.Rules as rule
+use Rattle.cam6_model.specs.Machine.{Machine}
+use Rattle.cam6_machine.specs.Stored.{machine_of}
+use Rattle.cam6_model.specs.Refusals.{or_then, set_refusal, rule_refusal, cycle_refusal}
+use Rattle.cam6_model.specs.Refusals.{words_refusal, fault_refusal, refusal, drop_refusal}
 use Rattle.cam6_commands.specs.Checks.{plane_refusal}
-use Rattle.cam6_machine.specs.Refusals.{words_refusal, fault_refusal, refusal}
-use Rattle.cam6_machine.specs.Refusals.{drop_refusal}
-use Rattle.cam6_machine.specs.Effects.{accepted, effect, with_rule, without_rule}
-use Rattle.cam6_machine.specs.Always.{IsEntry}
-use Rattle.cam6_machine.specs.Alone.{if_refused, reply, after, some_steps, work_of, command_of}
+use Rattle.cam6_model.specs.Effects.{accepted, with_rule, without_rule}
+use Rattle.cam6_model.specs.Always.{IsEntry}
+use Rattle.cam6_model.specs.Alone.{reply, after, command_of}
 use Rattle.cam6_machine.specs.Numbers.{named_entries, AreNumbered}
 use Rattle.cam6_machine.specs.Internal.Numbered.{numbered_entry, stored, rule_number, uses_number}
 use Rattle.cam6_machine.specs.Internal.Numbered.{closed_entry}
-use Rattle.cam6_machine.specs.Internal.Ways.{moved, reply_at}
+use Rattle.cam6_model.specs.Moves.{moved}
+use Rattle.cam6_machine.specs.Internal.Ways.{reply_at}
 use Rattle.cam6_machine.proofs.Dropped.{names_closed}
-use Rattle.cam6_commands.specs.declared.commands.Command.{Command}
 use Rattle.cam6_commands.specs.declared.commands.Command.TheVariants.{Set, Rule, Cycle, Run, Back}
-use Rattle.cam6_commands.specs.declared.commands.Command.TheVariants.{Row}
-use Rattle.cam6_commands.specs.declared.commands.Command.TheVariants.{Plane, Side, Clear, Drop}
-use Rattle.cam6_commands.specs.declared.commands.Command.TheVariants.{Rules, Map, Colours, Count}
+use Rattle.cam6_commands.specs.declared.commands.Command.TheVariants.{Clear, Drop}
 use Rattle.cam6_cycle.specs.declared.tables.Direction.{Direction}
 use Rattle.cam6_cycle.specs.declared.tables.Direction.TheVariants.{Forward, Backward}
 use Rattle.cam6_commands.specs.declared.commands.NamedEntry.{NamedEntry}
 use Rattle.cam6_cycle.specs.declared.entries.Entry.{Entry}
-use Rattle.cam6_commands.specs.declared.refusals.Refusal.{Refusal}
 use Rattle.cam6_commands.specs.declared.replies.Done.TheVariants as done
 use Rattle.cam6_commands.specs.declared.replies.Reply.TheVariants as replies
 use Rattle.cam6_machine.proofs.Naming.{entries_with, named_back}
-
-pub reply-refused : (m : Machine) (c : Command) (r : Refusal) → refusal m c ≡ Some r →
-    reply m c ≡ replies.Refused r
-reply-refused m c r e = ap (λ o. if_refused o (λ r. replies.Refused r) (replies.Done (accepted m c))) e
-
-pub after-refused : (m : Machine) (c : Command) (r : Refusal) → refusal m c ≡ Some r →
-    after m c ≡ m
-after-refused m c r e = ap (λ o. if_refused o (λ r. m) (effect m c)) e
-
-pub reply-accepted : (m : Machine) (c : Command) → refusal m c ≡ None →
-    reply m c ≡ replies.Done (accepted m c)
-reply-accepted m c e = ap (λ o. if_refused o (λ r. replies.Refused r) (replies.Done (accepted m c))) e
-
-pub after-accepted : (m : Machine) (c : Command) → refusal m c ≡ None →
-    after m c ≡ effect m c
-after-accepted m c e = ap (λ o. if_refused o (λ r. m) (effect m c)) e
-
--- so many steps in a direction, if any, are the work of their command
-some_work : (k n : ℕ) (way direction : Direction) (o : Option Refusal) →
-    if_refused o (λ r. None) (some_steps k way) ≡ Some (n, direction) →
-    command_of n direction ≡ command_of k way
-some_work zero n way direction None e = cc e
-some_work (suc k) n way direction None e =
-    let same = same_Some (suc k, way) (n, direction) e in
-    sym (ap (λ (w : ℕ × Direction). command_of w.0 w.1) same)
-some_work k n way direction (Some r) e = cc e
-
-pub command_is : (m : Machine) (c : Command) (n : ℕ) (direction : Direction) →
-    work_of m c ≡ Some (n, direction) → command_of n direction ≡ c
-command_is m (Set plane row bits) n direction e = cc e
-command_is m (Rule name wiring text) n direction e = cc e
-command_is m (Clear plane) n direction e = cc e
-command_is m (Drop name) n direction e = cc e
-command_is m Rules n direction e = cc e
-command_is m (Map colours) n direction e = cc e
-command_is m (Colours row) n direction e = cc e
-command_is m (Count mask) n direction e = cc e
-command_is m (Cycle entries) n direction e = cc e
-command_is m (Row plane row) n direction e = cc e
-command_is m (Plane plane) n direction e = cc e
-command_is m (Side side) n direction e = cc e
-command_is m (Run steps) n direction e =
-    some_work steps n Forward direction (refusal m (Run steps)) e
-command_is m (Back steps) n direction e =
-    some_work steps n Backward direction (refusal m (Back steps)) e
+use Rattle.cam6_model.proofs.Refusing.{reply-accepted, after-accepted}
 
 -- a rule that was put, with what was said of it
 pub put_as : (rules new : List rule.Rule) (name text said_text : List ℕ)
@@ -137,20 +88,6 @@ module _ (planes : Stored) (rules : List rule.Rule) (cycle : List Entry) (positi
       (names_closed name rules number found cycle unused) ∙
       sym (after-accepted m (Drop name) (ap fault_refusal accepted))
 
-  -- what is stored then
-  pub stored-drop : (name : List ℕ) (new : List rule.Rule) (number : ℕ) (closed : List Entry) →
-      rule_number name rules ≡ Some number → list_any (uses_number number) cycle ≡ false →
-      new ≡ without_rule name rules → closed ≡ map (closed_entry number) cycle →
-      stored planes new closed position colours
-      ≡ record (stored planes rules cycle position colours) { rules = new }
-  stored-drop name new number closed found unused dropped are_closed =
-      ap {B = StoredMachine} (λ l. record (stored planes rules cycle position colours) {
-        rules = new;
-        cycle = l;
-      }) (ap (λ l. named_entries l closed) dropped ∙
-      ap (named_entries (without_rule name rules)) are_closed ∙
-      names_closed name rules number found cycle unused)
-
   -- after a rule was put
   pub after-rule : (name text : List ℕ) (wiring : Wiring) (new : List rule.Rule) →
       AreNumbered rules cycle → None ≡ rule_refusal rules (named_entries rules cycle) name →
@@ -181,17 +118,6 @@ module _ (planes : Stored) (rules : List rule.Rule) (cycle : List Entry) (positi
       ap {B = Machine} (λ l. record m { cycle = l; position = 0 })
       (named_back rules entries are) ∙
       sym (after-accepted m (Cycle entries) accepted)
-
-  -- what is stored then
-  pub stored-rule : (new_rule : rule.Rule) (new : List rule.Rule) → AreNumbered rules cycle →
-      new ≡ with_rule new_rule rules →
-      stored planes new cycle position colours
-      ≡ record (stored planes rules cycle position colours) { rules = new }
-  stored-rule new_rule new numbered put =
-      ap {B = StoredMachine} (λ l. record (stored planes rules cycle position colours) {
-        rules = new;
-        cycle = l;
-      }) (ap (λ l. named_entries l cycle) put ∙ entries_with new_rule rules cycle numbered)
 
   -- the machine after steps that were done
   pub after-moves : (new : Stored) (last n : ℕ) (direction : Direction) →

@@ -10,8 +10,8 @@ use Rattle.cam6_cycle.specs.declared.tables.Direction.{Direction}
 use Rattle.cam6_cycle.specs.declared.tables.Direction.TheVariants.{Forward}
 use Rattle.cam6_band.specs.AtPosition.{half_at}
 use Rattle.cam6_band.proofs.Uses.{as_many, same_length, step_is}
-use Rattle.cam6_machine.specs.Rules.{Rule}
-use Rattle.cam6_machine.specs.TrueTables.{IsTableFor, HasTableFor, AreTablesFor}
+use Rattle.cam6_model.specs.Rules.{Rule}
+use Rattle.cam6_model.specs.TrueTables.{IsTableFor, HasTableFor, AreTablesFor}
 use Rattle.cam6_machine.specs.Numbers.{rule_at, number_in, rules_at, IsNumbered}
 use Rattle.cam6_machine.specs.Laws.{TablesByUse}
 use Rattle.cam6_machine.proofs.FilledTables.{first_table, second_table, numbered_at}

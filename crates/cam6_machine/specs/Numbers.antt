@@ -6,9 +6,9 @@ use Rattle.cam6_cycle.specs.declared.entries.Entry.{Entry}
 use Rattle.cam6_cycle.specs.declared.entries.HalfRule.{HalfRule}
 use Rattle.cam6_cycle.specs.declared.tables.Direction.{Direction}
 use Rattle.cam6_cycle.specs.declared.tables.NeededTable.{NeededTable}
-use Rattle.cam6_machine.specs.Rules.{Rule}
-use Rattle.cam6_machine.specs.Cycles.{EntryRules}
-use Rattle.cam6_machine.specs.TrueTables.{IsTableFor}
+use Rattle.cam6_model.specs.Rules.{Rule}
+use Rattle.cam6_model.specs.Cycles.{EntryRules}
+use Rattle.cam6_model.specs.TrueTables.{IsTableFor}
 use Rattle.cam6_commands.specs.declared.commands.NamedEntry.{NamedEntry}
 
 -- the rule at a number, if there is a number and a rule at it

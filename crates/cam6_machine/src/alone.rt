@@ -1,7 +1,8 @@
 //! A machine that nobody shares.
 ghost use Rattle.std.specs.Prelude.{◌≡◌, IfOk};
-ghost use Rattle.cam6_machine.specs.Machine.{blank, machine_of};
-ghost use Rattle.cam6_machine.specs.Alone.{replies, after_all};
+ghost use Rattle.cam6_model.specs.Machine.{blank};
+ghost use Rattle.cam6_machine.specs.Stored.{machine_of};
+ghost use Rattle.cam6_model.specs.Alone.{replies, after_all};
 
 use crate::machines::Machine;
 use cam6_commands::{Command, Reply};

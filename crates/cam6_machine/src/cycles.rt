@@ -1,7 +1,7 @@
 //! A cycle as a machine keeps it: by the numbers of its rules.
 ghost use Rattle.std.specs.Prelude.{◌≡◌, ◌≤◌, length, map};
 ghost use Rattle.cam6_cycle.specs.declared.cycles.TheConstants.{MAX_ENTRIES};
-ghost use Rattle.cam6_machine.specs.Cycles.{phase_of};
+ghost use Rattle.cam6_model.specs.Cycles.{phase_of};
 ghost use Rattle.cam6_machine.specs.Internal.Numbered.{rules_of, number_if_named, numbered_entry};
 ghost use Rattle.cam6_machine.specs.Internal.Numbered.{half_rule_at, entries_of, closed_half};
 ghost use Rattle.cam6_machine.specs.Internal.Numbered.{closed_entry};

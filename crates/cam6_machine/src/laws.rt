@@ -1,16 +1,5 @@
-//! What follows of the definition of steps, and what a machine always is. Each law is the contract
-//! of a function that does nothing.
-ghost use Rattle.cam6_machine.specs.Laws.{TrueTablesStep, TablesByUse, NumbersAndNames};
-ghost use Rattle.cam6_machine.specs.Laws.{KeepsItsPlanes, StepsAddUp};
-ghost use Rattle.cam6_machine.specs.Laws.{OnlyPlanesAndPosition, PositionGoesRound};
-ghost use Rattle.cam6_machine.specs.Laws.{BlankIsMachine, StaysMachine, RulesRun, LimitStays};
-ghost use Rattle.cam6_machine.specs.Laws.{StepChangesBlocks, InvertedTablesUndo};
-ghost use Rattle.cam6_machine.specs.Laws.{UndoingUndoes, DoingRedoes, BackGivesTheMachineBack};
-
-/// By the tables of an entry's rules, a step makes of planes what the rules' words make of them.
-pub fn true_tables_step_as_words_do()
-    ensures law { TrueTablesStep }
-{}
+//! What follows of rules by their numbers. Each law is the contract of a function that does nothing.
+ghost use Rattle.cam6_machine.specs.Laws.{TablesByUse, NumbersAndNames};
 
 /// Where tables lie as a cycle needs them, those of a position are the tables of its entry's rules.
 pub fn the_tables_of_a_position_are_its_entrys()
@@ -20,71 +9,4 @@ pub fn the_tables_of_a_position_are_its_entrys()
 /// An entry's rules by their numbers are its rules by their names.
 pub fn numbers_and_names_of_rules_agree()
     ensures law { NumbersAndNames }
-{}
-
-/// A half without a rule keeps its planes.
-pub fn a_half_without_a_rule_keeps_its_planes()
-    ensures law { KeepsItsPlanes }
-{}
-
-/// Some steps and then more are all of them together.
-pub fn steps_add_up()
-    ensures law { StepsAddUp }
-{}
-
-/// Steps change planes and position, and nothing else.
-pub fn steps_change_planes_and_position_alone()
-    ensures law { OnlyPlanesAndPosition }
-{}
-
-/// The position moves on by one with each step, round the cycle.
-pub fn the_position_goes_round()
-    ensures law { PositionGoesRound }
-{}
-
-/// A blank machine is a machine, of whatever limit: it is what a machine always is.
-pub fn the_blank_machine_is_one()
-    ensures law { BlankIsMachine }
-{}
-
-/// After any command a machine is still a machine.
-pub fn a_machine_stays_one()
-    ensures law { StaysMachine }
-{}
-
-/// The rules that a machine's cycle names are there, and stop nowhere, whatever is seen.
-pub fn the_rules_of_a_cycle_run()
-    ensures law { RulesRun }
-{}
-
-/// No command changes a machine's limit.
-pub fn the_limit_stays()
-    ensures law { LimitStays }
-{}
-
-/// A step by rules that see their blocks alone changes each block as a whole.
-pub fn a_step_changes_blocks()
-    ensures law { StepChangesBlocks }
-{}
-
-/// By the tables that undo an entry's rules, a step is the entry's step undone.
-pub fn inverted_tables_undo_a_step()
-    ensures law { InvertedTablesUndo }
-{}
-
-/// Steps that are done and then undone give the machine back, where every rule of the cycle can be
-/// undone.
-pub fn undoing_gives_the_machine_back()
-    ensures law { UndoingUndoes }
-{}
-
-/// And so do steps that are undone and then done.
-pub fn doing_again_gives_the_machine_back()
-    ensures law { DoingRedoes }
-{}
-
-/// A machine that may go back gives, run and then taken back as far, the machine that it was; and
-/// so it does taken back and then run.
-pub fn a_back_that_is_accepted_undoes_a_run()
-    ensures law { BackGivesTheMachineBack }
 {}

@@ -2,10 +2,9 @@
 //! does to them.
 //!
 //! Contract: what `Machine::now` and `Machine::work` answer, and the machine after them, are the
-//! `reply` to a command and the machine `after` it (`specs/Alone.antt`), where one step takes all
-//! cells at once to what the words of the rules make of them (`specs/Steps.antt`). A refused
-//! command, or one that found no memory, leaves the machine. `replies_alone` does a whole list of
-//! commands.
+//! `reply` to a command and the machine `after` it, as `cam6_model` says what these are: by the
+//! words of the rules at each cell, and back block by block. A refused command, or one that found
+//! no memory, leaves the machine. `replies_alone` does a whole list of commands.
 //!
 //! So, of a blank machine: `Run { n: 1 }` is refused with `Fault::NoCycle`, and nothing changes.
 //! After a rule R of half A, `: R NORTH >PLN0 ;`, a cycle of the one entry R and a cell set at row
@@ -18,20 +17,13 @@
 //!
 //! `Machine::now` leaves steps to do exactly for a run, or for going back, that is accepted and has
 //! at least one; memory is wanted where a text is kept or a reply has rows, and nowhere else
-//! (`may_want_memory` of `specs/AtOnce.antt`). `Machine::work` takes none; its tables are proved to
-//! be the rules' words, or what undoes them. The laws: steps that are done and undone, or undone
-//! and done, give the machine back; a step by rules of blocks changes blocks as a whole, and one by
-//! inverted tables is one undone; a step by tables is the step by the rules' words where the tables
-//! are theirs (`specs/TrueTables.antt`), and so they are at each position, where they lie as the
-//! cycle needs them; an entry's rules by their numbers are its rules by their names
-//! (`specs/Numbers.antt`); what a machine always is (`specs/Always.antt`), which `Machine::limit`
-//! tells of any, the blank one is, and stays whatever it is commanded in UTF-8; no command changes
-//! its limit; the rules that its cycle names run, whatever is seen; a half without a rule keeps its
-//! planes; some steps and then more are all of them together; steps change planes and position
-//! alone; the position goes round the cycle.
+//! (`may_want_memory`). `Machine::work` takes none; its tables are proved to be the rules' words, or
+//! what undoes them. `Machine::limit` tells of any machine what it always is. The laws here are of
+//! rules by their numbers (`specs/Numbers.antt`): an entry has the rules that it has by name; where
+//! tables lie as the cycle needs them, those of a position are the tables of its entry's rules.
 //!
 //! Stands on: `cam6_planes`, `cam6_wiring`, `cam6_forth`, `cam6_table`, `cam6_block`, `cam6_band`,
-//! `cam6_view`, `cam6_cycle`, `cam6_commands`, and on `arrayvec` and `indexmap`.
+//! `cam6_view`, `cam6_cycle`, `cam6_commands`, `cam6_model`, and on `arrayvec` and `indexmap`.
 //!
 //! Read next: `replies`, what is said at once; `rules` and `cycles`, what a machine keeps;
 //! `tables`, by which it steps, `steps`, one step, and `runs`, steps along a cycle, forward and

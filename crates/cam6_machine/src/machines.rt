@@ -2,7 +2,7 @@
 ghost use Rattle.std.specs.Prelude.{◌≡◌, ◌≤◌, IfOk};
 ghost use Rattle.cam6_planes.specs.Cells.{cells, no_cells};
 ghost use Rattle.cam6_planes.specs.Side.{side_number};
-ghost use Rattle.cam6_machine.specs.Machine.{first_side};
+ghost use Rattle.cam6_model.specs.Machine.{first_side};
 ghost use Rattle.cam6_machine.specs.Internal.Ways.{reply_at, work_or_reply};
 
 use crate::cycles::{closed_cycle, entries_of, numbered_cycle};
@@ -52,9 +52,8 @@ pub struct Machine {
 impl Model for Machine {
     ghost use Rattle.std.specs.Prelude.{◌≡◌, ◌*◌, vec_len, IsSome};
     ghost use Rattle.cam6_cycle.specs.Limits.{max_entries};
-    ghost use Rattle.cam6_machine.specs.Stored.{StoredMachine};
-    ghost use Rattle.cam6_machine.specs.Machine.{machine_of};
-    ghost use Rattle.cam6_machine.specs.Always.{IsMachine};
+    ghost use Rattle.cam6_machine.specs.Stored.{StoredMachine, machine_of};
+    ghost use Rattle.cam6_model.specs.Always.{IsMachine};
     ghost use Rattle.cam6_machine.specs.Internal.Images.{planes_of};
     ghost use Rattle.cam6_machine.specs.Numbers.{AreNumbered};
     ghost use Rattle.cam6_machine.specs.Internal.Numbered.{rules_of, entries_of, stored};
@@ -76,13 +75,13 @@ impl Model for Machine {
 
 impl Machine {
     ghost use Rattle.std.specs.Prelude.{false, None, IsOk, OnErr};
-    ghost use Rattle.cam6_machine.specs.Machine.{blank, machine_of};
-    ghost use Rattle.cam6_machine.specs.Refusals.{refusal};
-    ghost use Rattle.cam6_machine.specs.Alone.{reply, after, work_of, command_of};
-    ghost use Rattle.cam6_machine.specs.AtOnce.{work_in, IsReplyTo, machine_then};
-    ghost use Rattle.cam6_machine.specs.AtOnce.{StaysAfter, StaysUnless, CanWork};
-    ghost use Rattle.cam6_machine.specs.AtOnce.{keeps_text, has_rows, may_want_memory};
-    ghost use Rattle.cam6_machine.specs.Always.{IsMachine};
+    ghost use Rattle.cam6_model.specs.Machine.{blank};
+    ghost use Rattle.cam6_machine.specs.Stored.{machine_of};
+    ghost use Rattle.cam6_model.specs.Refusals.{refusal};
+    ghost use Rattle.cam6_model.specs.Alone.{reply, after, work_of, command_of};
+    ghost use Rattle.cam6_machine.specs.AtOnce.{work_in, IsReplyTo, machine_then, CanWork};
+    ghost use Rattle.cam6_model.specs.Memory.{keeps_text, has_rows, may_want_memory};
+    ghost use Rattle.cam6_model.specs.Always.{IsMachine};
 
     /// A machine with blank planes, no rules and no cycle, whose side is the lesser of 256 and the
     /// limit.
@@ -126,7 +125,6 @@ impl Machine {
         ensures reply { IfOk result (λ now. IsReplyTo now (machine_of self.old) command) }
         ensures machine { IfOk result (λ now.
             machine_of self.new ≡ machine_then now (machine_of self.old) command) }
-        ensures others { IfOk result (λ now. StaysUnless now self.old self.new) }
         ensures ready { IfOk result (λ now. CanWork now (machine_of self.new)) }
         ensures err { OnErr result (self.new ≡ self.old) }
         // Memory is wanted where a text is kept, or the reply has rows.
@@ -156,7 +154,6 @@ impl Machine {
         ensures reply { result ≡ reply (machine_of self.old) (Command.Set plane row bits.now) }
         ensures machine { machine_of self.new
             ≡ after (machine_of self.old) (Command.Set plane row bits.now) }
-        ensures others { StaysAfter result self.old self.new }
     {
         let Some(image) = &mut self.image else {
             unreachable!()
@@ -175,7 +172,6 @@ impl Machine {
         ensures reply { result ≡ reply (machine_of self.old) (Command.Clear plane) }
         ensures machine { machine_of self.new
             ≡ after (machine_of self.old) (Command.Clear plane) }
-        ensures others { StaysAfter result self.old self.new }
     {
         let Some(image) = &mut self.image else {
             unreachable!()
@@ -192,7 +188,6 @@ impl Machine {
         ensures reply { result ≡ reply (machine_of self.old) (Command.Side number) }
         ensures machine { machine_of self.new
             ≡ after (machine_of self.old) (Command.Side number) }
-        ensures others { StaysAfter result self.old self.new }
     {
         let Some(image) = &mut self.image else {
             unreachable!()
@@ -213,7 +208,6 @@ impl Machine {
             r ≡ reply (machine_of self.old) (Command.Rule name wiring text)) }
         ensures machine { IfOk result (λ r.
             machine_of self.new ≡ after (machine_of self.old) (Command.Rule name wiring text)) }
-        ensures others { IfOk result (λ r. StaysAfter r self.old self.new) }
         ensures err { OnErr result (self.new ≡ self.old) }
         ensures memory { keeps_text (machine_of self.old) (Command.Rule name wiring text) ≡ false
             → IsOk result }
@@ -238,7 +232,6 @@ impl Machine {
         ensures reply { result ≡ reply (machine_of self.old) (Command.Drop name.now) }
         ensures machine { machine_of self.new
             ≡ after (machine_of self.old) (Command.Drop name.now) }
-        ensures others { StaysAfter result self.old self.new }
     {
         let cycle = entries_of(&self.cycle);
         match accept_drop(&self.rules, cycle, name) {
@@ -254,7 +247,6 @@ impl Machine {
     fn list_rules(&self) -> Result<Reply, NoMemory>
         ensures reply { IfOk result (λ r. r ≡ reply (machine_of self.now) Command.Rules) }
         ensures machine { machine_of self.now ≡ after (machine_of self.now) Command.Rules }
-        ensures others { IfOk result (λ r. StaysAfter r self.now self.now) }
         ensures memory { has_rows (reply (machine_of self.now) Command.Rules) ≡ false
             → IsOk result }
     {
@@ -266,7 +258,6 @@ impl Machine {
         ensures reply { result ≡ reply (machine_of self.old) (Command.Map colours.now) }
         ensures machine { machine_of self.new
             ≡ after (machine_of self.old) (Command.Map colours.now) }
-        ensures others { StaysAfter result self.old self.new }
     {
         match accept_colours(colours) {
             Ok(kept) => {
@@ -281,7 +272,6 @@ impl Machine {
         ensures reply { result ≡ reply (machine_of self.old) (Command.Cycle entries.now) }
         ensures machine { machine_of self.new
             ≡ after (machine_of self.old) (Command.Cycle entries.now) }
-        ensures others { StaysAfter result self.old self.new }
     {
         if let Err(fault) = accept_cycle(&self.rules, entries) {
             return Reply::Refused(Refusal::Fault(fault));
@@ -297,7 +287,6 @@ impl Machine {
         ensures reply { IsReplyTo result (machine_of self.now) (Command.Run n) }
         ensures machine { machine_of self.now
             ≡ machine_then result (machine_of self.now) (Command.Run n) }
-        ensures others { StaysUnless result self.now self.now }
         ensures ready { CanWork result (machine_of self.now) }
     {
         match accept_run(entries_of(&self.cycle), n) {
@@ -312,7 +301,6 @@ impl Machine {
         ensures reply { IsReplyTo result (machine_of self.old) (Command.Back n) }
         ensures machine { machine_of self.new
             ≡ machine_then result (machine_of self.old) (Command.Back n) }
-        ensures others { StaysUnless result self.old self.new }
         ensures ready { CanWork result (machine_of self.new) }
     {
         let entries = entries_of(&self.cycle);
@@ -331,7 +319,6 @@ impl Machine {
         ensures reply { result ≡ reply (machine_of self.now) (Command.Row plane row) }
         ensures machine { machine_of self.now
             ≡ after (machine_of self.now) (Command.Row plane row) }
-        ensures others { StaysAfter result self.now self.now }
     {
         let Some(image) = &self.image else {
             unreachable!()
@@ -350,7 +337,6 @@ impl Machine {
         ensures reply { IfOk result (λ r.
             r ≡ reply (machine_of self.now) (Command.Plane plane)) }
         ensures machine { machine_of self.now ≡ after (machine_of self.now) (Command.Plane plane) }
-        ensures others { IfOk result (λ r. StaysAfter r self.now self.now) }
         ensures memory { has_rows (reply (machine_of self.now) (Command.Plane plane)) ≡ false
             → IsOk result }
     {
@@ -369,7 +355,6 @@ impl Machine {
     fn show_colours(&self, row: u64) -> Reply
         ensures reply { result ≡ reply (machine_of self.now) (Command.Colours row) }
         ensures machine { machine_of self.now ≡ after (machine_of self.now) (Command.Colours row) }
-        ensures others { StaysAfter result self.now self.now }
     {
         let Some(image) = &self.image else {
             unreachable!()
@@ -386,7 +371,6 @@ impl Machine {
     fn count_cells(&self, mask: u64) -> Reply
         ensures reply { result ≡ reply (machine_of self.now) (Command.Count mask) }
         ensures machine { machine_of self.now ≡ after (machine_of self.now) (Command.Count mask) }
-        ensures others { StaysAfter result self.now self.now }
     {
         let Some(image) = &self.image else {
             unreachable!()
@@ -406,8 +390,6 @@ impl Machine {
         ensures reply { result ≡ reply (machine_of self.old) (command_of n direction) }
         ensures machine { machine_of self.new
             ≡ after (machine_of self.old) (command_of n direction) }
-        ensures others { self.new
-            ≡ record self.old { planes = self.new.planes; position = self.new.position } }
     {
         let Some(cycle) = &self.cycle else {
             unreachable!()

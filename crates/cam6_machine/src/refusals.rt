@@ -10,17 +10,17 @@ ghost use Rattle.cam6_commands.specs.Limits.{max_colour};
 ghost use Rattle.cam6_commands.specs.Checks.{unless};
 ghost use Rattle.cam6_commands.specs.declared.faults.Fault.TheVariants.{OutOfRange};
 ghost use Rattle.cam6_cycle.specs.declared.cycles.TheConstants.{MAX_ENTRIES};
-ghost use Rattle.cam6_machine.specs.Rules.{Rule};
+ghost use Rattle.cam6_model.specs.Rules.{Rule};
 ghost use Rattle.cam6_machine.specs.Numbers.{named_entries, number_in};
 ghost use Rattle.cam6_machine.specs.Internal.Numbered.{rules_of, uses_number, is_number};
 ghost use Rattle.cam6_machine.specs.Internal.Numbered.{rule_number};
-ghost use Rattle.cam6_machine.specs.Refusals.{plane_row_refusal, set_refusal};
-ghost use Rattle.cam6_machine.specs.Refusals.{run_refusal, side_refusal};
-ghost use Rattle.cam6_machine.specs.Refusals.{rule_refusal, cycle_refusal, is_named_cycle};
-ghost use Rattle.cam6_machine.specs.Refusals.{have_phases};
-ghost use Rattle.cam6_machine.specs.Refusals.{first_refusal, entry_refusal, half_refusal};
-ghost use Rattle.cam6_machine.specs.Refusals.{drop_refusal, map_refusal};
-ghost use Rattle.cam6_machine.specs.Always.{HaveOwnNames};
+ghost use Rattle.cam6_model.specs.Refusals.{plane_row_refusal, set_refusal};
+ghost use Rattle.cam6_model.specs.Refusals.{run_refusal, side_refusal};
+ghost use Rattle.cam6_model.specs.Refusals.{rule_refusal, cycle_refusal, is_named_cycle};
+ghost use Rattle.cam6_model.specs.Refusals.{have_phases};
+ghost use Rattle.cam6_model.specs.Refusals.{first_refusal, entry_refusal, half_refusal};
+ghost use Rattle.cam6_model.specs.Refusals.{drop_refusal, map_refusal};
+ghost use Rattle.cam6_model.specs.Always.{HaveOwnNames};
 
 use crate::rules::{KeptRule, rule_number, wiring_of};
 use cam6_commands::{

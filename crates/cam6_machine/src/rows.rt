@@ -5,7 +5,7 @@ ghost use Rattle.cam6_planes.specs.Cells.{cells};
 ghost use Rattle.cam6_planes.specs.Stored.{width};
 ghost use Rattle.cam6_view.specs.States.{row_colours};
 ghost use Rattle.cam6_commands.specs.Limits.{max_colour};
-ghost use Rattle.cam6_machine.specs.Effects.{plane_rows};
+ghost use Rattle.cam6_model.specs.Effects.{plane_rows};
 
 use cam6_band::AtRest;
 use cam6_commands::{PlaneRows, RowColours, RowText};

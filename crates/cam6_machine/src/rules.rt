@@ -1,8 +1,8 @@
 //! The rules of a machine, by name, in the order in which their names came first.
 ghost use Rattle.std.specs.Prelude.{◌≡◌, ◌≢◌, false, [], map, Err, IfOk, IsOk, OnOk, OnErr};
 ghost use Rattle.cam6_forth.specs.Reading.{keeps};
-ghost use Rattle.cam6_machine.specs.Effects.{with_rule, without_rule};
-ghost use Rattle.cam6_machine.specs.Rules.{wiring_of};
+ghost use Rattle.cam6_model.specs.Effects.{with_rule, without_rule};
+ghost use Rattle.cam6_model.specs.Rules.{wiring_of};
 ghost use Rattle.cam6_machine.specs.Internal.Numbered.{rules_of, rule_number, wiring_at};
 ghost use Rattle.cam6_machine.specs.Internal.Verdicts.{IsVerdict};
 

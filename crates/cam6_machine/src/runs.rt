@@ -2,12 +2,12 @@
 ghost use Rattle.std.specs.Prelude.{◌≡◌, ◌<◌, ℕ, List, length};
 ghost use Rattle.cam6_cycle.specs.Tables.{tables_needed};
 ghost use Rattle.cam6_cycle.specs.declared.tables.TheConstants.{MAX_TABLES};
-ghost use Rattle.cam6_machine.specs.Rules.{Rule};
-ghost use Rattle.cam6_machine.specs.Machine.{machine_of};
+ghost use Rattle.cam6_model.specs.Rules.{Rule};
+ghost use Rattle.cam6_machine.specs.Stored.{machine_of};
 ghost use Rattle.cam6_machine.specs.Numbers.{AreNumbered, AreTables};
 ghost use Rattle.cam6_machine.specs.Internal.Numbered.{stored};
-ghost use Rattle.cam6_machine.specs.Internal.Ways.{moved, CanMove};
-ghost use Rattle.cam6_machine.specs.Always.{HaveOwnNames};
+ghost use Rattle.cam6_model.specs.Moves.{moved, CanMove};
+ghost use Rattle.cam6_model.specs.Always.{HaveOwnNames};
 
 use crate::steps::step;
 use cam6_band::{AtRest, go_by};

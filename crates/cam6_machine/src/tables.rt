@@ -7,7 +7,7 @@ ghost use Rattle.cam6_cycle.specs.declared.tables.TheConstants.{MAX_TABLES};
 ghost use Rattle.cam6_machine.specs.Numbers.{rule_at, AreTables};
 ghost use Rattle.cam6_machine.specs.Internal.Numbered.{rules_of};
 ghost use Rattle.cam6_machine.specs.Internal.Uses.{IsUse, IsUsable, AreUsable};
-ghost use Rattle.cam6_machine.specs.TrueTables.{IsTableFor};
+ghost use Rattle.cam6_model.specs.TrueTables.{IsTableFor};
 
 use crate::rules::KeptRule;
 use cam6_cycle::{Cycle, Direction, MAX_TABLES, NeededTable};

@@ -2,8 +2,8 @@
 ghost use Rattle.std.specs.Prelude.{◌≡◌};
 ghost use Rattle.std.specs.Result.{result_err};
 ghost use Rattle.std.specs.List.{AllByRecursion};
-ghost use Rattle.cam6_machine.specs.Refusals.{rule_cause, first_cause};
-ghost use Rattle.cam6_machine.specs.Always.{HaveOwnNames};
+ghost use Rattle.cam6_model.specs.Refusals.{rule_cause, first_cause};
+ghost use Rattle.cam6_model.specs.Always.{HaveOwnNames};
 ghost use Rattle.cam6_machine.specs.Numbers.{rule_at, number_in, named_entries};
 ghost use Rattle.cam6_machine.specs.Internal.Numbered.{rules_of};
 ghost use Rattle.cam6_machine.specs.Internal.Uses.{HasNoCause};

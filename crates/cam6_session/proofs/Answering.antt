@@ -2,8 +2,8 @@
 use Rattle.std.proofs.Common.{◌≡◌, ℕ, List, [], ◌∷◌, ◌++◌, Result, Ok, Err, refl, sym, ap, ◌∙◌}
 use Rattle.std.proofs.Common.{subst, append_assoc, append-nil}
 use Rattle.std.specs.Prelude.{map}
-use Rattle.cam6_machine.specs.Machine.{Machine}
-use Rattle.cam6_machine.specs.Alone.{replies, after_all}
+use Rattle.cam6_model.specs.Machine.{Machine}
+use Rattle.cam6_model.specs.Alone.{replies, after_all}
 use Rattle.cam6_commands.specs.declared.commands.Command.{Command}
 use Rattle.cam6_wire.specs.declared.faults.LineFault.{LineFault}
 use Rattle.cam6_wire.specs.Commands.{command}

@@ -2,7 +2,7 @@
 use Rattle.std.proofs.Common.{◌≡◌, ℕ, List, [], ◌∷◌, ◌++◌, Option, None, Some, refl, sym, ap, ◌∙◌}
 use Rattle.std.proofs.Common.{subst, inl, inr, append-nil, append_assoc, true, false}
 use Rattle.cam6_planes.specs.declared.sides.Side.{Side}
-use Rattle.cam6_machine.specs.Machine.{Machine, blank}
+use Rattle.cam6_model.specs.Machine.{Machine, blank}
 use Rattle.cam6_wire.specs.Commands.{command}
 use Rattle.cam6_session.specs.Lines.{lines}
 use Rattle.cam6_session.specs.Answering.{Answering, AreAnswered}

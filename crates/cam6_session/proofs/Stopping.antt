@@ -2,8 +2,8 @@
 use Rattle.std.proofs.Common.{◌≡◌, ℕ, List, [], ◌∷◌, ◌++◌, Option, Result, Ok, Err, sym, ap}
 use Rattle.std.proofs.Common.{◌∙◌, ◌≢◌, refl}
 use Rattle.std.specs.Prelude.{IsErrAnd}
-use Rattle.cam6_machine.specs.Machine.{Machine}
-use Rattle.cam6_machine.specs.Alone.{reply, after}
+use Rattle.cam6_model.specs.Machine.{Machine}
+use Rattle.cam6_model.specs.Alone.{reply, after}
 use Rattle.cam6_commands.specs.declared.commands.Command.{Command}
 use Rattle.cam6_wire.specs.declared.faults.LineFault.{LineFault}
 use Rattle.cam6_wire.specs.declared.faults.LineFault.TheVariants as fault

@@ -1,7 +1,7 @@
 -- How a session ends with a machine that nobody shares, from a blank machine on.
 use Rattle.std.specs.Prelude.{ℕ, List, Option}
 use Rattle.cam6_planes.specs.declared.sides.Side.{Side}
-use Rattle.cam6_machine.specs.Machine.{Machine, blank}
+use Rattle.cam6_model.specs.Machine.{Machine, blank}
 use Rattle.cam6_session.specs.Answers.{by_machine}
 use Rattle.cam6_session.specs.Sessions.{AnswersReader}
 use Rattle.cam6_session.specs.declared.sessions.End.{End}

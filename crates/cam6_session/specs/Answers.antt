@@ -1,7 +1,7 @@
 -- What a machine answers to lines.
 use Rattle.std.specs.Prelude.{◌≡◌, ℕ, List, [], ◌∷◌, ◌++◌, Result, Ok, Err, is_ok}
-use Rattle.cam6_machine.specs.Machine.{Machine}
-use Rattle.cam6_machine.specs.Alone.{reply, after}
+use Rattle.cam6_model.specs.Machine.{Machine}
+use Rattle.cam6_model.specs.Alone.{reply, after}
 use Rattle.cam6_commands.specs.declared.commands.Command.{Command}
 use Rattle.cam6_commands.specs.declared.replies.Reply.{Reply}
 use Rattle.cam6_wire.specs.declared.faults.LineFault.{LineFault}

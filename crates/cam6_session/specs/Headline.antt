@@ -1,8 +1,8 @@
 -- The main theorem: what a session with a machine that nobody shares writes for what it reads.
 use Rattle.std.specs.Prelude.{◌≡◌, ℕ, List, [], ◌++◌, Option, Some, IfSome, Result, map}
 use Rattle.cam6_planes.specs.declared.sides.Side.{Side}
-use Rattle.cam6_machine.specs.Machine.{blank}
-use Rattle.cam6_machine.specs.Alone.{replies}
+use Rattle.cam6_model.specs.Machine.{blank}
+use Rattle.cam6_model.specs.Alone.{replies}
 use Rattle.cam6_commands.specs.declared.commands.Command.{Command}
 use Rattle.cam6_wire.specs.declared.faults.LineFault.{LineFault}
 use Rattle.cam6_wire.specs.Commands.{command}

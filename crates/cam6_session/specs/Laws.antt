@@ -1,7 +1,7 @@
 -- The laws of the lines of a text, and that lines are answered as the machine alone replies.
 use Rattle.std.specs.Prelude.{◌≡◌, ◌≢◌, ◌↔◌, List, ℕ, [], ◌∷◌, ◌++◌, map, All}
-use Rattle.cam6_machine.specs.Machine.{Machine}
-use Rattle.cam6_machine.specs.Alone.{replies, after_all}
+use Rattle.cam6_model.specs.Machine.{Machine}
+use Rattle.cam6_model.specs.Alone.{replies, after_all}
 use Rattle.cam6_wire.specs.Commands.{command}
 use Rattle.cam6_wire.specs.OneLine.{HasNoLf}
 use Rattle.cam6_session.specs.Lines.{lines, ended_lines, joined}

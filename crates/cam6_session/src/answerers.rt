@@ -1,6 +1,6 @@
 //! Who answers lines.
 ghost use Rattle.std.specs.Prelude.{◌≡◌, List, ℕ, Ok, Err};
-ghost use Rattle.cam6_machine.specs.Machine.{Machine};
+ghost use Rattle.cam6_model.specs.Machine.{Machine};
 ghost use Rattle.cam6_wire.specs.declared.faults.LineFault.TheVariants.{NoMemory};
 ghost use Rattle.cam6_wire.specs.Commands.{command as what_is_said, IsFaultOf, IsSaid};
 ghost use Rattle.cam6_session.specs.Answers.{by_machine};
@@ -51,7 +51,7 @@ pub trait Answerer {
 /// Whatever stands at a machine answers lines as that machine does.
 impl<D: Ask> Answerer for D {
     ghost use Rattle.std.specs.Prelude.{List, ℕ};
-    ghost use Rattle.cam6_machine.specs.Machine.{Machine};
+    ghost use Rattle.cam6_model.specs.Machine.{Machine};
     ghost use Rattle.cam6_session.specs.Answers.{by_machine};
     ghost use Rattle.cam6_session.specs.Held.{Holds};
     ghost use Rattle.cam6_session.specs.Responding.{Responds};

@@ -7,8 +7,8 @@ use cam6_planes::NoMemory;
 /// Something that stands at a machine, and answers commands as that machine does.
 pub trait Ask {
     ghost use Rattle.std.specs.Prelude.{◌≡◌, IfOk, OnOk, OnErr};
-    ghost use Rattle.cam6_machine.specs.Machine.{Machine};
-    ghost use Rattle.cam6_machine.specs.Alone.{reply, after};
+    ghost use Rattle.cam6_model.specs.Machine.{Machine};
+    ghost use Rattle.cam6_model.specs.Alone.{reply, after};
 
     /// The machine at which it stands.
     ghost stands_at: { Self → Machine };
@@ -27,9 +27,9 @@ pub trait Ask {
 
 impl Ask for Machine {
     ghost use Rattle.std.specs.Prelude.{◌≡◌, false, IfOk, IsOk, OnOk, OnErr, ⊤};
-    ghost use Rattle.cam6_machine.specs.Machine.{machine_of};
-    ghost use Rattle.cam6_machine.specs.Alone.{reply, after};
-    ghost use Rattle.cam6_machine.specs.AtOnce.{may_want_memory};
+    ghost use Rattle.cam6_machine.specs.Stored.{machine_of};
+    ghost use Rattle.cam6_model.specs.Alone.{reply, after};
+    ghost use Rattle.cam6_model.specs.Memory.{may_want_memory};
 
     ghost stands_at = { λ m. machine_of m };
 

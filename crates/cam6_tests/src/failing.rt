@@ -25,7 +25,7 @@ impl Desk {
 
 impl Ask for Desk {
     ghost use Rattle.std.specs.Prelude.{⊤};
-    ghost use Rattle.cam6_machine.specs.Machine.{machine_of};
+    ghost use Rattle.cam6_machine.specs.Stored.{machine_of};
 
     ghost stands_at = { λ d. machine_of d.machine };
 

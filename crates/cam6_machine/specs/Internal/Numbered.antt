@@ -12,8 +12,8 @@ use Rattle.cam6_wiring.specs.declared.wirings.Wiring.{Wiring}
 use Rattle.cam6_cycle.specs.declared.entries.Entry.{Entry}
 use Rattle.cam6_cycle.specs.declared.entries.HalfRule.{HalfRule}
 use Rattle.cam6_table.specs.declared.codes.Instruction.{Instruction}
-use Rattle.cam6_machine.specs.Rules.{Rule, wiring_for}
-use Rattle.cam6_machine.specs.Cycles.{phase_of}
+use Rattle.cam6_model.specs.Rules.{Rule, wiring_for}
+use Rattle.cam6_model.specs.Cycles.{phase_of}
 use Rattle.cam6_machine.specs.Numbers.{rule_at, number_in, named_entries}
 use Rattle.cam6_machine.specs.Stored.{StoredMachine}
 use Rattle.cam6_commands.specs.declared.commands.NamedEntry.{NamedEntry}

@@ -5,9 +5,9 @@ use Rattle.cam6_cycle.specs.declared.entries.Entry.{Entry}
 use Rattle.cam6_cycle.specs.declared.tables.Direction.{Direction}
 use Rattle.cam6_cycle.specs.declared.tables.Direction.TheVariants.{Forward, Backward}
 use Rattle.cam6_cycle.specs.declared.tables.NeededTable.{NeededTable}
-use Rattle.cam6_machine.specs.Rules.{Rule}
-use Rattle.cam6_machine.specs.Undoing.{IsReversibleRule}
-use Rattle.cam6_machine.specs.Refusals.{rule_cause}
+use Rattle.cam6_model.specs.Rules.{Rule}
+use Rattle.cam6_model.specs.Undoing.{IsReversibleRule}
+use Rattle.cam6_model.specs.Refusals.{rule_cause}
 use Rattle.cam6_machine.specs.Numbers.{rule_at, number_in}
 
 -- a needed table is that of the rule at this number

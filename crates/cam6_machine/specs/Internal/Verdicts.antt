@@ -5,7 +5,7 @@ use Rattle.cam6_wiring.specs.declared.wirings.Wiring.{Wiring}
 use Rattle.cam6_table.specs.declared.compiling.NotCompiled.{NotCompiled}
 use Rattle.cam6_table.specs.declared.compiling.NotCompiled.TheVariants.{Text, Stops, NoMemory}
 use Rattle.cam6_machine.specs.Internal.Numbered.{Compiled}
-use Rattle.cam6_machine.specs.Refusals.{words_refusal}
+use Rattle.cam6_model.specs.Refusals.{words_refusal}
 use Rattle.cam6_commands.specs.declared.refusals.Refusal.TheVariants as refused
 
 -- a text was tried: it is UTF-8 and a rule that stops nowhere and is kept, or it is refused for its

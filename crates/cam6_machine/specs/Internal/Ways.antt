@@ -1,29 +1,12 @@
--- Both ways along a cycle.
-use Rattle.std.specs.Prelude.{ℕ, zero, suc, ⊤}
+-- What steps along a cycle are answered.
+use Rattle.std.specs.Prelude.{ℕ, zero, suc}
 use Rattle.cam6_cycle.specs.declared.tables.Direction.{Direction}
 use Rattle.cam6_cycle.specs.declared.tables.Direction.TheVariants.{Forward, Backward}
-use Rattle.cam6_machine.specs.Machine.{Machine, stepped, steps, unstepped, unsteps}
-use Rattle.cam6_machine.specs.Machine.{IsReversibleCycle}
 use Rattle.cam6_commands.specs.declared.replies.Done.TheVariants as done
 use Rattle.cam6_machine.specs.declared.replies.Now.{Now}
 use Rattle.cam6_machine.specs.declared.replies.Now.TheVariants as now
 use Rattle.cam6_commands.specs.declared.replies.Reply.{Reply}
 use Rattle.cam6_commands.specs.declared.replies.Reply.TheVariants as reply
-
--- one step this way
-abbrev pub one_moved : Direction → Machine → Machine
-one_moved Forward m = stepped m
-one_moved Backward m = unstepped m
-
--- so many steps this way
-abbrev pub moved : Direction → ℕ → Machine → Machine
-moved Forward n m = steps n m
-moved Backward n m = unsteps n m
-
--- forward a machine can always go, and backward where every rule of its cycle can be undone
-abbrev pub CanMove : Direction → Machine → Type 0
-CanMove Forward m = ⊤
-CanMove Backward m = IsReversibleCycle m
 
 -- the reply once a position is come to
 abbrev pub reply_at : Direction → ℕ → Reply

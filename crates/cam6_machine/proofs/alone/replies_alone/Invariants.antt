@@ -1,7 +1,8 @@
 use Rattle.std.proofs.Common.{◌≡◌, ◌++◌}
 use Rattle.std.specs.Vec.Iter.{into_iter_items}
-use Rattle.cam6_machine.specs.Machine.{blank, machine_of}
-use Rattle.cam6_machine.specs.Alone.{replies, after_all}
+use Rattle.cam6_model.specs.Machine.{blank}
+use Rattle.cam6_machine.specs.Stored.{machine_of}
+use Rattle.cam6_model.specs.Alone.{replies, after_all}
 use Rattle.cam6_machine.proofs.alone.replies_alone.Given as goal
 
 abbrev pub invariant-loop-command : goal.invariant-loop-command

@@ -2,7 +2,7 @@ use Rattle.std.proofs.Common.{◌≡◌, ◌∙◌, ap, sym, ◌/◌, ◌++◌, 
 use Rattle.cam6_planes.specs.Side.{side_number}
 use Rattle.cam6_planes.specs.Stored.{width}
 use Rattle.cam6_planes.specs.Cells.{cells}
-use Rattle.cam6_machine.specs.Effects.{plane_rows}
+use Rattle.cam6_model.specs.Effects.{plane_rows}
 use Rattle.cam6_machine.proofs.PlaneTexts.{plane_rows-zero, plane_rows-suc}
 use Rattle.cam6_machine.proofs.rows.plane_rows.Goals as goal
 

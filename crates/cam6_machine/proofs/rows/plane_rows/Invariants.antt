@@ -1,7 +1,7 @@
 use Rattle.std.proofs.Common.{◌≡◌, ◌/◌}
 use Rattle.cam6_planes.specs.Stored.{width}
 use Rattle.cam6_planes.specs.Cells.{cells}
-use Rattle.cam6_machine.specs.Effects.{plane_rows}
+use Rattle.cam6_model.specs.Effects.{plane_rows}
 use Rattle.cam6_machine.proofs.rows.plane_rows.Given as goal
 
 abbrev pub invariant-loop-y : goal.invariant-loop-y

@@ -2,7 +2,7 @@ use Rattle.std.proofs.Common.{◌≡◌, ◌∙◌, ◌+◌, ◌++◌, ◌∷◌
 use Rattle.std.proofs.Math.Seq.{take-suc}
 use Rattle.std.proofs.lemmas.List.{map-append}
 use Rattle.std.proofs.lemmas.Option.{get_or_from_slice_get, slice_get_within}
-use Rattle.cam6_machine.specs.Rules.{Rule}
+use Rattle.cam6_model.specs.Rules.{Rule}
 use Rattle.cam6_machine.specs.Internal.Numbered.{rules_of}
 use Rattle.cam6_machine.proofs.KeptRules.{listed, rule_found}
 use Rattle.cam6_machine.proofs.rules.names_of.Goals as goal

@@ -1,6 +1,6 @@
 use Rattle.std.proofs.Common.{◌∙◌, ap}
 use Rattle.cam6_machine.specs.Internal.Numbered.{rules_of}
-use Rattle.cam6_machine.specs.Effects.{with_rule}
+use Rattle.cam6_model.specs.Effects.{with_rule}
 use Rattle.cam6_machine.proofs.KeptRules.{rules_of-insert_entry}
 use Rattle.cam6_machine.proofs.rules.put.Goals as goal
 

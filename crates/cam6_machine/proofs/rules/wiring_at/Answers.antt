@@ -1,6 +1,6 @@
 use Rattle.std.proofs.Common.{◌∙◌, sym, ap, Some}
 use Rattle.cam6_machine.specs.Internal.Numbered.{rules_of, wiring_at}
-use Rattle.cam6_machine.specs.Rules.{wiring_for}
+use Rattle.cam6_model.specs.Rules.{wiring_for}
 use Rattle.cam6_machine.proofs.KeptRules.{rule_found}
 use Rattle.cam6_machine.proofs.rules.wiring_at.Goals as goal
 

@@ -1,7 +1,7 @@
 use Rattle.std.proofs.Common.{◌∙◌, sym, ap, option_map, Some}
 use Rattle.std.specs.Option.{option_copied}
 use Rattle.cam6_machine.specs.Internal.Numbered.{rules_of}
-use Rattle.cam6_machine.specs.Rules.{wiring_of}
+use Rattle.cam6_model.specs.Rules.{wiring_of}
 use Rattle.cam6_machine.specs.declared.rules.KeptRule.{KeptRule}
 use Rattle.cam6_machine.proofs.KeptRules.{rule_named-rules_of}
 use Rattle.cam6_machine.proofs.rules.wiring_of.Goals as goal

@@ -1,8 +1,8 @@
 use Rattle.std.proofs.Common.{◌≡◌, ◌∙◌, ◌+◌, ap, arith, suc}
 use Rattle.cam6_band.specs.ByTables.{values_of}
-use Rattle.cam6_machine.specs.Machine.{machine_of}
+use Rattle.cam6_machine.specs.Stored.{machine_of}
 use Rattle.cam6_machine.specs.Internal.Numbered.{stored}
-use Rattle.cam6_machine.specs.Internal.Ways.{one_moved, moved}
+use Rattle.cam6_model.specs.Moves.{one_moved, moved}
 use Rattle.cam6_machine.proofs.Along.{none_moved, one_more, one_step}
 use Rattle.cam6_machine.proofs.runs.go_along.Goals as goal
 

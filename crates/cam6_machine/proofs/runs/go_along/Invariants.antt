@@ -1,11 +1,11 @@
 use Rattle.std.proofs.Common.{◌≡◌, ◌<◌, ℕ, List, length}
 use Rattle.cam6_cycle.specs.Tables.{tables_needed}
-use Rattle.cam6_machine.specs.Rules.{Rule}
-use Rattle.cam6_machine.specs.Always.{HaveOwnNames}
+use Rattle.cam6_model.specs.Rules.{Rule}
+use Rattle.cam6_model.specs.Always.{HaveOwnNames}
 use Rattle.cam6_machine.specs.Numbers.{AreNumbered, AreTables}
 use Rattle.cam6_machine.specs.Internal.Numbered.{stored}
-use Rattle.cam6_machine.specs.Internal.Ways.{moved, CanMove}
-use Rattle.cam6_machine.specs.Machine.{machine_of}
+use Rattle.cam6_model.specs.Moves.{moved, CanMove}
+use Rattle.cam6_machine.specs.Stored.{machine_of}
 use Rattle.cam6_machine.proofs.runs.go_along.Given as goal
 
 abbrev pub invariant-loop-step : goal.invariant-loop-step

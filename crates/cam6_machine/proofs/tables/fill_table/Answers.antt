@@ -1,6 +1,6 @@
 use Rattle.std.proofs.Common.{subst, sym}
 use Rattle.cam6_machine.specs.Internal.Uses.{IsUsable}
-use Rattle.cam6_machine.specs.TrueTables.{IsTableFor}
+use Rattle.cam6_model.specs.TrueTables.{IsTableFor}
 use Rattle.cam6_machine.proofs.Inverses.{not_refused}
 use Rattle.cam6_machine.proofs.KeptRules.{listed, rule_found}
 use Rattle.cam6_machine.proofs.tables.fill_table.Goals as goal

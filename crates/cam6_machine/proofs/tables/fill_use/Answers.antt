@@ -3,7 +3,7 @@ use Rattle.std.proofs.lemmas.List.{get_or_default, get_or_append_left}
 use Rattle.std.proofs.lemmas.Option.{get_or_from_slice_get, slice_get-get_or}
 use Rattle.cam6_machine.specs.Numbers.{rule_at, AreTables}
 use Rattle.cam6_machine.specs.Internal.Numbered.{rules_of}
-use Rattle.cam6_machine.specs.TrueTables.{IsTableFor}
+use Rattle.cam6_model.specs.TrueTables.{IsTableFor}
 use Rattle.cam6_wiring.specs.declared.names.Half.TheVariants.{A}
 use Rattle.cam6_wiring.specs.declared.wirings.Hood.TheVariants.{Moore}
 use Rattle.cam6_wiring.specs.declared.wirings.Minor.TheVariants.{Centers}

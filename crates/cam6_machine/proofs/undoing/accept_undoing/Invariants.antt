@@ -3,7 +3,7 @@ use Rattle.std.specs.List.{AllByRecursion}
 use Rattle.cam6_machine.specs.Numbers.{named_entries}
 use Rattle.cam6_machine.specs.Internal.Numbered.{rules_of}
 use Rattle.cam6_machine.specs.Internal.Uses.{HasNoCause}
-use Rattle.cam6_machine.specs.Refusals.{first_cause}
+use Rattle.cam6_model.specs.Refusals.{first_cause}
 use Rattle.cam6_machine.proofs.undoing.accept_undoing.Given as goal
 
 abbrev pub invariant-loop-number : goal.invariant-loop-number

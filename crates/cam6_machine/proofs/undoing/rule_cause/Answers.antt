@@ -1,5 +1,5 @@
 use Rattle.std.proofs.Common.{◌∙◌, ap, sym}
-use Rattle.cam6_machine.specs.Refusals.{rule_cause}
+use Rattle.cam6_model.specs.Refusals.{rule_cause}
 use Rattle.cam6_machine.specs.Numbers.{rule_at, number_in}
 use Rattle.cam6_machine.specs.Internal.Numbered.{rules_of}
 use Rattle.cam6_machine.proofs.Inverses.{told_cause}

@@ -1,4 +1,4 @@
-use Rattle.cam6_machine.specs.Machine.{blank}
+use Rattle.cam6_model.specs.Machine.{blank}
 use Rattle.cam6_session.specs.Answers.{by_machine}
 use Rattle.cam6_session.proofs.Known.{serves_none}
 use Rattle.cam6_session.proofs.Fronts.{writes_alone}

@@ -1,19 +1,19 @@
 use Rattle.std.proofs.Common.{◌≡◌, ◌∙◌, None, Ok, ap, sym, subst, true, false}
-use Rattle.cam6_machine.specs.Effects.{with_rule}
-use Rattle.cam6_machine.specs.Stored.{StoredMachine}
-use Rattle.cam6_machine.specs.Machine.{machine_of}
-use Rattle.cam6_machine.specs.Alone.{after}
-use Rattle.cam6_machine.specs.Always.{IsMachine}
-use Rattle.cam6_machine.specs.Refusals.{rule_refusal}
+use Rattle.cam6_model.specs.Effects.{with_rule}
+use Rattle.cam6_machine.specs.Stored.{machine_of}
+use Rattle.cam6_model.specs.Alone.{after}
+use Rattle.cam6_model.specs.Always.{IsMachine}
+use Rattle.cam6_model.specs.Refusals.{rule_refusal}
 use Rattle.cam6_machine.specs.Internal.Images.{planes_of}
 use Rattle.cam6_machine.specs.Numbers.{named_entries, AreNumbered}
 use Rattle.cam6_machine.specs.Internal.Numbered.{rules_of, entries_of, stored}
 use Rattle.cam6_machine.specs.Internal.Verdicts.{IsVerdict}
 use Rattle.cam6_commands.specs.declared.commands.Command.TheVariants.{Rule}
 use Rattle.cam6_machine.proofs.Replying as done
-use Rattle.cam6_machine.specs.AtOnce.{keeps_text}
-use Rattle.cam6_machine.proofs.WantOfMemory.{text_is_kept}
-use Rattle.cam6_machine.proofs.Staying.{stays_machine, numbered_with}
+use Rattle.cam6_model.specs.Memory.{keeps_text}
+use Rattle.cam6_model.proofs.WantOfMemory.{text_is_kept}
+use Rattle.cam6_model.proofs.Staying.{stays_machine}
+use Rattle.cam6_machine.proofs.StaysNumbered.{numbered_with}
 use Rattle.cam6_machine.proofs.machines.Machine.define.Goals as goal
 
 -- what the trial of the text said
@@ -63,7 +63,7 @@ invariant_of-self-in-Ok c = (
       (Rule c.args.name c.args.wiring c.args.text) c.self.invariant.0 (verdict c).3),
   subst (λ l. AreNumbered l (entries_of c.self.inside.cycle)) (sym (put c))
       (numbered_with _ (rules_of c.self.inside.rules.entries) (entries_of c.self.inside.cycle)
-      c.self.invariant.0.own (sym (room c)) c.self.invariant.1),
+      c.self.invariant.0.rules.own (sym (room c)) c.self.invariant.1),
   c.self.invariant.2,
   c.self.invariant.3,
 )
@@ -89,11 +89,3 @@ pub returns-in-Ok-clause-machine : goal.returns-in-Ok-clause-machine
 returns-in-Ok-clause-machine c =
     after_put c ∙
     ap (λ k. after (machine_of k) (Rule c.args.name c.args.wiring c.args.text)) c.self.view_is
-
-pub returns-in-Ok-clause-others : goal.returns-in-Ok-clause-others
-returns-in-Ok-clause-others c =
-    let m = c.self.inside in
-    done.stored-rule (planes_of m.image) (rules_of m.rules.entries) (entries_of m.cycle) m.position
-    m.colours _ (rules_of c.put.new.rules.entries) c.self.invariant.1 (put c) ∙
-    ap {B = StoredMachine} (λ k. record k { rules = rules_of c.put.new.rules.entries })
-    c.self.view_is

@@ -1,19 +1,18 @@
 use Rattle.std.proofs.Common.{◌≡◌, ◌∙◌, map, ap, sym, subst, false, None}
 use Rattle.std.specs.List.{list_any}
-use Rattle.cam6_machine.specs.Stored.{StoredMachine}
-use Rattle.cam6_machine.specs.Machine.{machine_of}
-use Rattle.cam6_machine.specs.Effects.{without_rule}
-use Rattle.cam6_machine.specs.Refusals.{drop_refusal}
-use Rattle.cam6_machine.specs.Alone.{after}
-use Rattle.cam6_machine.specs.Always.{IsMachine}
+use Rattle.cam6_machine.specs.Stored.{machine_of}
+use Rattle.cam6_model.specs.Effects.{without_rule}
+use Rattle.cam6_model.specs.Refusals.{drop_refusal}
+use Rattle.cam6_model.specs.Alone.{after}
+use Rattle.cam6_model.specs.Always.{IsMachine}
 use Rattle.cam6_machine.specs.Internal.Images.{planes_of}
 use Rattle.cam6_machine.specs.Numbers.{named_entries, AreNumbered}
 use Rattle.cam6_machine.specs.Internal.Numbered.{rules_of, entries_of, stored, uses_number}
 use Rattle.cam6_machine.specs.Internal.Numbered.{closed_entry}
 use Rattle.cam6_commands.specs.declared.commands.Command.TheVariants.{Drop}
-use Rattle.cam6_machine.proofs.Replying.{after-drop, stored-drop}
+use Rattle.cam6_machine.proofs.Replying.{after-drop}
 use Rattle.cam6_machine.proofs.Dropped.{numbered_closed}
-use Rattle.cam6_machine.proofs.Staying.{stays_machine}
+use Rattle.cam6_model.proofs.Staying.{stays_machine}
 use Rattle.cam6_machine.proofs.machines.Machine.drop_rule.Goals as goal
 
 -- the entries, which have closed up
@@ -72,12 +71,3 @@ invariant_of-self c =
 pub returns-in-Ok-clause-machine : goal.returns-in-Ok-clause-machine
 returns-in-Ok-clause-machine c =
     after_drop c ∙ ap (λ k. after (machine_of k) (Drop c.args.name.now)) c.self.view_is
-
-pub returns-in-Ok-clause-others : goal.returns-in-Ok-clause-others
-returns-in-Ok-clause-others c =
-    let m = c.self.inside in
-    let new = rules_of c.remove.new.rules.entries in
-    stored-drop (planes_of m.image) (rules_of m.rules.entries) (entries_of m.cycle) m.position
-    m.colours c.args.name.now new c.in-Ok.number (entries_of c.closed_cycle-self-inside.result)
-    c.in-Ok.ensures.number (unused c) c.remove.ensures (closed c) ∙
-    ap {B = StoredMachine} (λ k. record k { rules = new }) c.self.view_is

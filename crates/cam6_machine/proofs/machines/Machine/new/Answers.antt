@@ -1,8 +1,9 @@
 use Rattle.std.proofs.Common.{◌≡◌, [], ap, sym, subst, arith, refl}
 use Rattle.cam6_machine.specs.Internal.Numbered.{rules_of, stored}
-use Rattle.cam6_machine.specs.Machine.{machine_of, own_colours}
-use Rattle.cam6_machine.specs.Always.{IsMachine}
-use Rattle.cam6_machine.proofs.Staying.{blank_stored}
+use Rattle.cam6_machine.specs.Stored.{machine_of}
+use Rattle.cam6_model.specs.Machine.{own_colours}
+use Rattle.cam6_model.specs.Always.{IsMachine}
+use Rattle.cam6_machine.proofs.StaysNumbered.{blank_stored}
 use Rattle.cam6_machine.proofs.machines.Machine.new.Goals as goal
 
 pub invariant_of-result : goal.invariant_of-result

@@ -1,13 +1,14 @@
 use Rattle.std.proofs.Common.{◌≡◌, ◌∙◌, ap, sym, subst}
-use Rattle.cam6_machine.specs.Machine.{Machine, machine_of}
-use Rattle.cam6_machine.specs.Refusals.{fault_refusal}
-use Rattle.cam6_machine.specs.Alone.{after}
-use Rattle.cam6_machine.specs.Always.{IsMachine}
+use Rattle.cam6_model.specs.Machine.{Machine}
+use Rattle.cam6_machine.specs.Stored.{machine_of}
+use Rattle.cam6_model.specs.Refusals.{fault_refusal}
+use Rattle.cam6_model.specs.Alone.{after}
+use Rattle.cam6_model.specs.Always.{IsMachine}
 use Rattle.cam6_machine.specs.Internal.Images.{planes_of}
 use Rattle.cam6_machine.specs.Internal.Numbered.{rules_of, entries_of, stored}
 use Rattle.cam6_commands.specs.declared.commands.Command.TheVariants.{Map}
-use Rattle.cam6_machine.proofs.Replying.{after-accepted}
-use Rattle.cam6_machine.proofs.Staying.{stays_machine}
+use Rattle.cam6_model.proofs.Refusing.{after-accepted}
+use Rattle.cam6_model.proofs.Staying.{stays_machine}
 use Rattle.cam6_machine.proofs.machines.Machine.set_colours.Goals as goal
 
 -- the machine with the colours that were given

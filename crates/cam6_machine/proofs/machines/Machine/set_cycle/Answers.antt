@@ -1,14 +1,14 @@
 use Rattle.std.proofs.Common.{◌≡◌, ◌∙◌, map, ap, sym, subst}
-use Rattle.cam6_machine.specs.Machine.{machine_of}
-use Rattle.cam6_machine.specs.Alone.{after}
-use Rattle.cam6_machine.specs.Always.{IsMachine}
+use Rattle.cam6_machine.specs.Stored.{machine_of}
+use Rattle.cam6_model.specs.Alone.{after}
+use Rattle.cam6_model.specs.Always.{IsMachine}
 use Rattle.cam6_machine.specs.Internal.Images.{planes_of}
 use Rattle.cam6_machine.specs.Numbers.{AreNumbered}
 use Rattle.cam6_machine.specs.Internal.Numbered.{rules_of, entries_of, numbered_entry, stored}
 use Rattle.cam6_commands.specs.declared.commands.Command.TheVariants.{Cycle}
 use Rattle.cam6_machine.proofs.Replying.{after-cycle}
 use Rattle.cam6_machine.proofs.Naming.{are_numbered}
-use Rattle.cam6_machine.proofs.Staying.{accepted_cycle, stays_machine}
+use Rattle.cam6_model.proofs.Staying.{accepted_cycle, stays_machine}
 use Rattle.cam6_machine.proofs.machines.Machine.set_cycle.Goals as goal
 
 -- the entries, with the numbers of the rules that they name

@@ -1,6 +1,6 @@
 use Rattle.std.proofs.Common.{◌≡◌, ◌∙◌, sym, true, false}
-use Rattle.cam6_machine.specs.Machine.{machine_of}
-use Rattle.cam6_machine.proofs.WantOfMemory.{plane_has_rows}
+use Rattle.cam6_machine.specs.Stored.{machine_of}
+use Rattle.cam6_model.proofs.WantOfMemory.{plane_has_rows}
 use Rattle.cam6_machine.proofs.machines.Machine.show.Goals as goal
 
 pub returns-in_err-rows-in-Ok-clause-memory : goal.returns-in_err-rows-in-Ok-clause-memory

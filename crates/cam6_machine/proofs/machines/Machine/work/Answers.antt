@@ -4,17 +4,17 @@ use Rattle.std.proofs.Math.Seq.{take-append_seam}
 use Rattle.cam6_planes.specs.Stored.{Stored}
 use Rattle.cam6_cycle.specs.Tables.{tables_needed}
 use Rattle.cam6_cycle.specs.declared.entries.Entry.{Entry}
-use Rattle.cam6_machine.specs.Machine.{machine_of}
-use Rattle.cam6_machine.specs.Always.{IsMachine}
+use Rattle.cam6_machine.specs.Stored.{machine_of}
+use Rattle.cam6_model.specs.Always.{IsMachine}
 use Rattle.cam6_machine.specs.Internal.Images.{planes_of}
 use Rattle.cam6_machine.specs.Numbers.{named_entry, AreNumbered, AreTables}
 use Rattle.cam6_machine.specs.Internal.Numbered.{rules_of, entries_of, stored}
-use Rattle.cam6_machine.specs.Alone.{reply, after, command_of}
-use Rattle.cam6_machine.specs.Refusals.{refusal}
-use Rattle.cam6_machine.specs.Internal.Ways.{moved, CanMove}
+use Rattle.cam6_model.specs.Alone.{reply, after, command_of}
+use Rattle.cam6_model.specs.Refusals.{refusal}
+use Rattle.cam6_model.specs.Moves.{moved, CanMove}
 use Rattle.cam6_machine.proofs.Replying.{after-moves, reply-moves}
 use Rattle.cam6_machine.proofs.NeededTables.{have_tables}
-use Rattle.cam6_machine.proofs.Staying.{moves_begin, moves_are, can_move}
+use Rattle.cam6_model.proofs.Staying.{moves_begin, moves_are, can_move}
 use Rattle.cam6_machine.proofs.machines.Machine.work.Goals.{After-reply_at}
 use Rattle.cam6_machine.proofs.machines.Machine.work.Goals as goal
 
@@ -43,7 +43,7 @@ fill_tables-requires-clause-rules c =
     let planes = planes_of m.image in
     let rules = rules_of m.rules.entries in
     let old = machine_of (stored planes rules (entries_of m.cycle) m.position m.colours) in
-    have_tables way planes rules c.in-Some.cycle m.position m.colours c.self.invariant.0.own
+    have_tables way planes rules c.in-Some.cycle m.position m.colours c.self.invariant.0.rules.own
     (subst (λ (entries : List Entry).
     CanMove way (machine_of (stored planes rules entries m.position m.colours)))
     (ap entries_of c.in-Some.is)
@@ -85,7 +85,7 @@ done c =
     (subst (λ (entries : List Entry).
     CanMove way (machine_of (stored (planes_of m.image) rules entries m.position m.colours))) cycle
     (can_move old c.args.n way accepted)) in
-    let made = run.ensures.steps rules m.colours c.self.invariant.0.own
+    let made = run.ensures.steps rules m.colours c.self.invariant.0.rules.own
     (subst (AreNumbered rules) cycle c.self.invariant.1) are can in
     subst (λ (planes : Stored).
     machine_of (stored run.result.0.planes rules (entries_of m.cycle) run.result.1 m.colours)

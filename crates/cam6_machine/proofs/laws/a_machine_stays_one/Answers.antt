@@ -1,5 +1,0 @@
-use Rattle.cam6_machine.proofs.Staying.{stays_machine}
-use Rattle.cam6_machine.proofs.laws.a_machine_stays_one.Goals as goal
-
-pub returns : goal.returns
-returns c = record { law = stays_machine }

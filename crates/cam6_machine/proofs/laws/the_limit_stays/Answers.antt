@@ -1,5 +1,0 @@
-use Rattle.cam6_machine.proofs.Staying.{limit_stays}
-use Rattle.cam6_machine.proofs.laws.the_limit_stays.Goals as goal
-
-pub returns : goal.returns
-returns c = record { law = limit_stays }

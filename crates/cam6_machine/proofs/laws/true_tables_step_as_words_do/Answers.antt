@@ -1,5 +1,0 @@
-use Rattle.cam6_machine.proofs.StepsByTables.{true_tables_step}
-use Rattle.cam6_machine.proofs.laws.true_tables_step_as_words_do.Goals as goal
-
-pub returns : goal.returns
-returns c = record { law = true_tables_step }

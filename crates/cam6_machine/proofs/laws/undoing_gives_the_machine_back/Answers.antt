@@ -1,5 +1,0 @@
-use Rattle.cam6_machine.proofs.RoundAndBack.{undoing_undoes}
-use Rattle.cam6_machine.proofs.laws.undoing_gives_the_machine_back.Goals as goal
-
-pub returns : goal.returns
-returns c = record { law = undoing_undoes }

@@ -1,0 +1,5 @@
+use Rattle.cam6_model.proofs.Staying.{stays_machine}
+use Rattle.cam6_model.proofs.laws.a_machine_stays_one.Goals as goal
+
+pub returns : goal.returns
+returns c = record { law = stays_machine }

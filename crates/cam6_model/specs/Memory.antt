@@ -1,0 +1,33 @@
+-- For which commands memory may be wanted.
+use Rattle.std.specs.Prelude.{ℕ, Bool, true, false, ◌&&◌, ◌||◌, List, [], ◌∷◌, is_none}
+use Rattle.cam6_model.specs.Machine.{Machine}
+use Rattle.cam6_forth.specs.Reading.{keeps}
+use Rattle.cam6_model.specs.Refusals.{rule_refusal}
+use Rattle.cam6_model.specs.Alone.{reply as reply_to}
+use Rattle.cam6_commands.specs.declared.commands.Command.{Command}
+use Rattle.cam6_commands.specs.declared.commands.Command.TheVariants as command
+use Rattle.cam6_commands.specs.declared.replies.Done.{Done}
+use Rattle.cam6_commands.specs.declared.replies.Done.TheVariants as done
+use Rattle.cam6_commands.specs.declared.replies.Reply.{Reply}
+use Rattle.cam6_commands.specs.declared.replies.Reply.TheVariants as reply
+
+-- whether something of a command's text is kept: a rule's, unless its name is refused first
+abbrev pub keeps_text : Machine → Command → Bool
+keeps_text m (command.Rule name wiring text) =
+    is_none (rule_refusal m.rules m.cycle name) && keeps wiring text
+keeps_text m _ = false
+
+-- whether there is one at least
+abbrev pub are_some : List (List ℕ) → Bool
+are_some [] = false
+are_some (row ∷ rows) = true
+
+-- whether a reply has rows: those of a plane, or names
+abbrev pub has_rows : Reply → Bool
+has_rows (reply.Done (done.Rules names)) = are_some names
+has_rows (reply.Done (done.Plane rows)) = are_some rows
+has_rows _ = false
+
+-- memory may be wanted for a command: a text is kept, or the reply has rows
+abbrev pub may_want_memory : Machine → Command → Bool
+may_want_memory m c = keeps_text m c || has_rows (reply_to m c)
