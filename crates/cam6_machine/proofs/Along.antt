@@ -11,7 +11,6 @@ use Rattle.cam6_wiring.specs.declared.names.Half.{Half}
 use Rattle.cam6_band.specs.AtPosition.{step_tables_at}
 use Rattle.cam6_band.specs.ByTables.{StepTables, step_by}
 use Rattle.cam6_cycle.specs.Along.{entry_index, position_after}
-use Rattle.cam6_cycle.specs.Tables.{tables_needed}
 use Rattle.cam6_cycle.specs.declared.entries.Entry.{Entry}
 use Rattle.cam6_cycle.specs.declared.tables.Direction.{Direction}
 use Rattle.cam6_cycle.specs.declared.tables.Direction.TheVariants.{Forward, Backward}
@@ -20,17 +19,18 @@ use Rattle.cam6_model.specs.Cycles.{entry_rules, rule_for}
 use Rattle.cam6_model.specs.Undoing.{IsReversibleEntry}
 use Rattle.cam6_model.specs.Always.{HaveOwnNames}
 use Rattle.cam6_model.specs.Machine.{Machine, stepped_by, unstepped_by}
-use Rattle.cam6_machine.specs.Stored.{machine_of}
-use Rattle.cam6_machine.specs.Numbers.{named_entry, named_entries, rules_at}
-use Rattle.cam6_machine.specs.Numbers.{AreNumbered, AreTables}
-use Rattle.cam6_machine.specs.Internal.Numbered.{stored}
+use Rattle.cam6_rules.specs.Numbers.{named_entry, named_entries, rules_at}
+use Rattle.cam6_rules.specs.Numbers.{AreNumbered}
+use Rattle.cam6_planes.specs.declared.sides.Side.{Side}
+use Rattle.cam6_rules.specs.Filled.{AreTablesOf}
+use Rattle.cam6_machine.specs.Internal.Images.{stored_as}
 use Rattle.cam6_model.specs.Moves.{planes_moved, one_moved, moved, CanMove}
 use Rattle.cam6_commands.specs.declared.commands.NamedEntry.{NamedEntry}
-use Rattle.cam6_machine.proofs.Naming.{same_rules}
+use Rattle.cam6_rules.proofs.Naming.{same_rules}
 use Rattle.cam6_model.proofs.RulesOfEntries.{of_entry}
 use Rattle.cam6_model.proofs.StepsByTables.{CanGoBy, step_by_tables, can_be_undone}
 use Rattle.cam6_model.proofs.StepsOfATorus.{side_some, side_even}
-use Rattle.cam6_machine.proofs.TablesOfPositions.{tables_by_use}
+use Rattle.cam6_rules.proofs.TablesOfPositions.{tables_by_use}
 
 -- no steps leave a machine, and one step more comes after the others
 pub none_moved : (direction : Direction) (m : Machine) → m ≡ moved direction 0 m
@@ -62,13 +62,13 @@ moved_by Backward m entry at =
     ap (λ e. unstepped_by (position_after Backward (length m.cycle) m.position) e m) (sym at)
 
 -- where a machine can move this way, its step can go by the rules of each entry
-can_go_by : (direction : Direction) (first old : Stored) (rules : List Rule)
+can_go_by : (direction : Direction) (limit : Side) (first old : Stored) (rules : List Rule)
     (cycle : List Entry) (start index : ℕ) (colours : List ℕ) (entry : Entry) →
     HaveOwnNames rules → slice_get cycle index ≡ Some entry →
-    CanMove direction (machine_of (stored first rules cycle start colours)) → (half : Half) →
+    CanMove direction (stored_as first limit rules cycle start colours) → (half : Half) →
     CanGoBy direction (side_number old.side) (rule_for half (rules_at rules entry))
-can_go_by Forward first old rules cycle start index colours entry own found can half = tt
-can_go_by Backward first old rules cycle start index colours entry own found can half = (
+can_go_by Forward limit first old rules cycle start index colours entry own found can half = tt
+can_go_by Backward limit first old rules cycle start index colours entry own found can half = (
   side_some old.side,
   side_even old.side,
   can_be_undone (rules_at rules entry)
@@ -80,17 +80,17 @@ can_go_by Backward first old rules cycle start index colours entry own found can
       half,
 )
 
-module _ (direction : Direction) (rules : List Rule) (cycle : List Entry) (colours : List ℕ)
+module _ (direction : Direction) (limit : Side) (rules : List Rule) (cycle : List Entry) (colours : List ℕ)
     (own : HaveOwnNames rules) (old new : Stored) (alike : AreAlike old new) (position : ℕ) where
   -- by an entry with numbers, the planes after it and the position after it are those of one step
   by_numbers : (entry : Entry) →
       slice_get cycle (entry_index direction (length cycle) position) ≡ Some entry →
       cells new ≡ planes_moved direction (side_number old.side) (rules_at rules entry) (cells old) →
-      machine_of (stored new rules cycle (position_after direction (length cycle) position) colours)
-      ≡ one_moved direction (machine_of (stored old rules cycle position colours))
+      stored_as new limit rules cycle (position_after direction (length cycle) position) colours
+      ≡ one_moved direction (stored_as old limit rules cycle position colours)
   by_numbers entry found made =
       let s = side_number old.side in
-      let m = machine_of (stored old rules cycle position colours) in
+      let m = stored_as old limit rules cycle position colours in
       let named = named_entries rules cycle in
       let after = position_after direction (length cycle) position in
       let all : length named ≡ length cycle = length-map cycle (named_entry rules) in
@@ -105,12 +105,9 @@ module _ (direction : Direction) (rules : List Rule) (cycle : List Entry) (colou
       ap (λ e. planes_moved direction s e (cells old)) (sym (same_rules rules entry own)) in
       ap {B = Machine} (λ n. record m {
         side = n;
-        limit = new.limit;
         planes = cells new;
         position = after;
       }) alike.side ∙
-      ap {B = Machine} (λ l. record m { limit = l; planes = cells new; position = after })
-      alike.limit ∙
       ap {B = Machine} (λ (f : Cells). record m { planes = f; position = after }) by_names ∙
       ap {B = Machine} (λ n. record m {
         planes = planes_moved direction s (entry_rules rules (named_entry rules entry)) (cells old);
@@ -121,13 +118,12 @@ module _ (direction : Direction) (rules : List Rule) (cycle : List Entry) (colou
   -- by the tables of the entry by which a step goes, they are those of one step
   pub one_step : (tables : List (List ℕ)) (step : StepTables) (first : Stored) (start : ℕ) →
       AreNumbered rules cycle →
-      AreTables direction (length (tables_needed direction cycle)) rules
-      (tables_needed direction cycle) tables →
-      CanMove direction (machine_of (stored first rules cycle start colours)) →
+      AreTablesOf direction rules cycle tables →
+      CanMove direction (stored_as first limit rules cycle start colours) →
       step_tables_at cycle (entry_index direction (length cycle) position) tables ≡ Some step →
       cells new ≡ step_by (side_number old.side) step (cells old) →
-      machine_of (stored new rules cycle (position_after direction (length cycle) position) colours)
-      ≡ one_moved direction (machine_of (stored old rules cycle position colours))
+      stored_as new limit rules cycle (position_after direction (length cycle) position) colours
+      ≡ one_moved direction (stored_as old limit rules cycle position colours)
   one_step tables step first start numbered are can at made =
       let s = side_number old.side in
       let index = entry_index direction (length cycle) position in
@@ -140,5 +136,5 @@ module _ (direction : Direction) (rules : List Rule) (cycle : List Entry) (colou
       step_by_tables direction s (rules_at rules entry) step
       (tables_by_use direction rules cycle tables index entry step numbered are found at)
       (cells old)
-      (can_go_by direction first old rules cycle start index colours entry own found can)
+      (can_go_by direction limit first old rules cycle start index colours entry own found can)
       (torus_again s (stored_bit old.rows) (side_some old.side)))

@@ -1,7 +1,4 @@
--- What no public contract says: how the code keeps rules by numbers, what was said of a text that
--- was tried, the use of a rule, both ways along a cycle, and where a machine's planes are.
-pub mod Numbered
-pub mod Verdicts
-pub mod Uses
+-- What no public contract says: both ways along a cycle, where a machine's planes are, and a machine
+-- by all that it stores.
 pub mod Ways
 pub mod Images

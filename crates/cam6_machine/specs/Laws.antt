@@ -1,32 +1,26 @@
--- What follows of rules by their numbers.
-use Rattle.std.specs.Prelude.{◌≡◌, ℕ, List, length, Some}
-use Rattle.std.specs.List.{slice_get}
-use Rattle.cam6_band.specs.ByTables.{StepTables}
-use Rattle.cam6_band.specs.AtPosition.{step_tables_at}
-use Rattle.cam6_cycle.specs.Tables.{tables_needed}
-use Rattle.cam6_cycle.specs.declared.entries.Entry.{Entry}
-use Rattle.cam6_cycle.specs.declared.tables.Direction.{Direction}
-use Rattle.cam6_model.specs.Rules.{Rule}
-use Rattle.cam6_model.specs.Cycles.{entry_rules}
-use Rattle.cam6_model.specs.Steps.{step}
-use Rattle.cam6_model.specs.TrueTables.{AreTablesFor}
-use Rattle.cam6_machine.specs.Numbers.{rules_at, named_entry, IsNumbered, AreNumbered, AreTables}
-use Rattle.cam6_model.specs.Always.{HaveOwnNames}
+-- What follows of a machine that comes apart.
+use Rattle.std.specs.Prelude.{◌≡◌, ◌≤◌, ℕ}
+use Rattle.cam6_planes.specs.Stored.{Stored}
+use Rattle.cam6_planes.specs.Side.{side_number}
+use Rattle.cam6_planes.specs.Cells.{cells}
+use Rattle.cam6_model.specs.Machine.{Machine}
+use Rattle.cam6_model.specs.Always.{IsMachine}
+use Rattle.cam6_machine.specs.Stored.{StoredMachine, StoredKept, machine_of, machine_over, IsKept}
 
--- the tables by use give those of each position
-abbrev pub TablesByUse : Type 0
-TablesByUse =
-    (direction : Direction) (rules : List Rule) (entries : List Entry) (tables : List (List ℕ))
-    (position : ℕ) (entry : Entry) (step : StepTables) →
-    AreNumbered rules entries →
-    AreTables direction (length (tables_needed direction entries)) rules
-    (tables_needed direction entries) tables →
-    slice_get entries position ≡ Some entry → step_tables_at entries position tables ≡ Some step →
-    AreTablesFor direction (rules_at rules entry) step
+-- what is joined of a machine's parts, with other planes and another position, is the machine that
+-- it was but for its side, its cells and the position
+abbrev pub JoinsWhatWasParted : Type 0
+JoinsWhatWasParted =
+    (stored : StoredMachine) (planes : Stored) (position : ℕ) →
+    machine_over planes (record stored.kept { position = position })
+    ≡ record (machine_of stored) {
+        side = planes.side;
+        planes = cells planes;
+        position = position;
+      }
 
--- an entry's rules by their numbers are its rules by their names
-abbrev pub NumbersAndNames : Type 0
-NumbersAndNames =
-    (rules : List Rule) (entry : Entry) → HaveOwnNames rules →
-    IsNumbered rules entry.a → IsNumbered rules entry.b →
-    entry_rules rules (named_entry rules entry) ≡ rules_at rules entry
+-- over planes of a side within its limit, what a machine keeps is a machine
+abbrev pub KeptIsMachine : Type 0
+KeptIsMachine =
+    (kept : StoredKept) (planes : Stored) → IsKept kept →
+    side_number planes.side ≤ side_number kept.limit → IsMachine (machine_over planes kept)

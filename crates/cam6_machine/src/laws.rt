@@ -1,12 +1,13 @@
-//! What follows of rules by their numbers. Each law is the contract of a function that does nothing.
-ghost use Rattle.cam6_machine.specs.Laws.{TablesByUse, NumbersAndNames};
+//! What follows of a machine that comes apart. Each law is the contract of a function that does
+//! nothing.
+ghost use Rattle.cam6_machine.specs.Laws.{JoinsWhatWasParted, KeptIsMachine};
 
-/// Where tables lie as a cycle needs them, those of a position are the tables of its entry's rules.
-pub fn the_tables_of_a_position_are_its_entrys()
-    ensures law { TablesByUse }
+/// What is joined is the machine that was parted, but for the cells and the position handed in.
+pub fn what_is_joined_was_parted()
+    ensures law { JoinsWhatWasParted }
 {}
 
-/// An entry's rules by their numbers are its rules by their names.
-pub fn numbers_and_names_of_rules_agree()
-    ensures law { NumbersAndNames }
+/// Over planes within its limit, what a machine keeps is a machine.
+pub fn what_is_kept_is_a_machine()
+    ensures law { KeptIsMachine }
 {}

@@ -17,32 +17,34 @@
 //!
 //! `Machine::now` leaves steps to do exactly for a run, or for going back, that is accepted and has
 //! at least one; memory is wanted where a text is kept or a reply has rows, and nowhere else
-//! (`may_want_memory`). `Machine::work` takes none; its tables are proved to be the rules' words, or
-//! what undoes them. `Machine::limit` tells of any machine what it always is. The laws here are of
-//! rules by their numbers (`specs/Numbers.antt`): an entry has the rules that it has by name; where
-//! tables lie as the cycle needs them, those of a position are the tables of its entry's rules.
+//! (`may_want_memory`). `Machine::work` takes none. The tables of the cycle's rules stay filled from
+//! one command to the next: they are filled when they are first wanted, and anew where another cycle
+//! is set or steps go the other way. `Machine::limit` tells of any machine what it always is.
+//!
+//! A machine comes apart (`Machine::part`) into what it keeps beside its planes, its image and a
+//! spare one, and `Kept::join` makes a machine of such parts, at whatever position of the cycle; the
+//! law: that is the machine that was parted, but for the cells and the position.
 //!
 //! Stands on: `cam6_planes`, `cam6_wiring`, `cam6_forth`, `cam6_table`, `cam6_block`, `cam6_band`,
-//! `cam6_view`, `cam6_cycle`, `cam6_commands`, `cam6_model`, and on `arrayvec` and `indexmap`.
+//! `cam6_view`, `cam6_cycle`, `cam6_commands`, `cam6_model` and `cam6_rules`.
 //!
-//! Read next: `replies`, what is said at once; `rules` and `cycles`, what a machine keeps;
-//! `tables`, by which it steps, `steps`, one step, and `runs`, steps along a cycle, forward and
-//! backward; `refusals`, when a command is refused, and `undoing`, whether rules can be undone;
-//! then `machines` and `alone`; and `laws`.
+//! Read next: `replies`, what is said at once; `refusals`, when a number of a command is refused;
+//! `kept`, what a machine keeps beside its planes and what commands do to it; `steps`, one step, and
+//! `runs`, steps along a cycle, forward and backward; `images`; then `machines` and `alone`; and
+//! `laws`.
 #![tactic(auto)]
 
 mod alone;
-mod cycles;
+mod answers;
+mod images;
+mod kept;
 pub mod laws;
 mod machines;
 mod refusals;
 mod replies;
 mod rows;
-mod rules;
 mod runs;
 mod steps;
-mod tables;
-mod undoing;
 
 pub use alone::replies_alone;
 pub use cam6_commands::{
@@ -50,5 +52,6 @@ pub use cam6_commands::{
     NamedEntry, Names, PlaneRows, Refusal, Reply, RowColours, RowText, Text,
 };
 pub use cam6_cycle::Direction;
+pub use kept::Kept;
 pub use machines::Machine;
 pub use replies::Now;

@@ -1,11 +1,12 @@
 //! Steps along a cycle, forward and backward.
 ghost use Rattle.std.specs.Prelude.{◌≡◌, ◌<◌, ℕ, List, length};
-ghost use Rattle.cam6_cycle.specs.Tables.{tables_needed};
-ghost use Rattle.cam6_cycle.specs.declared.tables.TheConstants.{MAX_TABLES};
+ghost use Rattle.cam6_planes.specs.Stored.{AreAlike};
+ghost use Rattle.cam6_planes.specs.declared.sides.Side.{Side};
+ghost use Rattle.cam6_cycle.specs.Limits.{max_tables};
 ghost use Rattle.cam6_model.specs.Rules.{Rule};
-ghost use Rattle.cam6_machine.specs.Stored.{machine_of};
-ghost use Rattle.cam6_machine.specs.Numbers.{AreNumbered, AreTables};
-ghost use Rattle.cam6_machine.specs.Internal.Numbered.{stored};
+ghost use Rattle.cam6_rules.specs.Numbers.{AreNumbered};
+ghost use Rattle.cam6_rules.specs.Filled.{AreTablesOf};
+ghost use Rattle.cam6_machine.specs.Internal.Images.{stored_as};
 ghost use Rattle.cam6_model.specs.Moves.{moved, CanMove};
 ghost use Rattle.cam6_model.specs.Always.{HaveOwnNames};
 
@@ -24,16 +25,15 @@ pub(crate) fn go_along(
     n: u16,
 ) -> (AtRest, usize)
     requires position { position < length cycle.now }
-    requires room { length tables.now ≡ MAX_TABLES }
+    requires room { length tables.now ≡ max_tables }
     ensures position { result.1 < length cycle.now }
+    ensures alike { AreAlike image.planes result.0.planes }
     // By whatever rules these are the tables of.
-    ensures steps { (rules : List Rule) (colours : List ℕ) → HaveOwnNames rules →
-        AreNumbered rules cycle.now →
-        (let needed = tables_needed direction cycle.now in
-        AreTables direction (length needed) rules needed tables.now) →
-        let m = machine_of (stored image.planes rules cycle.now position colours) in
+    ensures steps { (limit : Side) (rules : List Rule) (colours : List ℕ) → HaveOwnNames rules →
+        AreNumbered rules cycle.now → AreTablesOf direction rules cycle.now tables.now →
+        let m = stored_as image.planes limit rules cycle.now position colours in
         CanMove direction m →
-        machine_of (stored result.0.planes rules cycle.now result.1 colours)
+        stored_as result.0.planes limit rules cycle.now result.1 colours
         ≡ moved direction n m }
 {
     let mut image = image;

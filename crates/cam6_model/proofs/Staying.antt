@@ -365,31 +365,38 @@ no_rules = record {
   texts = tt;
 }
 
+-- rules among which one is put that isn't refused
+pub rules_defined : (new : Rule) (rules : List Rule) (cycle : List NamedEntry) → AreRules rules →
+    refuse.rule_refusal rules cycle new.name ≡ None →
+    refuse.words_refusal new.wiring new.text ≡ None → IsUtf8 new.text →
+    AreRules (with_rule new rules)
+rules_defined new rules cycle are none words text = by_name (is_rule_name new.name) refl none
+  where
+    by_name : (b : Bool) → is_rule_name new.name ≡ b →
+        cond b (refuse.room_refusal rules cycle new.name (rule_named new.name rules))
+        (Some OutOfRange) ≡ None → AreRules (with_rule new rules)
+    by_name false named none = cc none
+    by_name true named none =
+        let (apart, few) =
+        has_room rules cycle new (rule_named new.name rules) refl none are.few in
+        rules_with new rules are named few words text
+
 -- a rule that isn't refused is put under its name
 rule_is : (m : Machine) (new : Rule) → IsMachine m →
     refuse.rule_refusal m.rules m.cycle new.name ≡ None →
     refuse.words_refusal new.wiring new.text ≡ None → IsUtf8 new.text →
     IsMachine (record m { rules = with_rule new m.rules })
-rule_is m new is none words text = by_name (is_rule_name new.name) refl none
-  where
-    by_name : (b : Bool) → is_rule_name new.name ≡ b →
-        cond b (refuse.room_refusal m.rules m.cycle new.name (rule_named new.name m.rules))
-        (Some OutOfRange) ≡ None →
-        IsMachine (record m { rules = with_rule new m.rules })
-    by_name false named none = cc none
-    by_name true named none =
-        let (apart, few) =
-        has_room m.rules m.cycle new (rule_named new.name m.rules) refl none is.rules.few in
-        record {
-          within = is.within;
-          planes = is.planes;
-          rules = rules_with new m.rules is.rules named few words text;
-          short = is.short;
-          entries = entries_with new m.rules m.cycle apart is.entries;
-          position = is.position;
-          coloured = is.coloured;
-          colours = is.colours;
-        }
+rule_is m new is none words text = record {
+  within = is.within;
+  planes = is.planes;
+  rules = rules_defined new m.rules m.cycle is.rules none words text;
+  short = is.short;
+  entries = entries_with new m.rules m.cycle (apart_if_room m.rules m.cycle new.name none)
+      is.entries;
+  position = is.position;
+  coloured = is.coloured;
+  colours = is.colours;
+}
 
 small : (colours : List ℕ) → list_all (λ colour. nat_le colour max_colour) colours ≡ true →
     AllByRecursion (λ colour. colour ≤ max_colour) colours

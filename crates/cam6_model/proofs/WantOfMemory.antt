@@ -10,13 +10,15 @@ use Rattle.cam6_forth.specs.Defined.{Defined}
 use Rattle.cam6_forth.specs.Reading.{read_text, keeps}
 use Rattle.cam6_forth.proofs.SomethingKept.{accepted_is_kept}
 use Rattle.cam6_commands.specs.Checks.{plane_refusal}
-use Rattle.cam6_commands.specs.declared.commands.Command.TheVariants.{Rule, Plane}
+use Rattle.cam6_commands.specs.declared.commands.Command.TheVariants.{Plane}
 use Rattle.cam6_commands.specs.declared.faults.Fault.{Fault}
+use Rattle.cam6_commands.specs.declared.commands.NamedEntry.{NamedEntry}
+use Rattle.cam6_model.specs.Rules.{Rule}
 use Rattle.cam6_model.specs.Machine.{Machine}
 use Rattle.cam6_model.specs.Refusals.{text_refusal, words_refusal, rule_refusal, fault_refusal}
 use Rattle.cam6_model.specs.Effects.{plane_rows}
 use Rattle.cam6_model.specs.Alone.{reply}
-use Rattle.cam6_model.specs.Memory.{keeps_text, are_some, has_rows}
+use Rattle.cam6_model.specs.Memory.{keeps_definition, are_some, has_rows}
 use Rattle.cam6_model.proofs.Refusing.{reply-accepted}
 use Rattle.cam6_model.proofs.Staying.{first_none}
 
@@ -38,11 +40,11 @@ both None kept none is = is
 both (Some fault) kept none is = cc none
 
 -- so a rule that is accepted keeps its text
-pub text_is_kept : (name : List ℕ) (wiring : Wiring) (text : List ℕ) (m : Machine) →
-    None ≡ rule_refusal m.rules m.cycle name → words_refusal wiring text ≡ None →
-    keeps_text m (Rule name wiring text) ≡ true
-text_is_kept name wiring text m free sound =
-    both (rule_refusal m.rules m.cycle name) (keeps wiring text) free
+pub definition_is_kept : (rules : List Rule) (cycle : List NamedEntry) (name : List ℕ)
+    (wiring : Wiring) (text : List ℕ) → None ≡ rule_refusal rules cycle name →
+    words_refusal wiring text ≡ None → keeps_definition rules cycle name wiring text ≡ true
+definition_is_kept rules cycle name wiring text free sound =
+    both (rule_refusal rules cycle name) (keeps wiring text) free
     (sound_is_kept wiring text sound)
 
 -- a plane has rows

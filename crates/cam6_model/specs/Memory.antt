@@ -1,5 +1,8 @@
 -- For which commands memory may be wanted.
 use Rattle.std.specs.Prelude.{ℕ, Bool, true, false, ◌&&◌, ◌||◌, List, [], ◌∷◌, is_none}
+use Rattle.cam6_wiring.specs.declared.wirings.Wiring.{Wiring}
+use Rattle.cam6_commands.specs.declared.commands.NamedEntry.{NamedEntry}
+use Rattle.cam6_model.specs.Rules.{Rule}
 use Rattle.cam6_model.specs.Machine.{Machine}
 use Rattle.cam6_forth.specs.Reading.{keeps}
 use Rattle.cam6_model.specs.Refusals.{rule_refusal}
@@ -11,10 +14,14 @@ use Rattle.cam6_commands.specs.declared.replies.Done.TheVariants as done
 use Rattle.cam6_commands.specs.declared.replies.Reply.{Reply}
 use Rattle.cam6_commands.specs.declared.replies.Reply.TheVariants as reply
 
--- whether something of a command's text is kept: a rule's, unless its name is refused first
+-- whether something is kept of the text of a rule that is defined, unless its name is refused first
+abbrev pub keeps_definition : List Rule → List NamedEntry → List ℕ → Wiring → List ℕ → Bool
+keeps_definition rules cycle name wiring text =
+    is_none (rule_refusal rules cycle name) && keeps wiring text
+
+-- whether something of a command's text is kept: a rule's
 abbrev pub keeps_text : Machine → Command → Bool
-keeps_text m (command.Rule name wiring text) =
-    is_none (rule_refusal m.rules m.cycle name) && keeps wiring text
+keeps_text m (command.Rule name wiring text) = keeps_definition m.rules m.cycle name wiring text
 keeps_text m _ = false
 
 -- whether there is one at least

@@ -164,6 +164,12 @@ abbrev pub fault_refusal : Option Fault → Option Refusal
 fault_refusal None = None
 fault_refusal (Some fault) = Some (refused.Fault fault)
 
+-- a rule that is defined: its name first, and then its words
+abbrev pub definition_refusal :
+    List Rule → List NamedEntry → List ℕ → Wiring → List ℕ → Option Refusal
+definition_refusal rules cycle name wiring text =
+    or_then (fault_refusal (rule_refusal rules cycle name)) (words_refusal wiring text)
+
 -- why a rule can't be undone, if there is a rule and it can't
 abbrev pub rule_cause : Option Rule → Option NotReversible
 rule_cause None = None
@@ -197,8 +203,7 @@ back_refusal rules cycle n =
 abbrev pub refusal : Machine → Command → Option Refusal
 refusal m (Set plane row bits) = fault_refusal (set_refusal m.side plane row bits)
 refusal m (Clear plane) = fault_refusal (plane_refusal plane)
-refusal m (SetRule name wiring text) =
-    or_then (fault_refusal (rule_refusal m.rules m.cycle name)) (words_refusal wiring text)
+refusal m (SetRule name wiring text) = definition_refusal m.rules m.cycle name wiring text
 refusal m (DropRule name) = fault_refusal (drop_refusal m.rules m.cycle name)
 refusal m Rules = None
 refusal m (Cycle entries) = fault_refusal (cycle_refusal m.rules entries)

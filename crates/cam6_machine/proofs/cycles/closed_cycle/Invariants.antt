@@ -1,7 +1,0 @@
-use Rattle.std.proofs.Common.{◌≡◌, map, take}
-use Rattle.cam6_machine.specs.Internal.Numbered.{closed_entry}
-use Rattle.cam6_machine.proofs.cycles.closed_cycle.Given as goal
-
-abbrev pub invariant-loop-entry : goal.invariant-loop-entry
-invariant-loop-entry l =
-    l.closed.items ≡ map (closed_entry l.number) (take l.entry-index l.cycle)

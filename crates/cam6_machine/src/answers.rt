@@ -1,0 +1,27 @@
+//! What steps along a cycle are answered.
+ghost use Rattle.std.specs.Prelude.{◌≡◌};
+ghost use Rattle.cam6_machine.specs.Internal.Ways.{reply_at, work_or_reply};
+
+use crate::replies::Now;
+use cam6_commands::{Done, Reply, StepCount};
+use cam6_cycle::Direction;
+
+/// So many steps that are left to do; with none the position is replied.
+pub(crate) fn work_or_reply(steps: StepCount, direction: Direction, position: usize) -> Now
+    ensures { result ≡ work_or_reply steps direction position }
+{
+    match steps.number() {
+        0 => Now::Reply(reply_at(direction, position)),
+        n => Now::Work(n, direction),
+    }
+}
+
+/// The reply once a machine has come to a position.
+pub(crate) fn reply_at(direction: Direction, position: usize) -> Reply
+    ensures { result ≡ reply_at direction position }
+{
+    match direction {
+        Direction::Forward => Reply::Done(Done::Run { position }),
+        Direction::Backward => Reply::Done(Done::Back { position }),
+    }
+}

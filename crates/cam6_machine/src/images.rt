@@ -1,0 +1,119 @@
+//! The image that a machine holds.
+ghost use Rattle.std.specs.Prelude.{◌≡◌, ◌<◌, ◌≤◌, ◌*◌, length, None};
+ghost use Rattle.cam6_planes.specs.Cells.{cells, no_cells, with_row, without_plane};
+ghost use Rattle.cam6_planes.specs.Row.{byte_column};
+ghost use Rattle.cam6_planes.specs.Side.{side_number};
+ghost use Rattle.cam6_planes.specs.Stored.{AreAlike};
+ghost use Rattle.cam6_model.specs.Alone.{command_of};
+ghost use Rattle.cam6_model.specs.Moves.{moved};
+ghost use Rattle.cam6_model.specs.Refusals.{refusal};
+ghost use Rattle.cam6_machine.specs.Stored.{machine_over};
+
+use crate::kept::Kept;
+use cam6_band::AtRest;
+use cam6_cycle::Direction;
+use cam6_planes::{Planes, Side};
+use std::marker::Model;
+
+/// An image at rest, which is away only in the midst of steps. Contracts see its planes.
+#[derive(Drop)]
+pub(crate) struct Held {
+    image: Option<AtRest>,
+}
+
+impl Model for Held {
+    ghost use Rattle.std.specs.Prelude.{IsSome};
+    ghost use Rattle.cam6_planes.specs.Stored.{Stored};
+    ghost use Rattle.cam6_machine.specs.Internal.Images.{planes_of};
+
+    ghost Value = { Stored };
+
+    ghost view = { λ h. planes_of h.image };
+
+    ghost invariant = { λ h. IsSome h.image };
+}
+
+impl Held {
+    pub(crate) fn of(image: AtRest) -> Held
+        ensures { result ≡ image.planes }
+    {
+        Held { image: Some(image) }
+    }
+
+    pub(crate) fn into_image(self) -> AtRest
+        ensures { result.planes ≡ self }
+    {
+        match self.image {
+            Some(image) => image,
+            None => unreachable!(),
+        }
+    }
+
+    pub(crate) fn at_rest(&self) -> &AtRest
+        ensures { result.now.planes ≡ self.now }
+    {
+        match &self.image {
+            Some(image) => image,
+            None => unreachable!(),
+        }
+    }
+
+    pub(crate) fn planes(&self) -> &Planes
+        ensures { result.now ≡ self.now }
+    {
+        self.at_rest().planes()
+    }
+
+    pub(crate) fn put_row(&mut self, p: usize, y: usize, bits: &[u8])
+        requires plane { p < 4 }
+        requires row { y < side_number self.old.side }
+        requires bits { 8 * length bits.now ≡ side_number self.old.side }
+        ensures cells { cells self.new
+            ≡ with_row (side_number self.old.side) (cells self.old) p y (byte_column bits.now) }
+        ensures alike { AreAlike self.old self.new }
+    {
+        let Some(image) = &mut self.image else {
+            unreachable!()
+        };
+        image.planes_mut().put_row(p, y, bits);
+    }
+
+    pub(crate) fn clear_plane(&mut self, p: usize)
+        requires plane { p < 4 }
+        ensures cells { cells self.new
+            ≡ without_plane (side_number self.old.side) (cells self.old) p }
+        ensures alike { AreAlike self.old self.new }
+    {
+        let Some(image) = &mut self.image else {
+            unreachable!()
+        };
+        image.planes_mut().clear_plane(p);
+    }
+
+    pub(crate) fn set_side(&mut self, side: Side)
+        requires within { side_number side ≤ side_number self.old.limit }
+        ensures cells { cells self.new ≡ no_cells }
+        ensures side { self.new.side ≡ side }
+        ensures limit { self.new.limit ≡ self.old.limit }
+    {
+        let Some(image) = &mut self.image else {
+            unreachable!()
+        };
+        image.planes_mut().set_side(side);
+    }
+
+    /// Goes so many steps one way along the cycle that is kept.
+    pub(crate) fn go(&mut self, kept: &mut Kept, n: u16, direction: Direction)
+        requires accepted { refusal (machine_over self.old kept.old) (command_of n direction)
+            ≡ None }
+        ensures machine { machine_over self.new kept.new
+            ≡ moved direction n (machine_over self.old kept.old) }
+        ensures alike { AreAlike self.old self.new }
+        ensures limit { kept.new.limit ≡ kept.old.limit }
+    {
+        let Some(image) = self.image.take() else {
+            unreachable!()
+        };
+        self.image = Some(kept.go(image, n, direction));
+    }
+}

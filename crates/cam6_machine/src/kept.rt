@@ -1,0 +1,272 @@
+//! What a machine keeps beside its planes, and what commands do to it.
+ghost use Rattle.std.specs.Prelude.{◌≡◌, ◌≤◌, ℕ, length, false, None, IsOk, IfOk, OnErr};
+ghost use Rattle.std.specs.List.{AllByRecursion};
+ghost use Rattle.cam6_model.specs.Always.{IsPosition};
+ghost use Rattle.std.specs.Option.{option_copied};
+ghost use Rattle.cam6_planes.specs.Stored.{Stored, AreAlike};
+ghost use Rattle.cam6_commands.specs.Limits.{max_colour};
+ghost use Rattle.cam6_model.specs.Alone.{reply, after, work_of, command_of};
+ghost use Rattle.cam6_model.specs.Memory.{keeps_text, has_rows};
+ghost use Rattle.cam6_model.specs.Moves.{moved};
+ghost use Rattle.cam6_model.specs.Refusals.{refusal};
+ghost use Rattle.cam6_rules.specs.Numbers.{entries_of, named_entries};
+
+use crate::refusals::{accept_colours, accept_run};
+use crate::answers::work_or_reply;
+use crate::replies::Now;
+use crate::runs::go_along;
+use cam6_band::AtRest;
+use cam6_commands::{Command, Done, NamedEntries, Names, Refusal, Reply, Text};
+use cam6_cycle::{Cycle, Direction};
+use cam6_planes::{NoMemory, Side};
+use cam6_rules::{NotDefined, Rules, Tables, entries_of};
+use cam6_wiring::Wiring;
+use std::alloc::Global;
+use std::marker::Model;
+
+/// All of a machine but its images: rules, cycle, position, colours and the limit of the side, with
+/// the tables of the cycle's rules, which stay filled from one command to the next.
+#[derive(Drop)]
+pub struct Kept {
+    alloc: Global,
+    limit: Side,
+    rules: Rules,
+    cycle: Option<Cycle>,
+    position: usize,
+    colours: [u8; 16],
+    tables: Tables,
+}
+
+impl Model for Kept {
+    ghost use Rattle.cam6_rules.specs.Filled.{AreTrue};
+    ghost use Rattle.cam6_rules.specs.Numbers.{entries_of};
+    ghost use Rattle.cam6_machine.specs.Stored.{StoredKept, IsKept};
+    ghost use Rattle.cam6_machine.specs.Internal.Images.{kept_as};
+
+    ghost Value = { StoredKept };
+
+    ghost view = { λ k. kept_as k.limit k.rules (entries_of k.cycle) k.position k.colours };
+
+    ghost invariant = { λ k.
+        IsKept (kept_as k.limit k.rules (entries_of k.cycle) k.position k.colours)
+        × AreTrue k.tables k.rules (entries_of k.cycle) };
+}
+
+impl Kept {
+    ghost use Rattle.cam6_machine.specs.Stored.{machine_over, nothing_kept, IsKept};
+    ghost use Rattle.cam6_machine.specs.AtOnce.{work_in, IsReplyTo, machine_then, CanWork};
+
+    /// What a blank machine of this limit keeps.
+    pub(crate) fn new(alloc: Global, limit: Side) -> Result<Kept, NoMemory>
+        ensures { IfOk result (λ kept. kept ≡ nothing_kept limit) }
+    {
+        Ok(Kept {
+            alloc,
+            limit,
+            rules: Rules::new(alloc),
+            cycle: None,
+            position: 0,
+            colours: [0, 1, 2, 3, 4, 5, 6, 7, 8, 9, 10, 11, 12, 13, 14, 15],
+            tables: Tables::blank(alloc)?,
+        })
+    }
+
+    /// The largest side that the planes may take on. Whoever holds what a machine keeps learns here
+    /// what it always is.
+    pub fn limit(&self) -> Side
+        ensures limit { result ≡ self.now.limit }
+        ensures kept { IsKept self.now }
+    {
+        self.limit
+    }
+
+    pub fn rules(&self) -> &Rules
+        ensures { result.now ≡ self.now.rules }
+    {
+        &self.rules
+    }
+
+    /// The cycle, by the numbers of its rules, if one is set.
+    pub fn cycle(&self) -> Option<&Cycle>
+        ensures { entries_of (option_copied result) ≡ self.now.cycle }
+    {
+        self.cycle.as_ref()
+    }
+
+    /// The position in the cycle.
+    pub fn position(&self) -> usize
+        ensures { result ≡ self.now.position }
+    {
+        self.position
+    }
+
+    pub(crate) fn alloc(&self) -> Global {
+        self.alloc
+    }
+
+    /// A colour for each state of a cell.
+    pub(crate) fn colours(&self) -> &[u8; 16]
+        ensures colours { result.now ≡ self.now.colours }
+        ensures within { AllByRecursion (λ colour. colour ≤ max_colour) result.now }
+    {
+        &self.colours
+    }
+
+    /// The position is the first again.
+    pub(crate) fn begin_again(&mut self)
+        ensures { self.new ≡ record self.old { position = 0 } }
+    {
+        self.position = 0;
+    }
+
+    /// Comes to another position of the cycle.
+    pub(crate) fn stand_at(&mut self, position: usize)
+        requires { IsPosition (named_entries self.old.rules self.old.cycle) position }
+        ensures { self.new ≡ record self.old { position = position } }
+    {
+        self.position = position;
+    }
+
+    pub(crate) fn define(
+        &mut self,
+        name: Text,
+        wiring: Wiring,
+        text: Text,
+    ) -> Result<Reply, NoMemory>
+        // Over whatever planes.
+        ensures reply { (planes : Stored) → IfOk result (λ r.
+            r ≡ reply (machine_over planes self.old) (Command.Rule name wiring text)) }
+        ensures machine { (planes : Stored) → IfOk result (λ r. machine_over planes self.new
+            ≡ after (machine_over planes self.old) (Command.Rule name wiring text)) }
+        ensures limit { self.new.limit ≡ self.old.limit }
+        ensures err { OnErr result (self.new ≡ self.old) }
+        ensures memory { (planes : Stored) →
+            keeps_text (machine_over planes self.old) (Command.Rule name wiring text) ≡ false
+            → IsOk result }
+    {
+        let cycle = entries_of(&self.cycle);
+        match self.rules.define(cycle, name, wiring, text, &mut self.tables) {
+            Ok(()) => Ok(Reply::Done(Done::Rule)),
+            Err(NotDefined::Refused(refusal)) => Ok(Reply::Refused(refusal)),
+            Err(NotDefined::NoMemory) => Err(NoMemory),
+        }
+    }
+
+    pub(crate) fn drop_rule(&mut self, name: &Text) -> Reply
+        ensures reply { (planes : Stored) →
+            result ≡ reply (machine_over planes self.old) (Command.Drop name.now) }
+        ensures machine { (planes : Stored) → machine_over planes self.new
+            ≡ after (machine_over planes self.old) (Command.Drop name.now) }
+        ensures limit { self.new.limit ≡ self.old.limit }
+    {
+        match self.rules.remove(&mut self.cycle, name) {
+            Ok(()) => Reply::Done(Done::Drop),
+            Err(fault) => Reply::Refused(Refusal::Fault(fault)),
+        }
+    }
+
+    pub(crate) fn list_rules(&self) -> Result<Reply, NoMemory>
+        ensures reply { (planes : Stored) → IfOk result (λ r.
+            r ≡ reply (machine_over planes self.now) Command.Rules) }
+        ensures memory { (planes : Stored) →
+            has_rows (reply (machine_over planes self.now) Command.Rules) ≡ false
+            → IsOk result }
+    {
+        let names = Names::new(self.rules.names()?);
+        Ok(Reply::Done(Done::Rules { names }))
+    }
+
+    pub(crate) fn set_colours(&mut self, colours: &[u64; 16]) -> Reply
+        ensures reply { (planes : Stored) →
+            result ≡ reply (machine_over planes self.old) (Command.Map colours.now) }
+        ensures machine { (planes : Stored) → machine_over planes self.new
+            ≡ after (machine_over planes self.old) (Command.Map colours.now) }
+        ensures limit { self.new.limit ≡ self.old.limit }
+    {
+        match accept_colours(colours) {
+            Ok(kept) => {
+                self.colours = kept;
+                Reply::Done(Done::Map)
+            }
+            Err(fault) => Reply::Refused(Refusal::Fault(fault)),
+        }
+    }
+
+    pub(crate) fn set_cycle(&mut self, entries: &NamedEntries) -> Reply
+        ensures reply { (planes : Stored) →
+            result ≡ reply (machine_over planes self.old) (Command.Cycle entries.now) }
+        ensures machine { (planes : Stored) → machine_over planes self.new
+            ≡ after (machine_over planes self.old) (Command.Cycle entries.now) }
+        ensures limit { self.new.limit ≡ self.old.limit }
+    {
+        match self.rules.cycle_of(entries) {
+            Ok(cycle) => {
+                self.cycle = Some(cycle);
+                self.position = 0;
+                self.tables.spoil();
+                Reply::Done(Done::Cycle)
+            }
+            Err(fault) => Reply::Refused(Refusal::Fault(fault)),
+        }
+    }
+
+    /// The steps that a run has to do, or the reply where there are none.
+    pub(crate) fn work_of_run(&self, n: u64) -> Now
+        ensures work { (planes : Stored) →
+            work_in result ≡ work_of (machine_over planes self.now) (Command.Run n) }
+        ensures reply { (planes : Stored) →
+            IsReplyTo result (machine_over planes self.now) (Command.Run n) }
+        ensures machine { (planes : Stored) → machine_over planes self.now
+            ≡ machine_then result (machine_over planes self.now) (Command.Run n) }
+        ensures ready { (planes : Stored) → CanWork result (machine_over planes self.now) }
+    {
+        match accept_run(&self.cycle, n) {
+            Ok((_, steps)) => work_or_reply(steps, Direction::Forward, self.position),
+            Err(fault) => Now::Reply(Reply::Refused(Refusal::Fault(fault))),
+        }
+    }
+
+    /// The steps that have to be undone, or the reply where there are none. Whether they can be is
+    /// found out by filling the tables for them.
+    pub(crate) fn work_of_back(&mut self, n: u64) -> Now
+        ensures work { (planes : Stored) →
+            work_in result ≡ work_of (machine_over planes self.old) (Command.Back n) }
+        ensures reply { (planes : Stored) →
+            IsReplyTo result (machine_over planes self.old) (Command.Back n) }
+        ensures machine { (planes : Stored) → machine_over planes self.new
+            ≡ machine_then result (machine_over planes self.old) (Command.Back n) }
+        ensures ready { (planes : Stored) → CanWork result (machine_over planes self.new) }
+        ensures kept { self.new ≡ self.old }
+    {
+        let (cycle, steps) = match accept_run(&self.cycle, n) {
+            Ok(accepted) => accepted,
+            Err(fault) => return Now::Reply(Reply::Refused(Refusal::Fault(fault))),
+        };
+        match self.tables.fill(&self.rules, cycle, Direction::Backward) {
+            Ok(()) => work_or_reply(steps, Direction::Backward, self.position),
+            Err(refusal) => Now::Reply(Reply::Refused(refusal)),
+        }
+    }
+
+    /// Takes an image so many steps one way along the cycle, and comes to the position behind them.
+    pub(crate) fn go(&mut self, image: AtRest, n: u16, direction: Direction) -> AtRest
+        requires accepted { refusal (machine_over image.planes self.old) (command_of n direction)
+            ≡ None }
+        ensures machine { machine_over result.planes self.new
+            ≡ moved direction n (machine_over image.planes self.old) }
+        ensures alike { AreAlike image.planes result.planes }
+        ensures limit { self.new.limit ≡ self.old.limit }
+    {
+        let Some(cycle) = &self.cycle else {
+            unreachable!()
+        };
+        match self.tables.fill(&self.rules, cycle, direction) {
+            Ok(()) => {}
+            Err(_) => unreachable!(),
+        }
+        let tables = self.tables.by_use();
+        let (image, position) = go_along(image, cycle, direction, tables, self.position, n);
+        self.position = position;
+        image
+    }
+}

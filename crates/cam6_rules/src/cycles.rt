@@ -1,0 +1,129 @@
+//! A cycle by the numbers of its rules.
+ghost use Rattle.std.specs.Prelude.{◌≡◌, ◌<◌, ◌≤◌, length, map};
+ghost use Rattle.cam6_cycle.specs.Limits.{max_entries};
+ghost use Rattle.cam6_model.specs.Cycles.{phase_of};
+ghost use Rattle.cam6_rules.specs.Numbers.{entries_of};
+ghost use Rattle.cam6_rules.specs.Internal.Numbered.{rules_of, number_if_named, numbered_entry};
+ghost use Rattle.cam6_rules.specs.Internal.Numbered.{half_rule_at, closed_half, closed_entry};
+
+use crate::compiled::CompiledRule;
+use crate::named::{rule_number, wiring_at};
+use arrayvec::ArrayVec;
+use cam6_commands::{NamedEntry, Text};
+use cam6_cycle::{Cycle, Entry, HalfRule, MAX_ENTRIES};
+use cam6_wiring::Phase;
+use indexmap::IndexMap;
+
+/// The entries of a cycle, if one is set.
+pub fn entries_of(cycle: &Option<Cycle>) -> &[Entry]
+    ensures entries { result.now ≡ entries_of cycle.now }
+    ensures few { length result.now ≤ max_entries }
+{
+    match cycle {
+        Some(cycle) => cycle.entries(),
+        None => &[],
+    }
+}
+
+/// The cycle of these entries, each with the numbers of its rules.
+pub(crate) fn numbered_cycle(
+    rules: &IndexMap<String, CompiledRule>,
+    entries: &[NamedEntry],
+) -> Cycle
+    requires some { 0 < length entries.now }
+    requires few { length entries.now ≤ max_entries }
+    ensures { result ≡ map (numbered_entry (rules_of rules.now.entries)) entries.now }
+{
+    let mut numbered: ArrayVec<Entry, MAX_ENTRIES> = ArrayVec::new();
+    for entry in entries {
+        numbered.push(numbered_entry(rules, entry));
+    }
+    match Cycle::new(numbered.as_slice()) {
+        Ok(cycle) => cycle,
+        Err(_) => unreachable!(),
+    }
+}
+
+/// The cycle once the rule at a number is dropped: the rules behind it have closed up.
+pub(crate) fn closed_cycle(cycle: &[Entry], number: usize) -> Option<Cycle>
+    requires { length cycle.now ≤ max_entries }
+    ensures { entries_of result ≡ map (closed_entry number) cycle.now }
+{
+    let mut closed: ArrayVec<Entry, MAX_ENTRIES> = ArrayVec::new();
+    for entry in cycle {
+        closed.push(closed_entry(*entry, number));
+    }
+    Cycle::new(closed.as_slice()).ok()
+}
+
+fn closed_entry(entry: Entry, number: usize) -> Entry
+    ensures { result ≡ closed_entry number entry }
+{
+    Entry {
+        a: closed_half(entry.a, number),
+        b: closed_half(entry.b, number),
+        grid: entry.grid,
+        phase: entry.phase,
+    }
+}
+
+fn closed_half(rule: Option<HalfRule>, number: usize) -> Option<HalfRule>
+    ensures { result ≡ closed_half number rule }
+{
+    let rule = rule?;
+    let number = if number < rule.number {
+        rule.number - 1
+    } else {
+        rule.number
+    };
+    Some(HalfRule {
+        number,
+        hood: rule.hood,
+        minor: rule.minor,
+    })
+}
+
+fn numbered_entry(rules: &IndexMap<String, CompiledRule>, entry: &NamedEntry) -> Entry
+    ensures { result ≡ numbered_entry (rules_of rules.now.entries) entry.now }
+{
+    Entry {
+        a: half_rule_at(rules, number_if_named(rules, &entry.a)),
+        b: half_rule_at(rules, number_if_named(rules, &entry.b)),
+        grid: entry.grid,
+        phase: phase_of(entry.phase),
+    }
+}
+
+/// The rule at a number with what it is written for, if there is a number and a rule at it.
+fn half_rule_at(rules: &IndexMap<String, CompiledRule>, number: Option<usize>) -> Option<HalfRule>
+    ensures { result ≡ half_rule_at (rules_of rules.now.entries) number }
+{
+    let wiring = wiring_at(rules, number)?;
+    Some(HalfRule {
+        number: number?,
+        hood: wiring.hood,
+        minor: wiring.minor,
+    })
+}
+
+/// The number of the rule with this name, if there is a name and such a rule.
+fn number_if_named(rules: &IndexMap<String, CompiledRule>, name: &Option<Text>) -> Option<usize>
+    ensures { result ≡ number_if_named (rules_of rules.now.entries) name.now }
+{
+    match name {
+        Some(name) => rule_number(rules, name),
+        None => None,
+    }
+}
+
+/// The phase of a number 0 to 3.
+fn phase_of(number: u64) -> Phase
+    ensures { result ≡ phase_of number }
+{
+    match number {
+        0 => Phase::P0,
+        1 => Phase::P1,
+        2 => Phase::P2,
+        _ => Phase::P3,
+    }
+}

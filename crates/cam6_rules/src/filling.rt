@@ -1,0 +1,145 @@
+//! Tables are filled use by use, in the order in which a cycle needs them.
+ghost use Rattle.std.specs.Prelude.{◌≡◌, ◌<◌, ◌≤◌, ◌+◌, length, None, Some, IfErr, IfSome, OnOk};
+ghost use Rattle.std.specs.List.{slice_get};
+ghost use Rattle.std.specs.Option.{is_some};
+ghost use Rattle.std.specs.Result.{result_err};
+ghost use mir.Val.{bool_byte};
+ghost use Rattle.cam6_cycle.specs.Limits.{max_tables};
+ghost use Rattle.cam6_cycle.specs.declared.tables.Direction.TheVariants.{Backward};
+ghost use Rattle.cam6_model.specs.Always.{HaveOwnNames};
+ghost use Rattle.cam6_model.specs.Refusals.{rule_cause};
+ghost use Rattle.cam6_model.specs.TrueTables.{IsTableFor};
+ghost use Rattle.cam6_rules.specs.Numbers.{rule_at, number_in, named_entries};
+ghost use Rattle.cam6_rules.specs.Numbers.{AreTables};
+ghost use Rattle.cam6_rules.specs.Filled.{AreTablesOf, way_refusal};
+ghost use Rattle.cam6_rules.specs.Internal.Uses.{IsUse, IsUseOf, IsCauseOf};
+
+use crate::rules::Rules;
+use cam6_block::NotReversible;
+use cam6_commands::Refusal;
+use cam6_cycle::{Cycle, Direction, Entry, HalfRule, NeededTable};
+use cam6_table::Table;
+use cam6_wiring::Half;
+
+/// Fills the tables that a cycle needs to go one way along it, or says of the first rule that has
+/// none why: of the entries in their order, of each half A's before half B's. The straight table is
+/// room for those of which an inverse is made.
+pub(crate) fn fill_entries(
+    rules: &Rules,
+    cycle: &Cycle,
+    direction: Direction,
+    straight: &mut Table,
+    tables: &mut [Table],
+) -> Result<(), Refusal>
+    requires names { HaveOwnNames rules.now }
+    requires room { length tables.old ≡ max_tables }
+    ensures refusal { result_err result
+        ≡ way_refusal direction rules.now (named_entries rules.now cycle.now) }
+    ensures tables { OnOk result (AreTablesOf direction rules.now cycle.now tables.new) }
+    ensures room { length tables.new ≡ length tables.old }
+{
+    let needed = cycle.tables_needed(direction);
+    let entries = cycle.entries();
+    for number in 0..entries.len() {
+        let Entry { a, b, .. } = entries[number];
+        let first = cycle.tables_before(number);
+        if let Err(cause) = fill_half(rules, &needed, first, a, direction, straight, tables) {
+            return Err(not_reversible(number, Half::A, cause));
+        }
+        let second = first + usize::from(a.is_some());
+        if let Err(cause) = fill_half(rules, &needed, second, b, direction, straight, tables) {
+            return Err(not_reversible(number, Half::B, cause));
+        }
+    }
+    Ok(())
+}
+
+fn not_reversible(entry: usize, half: Half, cause: NotReversible) -> Refusal
+    ensures { result ≡ Refusal.NotReversible entry half cause }
+{
+    Refusal::NotReversible { entry, half, cause }
+}
+
+/// Fills the table of a half's rule, if it has one, of which this is the index. Where a half has no
+/// rule nothing is to be filled.
+fn fill_half(
+    rules: &Rules,
+    needed: &[NeededTable],
+    index: usize,
+    rule: Option<HalfRule>,
+    direction: Direction,
+    straight: &mut Table,
+    tables: &mut [Table],
+) -> Result<(), NotReversible>
+    requires use_of { IsUseOf rule (slice_get needed.now index) }
+    requires room { length needed.now ≤ length tables.old }
+    requires before { AreTables direction index rules.now needed.now tables.old }
+    ensures tables { OnOk result
+        (AreTables direction (index + bool_byte (is_some rule)) rules.now needed.now tables.new) }
+    ensures reversible { OnOk result
+        (direction ≡ Backward → rule_cause (rule_at rules.now (number_in rule)) ≡ None) }
+    ensures refused { IfErr result (λ cause. (direction ≡ Backward)
+        × (rule_cause (rule_at rules.now (number_in rule)) ≡ Some cause)) }
+    ensures room { length tables.new ≡ length tables.old }
+{
+    match rule {
+        Some(_) => fill_use(rules, needed, index, direction, straight, tables),
+        None => Ok(()),
+    }
+}
+
+/// Fills the table of the use at this index. A rule that was used before it has its table already,
+/// which is copied.
+fn fill_use(
+    rules: &Rules,
+    needed: &[NeededTable],
+    index: usize,
+    direction: Direction,
+    straight: &mut Table,
+    tables: &mut [Table],
+) -> Result<(), NotReversible>
+    requires index { index < length needed.now }
+    requires room { length needed.now ≤ length tables.old }
+    requires before { AreTables direction index rules.now needed.now tables.old }
+    ensures tables { OnOk result
+        (AreTables direction (index + 1) rules.now needed.now tables.new) }
+    ensures refused { IfErr result (λ cause. (direction ≡ Backward)
+        × IsCauseOf rules.now cause (slice_get needed.now index)) }
+    ensures room { length tables.new ≡ length tables.old }
+{
+    let number = needed[index].rule.number;
+    let (before, rest) = tables.split_at_mut(index);
+    match first_use(&needed[..index], number) {
+        Some(first) => {
+            rest[0].copy_from(&before[first]);
+            Ok(())
+        }
+        None => fill_table(rules, number, direction, straight, &mut rest[0]),
+    }
+}
+
+/// The index of the first use of the rule at a number.
+fn first_use(needed: &[NeededTable], number: usize) -> Option<usize>
+    ensures { IfSome result (λ first. IsUse number (slice_get needed.now first)) }
+{
+    needed.iter().position(|table| table.rule.number == number)
+}
+
+/// Fills the table of the rule at this number, if there is one, or says why there is none.
+fn fill_table(
+    rules: &Rules,
+    number: usize,
+    direction: Direction,
+    straight: &mut Table,
+    table: &mut Table,
+) -> Result<(), NotReversible>
+    ensures table { OnOk result
+        (IsTableFor direction (rule_at rules.now (Some number)) table.new) }
+    ensures refused { IfErr result (λ cause. (direction ≡ Backward)
+        × (rule_cause (rule_at rules.now (Some number)) ≡ Some cause)) }
+{
+    match rules.at(number) {
+        Some(rule) => rule.fill_by(direction, straight, table),
+        None => Ok(()),
+    }
+}

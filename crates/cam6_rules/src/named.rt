@@ -1,0 +1,79 @@
+//! Compiled rules by name, in the order in which their names came first.
+ghost use Rattle.std.specs.Prelude.{◌≡◌, [], map, IfOk, IsOk, OnOk, OnErr};
+ghost use Rattle.cam6_model.specs.Effects.{with_rule, without_rule};
+ghost use Rattle.cam6_model.specs.Rules.{wiring_of};
+ghost use Rattle.cam6_rules.specs.Internal.Numbered.{rules_of, rule_number, wiring_at};
+
+use crate::compiled::CompiledRule;
+use cam6_commands::Text;
+use cam6_planes::NoMemory;
+use cam6_wiring::Wiring;
+use indexmap::IndexMap;
+use std::alloc::Global;
+
+/// The number of the rule that has the name.
+pub(crate) fn rule_number(rules: &IndexMap<String, CompiledRule>, name: &Text) -> Option<usize>
+    ensures { result ≡ rule_number name.now (rules_of rules.now.entries) }
+{
+    rules.get_index_of(name.as_str())
+}
+
+/// What the rule that has the name is written for.
+pub(crate) fn wiring_of(rules: &IndexMap<String, CompiledRule>, name: &Text) -> Option<Wiring>
+    ensures { result ≡ wiring_of name.now (rules_of rules.now.entries) }
+{
+    match rules.get(name.as_str()) {
+        Some(rule) => Some(rule.wiring()),
+        None => None,
+    }
+}
+
+/// What the rule at a number is written for, if there is a number and a rule at it.
+pub(crate) fn wiring_at(rules: &IndexMap<String, CompiledRule>, number: Option<usize>) -> Option<Wiring>
+    ensures { result ≡ wiring_at (rules_of rules.now.entries) number }
+{
+    let (_, rule) = rules.get_index(number?)?;
+    Some(rule.wiring())
+}
+
+/// Drops the rule that has the name; those behind it close up.
+pub(crate) fn remove(rules: &mut IndexMap<String, CompiledRule>, name: &Text)
+    ensures { rules_of rules.new.entries ≡ without_rule name.now (rules_of rules.old.entries) }
+{
+    rules.shift_remove(name.as_str());
+}
+
+/// The names of the rules, in their order.
+pub(crate) fn names_of(
+    alloc: Global,
+    rules: &IndexMap<String, CompiledRule>,
+) -> Result<Vec<Text>, NoMemory>
+    ensures names { IfOk result (λ names.
+        names.items ≡ map (λ rule. rule.name) (rules_of rules.now.entries)) }
+    // No memory is wanted to list no rules.
+    ensures none { rules_of rules.now.entries ≡ [] → IsOk result }
+{
+    let mut names = Vec::with_capacity(alloc, rules.len())?;
+    for number in 0..rules.len() {
+        let Some((name, _)) = rules.get_index(number) else {
+            unreachable!()
+        };
+        names.push(Text::new(String::from_str(alloc, name.as_str())?))?;
+    }
+    Ok(names)
+}
+
+/// Keeps a rule under a name, instead of the one that has it.
+pub(crate) fn put(
+    rules: &mut IndexMap<String, CompiledRule>,
+    name: Text,
+    rule: CompiledRule,
+) -> Result<(), NoMemory>
+    ensures ok { OnOk result (rules_of rules.new.entries ≡ with_rule
+        (record { name = name; wiring = rule.wiring; text = rule.text })
+        (rules_of rules.old.entries)) }
+    ensures err { OnErr result (rules.new.entries ≡ rules.old.entries) }
+{
+    rules.insert(name.into_string(), rule)?;
+    Ok(())
+}

@@ -1,0 +1,196 @@
+//! Rules by name: a type that keeps what rules always are.
+ghost use Rattle.std.specs.Prelude.{◌≡◌, ◌≢◌, ◌↔◌, ℕ, [], false, map, length, Err};
+ghost use Rattle.std.specs.Prelude.{IfOk, IsOk, OnOk, OnErr, IsTrue};
+ghost use Rattle.std.specs.List.{slice_get};
+ghost use Rattle.std.specs.Option.{option_copied};
+ghost use Rattle.std.specs.Result.{result_err};
+
+use crate::compiled::{CompiledRule, tried_rule};
+use crate::cycles::{closed_cycle, entries_of, numbered_cycle};
+use crate::named::{names_of, put, remove};
+use crate::refusals::{accept_cycle, accept_drop, accept_rule};
+use crate::tables::Tables;
+use cam6_commands::{Fault, NamedEntries, Refusal, Text};
+use cam6_cycle::{Cycle, Entry};
+use cam6_planes::NoMemory;
+use cam6_table::NotCompiled;
+use cam6_wiring::Wiring;
+use indexmap::IndexMap;
+use std::alloc::Global;
+use std::marker::Model;
+
+/// Why a rule isn't defined.
+#[derive(Debug, Drop)]
+pub enum NotDefined {
+    /// Its name, its text or an address at which it stops is refused.
+    Refused(Refusal),
+    /// Memory was asked for and refused.
+    NoMemory,
+}
+
+impl From<NoMemory> for NotDefined {
+    ghost use Rattle.cam6_rules.specs.declared.rules.NotDefined.TheVariants.{NoMemory};
+
+    ghost from_gives = { λ _ e. e ≡ NoMemory };
+
+    fn from(_refused: NoMemory) -> NotDefined {
+        NotDefined::NoMemory
+    }
+}
+
+/// At most sixteen rules with names of their own, in the order in which the names came first, each
+/// kept as it was defined. Contracts see them as the rules of the model, and hold the code of none.
+///
+/// Others can be built rule by rule beside them, with a cycle of no entries, and take their place
+/// when they are whole.
+#[derive(Drop)]
+pub struct Rules {
+    alloc: Global,
+    by_name: IndexMap<String, CompiledRule>,
+}
+
+impl Model for Rules {
+    ghost use Rattle.std.specs.Prelude.{List};
+    ghost use Rattle.cam6_model.specs.Rules.{Rule};
+    ghost use Rattle.cam6_model.specs.Always.{AreRules};
+    ghost use Rattle.cam6_rules.specs.Internal.Numbered.{rules_of};
+
+    ghost Value = { List Rule };
+
+    ghost view = { λ r. rules_of r.by_name.entries };
+
+    ghost invariant = { λ r. AreRules (rules_of r.by_name.entries) };
+}
+
+impl Rules {
+    ghost use Rattle.cam6_model.specs.Effects.{with_rule, without_rule};
+    ghost use Rattle.cam6_model.specs.Refusals.{definition_refusal, drop_refusal, cycle_refusal};
+    ghost use Rattle.cam6_model.specs.Always.{AreRules};
+    ghost use Rattle.cam6_rules.specs.Compiled.{IsKeptAs};
+    ghost use Rattle.cam6_rules.specs.Defining.{IsDefinedUnless};
+    ghost use Rattle.cam6_model.specs.Memory.{keeps_definition};
+    ghost use Rattle.cam6_rules.specs.Filled.{StoredTables, AreTrue};
+    ghost use Rattle.cam6_rules.specs.Numbers.{entries_of, named_entries, AreNumbered};
+
+    /// No rules.
+    pub fn new(alloc: Global) -> Rules
+        ensures { result ≡ [] }
+    {
+        Rules {
+            alloc,
+            by_name: IndexMap::new(alloc),
+        }
+    }
+
+    /// How many they are. Whoever holds rules learns here what they always are.
+    pub fn len(&self) -> usize
+        ensures number { result ≡ length self.now }
+        ensures rules { AreRules self.now }
+    {
+        self.by_name.len()
+    }
+
+    /// Whether there are none.
+    pub fn is_empty(&self) -> bool
+        ensures { IsTrue result ↔ (self.now ≡ []) }
+    {
+        self.by_name.is_empty()
+    }
+
+    /// The rule at a number.
+    pub fn at(&self, number: usize) -> Option<&CompiledRule>
+        ensures { IsKeptAs (slice_get self.now number) (option_copied result) }
+    {
+        let (_, rule) = self.by_name.get_index(number)?;
+        Some(rule)
+    }
+
+    /// The names of the rules, in their order.
+    pub fn names(&self) -> Result<Vec<Text>, NoMemory>
+        ensures names { IfOk result (λ names. names.items ≡ map (λ rule. rule.name) self.now) }
+        // No memory is wanted to list no rules.
+        ensures none { self.now ≡ [] → IsOk result }
+    {
+        names_of(self.alloc, &self.by_name)
+    }
+
+    /// Keeps a rule under a name, instead of the one that has it, unless it is refused: a rule that
+    /// the cycle uses stays. Its text is tried where the tables have room for that.
+    pub fn define(
+        &mut self,
+        cycle: &[Entry],
+        name: Text,
+        wiring: Wiring,
+        text: Text,
+        room: &mut Tables,
+    ) -> Result<(), NotDefined>
+        ensures refusal { IsDefinedUnless
+            (definition_refusal self.old (named_entries self.old cycle.now) name wiring text)
+            result }
+        ensures rules { OnOk result (self.new
+            ≡ with_rule (record { name = name; wiring = wiring; text = text }) self.old) }
+
+        // The entries of the cycle have the rules that they had, and so true tables stay true.
+        ensures named { AreNumbered self.old cycle.now →
+            named_entries self.new cycle.now ≡ named_entries self.old cycle.now }
+        ensures numbered { AreNumbered self.old cycle.now → AreNumbered self.new cycle.now }
+        ensures tables { AreNumbered self.old cycle.now → AreTrue room.old self.old cycle.now →
+            AreTrue room.new self.new cycle.now }
+
+        ensures err { OnErr result (self.new ≡ self.old) }
+        ensures room { room.new ≡ room.old }
+        // No memory is wanted for a text of which nothing is kept.
+        ensures memory { keeps_definition self.old (named_entries self.old cycle.now) name wiring
+            text ≡ false → result ≢ Err NotDefined.NoMemory }
+    {
+        if let Err(fault) = accept_rule(&self.by_name, cycle, &name) {
+            return Err(NotDefined::Refused(Refusal::Fault(fault)));
+        }
+        match tried_rule(self.alloc, wiring, text, room) {
+            Ok(rule) => {
+                put(&mut self.by_name, name, rule)?;
+                Ok(())
+            }
+            Err(NotCompiled::Text(fault)) => Err(NotDefined::Refused(Refusal::Text(fault))),
+            Err(NotCompiled::Stops { address, fault }) => {
+                Err(NotDefined::Refused(Refusal::Stops { address, fault }))
+            }
+            Err(NotCompiled::NoMemory) => Err(NotDefined::NoMemory),
+        }
+    }
+
+    /// Drops the rule that has the name, unless there is none or the cycle uses it. The rules behind
+    /// it close up, and the cycle with them.
+    pub fn remove(&mut self, cycle: &mut Option<Cycle>, name: &Text) -> Result<(), Fault>
+        ensures refusal { result_err result
+            ≡ drop_refusal self.old (named_entries self.old (entries_of cycle.old)) name.now }
+        ensures rules { OnOk result (self.new ≡ without_rule name.now self.old) }
+
+        // The entries of the cycle have the rules that they had, and so true tables stay true.
+        ensures named { OnOk result (named_entries self.new (entries_of cycle.new)
+            ≡ named_entries self.old (entries_of cycle.old)) }
+        ensures numbered { OnOk result (AreNumbered self.old (entries_of cycle.old) →
+            AreNumbered self.new (entries_of cycle.new)) }
+        ensures tables { OnOk result ((tables : StoredTables) →
+            AreTrue tables self.old (entries_of cycle.old) →
+            AreTrue tables self.new (entries_of cycle.new)) }
+
+        ensures err { OnErr result (self.new ≡ self.old) }
+        ensures cycle { OnErr result (cycle.new ≡ cycle.old) }
+    {
+        let number = accept_drop(&self.by_name, entries_of(cycle), name)?;
+        *cycle = closed_cycle(entries_of(cycle), number);
+        remove(&mut self.by_name, name);
+        Ok(())
+    }
+
+    /// The cycle of these entries, by the numbers of the rules that they name.
+    pub fn cycle_of(&self, entries: &NamedEntries) -> Result<Cycle, Fault>
+        ensures refusal { result_err result ≡ cycle_refusal self.now entries.now }
+        ensures named { IfOk result (λ cycle. named_entries self.now cycle ≡ entries.now) }
+        ensures numbered { IfOk result (λ cycle. AreNumbered self.now cycle) }
+    {
+        accept_cycle(&self.by_name, entries)?;
+        Ok(numbered_cycle(&self.by_name, entries.as_slice()))
+    }
+}

@@ -1,0 +1,119 @@
+//! Tables that remember for which way along a cycle they are filled, in room that they have from the
+//! beginning. They lie as the cycle needs them: a table for each use of a rule.
+ghost use Rattle.std.specs.Prelude.{◌≡◌, ◌≢◌, ℕ, false, length, None, Some, Err, IfOk, OnOk};
+ghost use Rattle.std.specs.Result.{result_err};
+ghost use Rattle.cam6_cycle.specs.Limits.{max_tables};
+ghost use Rattle.cam6_forth.specs.Reading.{keeps};
+ghost use Rattle.cam6_table.specs.RuleTexts.{IsCodeFor};
+ghost use Rattle.cam6_table.specs.Compiling.{fault_in, IsRefusedFor};
+
+use crate::filling::fill_entries;
+use crate::rules::Rules;
+use cam6_commands::Refusal;
+use cam6_cycle::{Cycle, Direction, MAX_TABLES};
+use cam6_planes::NoMemory;
+use cam6_table::{Code, NotCompiled, Table, compile};
+use cam6_wiring::Wiring;
+use std::alloc::Global;
+use std::marker::Model;
+
+/// Room for the tables of a cycle's rules, and where a rule is tried. Contracts see what the tables
+/// have, and for which way they are filled.
+#[derive(Drop)]
+pub struct Tables {
+    /// A table for each use of a rule.
+    by_use: Vec<Table>,
+    /// Where a rule is tried, and the table of which an inverse is made.
+    trial: Table,
+    /// The way along the cycle for which they are filled.
+    filled: Option<Direction>,
+}
+
+impl Model for Tables {
+    ghost use Rattle.std.specs.Prelude.{◌≡◌, vec_len};
+    ghost use Rattle.cam6_cycle.specs.Limits.{max_tables};
+    ghost use Rattle.cam6_rules.specs.Filled.{StoredTables};
+
+    ghost Value = { StoredTables };
+
+    ghost view = { λ t. record { entries = t.by_use.items; filled = t.filled } };
+
+    ghost invariant = { λ t. vec_len t.by_use ≡ max_tables };
+}
+
+impl Tables {
+    ghost use Rattle.cam6_rules.specs.Numbers.{named_entries};
+    ghost use Rattle.cam6_rules.specs.Filled.{AreTrue, AreTablesOf, way_refusal};
+
+    /// Room for the tables of the longest cycle. None of them is filled.
+    pub fn blank(alloc: Global) -> Result<Tables, NoMemory>
+        ensures filled { IfOk result (λ tables. tables.filled ≡ None) }
+    {
+        let mut by_use = Vec::with_capacity(alloc, MAX_TABLES)?;
+        for _use in 0..MAX_TABLES {
+            by_use.push(Table::blank(alloc)?)?;
+        }
+        Ok(Tables {
+            by_use,
+            trial: Table::blank(alloc)?,
+            filled: None,
+        })
+    }
+
+    /// The tables, one for each use of a rule.
+    pub fn by_use(&self) -> &[Table]
+        ensures entries { result.now ≡ self.now.entries }
+        ensures room { length result.now ≡ max_tables }
+    {
+        self.by_use.as_slice()
+    }
+
+    /// They are filled for no way along any cycle, as where another cycle is set.
+    pub fn spoil(&mut self)
+        ensures entries { self.new.entries ≡ self.old.entries }
+        ensures filled { self.new.filled ≡ None }
+    {
+        self.filled = None;
+    }
+
+    /// Fills the tables that a cycle needs to go one way along it, unless they are filled for it, or
+    /// says which rule has none. It takes no memory.
+    pub fn fill(
+        &mut self,
+        rules: &Rules,
+        cycle: &Cycle,
+        direction: Direction,
+    ) -> Result<(), Refusal>
+        // What they say of themselves is so for this cycle.
+        requires { AreTrue self.old rules.now cycle.now }
+        ensures refusal { result_err result
+            ≡ way_refusal direction rules.now (named_entries rules.now cycle.now) }
+        ensures filled { OnOk result (self.new.filled ≡ Some direction) }
+        ensures tables { AreTrue self.new rules.now cycle.now }
+    {
+        // Rules have names of their own.
+        let _number = rules.len();
+        if self.filled == Some(direction) {
+            return Ok(());
+        }
+        self.filled = None;
+        fill_entries(rules, cycle, direction, &mut self.trial, &mut self.by_use)?;
+        self.filled = Some(direction);
+        Ok(())
+    }
+
+    /// Compiles a rule's text, which is tried at every address where the tables have room for that.
+    pub(crate) fn compile(
+        &mut self,
+        alloc: Global,
+        wiring: Wiring,
+        text: &str,
+    ) -> Result<Code, NotCompiled>
+        ensures code { IfOk result (λ code. IsCodeFor wiring text.now code) }
+        ensures refused { IsRefusedFor (fault_in wiring text.now) result }
+        ensures unkept { keeps wiring text.now ≡ false → result ≢ Err NotCompiled.NoMemory }
+        ensures tables { self.new ≡ self.old }
+    {
+        compile(alloc, wiring, text, &mut self.trial)
+    }
+}
