@@ -1,5 +1,6 @@
 -- What a machine keeps beside its planes stays what is always kept.
 use Rattle.std.proofs.Common.{◌≡◌, ◌≤◌, ◌<◌, ℕ, List, [], ◌∷◌, length, None, subst, sym, refl, lit≤, arith}
+use Rattle.std.proofs.lemmas.List.{length-map}
 use Rattle.cam6_planes.specs.Side.{side_number}
 use Rattle.cam6_planes.specs.Stored.{Stored}
 use Rattle.cam6_planes.specs.declared.sides.Side.{Side}
@@ -15,7 +16,10 @@ use Rattle.cam6_model.specs.Machine.{Machine}
 use Rattle.cam6_model.specs.Refusals.{refusal}
 use Rattle.cam6_model.specs.Alone.{after, command_of}
 use Rattle.cam6_model.specs.Always.{IsMachine, IsPosition}
-use Rattle.cam6_rules.specs.Numbers.{AreNumbered}
+use Rattle.cam6_rules.specs.Numbers.{AreNumbered, named_entry, named_entries}
+use Rattle.cam6_model.specs.Rules.{Rule}
+use Rattle.cam6_model.specs.Refusals.{some_cycle}
+use Rattle.cam6_cycle.specs.declared.entries.Entry.{Entry}
 use Rattle.cam6_rules.specs.Filled.{way_refusal}
 use Rattle.cam6_machine.specs.Stored.{StoredKept, machine_over, nothing_kept, IsKept}
 use Rattle.cam6_machine.specs.Laws.{KeptIsMachine}
@@ -29,7 +33,7 @@ kept_is_machine kept planes is within = record {
   within = within;
   planes = torus_again (side_number planes.side) (stored_bit planes.rows) (side_some planes.side);
   rules = is.rules;
-  short = is.short;
+  short = omega (arith, is.short, length-map kept.cycle (named_entry kept.rules));
   entries = is.entries;
   position = is.position;
   coloured = is.coloured;
@@ -42,7 +46,7 @@ machine_is_kept : (kept : StoredKept) (planes : Stored) → IsMachine (machine_o
 machine_is_kept kept planes is numbered = record {
   rules = is.rules;
   numbered = numbered;
-  short = is.short;
+  short = omega (arith, is.short, length-map kept.cycle (named_entry kept.rules));
   entries = is.entries;
   position = is.position;
   coloured = is.coloured;
@@ -115,3 +119,9 @@ pub way_accepted : (m : Machine) (n : ℕ) (direction : Direction) →
     refusal m (command_of n direction) ≡ None → way_refusal direction m.rules m.cycle ≡ None
 way_accepted m n Forward accepted = refl
 way_accepted m n Backward accepted = (first_none _ (way_refusal Backward m.rules m.cycle) accepted).1
+
+-- a cycle of entries is one by name
+pub some_named : (rules : List Rule) (entries : List Entry) → 0 < length entries →
+    some_cycle (named_entries rules entries) ≡ None
+some_named rules [] some = absurd (omega (arith, some))
+some_named rules (entry ∷ entries) some = refl

@@ -8,5 +8,7 @@ pub mod ColoursOfRows
 pub mod Keeping
 -- The machine after a command, by what is stored then.
 pub mod Replying
+-- What is said of a command is said of it by the machine that was there.
+pub mod Answering
 -- One step this way along a cycle, with numbers and with names.
 pub mod Along

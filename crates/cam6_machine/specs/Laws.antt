@@ -14,10 +14,10 @@ JoinsWhatWasParted =
     (stored : StoredMachine) (planes : Stored) (position : ℕ) →
     machine_over planes (record stored.kept { position = position })
     ≡ record (machine_of stored) {
-        side = planes.side;
-        planes = cells planes;
-        position = position;
-      }
+      side = planes.side;
+      planes = cells planes;
+      position = position;
+    }
 
 -- over planes of a side within its limit, what a machine keeps is a machine
 abbrev pub KeptIsMachine : Type 0

@@ -11,8 +11,8 @@ ghost use Rattle.cam6_model.specs.Moves.{moved};
 ghost use Rattle.cam6_model.specs.Refusals.{refusal};
 ghost use Rattle.cam6_rules.specs.Numbers.{entries_of, named_entries};
 
-use crate::refusals::{accept_colours, accept_run};
 use crate::answers::work_or_reply;
+use crate::refusals::{accept_colours, accept_run};
 use crate::replies::Now;
 use crate::runs::go_along;
 use cam6_band::AtRest;
@@ -145,11 +145,15 @@ impl Kept {
             → IsOk result }
     {
         let cycle = entries_of(&self.cycle);
-        match self.rules.define(cycle, name, wiring, text, &mut self.tables) {
-            Ok(()) => Ok(Reply::Done(Done::Rule)),
-            Err(NotDefined::Refused(refusal)) => Ok(Reply::Refused(refusal)),
-            Err(NotDefined::NoMemory) => Err(NoMemory),
+        match self
+            .rules
+            .define(cycle, name, wiring, text, &mut self.tables)
+        {
+            Ok(()) => {}
+            Err(NotDefined::Refused(refusal)) => return Ok(Reply::Refused(refusal)),
+            Err(NotDefined::NoMemory) => return Err(NoMemory),
         }
+        Ok(Reply::Done(Done::Rule))
     }
 
     pub(crate) fn drop_rule(&mut self, name: &Text) -> Reply
@@ -160,9 +164,10 @@ impl Kept {
         ensures limit { self.new.limit ≡ self.old.limit }
     {
         match self.rules.remove(&mut self.cycle, name) {
-            Ok(()) => Reply::Done(Done::Drop),
-            Err(fault) => Reply::Refused(Refusal::Fault(fault)),
+            Ok(()) => {}
+            Err(fault) => return Reply::Refused(Refusal::Fault(fault)),
         }
+        Reply::Done(Done::Drop)
     }
 
     pub(crate) fn list_rules(&self) -> Result<Reply, NoMemory>

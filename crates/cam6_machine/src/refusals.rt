@@ -75,7 +75,11 @@ pub(crate) fn accept_run(cycle: &Option<Cycle>, n: u64) -> Result<(&Cycle, StepC
 {
     let steps = StepCount::of(n)?;
     match cycle {
-        Some(cycle) => Ok((cycle, steps)),
+        Some(cycle) => {
+            // A cycle has at least one entry.
+            let _entries = cycle.entries();
+            Ok((cycle, steps))
+        }
         None => Err(Fault::NoCycle),
     }
 }

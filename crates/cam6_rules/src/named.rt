@@ -29,7 +29,10 @@ pub(crate) fn wiring_of(rules: &IndexMap<String, CompiledRule>, name: &Text) -> 
 }
 
 /// What the rule at a number is written for, if there is a number and a rule at it.
-pub(crate) fn wiring_at(rules: &IndexMap<String, CompiledRule>, number: Option<usize>) -> Option<Wiring>
+pub(crate) fn wiring_at(
+    rules: &IndexMap<String, CompiledRule>,
+    number: Option<usize>,
+) -> Option<Wiring>
     ensures { result ≡ wiring_at (rules_of rules.now.entries) number }
 {
     let (_, rule) = rules.get_index(number?)?;

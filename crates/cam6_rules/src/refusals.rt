@@ -117,7 +117,10 @@ fn have_phases(entries: &[NamedEntry]) -> bool
 }
 
 /// The first fault of an entry, in the order of the entries.
-fn accept_entries(rules: &IndexMap<String, CompiledRule>, entries: &[NamedEntry]) -> Result<(), Fault>
+fn accept_entries(
+    rules: &IndexMap<String, CompiledRule>,
+    entries: &[NamedEntry],
+) -> Result<(), Fault>
     ensures { result_err result ≡ first_refusal (rules_of rules.now.entries) entries.now }
 {
     for entry in entries {

@@ -4,6 +4,7 @@ ghost use Rattle.std.specs.Prelude.{IfOk, IsOk, OnOk, OnErr, IsTrue};
 ghost use Rattle.std.specs.List.{slice_get};
 ghost use Rattle.std.specs.Option.{option_copied};
 ghost use Rattle.std.specs.Result.{result_err};
+ghost use Rattle.std.specs.Str.{IsUtf8};
 
 use crate::compiled::{CompiledRule, tried_rule};
 use crate::cycles::{closed_cycle, entries_of, numbered_cycle};
@@ -129,6 +130,7 @@ impl Rules {
             result }
         ensures rules { OnOk result (self.new
             ≡ with_rule (record { name = name; wiring = wiring; text = text }) self.old) }
+        ensures text { OnOk result (IsUtf8 text) }
 
         // The entries of the cycle have the rules that they had, and so true tables stay true.
         ensures named { AreNumbered self.old cycle.now →

@@ -1,4 +1,4 @@
-use Rattle.std.proofs.Common.{◌≡◌, ◌∙◌, ◌+◌, ap, arith, suc}
+use Rattle.std.proofs.Common.{◌≡◌, ◌∙◌, ◌+◌, ap, arith, refl, suc}
 use Rattle.cam6_band.specs.ByTables.{values_of}
 use Rattle.cam6_machine.specs.Internal.Images.{stored_as}
 use Rattle.cam6_model.specs.Moves.{one_moved, moved}
@@ -8,6 +8,7 @@ use Rattle.cam6_machine.proofs.runs.go_along.Goals as goal
 pub loop-step-init : goal.loop-step-init
 loop-step-init c = record {
   position = c.requires.position;
+  alike = record { side = refl; limit = refl };
   steps = λ limit rules colours own numbered are can. none_moved c.args.direction _;
 }
 
@@ -21,6 +22,10 @@ loop-step-preserved c =
     let one : suc now._step ≡ now._step + 1 = omega arith in
     record {
       position = c.go_by-after.ensures.within;
+      alike = record {
+        side = c.step-image.ensures.alike.side ∙ now.invariant.alike.side;
+        limit = c.step-image.ensures.alike.limit ∙ now.invariant.alike.limit;
+      };
       steps = λ limit rules colours own numbered are can.
           let m = stored_as c.args.image.planes limit rules cycle c.args.position colours in
           ap (λ position. stored_as new limit rules cycle position colours)

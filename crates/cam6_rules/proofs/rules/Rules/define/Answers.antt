@@ -83,3 +83,6 @@ returns-in-Ok-clause-tables c = λ numbered are.
     (tables_with (new c) rules cycle c.args.room.now c.self.invariant.own (room c)
     (subst (λ (l : List Rule). AreNumbered l cycle) (sym c.self.view_is) numbered)
     (subst (λ (l : List Rule). AreTrue c.args.room.now l cycle) (sym c.self.view_is) are)))
+
+pub returns-in-Ok-clause-text : goal.returns-in-Ok-clause-text
+returns-in-Ok-clause-text c = (verdict c).3
