@@ -1,5 +1,5 @@
-//! Copies of cycles, steps that a run leaves to be done, turns that a rule takes, and the numbers
-//! of line faults.
+//! Copies of cycles, steps that a run leaves to be done, a machine that comes apart, turns that a rule
+//! takes, and the numbers of line faults.
 
 use cam6_commands::{Command, Done, NamedEntries, NamedEntry, Reply};
 use cam6_cycle::{Cycle, Entry};
@@ -86,6 +86,22 @@ fn no_steps_are_left(rt: HostRuntime) -> Result<(), Fail> {
     let mut machine = Machine::new(rt.alloc(), Side::S256)?;
     assert_eq!(rt; left(&mut machine, Command::Run { n: 1 }), Ok(None));
     assert_eq!(rt; left(&mut machine, Command::Plane { plane: 4 }), Ok(None));
+    Ok(())
+}
+
+// By hand: behind a step the machine stands at the next entry. It comes apart, lends what it keeps, and
+// is joined where it stood.
+#[test]
+fn machines_come_apart(rt: HostRuntime) -> Result<(), Fail> {
+    let mut machine = with_cycle(rt.alloc())?.ok_or("a cycle is set at once")?;
+    let _reply = machine.reply_to(Command::Run { n: 1 })?;
+    let (kept, image, spare) = machine.part();
+    assert_eq!(rt; kept.limit(), Side::S256);
+    assert_eq!(rt; kept.rules().len(), 0);
+    let at = kept.position();
+    assert_eq!(rt; at, 1);
+    let mut joined = kept.join(image, spare, at);
+    assert_eq!(rt; position(&mut joined), Ok(Some(1)));
     Ok(())
 }
 
