@@ -1,6 +1,6 @@
 #!/usr/bin/env python3
-"""Writes data/inverses.example, and with the word `refused` data/inverses_refused.example: the tables that
-undo those of rules, and rules for which there is none.
+"""Writes inverses.example of cam6_play_rules/data, and with the word `refused` inverses_refused.example: the tables
+that undo those of rules, and rules for which there is none.
 
 Shares nothing with the program. A rule is a plain formula over what a place of a block sees; each of the 256
 states of a block is tried at each of the four phases, and for each state the ones that become it are looked for.

@@ -17,11 +17,15 @@
 //! ```
 
 use crate::faults::Unplayable;
-use crate::repeats::{Named, write_out, written_out};
+use crate::repeats::{Named, written_out};
 use crate::rows::Rows;
+use crate::settings::side_of;
 use crate::ways::Way;
 use cam6_planes::Side;
-use std::alloc::Global;
+use std::alloc::{AllocError, Global};
+
+/// The way of lines above the first `as`.
+const UNSAID: &str = "session";
 
 /// A line that is sent, or a text without an LF at its end.
 #[derive(Drop)]
@@ -30,22 +34,24 @@ pub struct Sent {
     pub has_end: bool,
 }
 
-/// Lines that are played in one way, and what must come back.
-#[derive(Drop)]
-pub struct Part {
-    pub way: Way,
-    pub sent: Vec<Sent>,
-    pub wanted: Vec<u8>,
-}
-
-impl Part {
-    fn new(alloc: Global, way: Way) -> Part {
-        Part {
-            way,
-            sent: Vec::new(alloc),
-            wanted: Vec::new(alloc),
+/// All bytes that are sent.
+pub fn bytes_of(alloc: Global, sent: &[Sent]) -> Result<Vec<u8>, AllocError> {
+    let mut bytes = Vec::new(alloc);
+    for line in sent {
+        bytes.extend_from_slice(line.bytes.as_slice())?;
+        if line.has_end {
+            bytes.push(b'\n')?;
         }
     }
+    Ok(bytes)
+}
+
+/// Lines that are played in one way, and what must come back.
+#[derive(Drop)]
+pub struct Part<W: Way> {
+    pub way: W,
+    pub sent: Vec<Sent>,
+    pub wanted: Vec<u8>,
 }
 
 /// Rows that are being read.
@@ -59,9 +65,8 @@ enum Pending {
 
 /// An example that has been read up to a line.
 #[derive(Drop)]
-struct Reading {
-    parts: Vec<Part>,
-    part: Part,
+struct Reading<W: Way> {
+    parts: Vec<Part<W>>,
     named: Vec<Named>,
     /// The side of rows.
     side: Side,
@@ -69,10 +74,12 @@ struct Reading {
 }
 
 /// Reads an example. The number is that of the line that can't be played, counted from 1.
-pub fn read_example(alloc: Global, text: &str) -> Result<Vec<Part>, (usize, Unplayable)> {
+pub fn read_example<W: Way>(
+    alloc: Global,
+    text: &str,
+) -> Result<Vec<Part<W>>, (usize, Unplayable)> {
     let mut reading = Reading {
         parts: Vec::new(alloc),
-        part: Part::new(alloc, Way::Session(Side::S256)),
         named: Vec::new(alloc),
         side: Side::S256,
         pending: Pending::Nothing,
@@ -82,13 +89,11 @@ pub fn read_example(alloc: Global, text: &str) -> Result<Vec<Part>, (usize, Unpl
         lines = lines.saturating_add(1);
         reading.read_line(alloc, line).map_err(|e| (lines, e))?;
     }
-    reading
-        .begin_part(alloc, Way::Session(Side::S256))
-        .map_err(|e| (lines, e))?;
+    reading.end_rows(alloc).map_err(|e| (lines, e))?;
     Ok(reading.parts)
 }
 
-impl Reading {
+impl<W: Way> Reading<W> {
     fn read_line(&mut self, alloc: Global, line: &str) -> Result<(), Unplayable> {
         let (mark, rest) = line.split_once(' ').unwrap_or((line, ""));
         if let "=" | "@" | "|" = mark {
@@ -99,7 +104,7 @@ impl Reading {
         self.end_rows(alloc)?;
         match mark {
             "" | "#" => Ok(()),
-            "as" => self.begin_part(alloc, Way::read(alloc, rest)?),
+            "as" => self.begin_part(alloc, rest),
             "let" => self.name(alloc, rest),
             "side" => self.set_side(rest),
             ">" => self.send(alloc, rest),
@@ -109,15 +114,25 @@ impl Reading {
         }
     }
 
-    fn begin_part(&mut self, alloc: Global, way: Way) -> Result<(), Unplayable> {
-        self.end_rows(alloc)?;
-        let part = std::mem::replace(&mut self.part, Part::new(alloc, way));
+    fn begin_part(&mut self, alloc: Global, way: &str) -> Result<(), Unplayable> {
+        let part = Part {
+            way: W::read(alloc, way)?,
+            sent: Vec::new(alloc),
+            wanted: Vec::new(alloc),
+        };
         Ok(self.parts.push(part)?)
     }
 
+    /// The part that is being read.
+    fn part(&mut self, alloc: Global) -> Result<&mut Part<W>, Unplayable> {
+        if self.parts.is_empty() {
+            self.begin_part(alloc, UNSAID)?;
+        }
+        self.parts.last_mut().ok_or(Unplayable::Unread)
+    }
+
     fn set_side(&mut self, number: &str) -> Result<(), Unplayable> {
-        let number = number.parse().map_err(|_| Unplayable::Unread)?;
-        self.side = Side::of(number).ok_or(Unplayable::Unread)?;
+        self.side = side_of(number)?;
         Ok(())
     }
 
@@ -145,7 +160,7 @@ impl Reading {
 
     fn send_text(&mut self, alloc: Global, text: &str, has_end: bool) -> Result<(), Unplayable> {
         let bytes = written_out(alloc, text, self.named.as_slice())?;
-        Ok(self.part.sent.push(Sent { bytes, has_end })?)
+        Ok(self.part(alloc)?.sent.push(Sent { bytes, has_end })?)
     }
 
     fn want(&mut self, alloc: Global, text: &str) -> Result<(), Unplayable> {
@@ -153,8 +168,9 @@ impl Reading {
             self.pending = Pending::Wanted(Rows::blank(alloc, self.side)?);
             return Ok(());
         }
-        write_out(&mut self.part.wanted, text, self.named.as_slice())?;
-        Ok(self.part.wanted.push(b'\n')?)
+        let mut line = written_out(alloc, text, self.named.as_slice())?;
+        line.push(b'\n')?;
+        Ok(self.part(alloc)?.wanted.extend_from_slice(line.as_slice())?)
     }
 
     fn read_row(&mut self, mark: &str, rest: &str) -> Option<()> {
@@ -168,21 +184,24 @@ impl Reading {
     fn end_rows(&mut self, alloc: Global) -> Result<(), Unplayable> {
         match std::mem::replace(&mut self.pending, Pending::Nothing) {
             Pending::Nothing => Ok(()),
-            Pending::Wanted(rows) => Ok(rows.write_plane(&mut self.part.wanted)?),
-            Pending::Set(rows, plane) => {
-                for y in 0..rows.len() {
-                    let Some(digits) = rows.named(y) else {
-                        continue;
-                    };
-                    let bits = str::from_utf8(digits).unwrap_or("");
-                    let line = format!(in alloc;
-                        r#"{{"do":"set","plane":{plane},"row":{y},"bits":"{bits}"}}"#
-                    )?;
-                    self.send_text(alloc, line.as_str(), true)?;
-                    self.want(alloc, r#"{"ok":"set"}"#)?;
-                }
-                Ok(())
-            }
+            Pending::Wanted(rows) => Ok(rows.write_plane(&mut self.part(alloc)?.wanted)?),
+            Pending::Set(rows, plane) => self.send_rows(alloc, &rows, plane.as_str()),
         }
+    }
+
+    /// Sends a `set` of each row that was read, and wants each to be done.
+    fn send_rows(&mut self, alloc: Global, rows: &Rows, plane: &str) -> Result<(), Unplayable> {
+        for y in 0..rows.len() {
+            let Some(digits) = rows.named(y) else {
+                continue;
+            };
+            let bits = str::from_utf8(digits).unwrap_or("");
+            let line = format!(in alloc;
+                r#"{{"do":"set","plane":{plane},"row":{y},"bits":"{bits}"}}"#
+            )?;
+            self.send_text(alloc, line.as_str(), true)?;
+            self.want(alloc, r#"{"ok":"set"}"#)?;
+        }
+        Ok(())
     }
 }

@@ -1,16 +1,32 @@
-//! A wiring, as the lines of an example say it.
+//! Settings, as the words of a way and the lines of an example say them.
 
+use crate::faults::Unplayable;
+use cam6_planes::Side;
 use cam6_wiring::{Half, Hood, Minor, Wiring};
 
-/// `HALF HOOD MINOR`, as `A N/VONN &/CENTERS`.
-pub fn wiring_named(text: &str) -> Option<Wiring> {
-    match wiring_before(text)? {
-        (wiring, "") => Some(wiring),
-        _ => None,
+/// The limit that `within NUMBER` says; 256, where nothing is said.
+pub fn limit_of(text: &str) -> Result<Side, Unplayable> {
+    if text.is_empty() {
+        return Ok(Side::S256);
+    }
+    side_of(text.strip_prefix("within ").ok_or(Unplayable::Unread)?)
+}
+
+/// The side of a number.
+pub fn side_of(number: &str) -> Result<Side, Unplayable> {
+    let number = number.parse().map_err(|_| Unplayable::Unread)?;
+    Side::of(number).ok_or(Unplayable::Unread)
+}
+
+/// The wiring that `HALF HOOD MINOR` says, as `A N/VONN &/CENTERS`.
+pub fn wiring_of(text: &str) -> Result<Wiring, Unplayable> {
+    match wiring_before(text) {
+        Some((wiring, "")) => Ok(wiring),
+        _ => Err(Unplayable::Unread),
     }
 }
 
-/// `HALF HOOD MINOR`, and the text behind it and a space.
+/// The wiring that `HALF HOOD MINOR` says, and the text behind it and a space.
 pub fn wiring_before(text: &str) -> Option<(Wiring, &str)> {
     let (half, rest) = text.split_once(' ')?;
     let (hood, rest) = rest.split_once(' ')?;

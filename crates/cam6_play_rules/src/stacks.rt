@@ -1,8 +1,7 @@
 //! What words leave on the stack, as far as rules can tell it by what they write.
 
-use crate::examples::Sent;
 use crate::rules::{read_rule, rule_fault};
-use crate::sessions::{add_line, no_memory};
+use cam6_examples::{Sent, add_line, no_memory};
 use cam6_table::{Code, MAX_TURNS, RuleFault, eval};
 use cam6_wiring::{Half, Hood, Minor, Wiring};
 use std::alloc::Global;

@@ -1,6 +1,6 @@
 use Rattle.std.proofs.Common.{◌≡◌, true, sym, subst}
 use Rattle.cam6_cache.specs.Keys.{TableKey, IsReversibleKey}
-use Rattle.cam6_examples.proofs.caches.load.Goals as goal
+use Rattle.cam6_play_rules.proofs.caches.load.Goals as goal
 
 pub load-requires-clause-reversible : goal.load-requires-clause-reversible
 load-requires-clause-reversible c =

@@ -11,14 +11,12 @@ ghost use Rattle.cam6_cache.specs.Keys.{IsReversibleKey};
 ghost use Rattle.cam6_cache.specs.declared.caches.TheConstants.{MAX_CAPACITY};
 ghost use Rattle.cam6_table.specs.RuleTexts.{IsTableOf};
 
-use crate::examples::Sent;
 use crate::inverses::cause_text;
 use crate::rules::{add_table, code_of, text_of};
-use crate::sessions::{add_line, no_memory};
-use crate::settings::wiring_before;
 use cam6_block::{NotReversible, invert};
 use cam6_cache::laws::a_table_that_can_be_inverted_makes_its_key_reversible;
 use cam6_cache::{Key, MAX_CAPACITY, TableCache};
+use cam6_examples::{Sent, add_line, no_memory, wiring_before};
 use cam6_table::Table;
 use cam6_wiring::Wiring;
 use std::alloc::Global;

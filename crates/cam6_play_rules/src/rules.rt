@@ -2,8 +2,7 @@
 ghost use Rattle.std.specs.Prelude.{IfOk, OnOk};
 ghost use Rattle.cam6_table.specs.RuleTexts.{IsCodeFor, IsTableOf};
 
-use crate::examples::Sent;
-use crate::sessions::{add_line, no_memory};
+use cam6_examples::{Sent, add_line, no_memory};
 use cam6_forth::{Definition, ParseFault, Rule, TextFault, Word, parse_under};
 use cam6_table::{Code, ENTRIES, MAX_TURNS, NotCompiled, RuleFault, Table, compile, eval};
 use cam6_wiring::Wiring;

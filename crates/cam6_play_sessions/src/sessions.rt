@@ -1,8 +1,8 @@
 //! Lines as they are answered: by the session that `cam6` serves, and one by one.
 
 use crate::command_lines::line_of;
-use crate::examples::Sent;
 use cam6_commands::Command;
+use cam6_examples::{Sent, add_line, bytes_of, no_memory};
 use cam6_machine::Machine;
 use cam6_planes::Side;
 use cam6_session::{End, serve_alone};
@@ -14,16 +14,13 @@ use std::io::{BufRead, Read};
 /// How often one session looks at its lines at most.
 const TURNS: u64 = 1_000_000;
 
-/// All bytes that are sent.
-pub fn bytes_of(alloc: Global, sent: &[Sent]) -> io::Result<Vec<u8>> {
-    let mut bytes = Vec::new(alloc);
-    for line in sent {
-        bytes.extend_from_slice(line.bytes.as_slice())?;
-        if line.has_end {
-            bytes.push(b'\n')?;
-        }
-    }
-    Ok(bytes)
+/// What a session answers, by each way in.
+pub fn answered(alloc: Global, limit: Side, sent: &[Sent]) -> io::Result<Vec<Vec<u8>>> {
+    let mut all = Vec::new(alloc);
+    all.push(served(alloc, limit, sent)?)?;
+    all.push(served_byte_by_byte(alloc, limit, sent)?)?;
+    all.push(answered_one_by_one(alloc, limit, sent)?)?;
+    Ok(all)
 }
 
 /// Shows a byte at a time.
@@ -50,7 +47,7 @@ impl BufRead for ByteByByte<'_> {
 
 /// What a session over a blank machine of this limit answers, and how it ends if not with its
 /// input.
-pub fn served(alloc: Global, limit: Side, sent: &[Sent]) -> io::Result<Vec<u8>> {
+fn served(alloc: Global, limit: Side, sent: &[Sent]) -> io::Result<Vec<u8>> {
     let bytes = bytes_of(alloc, sent)?;
     let mut reader = bytes.as_slice();
     let mut answers = Vec::new(alloc);
@@ -59,7 +56,7 @@ pub fn served(alloc: Global, limit: Side, sent: &[Sent]) -> io::Result<Vec<u8>> 
 }
 
 /// The same, where its lines are read a byte at a time.
-pub fn served_byte_by_byte(alloc: Global, limit: Side, sent: &[Sent]) -> io::Result<Vec<u8>> {
+fn served_byte_by_byte(alloc: Global, limit: Side, sent: &[Sent]) -> io::Result<Vec<u8>> {
     let bytes = bytes_of(alloc, sent)?;
     let mut reader = ByteByByte {
         bytes: bytes.as_slice(),
@@ -78,7 +75,7 @@ fn add_end(mut answers: Vec<u8>, end: End) -> io::Result<Vec<u8>> {
 }
 
 /// The replies of a blank machine to the commands among the lines, and the faults of the others.
-pub fn answered_one_by_one(alloc: Global, limit: Side, sent: &[Sent]) -> io::Result<Vec<u8>> {
+fn answered_one_by_one(alloc: Global, limit: Side, sent: &[Sent]) -> io::Result<Vec<u8>> {
     let bytes = bytes_of(alloc, sent)?;
     let lines = bytes.strip_suffix(b"\n").unwrap_or(bytes.as_slice());
     let mut machine = Machine::new(alloc, limit).map_err(|_| no_memory())?;
@@ -138,14 +135,4 @@ fn add_fault(answers: &mut Vec<u8>, fault: LineFault) -> io::Result<()> {
         LineFault::NoMemory => Err(no_memory()),
         fault => add_line(answers, fault_text(fault)),
     }
-}
-
-pub fn add_line(answers: &mut Vec<u8>, line: &str) -> io::Result<()> {
-    answers.extend_from_slice(line.as_bytes())?;
-    answers.push(b'\n')?;
-    Ok(())
-}
-
-pub fn no_memory() -> io::Error {
-    io::Error::from(io::ErrorKind::OutOfMemory)
 }

@@ -1,5 +1,5 @@
 use Rattle.cam6_cache.specs.Keys.{TableKey}
-use Rattle.cam6_examples.proofs.caches.why_refused.Goals as goal
+use Rattle.cam6_play_rules.proofs.caches.why_refused.Goals as goal
 
 pub returns-in-Ok : goal.returns-in-Ok
 returns-in-Ok c none inverted =

@@ -1,9 +1,8 @@
 //! Tables that undo those of rules.
 
-use crate::examples::Sent;
 use crate::rules::{add_table, fill_by_text};
-use crate::sessions::{add_line, no_memory};
 use cam6_block::{NotReversible, invert};
+use cam6_examples::{Sent, add_line, no_memory};
 use cam6_table::Table;
 use cam6_wiring::Wiring;
 use std::alloc::Global;

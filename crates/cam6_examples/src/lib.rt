@@ -1,0 +1,28 @@
+//! The worked examples: how their files are read, and what is told of them once they are played.
+//!
+//! Contract: it makes no claim beyond being safe. What is read is shown by the examples, and a
+//! program plays them: it has the ways (`Way`) that its own files ask for, and `play` does the
+//! rest.
+//!
+//! Stands on: `cam6_planes`, for rows and sides, and `cam6_wiring`, for the words of a wiring.
+//!
+//! Read next: `examples`, a file line by line; `repeats` and `rows`, its texts and its planes;
+//! `ways`, what a program has of its own; then `players`, and the programs `cam6_play_sessions` and
+//! `cam6_play_rules`, beside which the examples lie.
+#![tactic(auto)]
+
+mod answers;
+mod examples;
+mod faults;
+mod players;
+mod repeats;
+mod rows;
+mod settings;
+mod ways;
+
+pub use answers::{add_line, no_memory};
+pub use examples::{Part, Sent, bytes_of, read_example};
+pub use faults::Unplayable;
+pub use players::play;
+pub use settings::{limit_of, wiring_before, wiring_of};
+pub use ways::Way;

@@ -1,0 +1,89 @@
+//! The ways in which texts of rules are played, and what is asked of a cache.
+
+use crate::{caches, inverses, rules, stacks};
+use cam6_cache::MAX_CAPACITY;
+use cam6_examples::{Sent, Unplayable, Way, wiring_of};
+use cam6_wiring::Wiring;
+use std::alloc::Global;
+use std::io;
+
+/// What is made of texts.
+#[derive(Drop)]
+pub enum RuleWay {
+    /// Texts of rules under a wiring: the first fault of each, if it has one.
+    Texts(Wiring),
+    /// What is kept of each rule's text.
+    Rules(Wiring),
+    /// The entry of each rule at these addresses.
+    Entries(Wiring, Vec<u16>),
+    /// Each rule's whole table, or the least address at which it stops.
+    Tables(Wiring),
+    /// The table that undoes each rule's table, or why there is none.
+    Inverses(Wiring),
+    /// The table that undoes the one which undoes each rule's.
+    InversesTwice(Wiring),
+    /// Loads from a cache of so many tables.
+    Cache(usize),
+    /// Words of a body: what they leave on the stack, the top value last.
+    Stacks,
+}
+
+impl Way for RuleWay {
+    fn read(alloc: Global, words: &str) -> Result<RuleWay, Unplayable> {
+        match words.split_once(' ').unwrap_or((words, "")) {
+            ("stacks", "") => Ok(RuleWay::Stacks),
+            ("cache", capacity) => Ok(RuleWay::Cache(capacity_of(capacity)?)),
+            ("texts", wiring) => Ok(RuleWay::Texts(wiring_of(wiring)?)),
+            ("rules", wiring) => Ok(RuleWay::Rules(wiring_of(wiring)?)),
+            ("tables", wiring) => Ok(RuleWay::Tables(wiring_of(wiring)?)),
+            ("inverses", rest) => match rest.strip_prefix("twice ") {
+                Some(wiring) => Ok(RuleWay::InversesTwice(wiring_of(wiring)?)),
+                None => Ok(RuleWay::Inverses(wiring_of(rest)?)),
+            },
+            ("entries", rest) => {
+                let (wiring, addresses) = rest.split_once(" at ").ok_or(Unplayable::Unread)?;
+                let addresses = addresses_of(alloc, addresses)?;
+                Ok(RuleWay::Entries(wiring_of(wiring)?, addresses))
+            }
+            _ => Err(Unplayable::Unread),
+        }
+    }
+
+    fn played(&self, alloc: Global, sent: &[Sent]) -> io::Result<Vec<Vec<u8>>> {
+        let answers = match self {
+            RuleWay::Texts(wiring) => rules::faults_of_texts(alloc, *wiring, sent)?,
+            RuleWay::Rules(wiring) => rules::kept_rules(alloc, *wiring, sent)?,
+            RuleWay::Entries(wiring, addresses) => {
+                rules::entries(alloc, *wiring, addresses.as_slice(), sent)?
+            }
+            RuleWay::Tables(wiring) => rules::tables(alloc, *wiring, sent)?,
+            RuleWay::Inverses(wiring) => inverses::inverses(alloc, *wiring, sent)?,
+            RuleWay::InversesTwice(wiring) => inverses::inverses_twice(alloc, *wiring, sent)?,
+            RuleWay::Cache(capacity) => caches::loads(alloc, *capacity, sent)?,
+            RuleWay::Stacks => stacks::stacks(alloc, sent)?,
+        };
+        Ok(vec![in alloc; answers]?)
+    }
+
+    fn is_session(&self) -> bool {
+        false
+    }
+}
+
+/// How many tables a cache keeps, 1 to 64.
+fn capacity_of(text: &str) -> Result<usize, Unplayable> {
+    let capacity = text.parse().map_err(|_| Unplayable::Unread)?;
+    if (1..=MAX_CAPACITY).contains(&capacity) {
+        Ok(capacity)
+    } else {
+        Err(Unplayable::Unread)
+    }
+}
+
+fn addresses_of(alloc: Global, text: &str) -> Result<Vec<u16>, Unplayable> {
+    let mut addresses = Vec::new(alloc);
+    for address in text.split(' ') {
+        addresses.push(address.parse().map_err(|_| Unplayable::Unread)?)?;
+    }
+    Ok(addresses)
+}

@@ -1,0 +1,38 @@
+//! The ways in which lines are played.
+
+use crate::sessions;
+use cam6_examples::{Sent, Unplayable, Way, limit_of};
+use cam6_planes::Side;
+use std::alloc::Global;
+use std::io;
+
+/// What is made of lines.
+#[derive(Drop)]
+pub enum LineWay {
+    /// A session over a blank machine of this limit: its answers, whether its lines are read whole
+    /// or a byte at a time, which are those of the machine to one command after another.
+    Session(Side),
+    /// What each line says, or its fault.
+    Readings,
+}
+
+impl Way for LineWay {
+    fn read(_alloc: Global, words: &str) -> Result<LineWay, Unplayable> {
+        match words.split_once(' ').unwrap_or((words, "")) {
+            ("session", limit) => Ok(LineWay::Session(limit_of(limit)?)),
+            ("readings", "") => Ok(LineWay::Readings),
+            _ => Err(Unplayable::Unread),
+        }
+    }
+
+    fn played(&self, alloc: Global, sent: &[Sent]) -> io::Result<Vec<Vec<u8>>> {
+        match self {
+            LineWay::Session(limit) => sessions::answered(alloc, *limit, sent),
+            LineWay::Readings => Ok(vec![in alloc; sessions::read(alloc, sent)?]?),
+        }
+    }
+
+    fn is_session(&self) -> bool {
+        matches!(self, LineWay::Session(_))
+    }
+}
