@@ -1,0 +1,39 @@
+use Rattle.std.proofs.Common.{◌≡◌, ◌∙◌, ℕ, ◌+◌, ◌-◌, ap, arith, sym, subst, true, false}
+use Rattle.cam6_band.specs.ByTables.{values_of}
+use Rattle.cam6_board.specs.declared.boards.BandEnd.{BandEnd}
+use Rattle.cam6_board.specs.declared.boards.BandEnd.TheVariants.{Inside}
+use Rattle.cam6_board.specs.Images.{is_rest}
+use Rattle.cam6_board.specs.Jobs.{StoredJob, stored_job}
+use Rattle.cam6_board.specs.Bands.{end_of, Moves}
+use Rattle.cam6_board.proofs.Moving.{inside, behind}
+use Rattle.cam6_board.proofs.jobs.Job.band.Goals as goal
+
+pub returns-then-not-is_rest : goal.returns-then-not-is_rest
+returns-then-not-is_rest c =
+    let k = c.self.inside in
+    let before = stored_job k.image k.cycle k.position k.direction k.steps in
+    let image = c.band-image.result in
+    let rest : is_rest image ≡ false = sym c.is_rest.ensures ∙ c.if-not-is_rest.true in
+    subst (λ (b : StoredJob). Moves c.args.tables.now b Inside c.new.result) c.self.view_is
+    (subst (Moves c.args.tables.now before Inside) (sym c.new.ensures)
+    (inside c.args.tables.now before image (values_of c.go_by-after.result.0)
+    c.go_by-after.ensures.tables c.band-image.ensures.goes_on c.band-image.ensures.planes rest))
+
+pub returns : goal.returns
+returns c =
+    let k = c.self.inside in
+    let before = stored_job k.image k.cycle k.position k.direction k.steps in
+    let image = c.band-image.result in
+    let rest : is_rest image ≡ true = sym c.is_rest.ensures ∙ c.if-not-is_rest.false in
+    let same = ap (λ (j : StoredJob). j.steps) c.self.view_is in
+    let left = k.steps - 1 in
+    let less : left + 1 ≡ k.steps = omega (arith, c.requires.work, same) in
+    let made = c.new-2.ensures ∙
+    ap (λ position. stored_job image k.cycle position k.direction left) c.go_by-after.ensures.next in
+    subst (λ (b : StoredJob). Moves c.args.tables.now b c.end_of.result c.new-2.result)
+    c.self.view_is
+    (subst (λ (e : BandEnd). Moves c.args.tables.now before e c.new-2.result) (sym c.end_of.ensures)
+    (subst (Moves c.args.tables.now before (end_of left)) (sym made)
+    (behind c.args.tables.now before image (values_of c.go_by-after.result.0)
+    c.go_by-after.ensures.tables c.band-image.ensures.goes_on c.band-image.ensures.planes left rest
+    less)))

@@ -1,0 +1,76 @@
+//! What every board does.
+ghost use Rattle.std.specs.Prelude.{◌≡◌, ◌≤◌, ◌<◌, ℕ, IfOk, IfErr, OnOk, OnErr};
+
+use crate::images::Image;
+use crate::jobs::Job;
+use crate::tables::Tables;
+use cam6_band::Spare;
+
+/// How a band ends.
+#[derive(Clone, Copy, Debug, PartialEq, Eq)]
+pub enum BandEnd {
+    /// In the middle of a step.
+    Inside,
+    /// With a step, and more are to be done.
+    StepEnd,
+    /// With the last step of the job.
+    LastEnd,
+}
+
+/// The board failed: what it held is lost. The planes are of the limit of those that were, and
+/// nothing is said of their bits.
+#[derive(Drop)]
+pub struct BoardFault {
+    pub spare: Spare,
+}
+
+/// A board: it holds one job at a time, with the tables by which the job goes.
+pub trait Board: Drop {
+    ghost use Rattle.cam6_board.specs.Held.{Load, empty, loaded, rows_held, IsLoaded, HasWork};
+    ghost use Rattle.cam6_board.specs.Held.{MovesHeld, GivesBack, IsOfLimit};
+    ghost use Rattle.cam6_board.specs.Images.{planes_in};
+
+    /// What the board holds.
+    ghost held: { Self → Load };
+
+    /// How often it failed.
+    ghost fault_count: { Self → ℕ };
+
+    /// How often the board failed.
+    fn faults(&self) -> u64
+        ensures { result ≡ fault_count self.now };
+
+    /// The rows of the step under way that are done: 0 at rest, and none on an empty board.
+    fn rows(&self) -> Option<u16>
+        ensures { result ≡ rows_held (held self.now) };
+
+    /// Loads an empty board with a job, and with the tables of its cycle's uses.
+    fn load(&mut self, job: Job, tables: &Tables) -> Result<(), BoardFault>
+        requires { held self.old ≡ empty }
+        ensures count { fault_count self.old ≤ fault_count self.new }
+        ensures ok { OnOk result (held self.new ≡ loaded job tables.now) }
+        ensures err { OnErr result (held self.new ≡ empty) }
+        ensures counted { OnErr result (fault_count self.old < fault_count self.new) }
+        ensures spare { IfErr result (λ fault.
+            fault.spare.planes.limit ≡ (planes_in job.image).limit) };
+
+    /// Does one band of the job.
+    fn band(&mut self) -> Result<BandEnd, BoardFault>
+        requires { HasWork (held self.old) }
+        ensures count { fault_count self.old ≤ fault_count self.new }
+        ensures ok { IfOk result (λ end. MovesHeld (held self.old) end (held self.new)) }
+        ensures err { OnErr result (held self.new ≡ empty) }
+        ensures counted { OnErr result (fault_count self.old < fault_count self.new) }
+        ensures spare { IfErr result (λ fault.
+            IsOfLimit (held self.old) fault.spare.planes.limit) };
+
+    /// Takes the job's image off the board, wherever the job has come to.
+    fn unload(&mut self) -> Result<Image, BoardFault>
+        requires { IsLoaded (held self.old) }
+        ensures count { fault_count self.old ≤ fault_count self.new }
+        ensures image { IfOk result (λ image. GivesBack (held self.old) image) }
+        ensures empty { held self.new ≡ empty }
+        ensures counted { OnErr result (fault_count self.old < fault_count self.new) }
+        ensures spare { IfErr result (λ fault.
+            IsOfLimit (held self.old) fault.spare.planes.limit) };
+}

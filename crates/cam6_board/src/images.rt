@@ -1,0 +1,104 @@
+//! An image that a board works on: at rest, or in the middle of a step.
+ghost use Rattle.std.specs.Prelude.{◌≡◌};
+ghost use Rattle.cam6_planes.specs.Cells.{Cells};
+ghost use Rattle.cam6_planes.specs.Stored.{width, AreAlike};
+ghost use Rattle.cam6_band.specs.Partway.{Partway};
+ghost use Rattle.cam6_band.specs.ByTables.{step_by, values_of};
+
+use cam6_band::{AtRest, EntryTables, MidStep, Next, Spare};
+use cam6_planes::Side;
+
+/// An image at rest, or one in the middle of a step, which can't be dropped but is given up.
+pub enum Image {
+    Rest(AtRest),
+    Mid(MidStep),
+}
+
+impl Drop for Image {
+    fn drop(self) {
+        match self {
+            Image::Rest(image) => drop(image),
+            Image::Mid(image) => drop(image.abandon()),
+        }
+    }
+}
+
+impl Image {
+    ghost use Rattle.cam6_board.specs.Images.{planes_in, rows_of, is_rest, IsOnTheWay};
+    ghost use Rattle.cam6_board.specs.Images.{IsBehindBand, GoesOn};
+
+    /// The largest side that the image may take on.
+    pub fn limit(&self) -> Side
+        ensures { result ≡ (planes_in self.now).limit }
+    {
+        match self {
+            Image::Rest(image) => image.planes().limit(),
+            Image::Mid(image) => image.limit(),
+        }
+    }
+
+    pub fn side(&self) -> Side
+        ensures { result ≡ (planes_in self.now).side }
+    {
+        match self {
+            Image::Rest(image) => image.planes().side(),
+            Image::Mid(image) => image.side(),
+        }
+    }
+
+    /// The rows of the step that are done: 0 at rest.
+    pub fn rows(&self) -> u16
+        ensures { result ≡ rows_of self.now }
+    {
+        match self {
+            Image::Rest(_) => 0,
+            Image::Mid(image) => image.rows(),
+        }
+    }
+
+    /// Whether it is at rest.
+    pub fn is_rest(&self) -> bool
+        ensures { result ≡ is_rest self.now }
+    {
+        match self {
+            Image::Rest(_) => true,
+            Image::Mid(_) => false,
+        }
+    }
+
+    /// Goes on by one band, or begins a step with it.
+    pub(crate) fn band(self, tables: &EntryTables) -> Image
+        // From whatever planes the step began.
+        ensures planes { let s = width (planes_in self) in (o : Cells) →
+            IsOnTheWay o (step_by s (values_of tables.now) o) self →
+            IsBehindBand o (step_by s (values_of tables.now) o) result }
+        ensures goes_on { GoesOn self result }
+    {
+        match self.into_step(tables).band(tables) {
+            Next::More(step) => Image::Mid(step),
+            Next::Whole(image) => Image::Rest(image),
+        }
+    }
+
+    /// The step under way, or one that is begun.
+    fn into_step(self, tables: &EntryTables) -> MidStep
+        ensures partway { (o p : Cells) → IsOnTheWay o p self → Partway o p result }
+        ensures done { result.done ≡ rows_of self }
+        ensures alike { AreAlike (planes_in self) result.planes }
+    {
+        match self {
+            Image::Rest(image) => image.begin(tables),
+            Image::Mid(step) => step,
+        }
+    }
+
+    /// Gives the image up.
+    pub fn into_spare(self) -> Spare
+        ensures { result.planes.limit ≡ (planes_in self).limit }
+    {
+        match self {
+            Image::Rest(image) => Spare::of(image.into_planes()),
+            Image::Mid(image) => image.abandon(),
+        }
+    }
+}

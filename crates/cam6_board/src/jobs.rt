@@ -1,0 +1,117 @@
+//! A job: steps of an image along a cycle.
+ghost use Rattle.std.specs.Prelude.{◌≡◌, ◌<◌, ◌≤◌, length};
+ghost use Rattle.cam6_cycle.specs.Limits.{max_tables};
+ghost use Rattle.cam6_board.specs.Bands.{end_of};
+
+use crate::boards::BandEnd;
+use crate::images::Image;
+use cam6_band::go_by;
+use cam6_cycle::{Cycle, Direction};
+use cam6_table::Table;
+use std::marker::Model;
+
+/// So many steps of an image along a cycle, one way from a position. Within a step the position is
+/// the one at which it began.
+#[derive(Drop)]
+pub struct Job {
+    image: Image,
+    cycle: Cycle,
+    position: usize,
+    direction: Direction,
+    steps: u16,
+}
+
+impl Model for Job {
+    ghost use Rattle.std.specs.Prelude.{◌<◌, length};
+    ghost use Rattle.cam6_board.specs.Jobs.{StoredJob, stored_job};
+
+    ghost Value = { StoredJob };
+
+    ghost view = { λ j. stored_job j.image j.cycle j.position j.direction j.steps };
+
+    ghost invariant = { λ j. j.position < length j.cycle };
+}
+
+impl Job {
+    ghost use Rattle.cam6_board.specs.Bands.{Moves};
+    ghost use Rattle.cam6_board.specs.Images.{rows_of};
+    ghost use Rattle.cam6_board.specs.Jobs.{stored_job};
+
+    /// Steps that are still to be done, from a position of the cycle.
+    pub fn new(image: Image, cycle: Cycle, position: usize, direction: Direction, steps: u16) -> Job
+        requires { position < length cycle }
+        ensures { result ≡ stored_job image cycle position direction steps }
+    {
+        Job {
+            image,
+            cycle,
+            position,
+            direction,
+            steps,
+        }
+    }
+
+    /// The image, wherever the job has come to.
+    pub fn into_image(self) -> Image
+        ensures { result ≡ self.image }
+    {
+        self.image
+    }
+
+    /// The position in the cycle, which the job has always.
+    pub fn position(&self) -> usize
+        ensures position { result ≡ self.now.position }
+        ensures within { result < length self.now.cycle }
+    {
+        self.position
+    }
+
+    /// The steps that are still to be done.
+    pub fn steps(&self) -> u16
+        ensures { result ≡ self.now.steps }
+    {
+        self.steps
+    }
+
+    /// The rows of the step under way that are done.
+    pub fn rows(&self) -> u16
+        ensures { result ≡ rows_of self.now.image }
+    {
+        self.image.rows()
+    }
+
+    /// Does one band, by tables that lie as the cycle needs them.
+    pub fn band(self, tables: &[Table]) -> (Job, BandEnd)
+        requires work { 0 < self.steps }
+        requires room { max_tables ≤ length tables.now }
+        ensures { Moves tables.now self result.1 result.0 }
+    {
+        let Job {
+            image,
+            cycle,
+            position,
+            direction,
+            steps,
+        } = self;
+        let (by, after) = go_by(&cycle, position, direction, tables);
+        let image = image.band(&by);
+        if !image.is_rest() {
+            return (
+                Job::new(image, cycle, position, direction, steps),
+                BandEnd::Inside,
+            );
+        }
+        let left = steps - 1;
+        (Job::new(image, cycle, after, direction, left), end_of(left))
+    }
+}
+
+/// How the end of a step is told, with so many steps still to be done.
+fn end_of(steps: u16) -> BandEnd
+    ensures { result ≡ end_of steps }
+{
+    match steps {
+        0 => BandEnd::LastEnd,
+        _ => BandEnd::StepEnd,
+    }
+}

@@ -1,0 +1,30 @@
+//! Modelled boards: a board holds one job at a time, moves it by a band a call, and may fail, which
+//! loses all that it holds.
+//!
+//! Contract: `Board` says it of every board, by cases on what it holds (`specs/Held.antt`): nothing,
+//! or a job with the tables by which it goes. A band moves the job by sixteen rows of the step by
+//! the tables of its position, the way that it goes along its cycle, and tells how it ends
+//! (`specs/Bands.antt`). A fault comes only where the count of faults rose in that call; after it
+//! the board holds nothing, and the fault carries planes of the limit of those that were lost, on
+//! whose bits nothing is said.
+//!
+//! Stands on: `cam6_planes`, `cam6_wiring`, `cam6_table`, `cam6_band` and `cam6_cycle`.
+//!
+//! Read next: `images`, `jobs` and `tables`, what a board is loaded with; `boards`, what every board
+//! does; `soft_boards`, those that never fail, and `flaky_boards`, those that fail at the calls of a
+//! list.
+#![tactic(auto)]
+
+mod boards;
+mod flaky_boards;
+mod images;
+mod jobs;
+mod soft_boards;
+mod tables;
+
+pub use boards::{BandEnd, Board, BoardFault};
+pub use flaky_boards::FlakyBoard;
+pub use images::Image;
+pub use jobs::Job;
+pub use soft_boards::SoftBoard;
+pub use tables::Tables;

@@ -1,0 +1,88 @@
+//! Boards that never fail.
+ghost use Rattle.std.specs.Prelude.{◌≡◌, IsOk, IfOk};
+
+use crate::boards::{BandEnd, Board, BoardFault};
+use crate::images::Image;
+use crate::jobs::Job;
+use crate::tables::Tables;
+use cam6_planes::NoMemory;
+use std::alloc::Global;
+
+/// A board that never fails. Its tables are made once.
+#[derive(Drop)]
+pub struct SoftBoard {
+    job: Option<Job>,
+    tables: Tables,
+}
+
+impl SoftBoard {
+    ghost use Rattle.cam6_board.specs.Held.{empty};
+    ghost use Rattle.cam6_board.specs.Soft.{load_in};
+
+    /// An empty board.
+    pub fn new(alloc: Global) -> Result<SoftBoard, NoMemory>
+        ensures { IfOk result (λ board. load_in board ≡ empty) }
+    {
+        Ok(SoftBoard {
+            job: None,
+            tables: Tables::blank(alloc)?,
+        })
+    }
+}
+
+impl Board for SoftBoard {
+    ghost use Rattle.std.specs.Prelude.{◌≡◌, ◌≤◌, ℕ, None, Some, IsOk, IfOk};
+    ghost use Rattle.cam6_board.specs.Soft.{load_in};
+    ghost use Rattle.cam6_board.specs.Held.{empty, loaded, MovesHeld, GivesBack, rows_held};
+    ghost use Rattle.cam6_board.specs.Held.{HasWork, IsLoaded};
+
+    ghost held = { load_in };
+
+    ghost fault_count = { λ board. 0 };
+
+    fn faults(&self) -> u64 {
+        0
+    }
+
+    fn rows(&self) -> Option<u16> {
+        match &self.job {
+            Some(job) => Some(job.rows()),
+            None => None,
+        }
+    }
+
+    fn load(&mut self, job: Job, tables: &Tables) -> Result<(), BoardFault>
+        requires { load_in self.old ≡ empty }
+        ensures never { IsOk result }
+        ensures ok { load_in self.new ≡ loaded job tables.now }
+    {
+        self.tables.copy_from(tables);
+        self.job = Some(job);
+        Ok(())
+    }
+
+    fn band(&mut self) -> Result<BandEnd, BoardFault>
+        requires { HasWork (load_in self.old) }
+        ensures never { IsOk result }
+        ensures ok { IfOk result (λ end. MovesHeld (load_in self.old) end (load_in self.new)) }
+    {
+        let Some(job) = self.job.take() else {
+            unreachable!()
+        };
+        let (job, end) = job.band(self.tables.as_slice());
+        self.job = Some(job);
+        Ok(end)
+    }
+
+    fn unload(&mut self) -> Result<Image, BoardFault>
+        requires { IsLoaded (load_in self.old) }
+        ensures never { IsOk result }
+        ensures image { IfOk result (λ image. GivesBack (load_in self.old) image) }
+        ensures empty { load_in self.new ≡ empty }
+    {
+        let Some(job) = self.job.take() else {
+            unreachable!()
+        };
+        Ok(job.into_image())
+    }
+}
