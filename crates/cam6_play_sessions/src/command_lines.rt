@@ -53,7 +53,7 @@ fn cycle_value(alloc: Global, entries: &[NamedEntry]) -> Result<Value, AllocErro
 
 fn map_value(alloc: Global, colours: &[u64; 16]) -> Result<Value, AllocError> {
     let mut values = Vec::new(alloc);
-    for colour in colours {
+    for colour in colours.as_slice() {
         values.push(json!(in alloc; *colour)?)?;
     }
     let colours = Value::Array(values);
