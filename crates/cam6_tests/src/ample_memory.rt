@@ -4,6 +4,7 @@
 ghost use Rattle.std.specs.Prelude.{IfSome};
 ghost use Rattle.cam6_table.specs.RuleTexts.{IsCodeFor};
 
+use cam6_board::{Board, FlakyBoard, SoftBoard};
 use cam6_cache::{Key, TableCache};
 use cam6_commands::{Command, Done, Fault, Refusal, Reply};
 use cam6_forth::{ParseFault, Rule, parse};
@@ -137,6 +138,17 @@ fn lists_are_answered(rt: HostRuntime) -> Result<(), Fail> {
 }
 
 const NO_STEPS: &str = r#"{"do":"run","n":0}"#;
+
+// Boards begin empty, and one that is to fail hasn't yet.
+#[test]
+fn boards_are_made(rt: HostRuntime) -> Result<(), Fail> {
+    let alloc = rt.alloc();
+    let soft = SoftBoard::new(alloc)?;
+    assert_eq!(rt; soft.rows(), None);
+    let flaky = FlakyBoard::new(alloc, vec![in alloc; 1]?)?;
+    assert_eq!(rt; flaky.faults(), 0);
+    Ok(())
+}
 
 #[test]
 fn lines_are_commands(rt: HostRuntime) {
