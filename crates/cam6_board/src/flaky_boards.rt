@@ -87,7 +87,7 @@ fn count_call(due: &mut Vec<u64>)
 
 impl Board for FlakyBoard {
     ghost use Rattle.std.specs.Prelude.{◌≡◌, ◌≤◌, ◌<◌, ℕ, IfOk, IfErr, OnOk, OnErr, is_err};
-    ghost use Rattle.cam6_board.specs.Flaky.{is_due, later};
+    ghost use Rattle.cam6_board.specs.Flaky.{is_due, later, faults_after};
     ghost use Rattle.cam6_board.specs.Held.{empty, loaded, MovesHeld, GivesBack, rows_held};
     ghost use Rattle.cam6_board.specs.Held.{HasWork, IsLoaded, IsOfLimit};
     ghost use Rattle.cam6_board.specs.Images.{planes_in};
@@ -112,6 +112,7 @@ impl Board for FlakyBoard {
         // It fails exactly where this call is one of the list.
         ensures fails { is_err result ≡ is_due self.old.due }
         ensures due { self.new.due ≡ later self.old.due }
+        ensures faults { self.new.faults ≡ faults_after self.old.due self.old.faults }
         ensures count { self.old.faults ≤ self.new.faults }
         ensures ok { OnOk result (self.new.load ≡ loaded job tables.now) }
         ensures err { OnErr result (self.new.load ≡ empty) }
@@ -132,6 +133,7 @@ impl Board for FlakyBoard {
         requires { HasWork self.old.load }
         ensures fails { is_err result ≡ is_due self.old.due }
         ensures due { self.new.due ≡ later self.old.due }
+        ensures faults { self.new.faults ≡ faults_after self.old.due self.old.faults }
         ensures count { self.old.faults ≤ self.new.faults }
         ensures ok { IfOk result (λ end. MovesHeld self.old.load end self.new.load) }
         ensures err { OnErr result (self.new.load ≡ empty) }
@@ -155,6 +157,7 @@ impl Board for FlakyBoard {
         requires { IsLoaded self.old.load }
         ensures fails { is_err result ≡ is_due self.old.due }
         ensures due { self.new.due ≡ later self.old.due }
+        ensures faults { self.new.faults ≡ faults_after self.old.due self.old.faults }
         ensures count { self.old.faults ≤ self.new.faults }
         ensures image { IfOk result (λ image. GivesBack self.old.load image) }
         ensures empty { self.new.load ≡ empty }
