@@ -14,6 +14,8 @@ pub mod StaysNumbered
 pub mod FilledTables
 -- The tables of a position are those of its entry's rules.
 pub mod TablesOfPositions
+-- A machine that moves by one step by the true tables of its cycle.
+pub mod MovesByTables
 -- What a rule's table says of whether the rule can be undone.
 pub mod Causes
 -- The first entry with a rule that can't be undone, entry by entry.

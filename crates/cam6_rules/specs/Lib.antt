@@ -1,9 +1,9 @@
--- In the order of reading: rules by their numbers and what follows, a rule as it is kept, tables that
--- remember for which way they are filled, and what is said of a rule that is defined. How the code
+-- In the order of reading: rules by their numbers, a rule as it is kept, tables that remember for
+-- which way they are filled, what follows, and what is said of a rule that is defined. How the code
 -- keeps rules by numbers stands apart: no public contract says it.
 pub mod Numbers
-pub mod Laws
 pub mod Compiled
 pub mod Filled
+pub mod Laws
 pub mod Defining
 pub mod Internal

@@ -14,7 +14,8 @@
 //! entry 0, half A: the rule isn't one of blocks.
 //!
 //! The laws: an entry has the rules by their numbers that it has by name; where tables lie as the
-//! cycle needs them, those of a position are the tables of its entry's rules.
+//! cycle needs them, those of a position are the tables of its entry's rules; and by them a machine
+//! moves by one step, on or back.
 //!
 //! Stands on: `cam6_planes`, `cam6_wiring`, `cam6_forth`, `cam6_table`, `cam6_block`, `cam6_cycle`,
 //! `cam6_commands`, `cam6_model`, on `cam6_band` for its definitions, and on `arrayvec` and

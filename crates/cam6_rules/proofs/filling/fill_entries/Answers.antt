@@ -1,4 +1,4 @@
-use Rattle.std.proofs.Common.{◌≡◌, ◌<◌, ◌∙◌, ◌+◌, ℕ, suc, List, None, Some, get_or, slice_get, length}
+use Rattle.std.proofs.Common.{◌≡◌, ◌<◌, ◌∙◌, ◌+◌, suc, List, None, Some, get_or, slice_get, length}
 use Rattle.std.proofs.Common.{take, ap, sym, subst, arith}
 use mir.Val.{bool_byte}
 use Rattle.std.specs.Option.{is_some}
@@ -10,7 +10,7 @@ use Rattle.cam6_cycle.specs.declared.tables.NeededTable.{NeededTable}
 use Rattle.cam6_model.specs.Refusals.{rule_cause}
 use Rattle.cam6_rules.specs.Numbers.{rule_at, number_in, AreTables}
 use Rattle.cam6_rules.specs.Internal.Uses.{IsUseOf}
-use Rattle.cam6_rules.proofs.FilledTables.{first_index, second_index, first_use, second_use, next_index}
+use Rattle.cam6_rules.proofs.FilledTables.{second_index, first_use, second_use, next_index}
 use Rattle.cam6_rules.proofs.FilledTables.{not_err}
 use Rattle.cam6_rules.proofs.FirstCauses.{causes_from, of_half_a, of_half_b, of_neither}
 use Rattle.cam6_rules.proofs.FirstCauses.{first_refusal_is}

@@ -1,6 +1,5 @@
 use Rattle.std.proofs.Common.{◌≡◌, ◌∙◌, List, map, false, ap, sym, subst}
 use Rattle.std.specs.List.{list_any}
-use Rattle.cam6_cycle.specs.declared.entries.Entry.{Entry}
 use Rattle.cam6_model.specs.Effects.{without_rule}
 use Rattle.cam6_model.specs.Rules.{Rule}
 use Rattle.cam6_model.specs.Always.{AreRules}
