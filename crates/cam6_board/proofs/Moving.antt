@@ -1,5 +1,5 @@
 -- A band moves a job, by what it makes of the image.
-use Rattle.std.proofs.Common.{◌≡◌, ℕ, ◌+◌, List, Option, Some, true, false, length, refl, subst}
+use Rattle.std.proofs.Common.{◌≡◌, ℕ, ◌+◌, List, Some, true, false, length, refl, subst}
 use Rattle.cam6_planes.specs.Cells.{Cells}
 use Rattle.cam6_planes.specs.Stored.{width}
 use Rattle.cam6_cycle.specs.Along.{position_after}

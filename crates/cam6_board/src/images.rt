@@ -1,7 +1,8 @@
 //! An image that a board works on: at rest, or in the middle of a step.
-ghost use Rattle.std.specs.Prelude.{◌≡◌};
+ghost use Rattle.std.specs.Prelude.{◌≡◌, ◌<◌, ◌%◌, IfOk, IfErr};
 ghost use Rattle.cam6_planes.specs.Cells.{Cells};
 ghost use Rattle.cam6_planes.specs.Stored.{width, AreAlike};
+ghost use Rattle.cam6_band.specs.Limits.{band};
 ghost use Rattle.cam6_band.specs.Partway.{Partway};
 ghost use Rattle.cam6_band.specs.ByTables.{step_by, values_of};
 
@@ -46,9 +47,11 @@ impl Image {
         }
     }
 
-    /// The rows of the step that are done: 0 at rest.
+    /// The rows of the step that are done, whole bands of them: 0 at rest.
     pub fn rows(&self) -> u16
-        ensures { result ≡ rows_of self.now }
+        ensures rows { result ≡ rows_of self.now }
+        ensures within { result < width (planes_in self.now) }
+        ensures bands { result % band ≡ 0 }
     {
         match self {
             Image::Rest(_) => 0,
@@ -63,6 +66,17 @@ impl Image {
         match self {
             Image::Rest(_) => true,
             Image::Mid(_) => false,
+        }
+    }
+
+    /// The image at rest, or the step under way, which has to be spent.
+    pub fn into_rest(self) -> Result<AtRest, MidStep>
+        ensures rest { IfOk result (λ rest. self ≡ Image.Rest rest) }
+        ensures step { IfErr result (λ step. self ≡ Image.Mid step) }
+    {
+        match self {
+            Image::Rest(image) => Ok(image),
+            Image::Mid(image) => Err(image),
         }
     }
 

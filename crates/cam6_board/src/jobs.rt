@@ -34,7 +34,6 @@ impl Model for Job {
 
 impl Job {
     ghost use Rattle.cam6_board.specs.Bands.{Moves};
-    ghost use Rattle.cam6_board.specs.Images.{rows_of};
     ghost use Rattle.cam6_board.specs.Jobs.{stored_job};
 
     /// Steps that are still to be done, from a position of the cycle.
@@ -52,6 +51,26 @@ impl Job {
     }
 
     /// The image, wherever the job has come to.
+    pub fn image(&self) -> &Image
+        ensures { result.now ≡ self.now.image }
+    {
+        &self.image
+    }
+
+    pub fn cycle(&self) -> &Cycle
+        ensures { result.now ≡ self.now.cycle }
+    {
+        &self.cycle
+    }
+
+    /// The way along the cycle.
+    pub fn direction(&self) -> Direction
+        ensures { result ≡ self.now.direction }
+    {
+        self.direction
+    }
+
+    /// Gives the image back, wherever the job has come to.
     pub fn into_image(self) -> Image
         ensures { result ≡ self.image }
     {
@@ -71,13 +90,6 @@ impl Job {
         ensures { result ≡ self.now.steps }
     {
         self.steps
-    }
-
-    /// The rows of the step under way that are done.
-    pub fn rows(&self) -> u16
-        ensures { result ≡ rows_of self.now.image }
-    {
-        self.image.rows()
     }
 
     /// Does one band, by tables that lie as the cycle needs them.

@@ -19,6 +19,7 @@ mod boards;
 mod flaky_boards;
 mod images;
 mod jobs;
+pub mod laws;
 mod soft_boards;
 mod tables;
 

@@ -1,4 +1,4 @@
-use Rattle.std.proofs.Common.{◌≡◌, ◌∙◌, ℕ, ◌+◌, ◌-◌, ap, arith, sym, subst, true, false}
+use Rattle.std.proofs.Common.{◌≡◌, ◌∙◌, ◌+◌, ◌-◌, ap, arith, sym, subst, true, false}
 use Rattle.cam6_band.specs.ByTables.{values_of}
 use Rattle.cam6_board.specs.declared.boards.BandEnd.{BandEnd}
 use Rattle.cam6_board.specs.declared.boards.BandEnd.TheVariants.{Inside}
