@@ -1,0 +1,2 @@
+-- The steps of the job that a board holds.
+pub mod Steps

@@ -1,0 +1,86 @@
+//! What is told of a line that is no command.
+
+use cam6_board::BandEnd;
+use cam6_examples::add_line;
+use std::alloc::Global;
+use std::io;
+
+/// How a band's call ends.
+#[derive(Clone, Copy, Debug, PartialEq, Eq)]
+pub enum CallEnd {
+    Band(BandEnd),
+    Fault,
+}
+
+#[derive(Clone, Copy, Debug, PartialEq, Eq)]
+pub enum Answer {
+    /// The job is in hand, and the machine is away.
+    Job,
+    /// There is no cycle, or it can't be gone along this way.
+    Refused,
+    /// The machine is away.
+    Away,
+    Loaded,
+    Band(CallEnd),
+    /// So many bands were done, and the last call ended so.
+    Bands(u64, CallEnd),
+    Rows(Option<u16>),
+    Faults(u64),
+    /// The image was lost in this call.
+    Fault,
+    /// The image was lost before.
+    Nothing,
+    /// The image was unloaded at rest.
+    AtRest,
+    /// The image was unloaded in the middle of a step.
+    Partway,
+    Moved,
+    Joined,
+    /// It can't be done as things are.
+    No,
+    Unread,
+}
+
+/// Adds an answer to what comes back.
+pub fn add_answer(alloc: Global, answers: &mut Vec<u8>, answer: Answer) -> io::Result<()> {
+    match answer {
+        Answer::Bands(number, end) => {
+            let end = end_text(end);
+            add_line(
+                answers,
+                format!(in alloc; "{number} bands, then {end}")?.as_str(),
+            )
+        }
+        Answer::Rows(Some(rows)) => add_line(answers, format!(in alloc; "{rows}")?.as_str()),
+        Answer::Faults(faults) => add_line(answers, format!(in alloc; "{faults}")?.as_str()),
+        plain => add_line(answers, plain_text(plain)),
+    }
+}
+
+fn plain_text(answer: Answer) -> &'static str {
+    match answer {
+        Answer::Job => "job",
+        Answer::Refused => "refused",
+        Answer::Away => "away",
+        Answer::Loaded => "loaded",
+        Answer::Band(end) | Answer::Bands(_, end) => end_text(end),
+        Answer::Rows(_) => "none",
+        Answer::Fault => "fault",
+        Answer::Nothing => "nothing",
+        Answer::AtRest => "at rest",
+        Answer::Partway => "partway",
+        Answer::Moved => "moved",
+        Answer::Joined => "joined",
+        Answer::No => "no",
+        Answer::Faults(_) | Answer::Unread => "unread",
+    }
+}
+
+fn end_text(end: CallEnd) -> &'static str {
+    match end {
+        CallEnd::Band(BandEnd::Inside) => "inside",
+        CallEnd::Band(BandEnd::StepEnd) => "step end",
+        CallEnd::Band(BandEnd::LastEnd) => "last end",
+        CallEnd::Fault => "fault",
+    }
+}
