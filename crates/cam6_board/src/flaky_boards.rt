@@ -141,16 +141,17 @@ impl Board for FlakyBoard {
         ensures spare { IfErr result (λ fault. IsOfLimit self.old.load fault.spare.planes.limit) }
     {
         let fails = self.fails();
-        let Some(job) = self.job.take() else {
-            unreachable!()
-        };
         if fails {
+            let Some(job) = self.job.take() else {
+                unreachable!()
+            };
             let spare = job.into_image().into_spare();
             return Err(BoardFault { spare });
         }
-        let (job, end) = job.band(self.tables.as_slice());
-        self.job = Some(job);
-        Ok(end)
+        let Some(job) = &mut self.job else {
+            unreachable!()
+        };
+        Ok(job.band(self.tables.as_slice()))
     }
 
     fn unload(&mut self) -> Result<Image, BoardFault>

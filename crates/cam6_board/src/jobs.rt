@@ -5,6 +5,7 @@ ghost use Rattle.cam6_board.specs.Bands.{end_of};
 
 use crate::boards::BandEnd;
 use crate::images::Image;
+use crate::worked::Worked;
 use cam6_band::go_by;
 use cam6_cycle::{Cycle, Direction};
 use cam6_table::Table;
@@ -14,7 +15,7 @@ use std::marker::Model;
 /// the one at which it began.
 #[derive(Drop)]
 pub struct Job {
-    image: Image,
+    image: Worked,
     cycle: Cycle,
     position: usize,
     direction: Direction,
@@ -42,7 +43,7 @@ impl Job {
         ensures { result ≡ stored_job image cycle position direction steps }
     {
         Job {
-            image,
+            image: Worked::of(image),
             cycle,
             position,
             direction,
@@ -54,7 +55,7 @@ impl Job {
     pub fn image(&self) -> &Image
         ensures { result.now ≡ self.now.image }
     {
-        &self.image
+        self.image.image()
     }
 
     pub fn cycle(&self) -> &Cycle
@@ -74,7 +75,7 @@ impl Job {
     pub fn into_image(self) -> Image
         ensures { result ≡ self.image }
     {
-        self.image
+        self.image.into_image()
     }
 
     /// The position in the cycle, which the job has always.
@@ -93,28 +94,19 @@ impl Job {
     }
 
     /// Does one band, by tables that lie as the cycle needs them.
-    pub fn band(self, tables: &[Table]) -> (Job, BandEnd)
-        requires work { 0 < self.steps }
+    pub fn band(&mut self, tables: &[Table]) -> BandEnd
+        requires work { 0 < self.old.steps }
         requires room { max_tables ≤ length tables.now }
-        ensures { Moves tables.now self result.1 result.0 }
+        ensures { Moves tables.now self.old result self.new }
     {
-        let Job {
-            image,
-            cycle,
-            position,
-            direction,
-            steps,
-        } = self;
-        let (by, after) = go_by(&cycle, position, direction, tables);
-        let image = image.band(&by);
-        if !image.is_rest() {
-            return (
-                Job::new(image, cycle, position, direction, steps),
-                BandEnd::Inside,
-            );
+        let (by, after) = go_by(&self.cycle, self.position, self.direction, tables);
+        self.image.band(&by);
+        if !self.image.image().is_rest() {
+            return BandEnd::Inside;
         }
-        let left = steps - 1;
-        (Job::new(image, cycle, after, direction, left), end_of(left))
+        self.position = after;
+        self.steps -= 1;
+        end_of(self.steps)
     }
 }
 

@@ -22,6 +22,7 @@ mod jobs;
 pub mod laws;
 mod soft_boards;
 mod tables;
+mod worked;
 
 pub use boards::{BandEnd, Board, BoardFault};
 pub use flaky_boards::FlakyBoard;

@@ -66,12 +66,10 @@ impl Board for SoftBoard {
         ensures never { IsOk result }
         ensures ok { IfOk result (λ end. MovesHeld (load_in self.old) end (load_in self.new)) }
     {
-        let Some(job) = self.job.take() else {
+        let Some(job) = &mut self.job else {
             unreachable!()
         };
-        let (job, end) = job.band(self.tables.as_slice());
-        self.job = Some(job);
-        Ok(end)
+        Ok(job.band(self.tables.as_slice()))
     }
 
     fn unload(&mut self) -> Result<Image, BoardFault>

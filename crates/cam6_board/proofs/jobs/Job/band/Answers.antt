@@ -12,28 +12,29 @@ pub returns-then-not-is_rest : goal.returns-then-not-is_rest
 returns-then-not-is_rest c =
     let k = c.self.inside in
     let before = stored_job k.image k.cycle k.position k.direction k.steps in
-    let image = c.band-image.result in
-    let rest : is_rest image ≡ false = sym c.is_rest.ensures ∙ c.if-not-is_rest.true in
-    subst (λ (b : StoredJob). Moves c.args.tables.now b Inside c.new.result) c.self.view_is
-    (subst (Moves c.args.tables.now before Inside) (sym c.new.ensures)
+    let image = c.band.new.self in
+    let after = stored_job image k.cycle k.position k.direction k.steps in
+    let rest : is_rest image ≡ false =
+    ap is_rest (sym c.image.ensures) ∙ sym c.is_rest.ensures ∙ c.if-not-is_rest.true in
+    subst (λ (b : StoredJob). Moves c.args.tables.now b Inside after) c.self.view_is
     (inside c.args.tables.now before image (values_of c.go_by-after.result.0)
-    c.go_by-after.ensures.tables c.band-image.ensures.goes_on c.band-image.ensures.planes rest))
+    c.go_by-after.ensures.tables c.band.ensures.goes_on c.band.ensures.planes rest)
 
 pub returns : goal.returns
 returns c =
     let k = c.self.inside in
     let before = stored_job k.image k.cycle k.position k.direction k.steps in
-    let image = c.band-image.result in
-    let rest : is_rest image ≡ true = sym c.is_rest.ensures ∙ c.if-not-is_rest.false in
-    let same = ap (λ (j : StoredJob). j.steps) c.self.view_is in
+    let image = c.band.new.self in
     let left = k.steps - 1 in
+    let after = stored_job image k.cycle c.go_by-after.result.1 k.direction left in
+    let rest : is_rest image ≡ true =
+    ap is_rest (sym c.image.ensures) ∙ sym c.is_rest.ensures ∙ c.if-not-is_rest.false in
+    let same = ap (λ (j : StoredJob). j.steps) c.self.view_is in
     let less : left + 1 ≡ k.steps = omega (arith, c.requires.work, same) in
-    let made = c.new-2.ensures ∙
+    let there =
     ap (λ position. stored_job image k.cycle position k.direction left) c.go_by-after.ensures.next in
-    subst (λ (b : StoredJob). Moves c.args.tables.now b c.end_of.result c.new-2.result)
-    c.self.view_is
-    (subst (λ (e : BandEnd). Moves c.args.tables.now before e c.new-2.result) (sym c.end_of.ensures)
-    (subst (Moves c.args.tables.now before (end_of left)) (sym made)
+    subst (λ (b : StoredJob). Moves c.args.tables.now b c.end_of.result after) c.self.view_is
+    (subst (λ (e : BandEnd). Moves c.args.tables.now before e after) (sym c.end_of.ensures)
+    (subst (Moves c.args.tables.now before (end_of left)) (sym there)
     (behind c.args.tables.now before image (values_of c.go_by-after.result.0)
-    c.go_by-after.ensures.tables c.band-image.ensures.goes_on c.band-image.ensures.planes left rest
-    less)))
+    c.go_by-after.ensures.tables c.band.ensures.goes_on c.band.ensures.planes left rest less)))

@@ -1,0 +1,68 @@
+//! The image that a job works on.
+ghost use Rattle.std.specs.Prelude.{◌≡◌};
+ghost use Rattle.cam6_planes.specs.Cells.{Cells};
+ghost use Rattle.cam6_planes.specs.Stored.{width};
+ghost use Rattle.cam6_band.specs.ByTables.{step_by, values_of};
+ghost use Rattle.cam6_board.specs.Images.{planes_in, IsOnTheWay, IsBehindBand, GoesOn};
+
+use crate::images::Image;
+use cam6_band::EntryTables;
+use std::marker::Model;
+
+/// An image, which is away only in the midst of a band. Contracts see the image.
+#[derive(Drop)]
+pub(crate) struct Worked {
+    image: Option<Image>,
+}
+
+impl Model for Worked {
+    ghost use Rattle.std.specs.Prelude.{IsSome};
+    ghost use Rattle.cam6_board.specs.declared.images.Image.{Image};
+    ghost use Rattle.cam6_board.specs.Internal.Worked.{image_of};
+
+    ghost Value = { Image };
+
+    ghost view = { λ w. image_of w.image };
+
+    ghost invariant = { λ w. IsSome w.image };
+}
+
+impl Worked {
+    pub(crate) fn of(image: Image) -> Worked
+        ensures { result ≡ image }
+    {
+        Worked { image: Some(image) }
+    }
+
+    pub(crate) fn into_image(self) -> Image
+        ensures { result ≡ self }
+    {
+        match self.image {
+            Some(image) => image,
+            None => unreachable!(),
+        }
+    }
+
+    pub(crate) fn image(&self) -> &Image
+        ensures { result.now ≡ self.now }
+    {
+        match &self.image {
+            Some(image) => image,
+            None => unreachable!(),
+        }
+    }
+
+    /// Goes on by one band, or begins a step with it.
+    pub(crate) fn band(&mut self, tables: &EntryTables)
+        // From whatever planes the step began.
+        ensures planes { let s = width (planes_in self.old) in (o : Cells) →
+            IsOnTheWay o (step_by s (values_of tables.now) o) self.old →
+            IsBehindBand o (step_by s (values_of tables.now) o) self.new }
+        ensures goes_on { GoesOn self.old self.new }
+    {
+        let Some(image) = self.image.take() else {
+            unreachable!()
+        };
+        self.image = Some(image.band(tables));
+    }
+}
