@@ -1,0 +1,177 @@
+//! A command that a board holds.
+ghost use Rattle.std.specs.Prelude.{◌≡◌, ◌<◌, ◌+◌, ◌%◌, ℕ, List, true};
+ghost use Rattle.cam6_planes.specs.Stored.{width};
+ghost use Rattle.cam6_band.specs.Limits.{band};
+ghost use Rattle.cam6_board.specs.Images.{is_rest};
+ghost use Rattle.cam6_board.specs.Jobs.{StoredJob};
+ghost use Rattle.cam6_board.specs.Bands.{Moves};
+ghost use Rattle.cam6_board.specs.declared.boards.BandEnd.{BandEnd};
+ghost use Rattle.cam6_commands.specs.declared.commands.Command.{Command};
+ghost use Rattle.cam6_model.specs.Machine.{Machine};
+
+use crate::finished::Finished;
+use crate::needs::{Need, need_at};
+use crate::parked::Parked;
+use crate::queued::Queued;
+use crate::works::Work;
+use cam6_band::{AtRest, BAND, Spare};
+use cam6_board::{BandEnd, Image};
+use std::marker::Model;
+
+/// Steps of a command whose job is on a board: all of it but the image that travels.
+#[derive(Drop)]
+pub struct Lease {
+    work: Work,
+    /// The rows of the step under way that are done.
+    rows: u16,
+    board: u8,
+}
+
+impl Model for Lease {
+    ghost use Rattle.cam6_slot.specs.Leases.{StoredLease, IsLease};
+
+    ghost Value = { StoredLease };
+
+    ghost view = { λ l. record { work = l.work; rows = l.rows; board = l.board } };
+
+    ghost invariant = { λ l.
+        IsLease (record { work = l.work; rows = l.rows; board = l.board }) };
+}
+
+impl Lease {
+    ghost use Rattle.cam6_slot.specs.Finished.{IsDone};
+    ghost use Rattle.cam6_slot.specs.Leases.{ImageFits, JobFits, TablesFit};
+    ghost use Rattle.cam6_slot.specs.Lefts.{queued_left, queued_home, lease_left, lease_home};
+    ghost use Rattle.cam6_slot.specs.Lefts.{bands_of_lease, home_after};
+    ghost use Rattle.cam6_slot.specs.Needs.{needs_of, IsNeed, HasCode, CanBeUndone, IsTableNeeded};
+    ghost use Rattle.cam6_slot.specs.Needs.{way_told, wiring_told};
+    ghost use Rattle.cam6_slot.specs.Stands.{Stands, StandsOut};
+    ghost use Rattle.cam6_block.specs.RuleTables.{IsTableBy};
+
+    pub(crate) fn new(work: Work, rows: u16, board: u8) -> Lease
+        requires rows { rows < width work.home }
+        requires bands { rows % band ≡ 0 }
+        requires step { 0 < rows → work.reached.steps < work.total }
+        ensures { result ≡ record { work = work; rows = rows; board = board } }
+    {
+        let _home = work.home();
+        Lease { work, rows, board }
+    }
+
+    /// The number of the board.
+    pub fn board(&self) -> u8
+        ensures { result ≡ self.now.board }
+    {
+        self.board
+    }
+
+    /// The bands that are still to be done. While there are some the job has work, and its image is
+    /// at rest where there are none.
+    pub fn left(&self) -> u64
+        ensures left { result ≡ lease_left self.now }
+        ensures work { (job : StoredJob) → JobFits self.now job → 0 < result → 0 < job.steps }
+        ensures rest { (job : StoredJob) → JobFits self.now job → result ≡ 0 →
+            is_rest job.image ≡ true }
+    {
+        self.work.left(self.rows)
+    }
+
+    /// One band was done on the board. Where it came to is known without being told.
+    pub fn band(self, _end: BandEnd) -> Lease
+        requires { 0 < lease_left self }
+        // For whatever machine and command, and whatever end was told.
+        ensures stands { (m : Machine) (c : Command) (before after : StoredJob)
+            (end : BandEnd) (tables : List (List ℕ)) →
+            TablesFit self.work tables → StandsOut self before m c →
+            Moves tables before end after → StandsOut result after m c }
+        ensures fits { (before after : StoredJob) (end : BandEnd) (tables : List (List ℕ)) →
+            JobFits self before → Moves tables before end after → JobFits result after }
+        ensures tables { (tables : List (List ℕ)) →
+            TablesFit self.work tables → TablesFit result.work tables }
+        ensures left { lease_left result + 1 ≡ lease_left self }
+        ensures home { lease_home result ≡ lease_home self }
+        ensures board { result.board ≡ self.board }
+    {
+        let Lease {
+            mut work,
+            rows,
+            board,
+        } = self;
+        let rows = rows + BAND as u16;
+        let side = work.home().planes().side().number();
+        if usize::from(rows) < side {
+            return Lease::new(work, rows, board);
+        }
+        work.go();
+        Lease::new(work, 0, board)
+    }
+
+    /// The command is taken off the board, with bands left to do. Behind a whole step the image
+    /// becomes the one at home; a step that is half done is parked.
+    pub fn preempt(self, image: Image) -> Queued
+        requires left { 0 < lease_left self }
+        requires image { ImageFits self.work self.rows image }
+        // For whatever machine and command.
+        ensures stands { (m : Machine) (c : Command) (job : StoredJob) →
+            StandsOut self job m c → job.image ≡ image → Stands result m c }
+        ensures left { queued_left result ≡ lease_left self }
+        ensures home { queued_home result
+            ≡ home_after (bands_of_lease self) (lease_left self) (lease_home self) }
+    {
+        let mut work = self.work;
+        match image.into_rest() {
+            Ok(image) => {
+                let spare = work.come_home(image);
+                Queued::new(work, Parked::Spare(spare))
+            }
+            Err(step) => Queued::new(work, Parked::Step(step)),
+        }
+    }
+
+    /// The board has lost the image, at whatever band. All that isn't at home is to be done again.
+    pub fn lost(self, spare: Spare) -> Queued
+        requires { spare.planes.limit ≡ self.work.home.limit }
+        // For whatever machine and command.
+        ensures stands { (m : Machine) (c : Command) (job : StoredJob) →
+            StandsOut self job m c → Stands result m c }
+        ensures left { queued_left result ≡ lease_home self }
+        ensures home { queued_home result ≡ lease_home self }
+    {
+        let mut work = self.work;
+        work.go_back();
+        Queued::new(work, Parked::Spare(spare))
+    }
+
+    /// All bands are done, and the image is off the board.
+    pub fn finish(self, image: AtRest) -> Finished
+        requires left { lease_left self ≡ 0 }
+        requires limit { image.planes.limit ≡ self.work.home.limit }
+        // For whatever machine and command.
+        ensures { (m : Machine) (c : Command) (job : StoredJob) →
+            StandsOut self job m c → job.image ≡ Image.Rest image → IsDone result m c }
+    {
+        let _home = self.work.home();
+        self.work.finish(image)
+    }
+
+    /// How many tables the job needs: one for each use of a rule in the cycle.
+    pub fn needs(&self) -> u8
+        ensures { result ≡ needs_of self.now.work }
+    {
+        self.work.needs()
+    }
+
+    /// What is needed for the table of a use: entry by entry, half A's before half B's.
+    pub fn need(&self, index: u8) -> Need<'_>
+        requires { index < needs_of self.now.work }
+        ensures need { IsNeed self.now.work index result }
+        ensures code { HasCode result }
+        ensures undone { CanBeUndone result }
+        // Entries of the rule are those that the job needs.
+        ensures table { (entries : List ℕ) →
+            IsTableBy (way_told result.inverted) (wiring_told result) result.text.now entries →
+            IsTableNeeded self.now.work index entries }
+    {
+        need_at(&self.work, index)
+    }
+}

@@ -1,0 +1,51 @@
+//! What is parked beside a command that waits for a board.
+ghost use Rattle.std.specs.Prelude.{◌≡◌};
+
+use cam6_band::{AtRest, MidStep, Spare};
+use cam6_board::Image;
+
+/// The image of a machine that isn't at home: spare, or in the middle of a step, which can't be
+/// dropped but is given up.
+pub enum Parked {
+    Spare(Spare),
+    Step(MidStep),
+}
+
+impl Drop for Parked {
+    fn drop(self) {
+        match self {
+            Parked::Spare(spare) => drop(spare),
+            Parked::Step(step) => drop(step.abandon()),
+        }
+    }
+}
+
+impl Parked {
+    ghost use Rattle.cam6_slot.specs.Parking.{rows_parked, IsWithinStep, HasRoomFor, LeavesAs};
+
+    /// The rows of the parked step that are done.
+    pub(crate) fn rows(&self) -> u16
+        ensures rows { result ≡ rows_parked self.now }
+        ensures within { IsWithinStep self.now }
+    {
+        match self {
+            Parked::Spare(_) => 0,
+            Parked::Step(step) => step.rows(),
+        }
+    }
+
+    /// The parked step, or else the spare planes, which come to show what the image at home shows.
+    pub(crate) fn into_image(self, home: &AtRest) -> Image
+        requires { HasRoomFor home.now.planes self }
+        ensures { LeavesAs home.now.planes self result }
+    {
+        match self {
+            Parked::Spare(spare) => {
+                let mut planes = spare.into_planes();
+                planes.copy_from(home.planes());
+                Image::Rest(AtRest::of(planes))
+            }
+            Parked::Step(step) => Image::Mid(step),
+        }
+    }
+}

@@ -1,0 +1,73 @@
+//! A command that waits for a board.
+ghost use Rattle.std.specs.Prelude.{◌≡◌, ◌<◌};
+ghost use Rattle.cam6_commands.specs.declared.commands.Command.{Command};
+ghost use Rattle.cam6_model.specs.Machine.{Machine};
+
+use crate::leases::Lease;
+use crate::parked::Parked;
+use crate::works::Work;
+use cam6_board::Job;
+use std::marker::Model;
+
+/// Steps of a command that wait for a board, with the machine's image at home, and beside it a step
+/// that is parked half done, or spare planes.
+#[derive(Drop)]
+pub struct Queued {
+    work: Work,
+    parked: Parked,
+}
+
+impl Model for Queued {
+    ghost use Rattle.cam6_slot.specs.Parking.{StoredQueued, IsQueued};
+
+    ghost Value = { StoredQueued };
+
+    ghost view = { λ q. record { work = q.work; parked = q.parked } };
+
+    ghost invariant = { λ q. IsQueued (record { work = q.work; parked = q.parked }) };
+}
+
+impl Queued {
+    ghost use Rattle.cam6_slot.specs.Leases.{JobFits};
+    ghost use Rattle.cam6_slot.specs.Lefts.{queued_left, queued_home, lease_left, lease_home};
+    ghost use Rattle.cam6_slot.specs.Parking.{IsBeside};
+    ghost use Rattle.cam6_slot.specs.Stands.{Stands, StandsOut};
+
+    pub(crate) fn new(work: Work, parked: Parked) -> Queued
+        requires some { work.reached.steps < work.total }
+        requires parked { IsBeside work parked }
+        ensures { result ≡ record { work = work; parked = parked } }
+    {
+        let _home = work.home();
+        Queued { work, parked }
+    }
+
+    /// The bands that are still to be done.
+    pub fn left(&self) -> u64
+        ensures left { result ≡ queued_left self.now }
+        ensures some { 0 < result }
+    {
+        self.work.left(self.parked.rows())
+    }
+
+    /// A board takes the command: it goes on from the parked step, or from a copy of the image at
+    /// home.
+    pub fn lease(self, board: u8) -> (Lease, Job)
+        // For whatever machine and command.
+        ensures stands { (m : Machine) (c : Command) →
+            Stands self m c → StandsOut result.0 result.1 m c }
+        ensures fits { JobFits result.0 result.1 }
+        ensures left { lease_left result.0 ≡ queued_left self }
+        ensures home { lease_home result.0 ≡ queued_home self }
+        ensures some { 0 < lease_left result.0 }
+        ensures board { result.0.board ≡ board }
+    {
+        let Queued { work, parked } = self;
+        let rows = parked.rows();
+        // Planes have a side within their limit.
+        let _side = work.home().planes().side();
+        let image = parked.into_image(work.home());
+        let job = work.job(image);
+        (Lease::new(work, rows, board), job)
+    }
+}
