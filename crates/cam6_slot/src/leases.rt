@@ -1,5 +1,5 @@
 //! A command that a board holds.
-ghost use Rattle.std.specs.Prelude.{◌≡◌, ◌<◌, ◌+◌, ◌%◌, ℕ, List, true};
+ghost use Rattle.std.specs.Prelude.{◌≡◌, ◌<◌, ◌≤◌, ◌+◌, ◌%◌, ℕ, List, true};
 ghost use Rattle.cam6_planes.specs.Stored.{width};
 ghost use Rattle.cam6_band.specs.Limits.{band};
 ghost use Rattle.cam6_board.specs.Images.{is_rest};
@@ -39,6 +39,7 @@ impl Model for Lease {
 }
 
 impl Lease {
+    ghost use Rattle.cam6_cycle.specs.Limits.{max_tables};
     ghost use Rattle.cam6_slot.specs.Finished.{IsDone};
     ghost use Rattle.cam6_slot.specs.Leases.{ImageFits, JobFits, TablesFit};
     ghost use Rattle.cam6_slot.specs.Lefts.{queued_left, queued_home, lease_left, lease_home};
@@ -156,7 +157,8 @@ impl Lease {
 
     /// How many tables the job needs: one for each use of a rule in the cycle.
     pub fn needs(&self) -> u8
-        ensures { result ≡ needs_of self.now.work }
+        ensures needs { result ≡ needs_of self.now.work }
+        ensures few { result ≤ max_tables }
     {
         self.work.needs()
     }

@@ -1,5 +1,5 @@
 //! Steps of a command that are under way.
-ghost use Rattle.std.specs.Prelude.{◌≡◌, ◌<◌, ◌+◌, length};
+ghost use Rattle.std.specs.Prelude.{◌≡◌, ◌<◌, ◌≤◌, ◌+◌, length};
 ghost use Rattle.cam6_planes.specs.Stored.{Stored, width};
 ghost use Rattle.cam6_machine.specs.Stored.{machine_over};
 ghost use Rattle.cam6_model.specs.Moves.{CanMove};
@@ -52,6 +52,7 @@ impl Model for Work {
 impl Work {
     ghost use Rattle.cam6_slot.specs.Finished.{finished_with};
     ghost use Rattle.cam6_slot.specs.Lefts.{left_of};
+    ghost use Rattle.cam6_cycle.specs.Limits.{max_tables};
     ghost use Rattle.cam6_slot.specs.Needs.{needs_of};
     ghost use Rattle.cam6_slot.specs.Works.{IsWork, begun, one_on, home_at, back_home};
 
@@ -125,7 +126,8 @@ impl Work {
 
     /// How many tables the steps go by.
     pub(crate) fn needs(&self) -> u8
-        ensures { result ≡ needs_of self.now }
+        ensures needs { result ≡ needs_of self.now }
+        ensures few { result ≤ max_tables }
     {
         self.cycle().tables_needed(self.direction).len() as u8
     }

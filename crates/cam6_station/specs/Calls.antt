@@ -1,0 +1,49 @@
+-- What the calls of a station make of what it holds.
+use Rattle.std.specs.Prelude.{ℕ, ◌≡◌, ◌+◌, Option, Some, None, ⊤}
+use Rattle.cam6_commands.specs.declared.commands.Command.{Command}
+use Rattle.cam6_model.specs.Machine.{Machine}
+use Rattle.cam6_slot.specs.Finished.{IsDone}
+use Rattle.cam6_slot.specs.Lefts.{queued_left, queued_home, home_after}
+use Rattle.cam6_slot.specs.Parking.{StoredQueued}
+use Rattle.cam6_slot.specs.Stands.{Stands}
+use Rattle.cam6_station.specs.declared.stations.Banded.{Banded}
+use Rattle.cam6_station.specs.declared.stations.Banded.TheVariants.{More, Last}
+use Rattle.cam6_station.specs.Held.{Held, Manned, idle, loaded, StandsHeld, held_left}
+use Rattle.cam6_station.specs.Held.{held_home, held_bands}
+
+-- one band less is left, none is lost from home, and what is held stands for what it stood for
+pub record GoesOn (before after : Held) : Type 0 where
+  pub left : held_left after + 1 ≡ held_left before
+  pub home : held_home after ≡ held_home before
+  pub stands : (m : Machine) (c : Command) → StandsHeld before m c → StandsHeld after m c
+
+-- a band goes on with what is held, and is the last one where one was left: then the board is free,
+-- and what is finished is done with whatever it stood for
+abbrev pub BandGives : Manned → Banded → Manned → Type 0
+BandGives (loaded u h) (More left) (loaded v k) =
+    (v ≡ u) × (left ≡ held_left k) × GoesOn h k
+BandGives (loaded u h) (Last v f) idle =
+    (v ≡ u) × (held_left h ≡ 1) ×
+    ((m : Machine) (c : Command) → StandsHeld h m c → IsDone f m c)
+BandGives s banded after = ⊥
+
+-- the user's command waits again, with so many bands left and so many from home, and stands for what
+-- it stood for
+pub record ComesBack (h : Held) (q : StoredQueued) (bands at_home : ℕ) : Type 0 where
+  pub left : queued_left q ≡ bands
+  pub home : queued_home q ≡ at_home
+  pub stands : (m : Machine) (c : Command) → StandsHeld h m c → Stands q m c
+
+-- taken off the board it keeps the bands that are left
+abbrev pub PreemptGives : Manned → ℕ → StoredQueued → Type 0
+PreemptGives (loaded u h) v q =
+    (v ≡ u)
+    × ComesBack h q (held_left h) (home_after (held_bands h) (held_left h) (held_home h))
+PreemptGives s v q = ⊥
+
+-- lost with the board it goes back to those of its home; an idle board fails for nobody
+abbrev pub FailGives : Manned → Option (ℕ × StoredQueued) → Type 0
+FailGives (loaded u h) (Some back) =
+    (back.0 ≡ u) × ComesBack h back.1 (held_home h) (held_home h)
+FailGives idle None = ⊤
+FailGives s back = ⊥

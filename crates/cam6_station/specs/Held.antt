@@ -1,0 +1,60 @@
+-- What a station holds: a board, and the lease of a user whose job the board holds.
+use Rattle.std.specs.Prelude.{ℕ, ◌<◌, Bool, true, false, List, ⊤}
+use Rattle.cam6_board.specs.Jobs.{StoredJob}
+use Rattle.cam6_commands.specs.declared.commands.Command.{Command}
+use Rattle.cam6_model.specs.Machine.{Machine}
+use Rattle.cam6_slot.specs.Leases.{StoredLease, JobFits, TablesFit}
+use Rattle.cam6_slot.specs.Lefts.{lease_left, lease_home, bands_of_lease}
+use Rattle.cam6_slot.specs.Stands.{StandsOut}
+
+-- a lease, the board's job, and the tables by which the job goes
+pub record Held : Type 0 where
+  pub lease : StoredLease
+  pub job : StoredJob
+  pub tables : List (List ℕ)
+
+-- nothing; what is held of a user's command; or nothing any more, as the board has failed
+pub data Manned : Type 0 where
+  idle : Manned
+  loaded : ℕ → Held → Manned
+  dead : Manned
+
+-- the job and the tables fit the lease, of which bands are left
+pub record HeldFits (h : Held) : Type 0 where
+  pub job : JobFits h.lease h.job
+  pub left : 0 < lease_left h.lease
+  pub tables : TablesFit h.lease.work h.tables
+
+abbrev pub held_left : Held → ℕ
+held_left h = lease_left h.lease
+
+abbrev pub held_home : Held → ℕ
+held_home h = lease_home h.lease
+
+-- the bands of a step
+abbrev pub held_bands : Held → ℕ
+held_bands h = bands_of_lease h.lease
+
+-- it stands for a machine and a command
+abbrev pub StandsHeld : Held → Machine → Command → Type 0
+StandsHeld h m c = StandsOut h.lease h.job m c
+
+abbrev pub IsLoaded : Manned → Type 0
+IsLoaded (loaded u h) = ⊤
+IsLoaded s = ⊥
+
+abbrev pub IsAlive : Manned → Type 0
+IsAlive dead = ⊥
+IsAlive s = ⊤
+
+abbrev pub is_idle : Manned → Bool
+is_idle idle = true
+is_idle s = false
+
+abbrev pub is_loaded : Manned → Bool
+is_loaded (loaded u h) = true
+is_loaded s = false
+
+abbrev pub is_dead : Manned → Bool
+is_dead dead = true
+is_dead s = false

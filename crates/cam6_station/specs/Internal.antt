@@ -1,0 +1,2 @@
+-- How the code goes about it: no public contract says it.
+pub mod Posts

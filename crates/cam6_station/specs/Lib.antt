@@ -1,0 +1,5 @@
+-- In the order of reading: what a station holds of a user, and what its calls make of it. How the code
+-- keeps it stands apart.
+pub mod Held
+pub mod Calls
+pub mod Internal

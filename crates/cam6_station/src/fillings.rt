@@ -1,0 +1,63 @@
+//! The tables of a lease, filled through a cache.
+ghost use Rattle.std.specs.Prelude.{◌≡◌};
+
+use cam6_board::Tables;
+use cam6_cache::{Key, TableCache};
+use cam6_planes::NoMemory;
+use cam6_slot::Lease;
+use cam6_table::Table;
+use std::alloc::Global;
+use std::marker::Model;
+
+/// Tables as a board is loaded with them, and what it takes to ask a cache for them. It is made once.
+/// Contracts see the tables.
+#[derive(Drop)]
+pub struct Filling {
+    key: Key,
+    table: Table,
+    tables: Tables,
+}
+
+impl Model for Filling {
+    ghost use Rattle.std.specs.Prelude.{List, ℕ};
+
+    ghost Value = { List (List ℕ) };
+
+    ghost view = { λ f. f.tables };
+}
+
+impl Filling {
+    ghost use Rattle.cam6_slot.specs.Leases.{TablesFit};
+
+    /// Tables of which nothing is said.
+    pub fn new(alloc: Global) -> Result<Filling, NoMemory> {
+        Ok(Filling {
+            key: Key::scratch(alloc)?,
+            table: Table::blank(alloc)?,
+            tables: Tables::blank(alloc)?,
+        })
+    }
+
+    pub fn tables(&self) -> &Tables
+        ensures { result.now ≡ self.now }
+    {
+        &self.tables
+    }
+
+    /// Fills the tables that a lease needs, in the order of their uses, each through the cache. It
+    /// takes no memory but for what is newly cached; where that is refused nobody sees it.
+    pub fn fill(&mut self, cache: &mut TableCache, lease: &Lease)
+        ensures tables { TablesFit lease.now.work self.new }
+        ensures capacity { cache.new.capacity ≡ cache.old.capacity }
+    {
+        // There is a place for each.
+        let _places = self.tables.as_slice();
+        for index in 0..lease.needs() {
+            let need = lease.need(index);
+            self.key
+                .set(need.half, need.hood, need.minor, need.text, need.inverted);
+            cache.load(&self.key, need.code, &mut self.table);
+            self.tables.put(usize::from(index), &self.table);
+        }
+    }
+}
