@@ -1,0 +1,2 @@
+-- What the board of a lease holds.
+pub mod Holding

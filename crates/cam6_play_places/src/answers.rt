@@ -1,0 +1,40 @@
+//! What is told of a line.
+
+use cam6_commands::Reply;
+use cam6_examples::{add_line, no_memory};
+use cam6_wire::reply_text;
+use std::alloc::Global;
+use std::io;
+
+#[derive(Drop)]
+pub enum Answer {
+    /// The reply to the command.
+    Reply(Reply),
+    /// So many bands are left of the command.
+    Left(u64),
+    /// So many tables are needed.
+    Needs(u8),
+    /// What is needed for a table, or the text of a line's fault.
+    Text(String),
+    /// The command before waits for a board, or is out on one.
+    Waiting,
+    /// It can't be done as things are.
+    No,
+    Unread,
+}
+
+/// Adds an answer to what comes back.
+pub fn add_answer(alloc: Global, answers: &mut Vec<u8>, answer: Answer) -> io::Result<()> {
+    match answer {
+        Answer::Reply(reply) => {
+            let text = reply_text(alloc, &reply).map_err(|_| no_memory())?;
+            add_line(answers, text.as_str())
+        }
+        Answer::Left(left) => add_line(answers, format!(in alloc; "left {left}")?.as_str()),
+        Answer::Needs(needs) => add_line(answers, format!(in alloc; "needs {needs}")?.as_str()),
+        Answer::Text(text) => add_line(answers, text.as_str()),
+        Answer::Waiting => add_line(answers, "waiting"),
+        Answer::No => add_line(answers, "no"),
+        Answer::Unread => add_line(answers, "unread"),
+    }
+}
