@@ -46,15 +46,16 @@ module _ (u : ℕ) (l : StoredLease) where
     }
 
     pub goes_on : (load after : Load) (n : ℕ) → IsManned (Loaded u l) load →
-        MovesHeld load end after → n ≡ lease_left k →
+        MovesHeld load end after → n ≡ lease_left k → 0 < lease_left k →
         BandGives (manned (Loaded u l) load) (More n) (manned (Loaded u k) after)
-    goes_on empty after n is moves told = absurd is
-    goes_on (holds job tables) empty n is moves told = absurd moves
-    goes_on (holds job tables) (holds later kept) n is moves told = (
+    goes_on empty after n is moves told some = absurd is
+    goes_on (holds job tables) empty n is moves told some = absurd moves
+    goes_on (holds job tables) (holds later kept) n is moves told some = (
       refl,
       told,
       record {
         left = left;
+        some = some;
         home = home;
         stands = λ m c st. stands m c job later end tables is.tables st moves.0;
       },

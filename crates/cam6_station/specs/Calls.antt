@@ -1,5 +1,5 @@
 -- What the calls of a station make of what it holds.
-use Rattle.std.specs.Prelude.{ℕ, ◌≡◌, ◌+◌, Option, Some, None, ⊤}
+use Rattle.std.specs.Prelude.{ℕ, ◌≡◌, ◌<◌, ◌+◌, Option, Some, None, ⊤}
 use Rattle.cam6_commands.specs.declared.commands.Command.{Command}
 use Rattle.cam6_model.specs.Machine.{Machine}
 use Rattle.cam6_slot.specs.Finished.{IsDone}
@@ -11,9 +11,11 @@ use Rattle.cam6_station.specs.declared.stations.Banded.TheVariants.{More, Last}
 use Rattle.cam6_station.specs.Held.{Held, Manned, idle, loaded, StandsHeld, held_left}
 use Rattle.cam6_station.specs.Held.{held_home, held_bands}
 
--- one band less is left, none is lost from home, and what is held stands for what it stood for
+-- one band less is left, and one at least; none is lost from home, and what is held stands for what
+-- it stood for
 pub record GoesOn (before after : Held) : Type 0 where
   pub left : held_left after + 1 ≡ held_left before
+  pub some : 0 < held_left after
   pub home : held_home after ≡ held_home before
   pub stands : (m : Machine) (c : Command) → StandsHeld before m c → StandsHeld after m c
 

@@ -35,7 +35,8 @@ returns-then-left-gt0 c =
     let is = ap (λ (p : Post). manned p load) c.in-Loaded.ensures.value ∙ c.self.view_is in
     subst (λ (s : Manned). BandGives s (More c.left-left.result) (manned (Loaded u k) after)) is
     (goes_on u l k by.stands by.fits by.tables by.left by.home c.in-Ok.end load after
-    c.left-left.result held c.in-Ok.ensures.ok c.left-left.ensures.left)
+    c.left-left.result held c.in-Ok.ensures.ok c.left-left.ensures.left
+    (omega (arith, c.if-left-gt0.true, c.left-left.ensures.left)))
 
 pub finish-requires-clause-limit : goal.finish-requires-clause-limit
 finish-requires-clause-limit c =

@@ -1,0 +1,9 @@
+use Rattle.cam6_core.specs.State.{state}
+use Rattle.cam6_core.proofs.Starting.{begins_good}
+use Rattle.cam6_core.proofs.parts.Core.new.Goals as goal
+
+pub returns-clause-good : goal.returns-clause-good
+returns-clause-good c =
+    begins_good c.args.limits.now c.args.boards
+    (state c.in_ok-users.users.items c.in_ok-boards.boards.items c.in_ok-new.field-0)
+    c.in_ok-users.ensures c.in_ok-boards.ensures

@@ -1,0 +1,75 @@
+-- One event.
+use Rattle.std.specs.Prelude.{ℕ, ◌≡◌, ◌≢◌, Option, Some, None, ⊤}
+use Rattle.std.specs.List.{slice_get}
+use Rattle.cam6_cache.specs.Cached.{without_last}
+use Rattle.cam6_station.specs.Held.{Manned, loaded}
+use Rattle.cam6_core.specs.State.{State, at_number}
+use Rattle.cam6_core.specs.Refusals.{standing, refusal}
+use Rattle.cam6_core.specs.Model.{Model, turn}
+use Rattle.cam6_core.specs.Good.{Good}
+use Rattle.cam6_core.specs.declared.events.Event.{Event}
+use Rattle.cam6_core.specs.declared.events.Event.TheVariants as event
+use Rattle.cam6_core.specs.declared.outcomes.Outcome.{Outcome}
+use Rattle.cam6_core.specs.declared.outcomes.Outcome.TheVariants.{NoMemory, Refused}
+use Rattle.cam6_core.specs.declared.refused.Refused.{Refused as Reason}
+
+abbrev pub IsAsk : Event → Type 0
+IsAsk (event.Ask u c) = ⊤
+IsAsk e = ⊥
+
+-- whatever model the core agreed with, what comes of the event is the model's, and the core agrees
+-- with the model behind it
+abbrev pub Moves : State → Event → Outcome → State → Type 0
+Moves old e r new =
+    (a : Model) → Good old a → (r ≡ (turn a e).1) × Good new (turn a e).0
+
+-- of an event that isn't refused: an ask alone may find no memory, and then nothing changes
+abbrev pub Takes : State → Event → Outcome → State → Type 0
+Takes old e NoMemory new = IsAsk e × (new ≡ old)
+Takes old e (Refused reason) new = ⊥
+Takes old e r new = Moves old e r new
+
+-- one that is refused changes nothing
+abbrev pub Obeys : Option Reason → State → Event → Outcome → State → Type 0
+Obeys (Some reason) old e r new = (r ≡ Refused reason) × (new ≡ old)
+Obeys None old e r new = Takes old e r new
+
+abbrev pub Goes : State → Event → Outcome → State → Type 0
+Goes old e r new = Obeys (refusal (standing old) e) old e r new
+
+-- users are as they were, but for one
+abbrev pub SparesUsersBut : ℕ → State → State → Type 0
+SparesUsersBut u old new = (v : ℕ) → v ≢ u → at_number new.users v ≡ at_number old.users v
+
+-- boards are as they were, but for one
+abbrev pub SparesBoardsBut : ℕ → State → State → Type 0
+SparesBoardsBut b old new = (d : ℕ) → d ≢ b → slice_get new.boards d ≡ slice_get old.boards d
+
+-- users are as they were, but for the one for whom a board is loaded
+abbrev pub SparesOthers : Option Manned → State → State → Type 0
+SparesOthers (Some (loaded u h)) old new = SparesUsersBut u old new
+SparesOthers y old new = new.users ≡ old.users
+
+-- whom and what an event doesn't touch
+abbrev pub Spares : Event → State → State → Type 0
+Spares (event.Ask u c) old new =
+    SparesUsersBut u old new × (new.boards ≡ old.boards) × (new.cache ≡ old.cache)
+Spares (event.Lease u b) old new =
+    SparesUsersBut u old new × SparesBoardsBut b old new
+    × (new.cache.capacity ≡ old.cache.capacity)
+Spares (event.Band b) old new =
+    SparesOthers (slice_get old.boards b) old new × SparesBoardsBut b old new
+    × (new.cache ≡ old.cache)
+Spares (event.Preempt b) old new =
+    SparesOthers (slice_get old.boards b) old new × SparesBoardsBut b old new
+    × (new.cache ≡ old.cache)
+Spares (event.Fail b) old new =
+    SparesOthers (slice_get old.boards b) old new × SparesBoardsBut b old new
+    × (new.cache ≡ old.cache)
+Spares (event.Repair b) old new =
+    (new.users ≡ old.users) × SparesBoardsBut b old new × (new.cache ≡ old.cache)
+Spares event.Evict old new =
+    (new.users ≡ old.users) × (new.boards ≡ old.boards)
+    × (new.cache ≡ without_last old.cache)
+Spares (event.Collect u) old new =
+    SparesUsersBut u old new × (new.boards ≡ old.boards) × (new.cache ≡ old.cache)

@@ -1,0 +1,24 @@
+-- Whose command comes off a board.
+use Rattle.std.specs.Prelude.{ℕ, ◌≡◌, Option, Some, None, ⊤}
+use Rattle.cam6_board.specs.Jobs.{StoredJob}
+use Rattle.cam6_slot.specs.Leases.{StoredLease}
+use Rattle.cam6_slot.specs.Parking.{StoredQueued}
+use Rattle.cam6_station.specs.Held.{Manned, loaded}
+use Rattle.cam6_station.specs.declared.stations.Banded.{Banded}
+use Rattle.cam6_station.specs.declared.stations.Banded.TheVariants.{More, Last}
+use Rattle.cam6_core.specs.State.{IsNumber}
+
+-- a board is loaded for a user with this lease and this job
+abbrev pub IsLoadedWith : Manned → ℕ → StoredLease → StoredJob → Type 0
+IsLoadedWith (loaded v h) u lease job = (v ≡ u) × (h.lease ≡ lease) × (h.job ≡ job)
+IsLoadedWith y u lease job = ⊥
+
+-- what is finished is one of n users'
+abbrev pub IsOfUser : ℕ → Banded → Type 0
+IsOfUser n (More left) = ⊤
+IsOfUser n (Last u f) = IsNumber n u
+
+-- and so is what comes back, if something does
+abbrev pub IsOfUserIf : ℕ → Option (ℕ × StoredQueued) → Type 0
+IsOfUserIf n None = ⊤
+IsOfUserIf n (Some back) = IsNumber n back.0

@@ -1,0 +1,146 @@
+//! Event by event.
+ghost use Rattle.std.specs.Prelude.{◌≡◌, true, false};
+ghost use Rattle.cam6_core.specs.Refusals.{standing, is_waiting, is_queued, is_finished};
+ghost use Rattle.cam6_core.specs.Refusals.{is_idle, is_loaded, is_dead, is_missing};
+ghost use Rattle.cam6_core.specs.Goes.{Goes, Takes, Spares};
+ghost use Rattle.cam6_core.specs.declared.events.Event.TheVariants as event;
+
+use crate::events::Event;
+use crate::outcomes::Outcome;
+use crate::parts::{Core, Whereabouts};
+use cam6_commands::{Command, Reply};
+use cam6_slot::Asked;
+use cam6_slot::laws::places_have_the_side;
+use cam6_station::Banded;
+
+impl Core {
+    /// Does an event, or refuses it. An ask alone takes memory, but for what is newly cached.
+    pub fn apply(&mut self, event: Event) -> Outcome
+        ensures goes { Goes self.old event result self.new }
+        ensures others { Spares event self.old self.new }
+    {
+        if let Some(reason) = self.refusal(&event) {
+            return Outcome::Refused(reason);
+        }
+        match event {
+            Event::Ask(user, command) => self.ask(user, command),
+            Event::Lease(user, board) => self.lease(user, board),
+            Event::Band(board) => self.band(board),
+            Event::Preempt(board) => self.preempt(board),
+            Event::Fail(board) => self.fail(board),
+            Event::Repair(board) => self.repair(board),
+            Event::Evict => self.evict(),
+            Event::Collect(user) => self.collect(user),
+        }
+    }
+
+    fn ask(&mut self, user: u64, command: Command) -> Outcome
+        requires { is_waiting ((standing self.old).user user) ≡ false }
+        ensures takes { Takes self.old (event.Ask user command) result self.new }
+        ensures others { Spares (event.Ask user command) self.old self.new }
+    {
+        let Whereabouts::Resting(resting) = self.take_user(user) else {
+            unreachable!()
+        };
+        match resting.ask(command) {
+            Asked::NoMemory(same) => {
+                self.set_user(user, Whereabouts::Resting(same));
+                Outcome::NoMemory
+            }
+            Asked::Finished(finished) => {
+                self.set_user(user, Whereabouts::Finished(finished));
+                Outcome::Asked(0)
+            }
+            Asked::Queued(queued) => {
+                let left = queued.left();
+                self.set_user(user, Whereabouts::Queued(queued));
+                Outcome::Asked(left)
+            }
+        }
+    }
+
+    fn lease(&mut self, user: u64, board: u64) -> Outcome
+        requires board { is_idle ((standing self.old).board board) ≡ true }
+        requires user { is_queued ((standing self.old).user user) ≡ true }
+        ensures takes { Takes self.old (event.Lease user board) result self.new }
+        ensures others { Spares (event.Lease user board) self.old self.new }
+    {
+        let Whereabouts::Queued(queued) = self.take_user(user) else {
+            unreachable!()
+        };
+        let left = queued.left();
+        let (lease, job) = queued.lease(self.board_number(board));
+        self.load(board, user, lease, job);
+        Outcome::Leased(left)
+    }
+
+    fn band(&mut self, board: u64) -> Outcome
+        requires { is_loaded ((standing self.old).board board) ≡ true }
+        ensures takes { Takes self.old (event.Band board) result self.new }
+        ensures others { Spares (event.Band board) self.old self.new }
+    {
+        match self.band_on(board) {
+            Banded::More(left) => Outcome::Banded(left),
+            Banded::Last(user, finished) => {
+                self.set_user(user as u64, Whereabouts::Finished(finished));
+                Outcome::Banded(0)
+            }
+        }
+    }
+
+    fn preempt(&mut self, board: u64) -> Outcome
+        requires { is_loaded ((standing self.old).board board) ≡ true }
+        ensures takes { Takes self.old (event.Preempt board) result self.new }
+        ensures others { Spares (event.Preempt board) self.old self.new }
+    {
+        places_have_the_side();
+        let (user, queued) = self.preempt_on(board);
+        let left = queued.left();
+        self.set_user(user as u64, Whereabouts::Queued(queued));
+        Outcome::Preempted(left)
+    }
+
+    fn fail(&mut self, board: u64) -> Outcome
+        requires there { is_missing ((standing self.old).board board) ≡ false }
+        requires alive { is_dead ((standing self.old).board board) ≡ false }
+        ensures takes { Takes self.old (event.Fail board) result self.new }
+        ensures others { Spares (event.Fail board) self.old self.new }
+    {
+        let Some((user, queued)) = self.fail_on(board) else {
+            return Outcome::Failed(None);
+        };
+        let left = queued.left();
+        self.set_user(user as u64, Whereabouts::Queued(queued));
+        Outcome::Failed(Some(left))
+    }
+
+    fn repair(&mut self, board: u64) -> Outcome
+        requires { is_dead ((standing self.old).board board) ≡ true }
+        ensures takes { Takes self.old (event.Repair board) result self.new }
+        ensures others { Spares (event.Repair board) self.old self.new }
+    {
+        self.repair_on(board);
+        Outcome::Repaired
+    }
+
+    fn evict(&mut self) -> Outcome
+        ensures takes { Takes self.old event.Evict result self.new }
+        ensures others { Spares event.Evict self.old self.new }
+    {
+        let _ = self.cache.evict_oldest();
+        Outcome::Evicted
+    }
+
+    fn collect(&mut self, user: u64) -> Outcome
+        requires { is_finished ((standing self.old).user user) ≡ true }
+        ensures takes { Takes self.old (event.Collect user) result self.new }
+        ensures others { Spares (event.Collect user) self.old self.new }
+    {
+        let Whereabouts::Finished(finished) = self.take_user(user) else {
+            unreachable!()
+        };
+        let (resting, reply) = finished.collect();
+        self.set_user(user, Whereabouts::Resting(resting));
+        Outcome::Collected(reply)
+    }
+}

@@ -1,0 +1,21 @@
+//! What comes of an event.
+
+use crate::refused::Refused;
+use cam6_commands::Reply;
+
+/// What comes of an event. The numbers are those of the bands that are left behind it.
+#[derive(Debug, Drop)]
+pub enum Outcome {
+    /// There was no memory for a command, and nothing has changed.
+    NoMemory,
+    Refused(Refused),
+    Asked(u64),
+    Leased(u64),
+    Banded(u64),
+    Preempted(u64),
+    /// With the bands that are left, if the board held a command.
+    Failed(Option<u64>),
+    Repaired,
+    Evicted,
+    Collected(Reply),
+}

@@ -1,0 +1,193 @@
+//! Which events are refused.
+ghost use Rattle.std.specs.Prelude.{◌≡◌};
+ghost use Rattle.std.specs.Option.{option_copied};
+ghost use Rattle.cam6_commands.specs.declared.commands.Command.{Command};
+ghost use Rattle.cam6_core.specs.State.{at_number};
+ghost use Rattle.cam6_core.specs.declared.events.Event.TheVariants as event;
+ghost use Rattle.cam6_core.specs.Refusals.{standing, refusal, loaded_refusal, is_missing};
+ghost use Rattle.cam6_core.specs.Refusals.{is_waiting, is_queued, is_finished};
+ghost use Rattle.cam6_core.specs.Refusals.{is_idle, is_loaded, is_dead};
+
+use crate::events::Event;
+use crate::parts::{Core, Whereabouts};
+use crate::refused::Refused;
+
+impl Core {
+    /// The first reason against an event, if there is one.
+    pub(crate) fn refusal(&self, event: &Event) -> Option<Refused>
+        ensures { result ≡ refusal (standing self.now) event.now }
+    {
+        match event {
+            Event::Ask(user, _) => self.ask_refusal(*user),
+            Event::Lease(user, board) => self.lease_refusal(*user, *board),
+            Event::Band(board) | Event::Preempt(board) => self.loaded_refusal(*board),
+            Event::Fail(board) => self.fail_refusal(*board),
+            Event::Repair(board) => self.repair_refusal(*board),
+            Event::Evict => self.evict_refusal(),
+            Event::Collect(user) => self.collect_refusal(*user),
+        }
+    }
+}
+
+impl Core {
+    fn ask_refusal(&self, user: u64) -> Option<Refused>
+        // Whatever is asked.
+        ensures { (c : Command) → result ≡ refusal (standing self.now) (event.Ask user c) }
+    {
+        if self.no_user(user) {
+            return Some(Refused::NoSuchNumber);
+        }
+        if self.is_waiting(user) {
+            return Some(Refused::UserIsWaiting);
+        }
+        None
+    }
+
+    fn lease_refusal(&self, user: u64, board: u64) -> Option<Refused>
+        ensures { result ≡ refusal (standing self.now) (event.Lease user board) }
+    {
+        if self.no_user(user) || self.no_board(board) {
+            return Some(Refused::NoSuchNumber);
+        }
+        if self.is_dead(board) {
+            return Some(Refused::BoardIsDead);
+        }
+        if !self.is_idle(board) {
+            return Some(Refused::BoardIsNotIdle);
+        }
+        if !self.is_queued(user) {
+            return Some(Refused::UserIsNotQueued);
+        }
+        None
+    }
+
+    /// Of an event that needs a loaded board.
+    fn loaded_refusal(&self, board: u64) -> Option<Refused>
+        ensures { result ≡ loaded_refusal ((standing self.now).board board) }
+    {
+        if self.no_board(board) {
+            return Some(Refused::NoSuchNumber);
+        }
+        if self.is_dead(board) {
+            return Some(Refused::BoardIsDead);
+        }
+        if !self.is_loaded(board) {
+            return Some(Refused::BoardHoldsNothing);
+        }
+        None
+    }
+
+    fn fail_refusal(&self, board: u64) -> Option<Refused>
+        ensures { result ≡ refusal (standing self.now) (event.Fail board) }
+    {
+        if self.no_board(board) {
+            return Some(Refused::NoSuchNumber);
+        }
+        if self.is_dead(board) {
+            return Some(Refused::BoardIsDead);
+        }
+        None
+    }
+
+    fn repair_refusal(&self, board: u64) -> Option<Refused>
+        ensures { result ≡ refusal (standing self.now) (event.Repair board) }
+    {
+        if self.no_board(board) {
+            return Some(Refused::NoSuchNumber);
+        }
+        if !self.is_dead(board) {
+            return Some(Refused::BoardIsNotDead);
+        }
+        None
+    }
+
+    fn evict_refusal(&self) -> Option<Refused>
+        ensures { result ≡ refusal (standing self.now) event.Evict }
+    {
+        if self.cache.len() == 0 {
+            return Some(Refused::NoTableIsCached);
+        }
+        None
+    }
+
+    fn collect_refusal(&self, user: u64) -> Option<Refused>
+        ensures { result ≡ refusal (standing self.now) (event.Collect user) }
+    {
+        if self.no_user(user) {
+            return Some(Refused::NoSuchNumber);
+        }
+        if !self.is_finished(user) {
+            return Some(Refused::NothingIsFinished);
+        }
+        None
+    }
+}
+
+impl Core {
+    /// The user of a number, if there is one.
+    fn user(&self, user: u64) -> Option<&Whereabouts>
+        ensures { option_copied result ≡ at_number self.now.users user }
+    {
+        if user == 0 {
+            return None;
+        }
+        self.users.get((user - 1) as usize)
+    }
+
+    fn no_user(&self, user: u64) -> bool
+        ensures { result ≡ is_missing ((standing self.now).user user) }
+    {
+        self.user(user).is_none()
+    }
+
+    fn is_waiting(&self, user: u64) -> bool
+        ensures { result ≡ is_waiting ((standing self.now).user user) }
+    {
+        !matches!(self.user(user), Some(Whereabouts::Resting(_)))
+    }
+
+    fn is_queued(&self, user: u64) -> bool
+        ensures { result ≡ is_queued ((standing self.now).user user) }
+    {
+        matches!(self.user(user), Some(Whereabouts::Queued(_)))
+    }
+
+    fn is_finished(&self, user: u64) -> bool
+        ensures { result ≡ is_finished ((standing self.now).user user) }
+    {
+        matches!(self.user(user), Some(Whereabouts::Finished(_)))
+    }
+
+    fn no_board(&self, board: u64) -> bool
+        ensures { result ≡ is_missing ((standing self.now).board board) }
+    {
+        self.boards.get(board as usize).is_none()
+    }
+
+    fn is_idle(&self, board: u64) -> bool
+        ensures { result ≡ is_idle ((standing self.now).board board) }
+    {
+        match self.boards.get(board as usize) {
+            Some(station) => station.is_idle(),
+            None => false,
+        }
+    }
+
+    fn is_loaded(&self, board: u64) -> bool
+        ensures { result ≡ is_loaded ((standing self.now).board board) }
+    {
+        match self.boards.get(board as usize) {
+            Some(station) => station.is_loaded(),
+            None => false,
+        }
+    }
+
+    fn is_dead(&self, board: u64) -> bool
+        ensures { result ≡ is_dead ((standing self.now).board board) }
+    {
+        match self.boards.get(board as usize) {
+            Some(station) => station.is_dead(),
+            None => false,
+        }
+    }
+}

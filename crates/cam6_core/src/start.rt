@@ -1,0 +1,81 @@
+//! A core to begin with.
+ghost use Rattle.std.specs.Prelude.{◌≡◌, ◌<◌, ◌≤◌, [], replicate, length, IfOk};
+ghost use Rattle.cam6_cache.specs.Limits.{max_capacity};
+ghost use Rattle.cam6_station.specs.Held.{idle};
+ghost use Rattle.cam6_core.specs.Fresh.{fresh};
+ghost use Rattle.cam6_core.specs.Good.{Good};
+ghost use Rattle.cam6_core.specs.Limits.{max_users, max_boards};
+ghost use Rattle.cam6_core.specs.Internal.Starting.{AreNewcomers};
+
+use crate::parts::{Core, Whereabouts};
+use cam6_cache::TableCache;
+use cam6_machine::Machine;
+use cam6_planes::{NoMemory, Side};
+use cam6_slot::Resting;
+use cam6_station::{Filling, Station};
+use std::alloc::Global;
+
+/// Users that a core can have at most.
+pub const MAX_USERS: usize = 32;
+
+/// Boards that a core can have at most.
+pub const MAX_BOARDS: usize = 8;
+
+impl Core {
+    /// So many users, each with a blank machine of his limit, idle boards, and an empty cache of so
+    /// many tables.
+    pub fn new(
+        alloc: Global,
+        users: usize,
+        boards: usize,
+        cache: usize,
+        limits: &[Side],
+    ) -> Result<Core, NoMemory>
+        requires a_user { 0 < users }
+        requires users { users ≤ max_users }
+        requires a_board { 0 < boards }
+        requires boards { boards ≤ max_boards }
+        requires a_table { 0 < cache }
+        requires cache { cache ≤ max_capacity }
+        requires limits { length limits.now ≡ users }
+        ensures good { IfOk result (λ core. Good core (fresh limits.now boards)) }
+        ensures empty { IfOk result (λ core.
+            core.cache ≡ record { tables = []; capacity = cache }) }
+        // The constants are the limits that contracts speak of.
+        ensures most_users { MAX_USERS ≡ max_users }
+        ensures most_boards { MAX_BOARDS ≡ max_boards }
+    {
+        let users = newcomers(alloc, users, limits)?;
+        let boards = idle_boards(alloc, boards)?;
+        Ok(Core {
+            users,
+            boards,
+            cache: TableCache::new(alloc, cache)?,
+            filling: Filling::new(alloc)?,
+        })
+    }
+}
+
+/// A user at rest for each limit.
+fn newcomers(alloc: Global, users: usize, limits: &[Side]) -> Result<Vec<Whereabouts>, NoMemory>
+    requires { length limits.now ≡ users }
+    ensures { IfOk result (λ made. AreNewcomers limits.now made.items) }
+{
+    let mut made = Vec::with_capacity(alloc, users)?;
+    for user in 0..users {
+        let machine = Machine::new(alloc, limits[user])?;
+        made.push(Whereabouts::Resting(Resting::new(machine)))?;
+    }
+    Ok(made)
+}
+
+/// So many idle boards.
+fn idle_boards(alloc: Global, boards: usize) -> Result<Vec<Station>, NoMemory>
+    ensures { IfOk result (λ made. made.items ≡ replicate boards idle) }
+{
+    let mut made = Vec::with_capacity(alloc, boards)?;
+    for _board in 0..boards {
+        made.push(Station::new(alloc)?)?;
+    }
+    Ok(made)
+}

@@ -1,0 +1,99 @@
+//! One user's whereabouts or one board, taken or changed in its place.
+ghost use Rattle.std.specs.Prelude.{◌≡◌, ◌<◌, length, slice_set, Some};
+ghost use Rattle.std.specs.List.{slice_get};
+ghost use Rattle.cam6_slot.specs.Leases.{JobFits};
+ghost use Rattle.cam6_slot.specs.Lefts.{lease_left};
+ghost use Rattle.cam6_station.specs.Calls.{BandGives, PreemptGives, FailGives};
+ghost use Rattle.cam6_station.specs.Held.{idle, dead, IsLoaded, IsAlive};
+ghost use Rattle.cam6_core.specs.State.{at_number, with_user, with_board, board_of, IsNumber};
+ghost use Rattle.cam6_core.specs.Internal.Returning.{IsLoadedWith, IsOfUser, IsOfUserIf};
+
+use crate::parts::{Core, Whereabouts};
+use cam6_board::Job;
+use cam6_slot::{Lease, Queued};
+use cam6_station::Banded;
+use std::mem;
+
+impl Core {
+    /// A user's whereabouts are taken, and he is out.
+    pub(crate) fn take_user(&mut self, user: u64) -> Whereabouts
+        requires { IsNumber (length self.old.users) user }
+        ensures was { at_number self.old.users user ≡ Some result }
+        ensures now { self.new ≡ with_user self.old user Whereabouts.Out }
+        ensures number { IsNumber (length self.new.users) user }
+    {
+        mem::replace(&mut self.users[(user - 1) as usize], Whereabouts::Out)
+    }
+
+    /// A user is elsewhere from here on.
+    pub(crate) fn set_user(&mut self, user: u64, whereabouts: Whereabouts)
+        requires { IsNumber (length self.old.users) user }
+        ensures { self.new ≡ with_user self.old user whereabouts }
+    {
+        self.users[(user - 1) as usize] = whereabouts;
+    }
+
+    /// The number of an idle board, as a lease keeps it: boards are few.
+    pub(crate) fn board_number(&self, board: u64) -> u8
+        requires { slice_get self.now.boards board ≡ Some idle }
+        ensures { result ≡ board }
+    {
+        let _boards = self.boards.len();
+        board as u8
+    }
+
+    /// An idle board is loaded with a user's lease, whose tables are filled first.
+    pub(crate) fn load(&mut self, board: u64, user: u64, lease: Lease, job: Job)
+        requires user { IsNumber (length self.old.users) user }
+        requires board { slice_get self.old.boards board ≡ Some idle }
+        requires job { JobFits lease job }
+        requires left { 0 < lease_left lease }
+        ensures board { IsLoadedWith (board_of self.new board) user lease job }
+        ensures users { self.new.users ≡ self.old.users }
+        ensures others { self.new.boards
+            ≡ slice_set self.old.boards board (board_of self.new board) }
+        ensures capacity { self.new.cache.capacity ≡ self.old.cache.capacity }
+    {
+        self.filling.fill(&mut self.cache, &lease);
+        let station = &mut self.boards[board as usize];
+        station.load(user as usize, lease, job, self.filling.tables());
+    }
+
+    /// A board does one band.
+    pub(crate) fn band_on(&mut self, board: u64) -> Banded
+        requires { IsLoaded (board_of self.old board) }
+        ensures gives { BandGives (board_of self.old board) result (board_of self.new board) }
+        ensures others { self.new ≡ with_board self.old board (board_of self.new board) }
+        ensures user { IsOfUser (length self.old.users) result }
+    {
+        self.boards[board as usize].band()
+    }
+
+    /// The command on a board is taken off it.
+    pub(crate) fn preempt_on(&mut self, board: u64) -> (usize, Queued)
+        requires { IsLoaded (board_of self.old board) }
+        ensures back { PreemptGives (board_of self.old board) result.0 result.1 }
+        ensures idle { self.new ≡ with_board self.old board idle }
+        ensures user { IsNumber (length self.old.users) result.0 }
+    {
+        self.boards[board as usize].preempt()
+    }
+
+    /// A board fails.
+    pub(crate) fn fail_on(&mut self, board: u64) -> Option<(usize, Queued)>
+        requires { IsAlive (board_of self.old board) }
+        ensures back { FailGives (board_of self.old board) result }
+        ensures dead { self.new ≡ with_board self.old board dead }
+        ensures user { IsOfUserIf (length self.old.users) result }
+    {
+        self.boards[board as usize].fail()
+    }
+
+    /// A dead board is idle.
+    pub(crate) fn repair_on(&mut self, board: u64)
+        requires { slice_get self.old.boards board ≡ Some dead }
+        ensures { self.new ≡ with_board self.old board idle }
+    {
+        self.boards[board as usize].repair();
+    }
+}
