@@ -1,9 +1,11 @@
 -- An ask.
 use Rattle.std.proofs.Common.{◌≡◌, ◌∙◌, ℕ, ◌<◌, cond, Bool, Some, sym, refl, ap, subst, arith}
+use Rattle.std.proofs.Common.{true, false, Option}
 use Rattle.std.proofs.Common.{ne_eqb}
 use Rattle.cam6_commands.specs.declared.commands.Command.{Command}
 use Rattle.cam6_machine.specs.Stored.{StoredMachine, machine_of as machine_stored}
 use Rattle.cam6_model.specs.Machine.{Machine}
+use Rattle.cam6_model.specs.Memory.{may_want_memory}
 use Rattle.cam6_slot.specs.Finished.{StoredFinished, IsDone}
 use Rattle.cam6_slot.specs.Lefts.{bands_of, queued_left, queued_home}
 use Rattle.cam6_slot.specs.Parking.{StoredQueued}
@@ -12,7 +14,7 @@ use Rattle.cam6_core.specs.State.{State, at_number, with_user}
 use Rattle.cam6_core.specs.Model.{Stage, queued, finished, User, user, at_stage, begun, machine_of}
 use Rattle.cam6_core.specs.Model.{ask}
 use Rattle.cam6_core.specs.Good.{UserFits, Good}
-use Rattle.cam6_core.specs.Goes.{Moves, Spares}
+use Rattle.cam6_core.specs.Goes.{Moves, Spares, MayWant, WantsMemory}
 use Rattle.cam6_core.specs.declared.parts.Whereabouts.{Whereabouts}
 use Rattle.cam6_core.specs.declared.parts.Whereabouts.TheVariants as whereabouts
 use Rattle.cam6_core.specs.declared.events.Event.TheVariants as event
@@ -32,6 +34,18 @@ replaced s u x y = ap (λ xs. record s { users = xs }) (twice_with s.users u x y
 pub as_it_was : (s : State) (u : ℕ) (x : Whereabouts) → at_number s.users u ≡ Some x →
     with_user s u x ≡ s
 as_it_was s u x at = ap (λ xs. record s { users = xs }) (again_with s.users u x at)
+
+wanted : (b : Bool) → (b ≡ false → ⊥) → b ≡ true
+wanted true nay = refl
+wanted false nay = absurd (nay refl)
+
+-- where there was no memory it may have been wanted
+pub was_wanted : (s : State) (u : ℕ) (c : Command) (r : StoredMachine) →
+    at_number s.users u ≡ Some (whereabouts.Resting r) →
+    (may_want_memory (machine_stored r) c ≡ false → ⊥) → WantsMemory s (event.Ask u c)
+was_wanted s u c r at nay =
+    subst (λ (o : Option Whereabouts). MayWant o c) (sym at)
+    (wanted (may_want_memory (machine_stored r) c) nay)
 
 pub ask_spares : (s : State) (u : ℕ) (c : Command) (x : Whereabouts) →
     Spares (event.Ask u c) s (with_user s u x)

@@ -1,21 +1,32 @@
 -- One event.
-use Rattle.std.specs.Prelude.{ℕ, ◌≡◌, ◌≢◌, Option, Some, None, ⊤}
+use Rattle.std.specs.Prelude.{ℕ, ◌≡◌, ◌≢◌, Option, Some, None, true}
 use Rattle.std.specs.List.{slice_get}
 use Rattle.cam6_cache.specs.Cached.{without_last}
+use Rattle.cam6_commands.specs.declared.commands.Command.{Command}
+use Rattle.cam6_machine.specs.Stored.{machine_of}
+use Rattle.cam6_model.specs.Memory.{may_want_memory}
 use Rattle.cam6_station.specs.Held.{Manned, loaded}
 use Rattle.cam6_core.specs.State.{State, at_number}
 use Rattle.cam6_core.specs.Refusals.{standing, refusal}
 use Rattle.cam6_core.specs.Model.{Model, turn}
 use Rattle.cam6_core.specs.Good.{Good}
+use Rattle.cam6_core.specs.declared.parts.Whereabouts.{Whereabouts}
+use Rattle.cam6_core.specs.declared.parts.Whereabouts.TheVariants.{Resting}
 use Rattle.cam6_core.specs.declared.events.Event.{Event}
 use Rattle.cam6_core.specs.declared.events.Event.TheVariants as event
 use Rattle.cam6_core.specs.declared.outcomes.Outcome.{Outcome}
 use Rattle.cam6_core.specs.declared.outcomes.Outcome.TheVariants.{NoMemory, Refused}
 use Rattle.cam6_core.specs.declared.refused.Refused.{Refused as Reason}
 
-abbrev pub IsAsk : Event → Type 0
-IsAsk (event.Ask u c) = ⊤
-IsAsk e = ⊥
+-- memory may be wanted for a command of a user at rest
+abbrev pub MayWant : Option Whereabouts → Command → Type 0
+MayWant (Some (Resting r)) c = may_want_memory (machine_of r) c ≡ true
+MayWant x c = ⊥
+
+-- so it may for an ask, and for no other event
+abbrev pub WantsMemory : State → Event → Type 0
+WantsMemory s (event.Ask u c) = MayWant (at_number s.users u) c
+WantsMemory s e = ⊥
 
 -- whatever model the core agreed with, what comes of the event is the model's, and the core agrees
 -- with the model behind it
@@ -23,9 +34,10 @@ abbrev pub Moves : State → Event → Outcome → State → Type 0
 Moves old e r new =
     (a : Model) → Good old a → (r ≡ (turn a e).1) × Good new (turn a e).0
 
--- of an event that isn't refused: an ask alone may find no memory, and then nothing changes
+-- of an event that isn't refused: where memory may be wanted there may be none, and then nothing
+-- changes
 abbrev pub Takes : State → Event → Outcome → State → Type 0
-Takes old e NoMemory new = IsAsk e × (new ≡ old)
+Takes old e NoMemory new = WantsMemory old e × (new ≡ old)
 Takes old e (Refused reason) new = ⊥
 Takes old e r new = Moves old e r new
 

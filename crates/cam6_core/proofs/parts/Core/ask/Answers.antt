@@ -4,7 +4,7 @@ use Rattle.cam6_core.specs.Goes.{Moves, Spares}
 use Rattle.cam6_core.specs.declared.parts.Whereabouts.TheVariants as whereabouts
 use Rattle.cam6_core.specs.declared.events.Event.TheVariants as event
 use Rattle.cam6_core.specs.declared.outcomes.Outcome.TheVariants as outcome
-use Rattle.cam6_core.proofs.Asks.{replaced, as_it_was, ask_spares, finished_at_once, put_in_queue}
+use Rattle.cam6_core.proofs.Asks.{replaced, as_it_was, ask_spares, finished_at_once, put_in_queue, was_wanted}
 use Rattle.cam6_core.proofs.parts.Core.ask.Goals as goal
 
 pub returns-in-NoMemory-clause-takes : goal.returns-in-NoMemory-clause-takes
@@ -15,7 +15,8 @@ returns-in-NoMemory-clause-takes c =
     let is = c.set_user.ensures ∙
     ap (λ (z : State). with_user z u y) c.take_user.ensures.now ∙
     replaced s u whereabouts.Out y in (
-      tt,
+      was_wanted s u c.args.command c.in-Resting.resting c.in-Resting.ensures.was
+          c.in-NoMemory.ensures.memory,
       is ∙ ap (λ r. with_user s u (whereabouts.Resting r)) c.in-NoMemory.ensures.back ∙
           as_it_was s u (whereabouts.Resting c.in-Resting.resting) c.in-Resting.ensures.was,
     )
