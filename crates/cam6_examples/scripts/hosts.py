@@ -1,0 +1,370 @@
+"""The model of a host that many users share: machines alone, and what an event changes and answers.
+
+Shares nothing with the program. A machine is a set of cells; a step evaluates a rule's words at each cell, on what the
+cell sees by `wirings`, and a step undone looks for the state that each block was, by `undoing`. Nobody else's commands,
+no band and no board is in a machine: a command is done as a whole when it is asked for. Of what a board does there are
+two numbers, how many bands are left and how many would be left if all were lost that isn't at home; and of the cache
+there are its keys, in the order of their last use.
+"""
+
+from functools import cache
+
+import undoing
+import wirings
+
+FIRST_PLANE = {"A": 0, "B": 2}
+SIDES = (128, 256, 512)
+# Texts that are no rules, and what is answered, by hand; each is tried under one wiring alone.
+NO_RULES = {
+    ": R FOO ;": {"fault": 20, "token": 3},
+    ": R + >PLN0 ;": {"address": 0, "fault": 40},
+}
+
+
+class Rule(undoing.Rule):
+    """A rule's words at a cell. What it sees is a number: CENTER is bit 0 and CENTER' bit 4, as in the state of a block
+    of which it is the first place, and each other name of the rule has a bit behind them. `blocks` is the rule at the
+    places of whole blocks."""
+
+    def __init__(self, half, hood, minor, text):
+        super().__init__(half, hood, minor, text)
+        self.key = (half, hood, minor, text)
+        self.blocks = undoing.Rule(half, hood, minor, text)
+        centres, tokens = {"CENTER": 0, "CENTER'": 4}, text.split()
+        others = [name for name in wirings.names(hood, minor) if name in tokens and name not in centres]
+        self.bits = centres | {name: 5 + i for i, name in enumerate(others)}
+        self.known = {}
+
+    def bit(self, name, state, phase, place):
+        return state >> self.bits[name] & 1 if name in self.bits else None
+
+    def new_bits(self, seen):
+        """The new lower and upper bit of a cell that sees this."""
+        if seen not in self.known:
+            self.known[seen] = self.entry(seen, 0, 0)
+        return self.known[seen]
+
+    @cache
+    def cause(self):
+        return self.blocks.cause()
+
+
+@cache
+def rule_of(half, hood, minor, text):
+    return Rule(half, hood, minor, text)
+
+
+class Torus(wirings.Torus):
+    """A torus on which no cell is set. A set cell is its plane, column and row."""
+
+    def __init__(self, side):
+        self.side = side
+        self.cells = set()
+
+    def at(self, x, y):
+        return x % self.side, y % self.side
+
+    def everywhere(self):
+        return {(x, y) for x in range(self.side) for y in range(self.side)}
+
+    def new_bits(self, rule, grid, phase, x, y):
+        """What the rule writes at a cell."""
+        shown = {name: self.shown(name, rule.half, grid, phase, x, y) for name in rule.bits}
+        return rule.new_bits(sum(shown[name] << bit for name, bit in rule.bits.items()))
+
+    def beside_cells(self):
+        """Where a set cell is in sight."""
+        beside = [(i, j) for i in (-1, 0, 1) for j in (-1, 0, 1)]
+        return {self.at(x + i, y + j) for x, y in {(x, y) for _, x, y in self.cells} for i, j in beside}
+
+    def after(self, rule, grid, phase):
+        """The cells of the rule's half after a step. Where no set cell is in sight the step is that of a blank torus,
+        which is the same at every second column and row."""
+        blank = Torus(self.side)
+        far = {(x, y): blank.new_bits(rule, grid, phase, x, y) for x in (0, 1) for y in (0, 1)}
+        near = self.beside_cells()
+        new = {(x, y): self.new_bits(rule, grid, phase, x, y) for x, y in near}
+        if any(map(any, far.values())):
+            new |= {(x, y): far[x % 2, y % 2] for x, y in self.everywhere() - near}
+        first = FIRST_PLANE[rule.half]
+        return {(first + level, x, y) for (x, y), bits in new.items() for level in (0, 1) if bits[level]}
+
+    def before(self, rule, grid, phase):
+        """The cells of the rule's half before a step: of each block the least state that becomes this one."""
+        images = rule.blocks.map(phase)
+        odd, own = int(grid == "ODD"), (FIRST_PLANE[rule.half], FIRST_PLANE[rule.half] + 1)
+        where = self.everywhere() if images.index(0) else {(x, y) for plane, x, y in self.cells if plane in own}
+        old = set()
+        for x, y in {self.at(x - (x + odd) % 2, y - (y + odd) % 2) for x, y in where}:
+            block = [(plane, *self.at(x + i, y + j)) for plane in own for i, j in wirings.PLACES]
+            state = images.index(sum((cell in self.cells) << place for place, cell in enumerate(block)))
+            old |= {cell for place, cell in enumerate(block) if state >> place & 1}
+        return old
+
+    def state(self, x, y):
+        return sum(((plane, x, y) in self.cells) << plane for plane in range(4))
+
+    def digits(self, plane, y):
+        bits = "".join(str(int((plane, x, y) in self.cells)) for x in range(self.side))
+        return f"{int(bits, 2):0{self.side // 4}x}"
+
+
+def is_rule_name(name):
+    return 1 <= len(name) <= 24 and all("!" <= byte <= "~" and byte not in '"\\' for byte in name) and name != "-"
+
+
+def sorted_by_keys(values):
+    return dict(sorted(values.items()))
+
+
+class Machine:
+    """A user's machine. Each command's answer is what its reply tells besides its word, or the number of its fault."""
+
+    def __init__(self, limit):
+        self.limit, self.torus = limit, Torus(min(256, limit))
+        self.rules, self.entries, self.position = {}, [], 0
+        self.colours = list(range(16))
+
+    def do(self, command):
+        """The reply to a command, which is done."""
+        word = command["do"]
+        answer = getattr(self, f"do_{word}")(**{key: value for key, value in command.items() if key != "do"})
+        if isinstance(answer, int):
+            return {"fault": answer}
+        return sorted_by_keys(answer if "fault" in answer else {"ok": word} | answer)
+
+    def has_row(self, plane, row):
+        return plane < 4 and row < self.torus.side
+
+    def without(self, *planes):
+        return {cell for cell in self.torus.cells if cell[0] not in planes}
+
+    def uses(self):
+        """Each use of a rule in the cycle: the entry's number, the half and the name."""
+        halves = [(i, half, entry[half.lower()]) for i, entry in enumerate(self.entries) for half in "AB"]
+        return [(i, half, name) for i, half, name in halves if name != "-"]
+
+    def is_used(self, name):
+        return any(name == used for _, _, used in self.uses())
+
+    def do_set(self, plane, row, bits):
+        side = self.torus.side
+        if not self.has_row(plane, row) or len(bits) != side // 4:
+            return 65
+        self.torus.cells = {cell for cell in self.torus.cells if (cell[0], cell[2]) != (plane, row)}
+        self.torus.cells |= {(plane, x, row) for x in range(side) if int(bits[x // 4], 16) >> 3 - x % 4 & 1}
+        return {}
+
+    def do_clear(self, plane):
+        if plane > 3:
+            return 65
+        self.torus.cells = self.without(plane)
+        return {}
+
+    def do_row(self, plane, row):
+        return {"bits": self.torus.digits(plane, row)} if self.has_row(plane, row) else 65
+
+    def do_rule(self, name, half, hood, minor, text):
+        if not is_rule_name(name):
+            return 65
+        if self.is_used(name):
+            return 61
+        if name not in self.rules and len(self.rules) == 16:
+            return 62
+        if text in NO_RULES:
+            return NO_RULES[text]
+        self.rules[name] = rule_of(half, hood, minor, text)
+        return {}
+
+    def do_drop(self, name):
+        if name not in self.rules:
+            return 60
+        if self.is_used(name):
+            return 61
+        del self.rules[name]
+        return {}
+
+    def do_rules(self):
+        return {"names": list(self.rules)}
+
+    def do_cycle(self, entries):
+        if not 1 <= len(entries) <= 16 or any(entry["phase"] > 3 for entry in entries):
+            return 65
+        for entry in entries:
+            for half in "AB":
+                name = entry[half.lower()]
+                if name != "-" and name not in self.rules:
+                    return 60
+                if name != "-" and self.rules[name].half != half:
+                    return 66
+        self.entries, self.position = entries, 0
+        return {}
+
+    def entry(self, way):
+        """The planes after the entry at the position, or before it. A half without a rule keeps its planes."""
+        entry = self.entries[self.position]
+        own = {half: self.without(*range(2 - first, 4 - first)) for half, first in FIRST_PLANE.items()}
+        for half in "AB":
+            if entry[half.lower()] != "-":
+                rule = self.rules[entry[half.lower()]]
+                own[half] = getattr(self.torus, way)(rule, entry["grid"], entry["phase"])
+        self.torus.cells = own["A"] | own["B"]
+
+    def do_run(self, n):
+        if n > 65535:
+            return 65
+        if not self.entries:
+            return 63
+        for _ in range(n):
+            self.entry("after")
+            self.position = (self.position + 1) % len(self.entries)
+        return {"position": self.position}
+
+    def do_back(self, n):
+        if n > 65535:
+            return 65
+        if not self.entries:
+            return 63
+        for i, half, name in self.uses():
+            if cause := self.rules[name].cause():
+                return {"entry": i, "fault": 64, "half": half} | cause
+        for _ in range(n):
+            self.position = (self.position - 1) % len(self.entries)
+            self.entry("before")
+        return {"position": self.position}
+
+    def do_side(self, side):
+        if side not in SIDES:
+            return 65
+        if side > self.limit:
+            return 67
+        self.torus, self.position = Torus(side), 0
+        return {}
+
+    def do_map(self, colours):
+        if any(colour > 15 for colour in colours):
+            return 65
+        self.colours = colours
+        return {}
+
+    def do_colours(self, row):
+        if not self.has_row(0, row):
+            return 65
+        return {"colours": "".join(f"{self.colours[self.torus.state(x, row)]:x}" for x in range(self.torus.side))}
+
+    def do_count(self, mask):
+        if mask > 65535:
+            return 65
+        set_cells = {(x, y) for _, x, y in self.torus.cells}
+        blank = self.torus.side**2 - len(set_cells)
+        return {"count": (mask & 1) * blank + sum(mask >> self.torus.state(x, y) & 1 for x, y in set_cells)}
+
+
+class User:
+    """A user, who rests, is queued, is out on a board, or whose command is finished."""
+
+    def __init__(self, limit):
+        self.machine, self.status = Machine(limit), "resting"
+        self.left = self.home = 0
+
+    def ask(self, command):
+        """Does the whole command, whose reply is given when it is finished; the step of a command has so many bands."""
+        self.reply = self.machine.do(command)
+        self.bands = self.machine.torus.side // 16
+        self.left = self.home = command["n"] * self.bands if "position" in self.reply else 0
+        self.status = "queued" if self.left else "finished"
+        self.is_back = command["do"] == "back"
+
+    def tables(self):
+        """The keys of the tables that the command wants, in their order."""
+        return [(self.machine.rules[name].key, self.is_back) for _, _, name in self.machine.uses()]
+
+
+IDLE, DEAD = "idle", "dead"
+# The order in which an event's refusals are tried.
+REFUSALS = {
+    "ask": (101, 102),
+    "lease": (101, 106, 104, 103),
+    "band": (101, 106, 105),
+    "preempt": (101, 106, 105),
+    "fail": (101, 106),
+    "repair": (101, 107),
+    "evict": (109,),
+    "collect": (101, 108),
+}
+
+
+class Host:
+    """Users from 1 on, boards from 0 on, which are idle, dead, or loaded with a user, and the cache's keys."""
+
+    def __init__(self, limits, boards, capacity):
+        self.users = {number: User(limit) for number, limit in enumerate(limits, 1)}
+        self.boards = {number: IDLE for number in range(boards)}
+        self.capacity, self.keys = capacity, []
+
+    def is_refused(self, number, user, board):
+        """Whether the condition of a refusal holds; of an event that names no user or no board it is None."""
+        if number == 101:
+            return user not in [None, *self.users] or board not in [None, *self.boards]
+        return {
+            102: lambda: self.users[user].status != "resting",
+            103: lambda: self.users[user].status != "queued",
+            104: lambda: self.boards[board] != IDLE,
+            105: lambda: self.boards[board] == IDLE,
+            106: lambda: self.boards[board] == DEAD,
+            107: lambda: self.boards[board] != DEAD,
+            108: lambda: self.users[user].status != "finished",
+            109: lambda: not self.keys,
+        }[number]()
+
+    def apply(self, event):
+        """The outcome of an event, which happens unless it is refused."""
+        word, named = event["event"], {key: value for key, value in event.items() if key != "event"}
+        for number in REFUSALS[word]:
+            if self.is_refused(number, named.get("user"), named.get("board")):
+                return {"refused": number}
+        return sorted_by_keys({"ok": word} | getattr(self, f"on_{word}")(**named))
+
+    def on_ask(self, user, command):
+        self.users[user].ask(command)
+        return {"left": self.users[user].left}
+
+    def on_lease(self, user, board):
+        for key in self.users[user].tables():
+            self.keys = [key, *(kept for kept in self.keys if kept != key)][: self.capacity]
+        self.users[user].status, self.boards[board] = "out", user
+        return {"left": self.users[user].left}
+
+    def on_band(self, board):
+        user = self.users[self.boards[board]]
+        user.left -= 1
+        if user.left == 0:
+            user.status, self.boards[board] = "finished", IDLE
+        return {"left": user.left}
+
+    def on_preempt(self, board):
+        user = self.users[self.boards[board]]
+        if user.left % user.bands == 0:
+            user.home = user.left
+        user.status, self.boards[board] = "queued", IDLE
+        return {"left": user.left}
+
+    def on_fail(self, board):
+        held, self.boards[board] = self.boards[board], DEAD
+        if held == IDLE:
+            return {}
+        user = self.users[held]
+        user.left, user.status = user.home, "queued"
+        return {"left": user.left}
+
+    def on_repair(self, board):
+        self.boards[board] = IDLE
+        return {}
+
+    def on_evict(self):
+        self.keys.pop()
+        return {}
+
+    def on_collect(self, user):
+        self.users[user].status = "resting"
+        return {"reply": self.users[user].reply}

@@ -1,0 +1,91 @@
+//! The way in which events are played.
+ghost use Rattle.std.specs.Prelude.{◌≡◌, ◌<◌, ◌≤◌, length, IfOk};
+ghost use Rattle.cam6_cache.specs.Limits.{max_capacity};
+ghost use Rattle.cam6_core.specs.Limits.{max_users, max_boards};
+
+use crate::players::answered;
+use cam6_cache::MAX_CAPACITY;
+use cam6_core::{Core, MAX_BOARDS, MAX_USERS};
+use cam6_examples::{Sent, Unplayable, Way, no_memory};
+use cam6_planes::{NoMemory, Side};
+use std::alloc::Global;
+use std::io;
+
+/// `events USERS BOARDS CACHE [within LIMIT ..]`: a core of so many users, boards and tables that
+/// are cached, with one limit for all users or one for each; 256, where nothing is said.
+#[derive(Drop)]
+pub struct EventWay {
+    /// The limit of each user's machine.
+    limits: Vec<Side>,
+    boards: usize,
+    cache: usize,
+    ghost users_fit: { (0 < length limits.items) × (length limits.items ≤ max_users) },
+    ghost boards_fit: { (0 < boards) × (boards ≤ max_boards) },
+    ghost tables_fit: { (0 < cache) × (cache ≤ max_capacity) },
+}
+
+impl Way for EventWay {
+    fn read(alloc: Global, words: &str) -> Result<EventWay, Unplayable> {
+        let (sizes, limits) = words.split_once(" within ").unwrap_or((words, "256"));
+        let sizes = sizes.strip_prefix("events ").ok_or(Unplayable::Unread)?;
+        let (users, sizes) = sizes.split_once(' ').ok_or(Unplayable::Unread)?;
+        let (boards, cache) = sizes.split_once(' ').ok_or(Unplayable::Unread)?;
+        let users = size_of(users, MAX_USERS)?;
+        Ok(EventWay {
+            limits: limits_of(alloc, users, limits)?,
+            boards: size_of(boards, MAX_BOARDS)?,
+            cache: size_of(cache, MAX_CAPACITY)?,
+        })
+    }
+
+    fn played(&self, alloc: Global, sent: &[Sent]) -> io::Result<Vec<Vec<u8>>> {
+        let core = self.core(alloc).map_err(|_| no_memory())?;
+        Ok(vec![in alloc; answered(alloc, core, sent)?]?)
+    }
+
+    fn is_session(&self) -> bool {
+        false
+    }
+}
+
+impl EventWay {
+    /// The core with which it begins.
+    fn core(&self, alloc: Global) -> Result<Core, NoMemory> {
+        let limits = self.limits.as_slice();
+        Core::new(alloc, limits.len(), self.boards, self.cache, limits)
+    }
+}
+
+/// A number from 1 to the most that there can be.
+fn size_of(text: &str, most: usize) -> Result<usize, Unplayable>
+    ensures { IfOk result (λ size. (0 < size) × (size ≤ most)) }
+{
+    let size = text.parse().map_err(|_| Unplayable::Unread)?;
+    if (1..=most).contains(&size) {
+        Ok(size)
+    } else {
+        Err(Unplayable::Unread)
+    }
+}
+
+/// A limit for each of so many users: the one that is said, or as many.
+fn limits_of(alloc: Global, users: usize, text: &str) -> Result<Vec<Side>, Unplayable>
+    ensures { IfOk result (λ limits. length limits.items ≡ users) }
+{
+    if !text.contains(' ') {
+        return Ok(vec![in alloc; limit_of(text)?; users]?);
+    }
+    let mut limits = Vec::new(alloc);
+    for limit in text.split(' ') {
+        limits.push(limit_of(limit)?)?;
+    }
+    if limits.len() != users {
+        return Err(Unplayable::Unread);
+    }
+    Ok(limits)
+}
+
+fn limit_of(text: &str) -> Result<Side, Unplayable> {
+    let number = text.parse().map_err(|_| Unplayable::Unread)?;
+    Side::of(number).ok_or(Unplayable::Unread)
+}
