@@ -1,5 +1,5 @@
 -- An ask.
-use Rattle.std.proofs.Common.{◌≡◌, ◌∙◌, ℕ, ◌<◌, cond, Bool, Some, sym, refl, ap, subst, arith}
+use Rattle.std.proofs.Common.{◌==◌, ◌≡◌, ◌∙◌, ℕ, ◌<◌, cond, Bool, Some, sym, refl, ap, subst, arith}
 use Rattle.std.proofs.Common.{true, false, Option}
 use Rattle.std.proofs.Common.{ne_eqb}
 use Rattle.cam6_commands.specs.declared.commands.Command.{Command}
@@ -22,6 +22,14 @@ use Rattle.cam6_core.specs.declared.outcomes.Outcome.TheVariants.{Asked}
 use Rattle.cam6_core.proofs.Numbers.{is_number, else_with, twice_with, again_with}
 use Rattle.cam6_core.proofs.Frames.{IsOnNone, user_moves}
 use Rattle.cam6_core.proofs.Inversions.{at_rest}
+
+-- a command that begins is on no board
+begun_rests : (c : Command) (n : ℕ) → IsOnNone (begun c n)
+begun_rests c n = by_test (n == 0)
+  where
+    by_test : (b : Bool) → IsOnNone (cond b (finished c) (queued c n n))
+    by_test true = tt
+    by_test false = tt
 
 begun_with : (c : Command) (n : ℕ) → 0 < n → begun c n ≡ queued c n n
 begun_with c n some =
@@ -66,6 +74,7 @@ module _ (s : State) (u : ℕ) (c : Command) (r : StoredMachine)
         ap Asked same,
         user_moves s a good u y (at_stage p (begun c (bands_of m c)))
             (is_number s.users u (whereabouts.Resting r) at) (subst IsOnNone (sym rests.0) tt)
+            (begun_rests c (bands_of m c))
             (subst (λ (k : Machine). UserFits k y (begun c (bands_of m c))) rests.1
             (subst (λ k. UserFits (machine_stored r) y (begun c k)) same fits)),
       )

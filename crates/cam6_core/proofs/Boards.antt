@@ -1,5 +1,5 @@
 -- A band, a preempt, a fail and a repair.
-use Rattle.std.proofs.Common.{◌≡◌, ◌∙◌, ℕ, ◌-◌, ◌==◌, cond, Bool, true, false, List, length}
+use Rattle.std.proofs.Common.{set, ◌≡◌, ◌∙◌, ℕ, ◌-◌, ◌==◌, cond, Bool, true, false, List, length}
 use Rattle.std.proofs.Common.{Option, Some, None, sym, refl, ap, subst, arith, ne_eqb}
 use Rattle.std.specs.List.{slice_get}
 use Rattle.std.specs.Option.{option_map}
@@ -18,7 +18,7 @@ use Rattle.cam6_core.specs.Refusals.{posture, is_loaded, is_dead}
 use Rattle.cam6_core.specs.Model as model
 use Rattle.cam6_core.specs.Model.{Stage, out, finished, Seat, idle, loaded, dead, User, Model}
 use Rattle.cam6_core.specs.Model.{user, seat, machine_of, at_stage, over, back, band, preempt, fail}
-use Rattle.cam6_core.specs.Good.{UserFits, IsOutWith, BoardFits, Good}
+use Rattle.cam6_core.specs.Good.{UserFits, IsOutWith, BoardFits, Good, IsLoadedFor}
 use Rattle.cam6_core.specs.Goes.{Moves, SparesBoardsBut, SparesOthers}
 use Rattle.cam6_core.specs.declared.parts.Whereabouts.{Whereabouts}
 use Rattle.cam6_core.specs.declared.parts.Whereabouts.TheVariants as whereabouts
@@ -26,8 +26,8 @@ use Rattle.cam6_core.specs.declared.events.Event.TheVariants as event
 use Rattle.cam6_core.specs.declared.outcomes.Outcome.{Outcome}
 use Rattle.cam6_core.specs.declared.outcomes.Outcome.TheVariants.{Banded, Preempted, Failed, Repaired}
 use Rattle.cam6_core.proofs.Numbers.{within, set_else, else_with}
-use Rattle.cam6_core.proofs.Frames.{IsOnlyOn, board_moves, both_move}
-use Rattle.cam6_core.proofs.Inversions.{at_work, at_idle}
+use Rattle.cam6_core.proofs.Frames.{IsOnlyOn, IsOnNone, rests_anywhere, board_moves, both_move}
+use Rattle.cam6_core.proofs.Inversions.{at_work, at_idle, at_death}
 
 pub spares_boards : (s : State) (b : ℕ) (y : Manned) → SparesBoardsBut b s (with_board s b y)
 spares_boards s b y d apart = set_else s.boards b d y apart
@@ -51,16 +51,19 @@ module _ (s : State) (b u : ℕ) (h : Held)
       (y : Manned) (t : Seat) (f : Stage → Stage) →
       ((c : Command) → StandsHeld h (machine_of (user a.users u)) c →
       UserFits (machine_of (user a.users u)) x (f (out b c))) →
-      ((us : List User) → BoardFits us b y t) →
+      ((us : List User) → BoardFits us b y t) → ((c : Command) → IsOnNone (f (out b c))) →
       Good (with_user (with_board s b y) u x)
       (model.with_both a u (at_stage (user a.users u) (f (user a.users u).stage)) b t)
-  returned a good is x y t f law fits =
+  returned a good is x y t f law fits rests =
       let p : User = user a.users u in
       let work = at_work a.users b u h (seat a.boards b) (good.boards b (board.loaded u h) at) in
       both_move s a good u x (at_stage p (f p.stage)) b y t is
       (within s.boards b (board.loaded u h) at) (subst (IsOnlyOn b) (sym work.1.1) refl)
       (subst (λ (z : Stage). UserFits (machine_of p) x (f z)) (sym work.1.1)
       (law work.1.0 work.1.2)) (fits (model.with_user a u (at_stage p (f p.stage))).users)
+      (rests_anywhere (set a.boards b t) u (f p.stage)
+      (subst (λ (z : Stage). IsOnNone (f z)) (sym work.1.1) (rests work.1.0)))
+      (λ v apart his. apart (sym (subst (IsLoadedFor v) work.0 his)))
 
   seat_of : (a : Model) → Good s a → seat a.boards b ≡ loaded u (held_left h) (held_home h)
   seat_of a good =
@@ -92,7 +95,7 @@ module _ (s : State) (b u : ℕ) (h : Held)
               sym on.home,
               subst (IsOutWith (machine_of p) b k) (sym work.1.1)
                   (refl, on.stands (machine_of p) work.1.0 work.1.2),
-            ),
+            ) (λ v his. subst (IsLoadedFor v) work.0 his),
       )
 
   pub band_last : IsNumber (length s.users) u → (f : StoredFinished) → held_left h ≡ 1 →
@@ -110,7 +113,7 @@ module _ (s : State) (b u : ℕ) (h : Held)
       × Good (with_user (with_board s b board.idle) u (whereabouts.Finished f)) z.0) (sym last) (
         refl,
         returned a good is (whereabouts.Finished f) board.idle idle over
-            (λ c st. law (machine_of p) c st) (λ us. tt),
+            (λ c st. law (machine_of p) c st) (λ us. tt) (λ c. tt),
       )
 
   pub preempted : PlacesHaveTheSide → IsNumber (length s.users) u → (q : StoredQueued) →
@@ -132,7 +135,7 @@ module _ (s : State) (b u : ℕ) (h : Held)
         ap Preempted comes.left,
         returned a good is (whereabouts.Queued q) board.idle idle
             (back (held_left h) (home_after bands (held_left h) (held_home h)))
-            (λ c st. (comes.stands (machine_of p) c st, sym comes.left, home)) (λ us. tt),
+            (λ c st. (comes.stands (machine_of p) c st, sym comes.left, home)) (λ us. tt) (λ c. tt),
       )
 
   pub failed : IsNumber (length s.users) u → (q : StoredQueued) →
@@ -149,7 +152,7 @@ module _ (s : State) (b u : ℕ) (h : Held)
         returned a good is (whereabouts.Queued q) board.dead dead
             (back (held_home h) (held_home h))
             (λ c st. (comes.stands (machine_of p) c st, sym comes.left, sym comes.home))
-            (λ us. tt),
+            (λ us. tt) (λ c. tt),
       )
 
 -- an idle board fails
@@ -160,7 +163,9 @@ idle_fails s b at a good =
     (Failed None ≡ (fail a b t).1) × Good (with_board s b board.dead) (fail a b t).0)
     (sym (at_idle a.users b (seat a.boards b) (good.boards b board.idle at))) (
       refl,
-      board_moves s a good b board.dead dead (within s.boards b board.idle at) tt,
+      board_moves s a good b board.dead dead (within s.boards b board.idle at) tt
+          (λ v his. subst (IsLoadedFor v)
+          (at_idle a.users b (seat a.boards b) (good.boards b board.idle at)) his),
     )
 
 pub idle_spares : (s : State) (b : ℕ) (y : Manned) → slice_get s.boards b ≡ Some board.idle →
@@ -173,7 +178,9 @@ pub repaired : (s : State) (b : ℕ) → slice_get s.boards b ≡ Some board.dea
     Moves s (event.Repair b) Repaired (with_board s b board.idle)
 repaired s b at a good = (
   refl,
-  board_moves s a good b board.idle idle (within s.boards b board.dead at) tt,
+  board_moves s a good b board.idle idle (within s.boards b board.dead at) tt
+      (λ v his. subst (IsLoadedFor v)
+      (at_death a.users b (seat a.boards b) (good.boards b board.dead at)) his),
 )
 
 -- what a board held of which a call says by cases what it made

@@ -32,6 +32,6 @@ collected s u f r at same a good =
       ap Collected ends.2.told,
       user_moves s a good u (whereabouts.Resting r)
           (record p { done = c ∷ p.done; stage = resting })
-          (is_number s.users u (whereabouts.Finished f) at) (subst IsOnNone (sym ends.1) tt)
+          (is_number s.users u (whereabouts.Finished f) at) (subst IsOnNone (sym ends.1) tt) tt
           (ap machine_stored same ∙ ends.2.machine),
     )

@@ -11,7 +11,7 @@ use Rattle.cam6_core.specs.State.{State, at_number, with_number, with_user, with
 use Rattle.cam6_core.specs.Model as model
 use Rattle.cam6_core.specs.Model.{Stage, out, Seat, idle, loaded, dead, User, Model}
 use Rattle.cam6_core.specs.Model.{user, or_nobody, seat, or_none, machine_of}
-use Rattle.cam6_core.specs.Good.{UserFits, IsOutWith, BoardFits, Good}
+use Rattle.cam6_core.specs.Good.{UserFits, IsOutWith, BoardFits, IsLoadedFor, IsOnHisBoard, Good}
 use Rattle.cam6_core.specs.declared.parts.Whereabouts.{Whereabouts}
 use Rattle.cam6_core.proofs.Numbers.{one_of, set_here, set_else, long_with, here_with, else_with}
 
@@ -42,11 +42,27 @@ pub user_here : (us : List User) (u : ℕ) (p : User) → IsNumber (length us) u
     user (with_number us u p) u ≡ p
 user_here us u p is = ap or_nobody (here_with us u p is)
 
-seat_here : (ss : List Seat) (b : ℕ) (t : Seat) → b < length ss → seat (set ss b t) b ≡ t
+pub seat_here : (ss : List Seat) (b : ℕ) (t : Seat) → b < length ss → seat (set ss b t) b ≡ t
 seat_here ss b t is = ap or_none (set_here ss b t is)
 
 seat_else : (ss : List Seat) (b d : ℕ) (t : Seat) → d ≢ b → seat (set ss b t) d ≡ seat ss d
 seat_else ss b d t apart = ap or_none (set_else ss b d t apart)
+
+-- who is out on no board wants none that is his
+pub rests_anywhere : (bs : List Seat) (u : ℕ) (stage : Stage) → IsOnNone stage →
+    IsOnHisBoard bs u stage
+rests_anywhere bs u (out d c) free = absurd free
+rests_anywhere bs u stage free = tt
+
+-- one board changes, and is still loaded for whom it was
+still_his : (bs : List Seat) (b : ℕ) (t : Seat) (v : ℕ) (stage : Stage) → b < length bs →
+    (IsLoadedFor v (seat bs b) → IsLoadedFor v t) → IsOnHisBoard bs v stage →
+    IsOnHisBoard (set bs b t) v stage
+still_his bs b t v (out d c) there stays his = dite (ℕ_discrete d b)
+    (λ same. subst (IsLoadedFor v) (sym (ap (seat (set bs b t)) same ∙ seat_here bs b t there))
+    (stays (subst (λ k. IsLoadedFor v (seat bs k)) same his)))
+    (λ apart. subst (IsLoadedFor v) (sym (seat_else bs b d t apart)) his)
+still_his bs b t v stage there stays his = tt
 
 -- a board that doesn't hold the user
 others : (us : List User) (u : ℕ) (p : User) (b : ℕ) (y : Manned) (t : Seat) →
@@ -108,35 +124,59 @@ module _ (s : State) (a : Model) (good : Good s a) where
       (rest d z (seat a.boards d) apart
       (good.boards d z (sym (set_else s.boards b d y apart) ∙ at))))
 
+  -- users who are out, of whom one changes
+  users_out : (u : ℕ) (p : User) (bs : List Seat) → IsNumber (length s.users) u →
+      IsOnHisBoard bs u p.stage →
+      ((v : ℕ) → v ≢ u → IsOnHisBoard bs v (user a.users v).stage) →
+      (v : ℕ) → IsOnHisBoard bs v (user (with_number a.users u p) v).stage
+  users_out u p bs is mine rest v = dite (ℕ_discrete v u)
+      (λ same.
+      let there : IsNumber (length a.users) u =
+      subst (λ (n : ℕ). IsNumber n u) good.users_long is in
+      let ep : p ≡ user (with_number a.users u p) v =
+      sym (ap (user (with_number a.users u p)) same ∙ user_here a.users u p there) in
+      subst (λ (k : ℕ). IsOnHisBoard bs k (user (with_number a.users u p) v).stage) (sym same)
+      (subst (λ (q : User). IsOnHisBoard bs u q.stage) ep mine))
+      (λ apart. subst (λ (q : User). IsOnHisBoard bs v q.stage)
+      (sym (user_else a.users u v p apart)) (rest v apart))
+
   -- one user, who is on no board
   pub user_moves : (u : ℕ) (x : Whereabouts) (p : User) → IsNumber (length s.users) u →
-      IsOnNone (user a.users u).stage → UserFits (machine_of p) x p.stage →
+      IsOnNone (user a.users u).stage → IsOnNone p.stage → UserFits (machine_of p) x p.stage →
       Good (with_user s u x) (model.with_user a u p)
-  user_moves u x p is free fits = record {
+  user_moves u x p is free rests fits = record {
     users_long = long_with s.users u x ∙ good.users_long ∙ sym (long_with a.users u p);
     boards_long = good.boards_long;
     users = users_set u x p is fits;
     boards = λ d z at. others a.users u p d z (seat a.boards d)
         (λ h held. not_here (machine_of (user a.users u)) d h (user a.users u).stage free held)
         (good.boards d z at);
+    out = users_out u p a.boards is (rests_anywhere a.boards u p.stage rests)
+        (λ v apart. good.out v);
   }
 
   -- one board, with the same user if any
   pub board_moves : (b : ℕ) (y : Manned) (t : Seat) → b < length s.boards →
-      BoardFits a.users b y t → Good (with_board s b y) (model.with_seat a b t)
-  board_moves b y t is fits = record {
+      BoardFits a.users b y t →
+      ((v : ℕ) → IsLoadedFor v (seat a.boards b) → IsLoadedFor v t) →
+      Good (with_board s b y) (model.with_seat a b t)
+  board_moves b y t is fits stays = record {
     users_long = good.users_long;
     boards_long = length-set s.boards b y ∙ good.boards_long ∙ sym (length-set a.boards b t);
     users = good.users;
     boards = boards_set a.users b y t is fits (λ d z r apart held. held);
+    out = λ v. still_his a.boards b t v (user a.users v).stage
+        (omega (arith, is, good.boards_long)) (stays v) (good.out v);
   }
 
   -- a user who goes to the board, or comes from it
   pub both_move : (u : ℕ) (x : Whereabouts) (p : User) (b : ℕ) (y : Manned) (t : Seat) →
       IsNumber (length s.users) u → b < length s.boards → IsOnlyOn b (user a.users u).stage →
       UserFits (machine_of p) x p.stage → BoardFits (with_number a.users u p) b y t →
+      IsOnHisBoard (set a.boards b t) u p.stage →
+      ((v : ℕ) → v ≢ u → IsLoadedFor v (seat a.boards b) → ⊥) →
       Good (with_board (with_user s u x) b y) (model.with_both a u p b t)
-  both_move u x p b y t is there only fits held = record {
+  both_move u x p b y t is there only fits held mine nobody = record {
     users_long = long_with s.users u x ∙ good.users_long ∙ sym (long_with a.users u p);
     boards_long = length-set s.boards b y ∙ good.boards_long ∙ sym (length-set a.boards b t);
     users = users_set u x p is fits;
@@ -144,4 +184,8 @@ module _ (s : State) (a : Model) (good : Good s a) where
         (λ d z r apart at. others a.users u p d z r
         (λ h out. not_there (machine_of (user a.users u)) b d h (user a.users u).stage only apart
         out) at);
+    out = users_out u p (set a.boards b t) is mine
+        (λ v apart. still_his a.boards b t v (user a.users v).stage
+        (omega (arith, there, good.boards_long)) (λ his. absurd (nobody v apart his))
+        (good.out v));
   }

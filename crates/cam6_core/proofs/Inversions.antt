@@ -9,7 +9,7 @@ use Rattle.cam6_slot.specs.Parking.{StoredQueued}
 use Rattle.cam6_slot.specs.Stands.{Stands}
 use Rattle.cam6_station.specs.Held.{Held, StandsHeld, held_left, held_home}
 use Rattle.cam6_station.specs.Held as board
-use Rattle.cam6_core.specs.Model.{Stage, resting, queued, out, finished, Seat, idle, loaded}
+use Rattle.cam6_core.specs.Model.{dead, Stage, resting, queued, out, finished, Seat, idle, loaded}
 use Rattle.cam6_core.specs.Model.{User, user, machine_of}
 use Rattle.cam6_core.specs.Good.{UserFits, IsOutWith, BoardFits}
 use Rattle.cam6_core.specs.declared.parts.Whereabouts.TheVariants as whereabouts
@@ -51,3 +51,7 @@ at_work us b u h t fits = absurd fits
 pub at_idle : (us : List User) (b : ℕ) (t : Seat) → BoardFits us b board.idle t → t ≡ idle
 at_idle us b idle fits = refl
 at_idle us b t fits = absurd fits
+
+pub at_death : (us : List User) (b : ℕ) (t : Seat) → BoardFits us b board.dead t → t ≡ dead
+at_death us b dead fits = refl
+at_death us b t fits = absurd fits

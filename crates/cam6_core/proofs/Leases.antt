@@ -1,5 +1,5 @@
 -- A lease.
-use Rattle.std.proofs.Common.{◌≡◌, ◌∙◌, ◌<◌, ◌≤◌, ℕ, true, set, Option, Some, None, sym, refl, ap, subst}
+use Rattle.std.proofs.Common.{length, arith, ◌≡◌, ◌∙◌, ◌<◌, ◌≤◌, ℕ, true, set, Option, Some, None, sym, refl, ap, subst}
 use Rattle.std.specs.List.{slice_get}
 use Rattle.std.specs.Option.{option_map}
 use Rattle.cam6_cache.specs.Cached.{Cached}
@@ -14,16 +14,16 @@ use Rattle.cam6_station.specs.Held.{Manned, Held, StandsHeld, held_left, held_ho
 use Rattle.cam6_station.specs.Held as board
 use Rattle.cam6_core.specs.State.{State, at_number, with_number}
 use Rattle.cam6_core.specs.Refusals.{posture, is_idle}
-use Rattle.cam6_core.specs.Model.{Stage, out, loaded, User, user, at_stage, machine_of, lease}
-use Rattle.cam6_core.specs.Good.{IsOutWith, Good}
+use Rattle.cam6_core.specs.Model.{Stage, out, loaded, User, user, seat, at_stage, machine_of, lease}
+use Rattle.cam6_core.specs.Good.{IsOutWith, IsLoadedFor, Good}
 use Rattle.cam6_core.specs.Goes.{Moves, Spares}
 use Rattle.cam6_core.specs.Internal.Returning.{IsLoadedWith}
 use Rattle.cam6_core.specs.declared.parts.Whereabouts.TheVariants as whereabouts
 use Rattle.cam6_core.specs.declared.events.Event.TheVariants as event
 use Rattle.cam6_core.specs.declared.outcomes.Outcome.TheVariants.{Leased}
 use Rattle.cam6_core.proofs.Numbers.{within, set_else, is_number, else_with}
-use Rattle.cam6_core.proofs.Frames.{IsOnlyOn, both_move, user_here}
-use Rattle.cam6_core.proofs.Inversions.{in_queue}
+use Rattle.cam6_core.proofs.Frames.{IsOnlyOn, both_move, user_here, seat_here}
+use Rattle.cam6_core.proofs.Inversions.{in_queue, at_idle}
 
 pub idle_at : (o : Option Manned) → is_idle (option_map posture o) ≡ true → o ≡ Some board.idle
 idle_at (Some board.idle) e = refl
@@ -62,6 +62,8 @@ lease_moves s u b q h cache at free law left home a good =
     let gone : User = at_stage p (out b c) in
     let same : gone ≡ user (with_number a.users u gone) u =
     sym (user_here a.users u gone (subst (λ (n : ℕ). (0 < u) × (u ≤ n)) good.users_long is)) in
+    let there : b < length a.boards =
+    omega (arith, within s.boards b board.idle free, good.boards_long) in
     let moved = both_move s a good u whereabouts.Out gone b (board.loaded u h)
     (loaded u (queued_left q) (queued_home q)) is (within s.boards b board.idle free)
     (subst (IsOnlyOn b) (sym waits.1) tt) tt (
@@ -70,7 +72,10 @@ lease_moves s u b q h cache at free law left home a good =
       sym home,
       subst (λ (z : User). IsOutWith (machine_of z) b h z.stage) same
           (refl, law m c waits.2),
-    ) in
+    ) (subst (IsLoadedFor u) (sym (seat_here a.boards b
+    (loaded u (queued_left q) (queued_home q)) there)) refl)
+    (λ v apart his. subst (IsLoadedFor v)
+    (at_idle a.users b (seat a.boards b) (good.boards b board.idle free)) his) in
     subst (λ (t : Stage).
     (Leased (queued_left q) ≡ (lease a u b p t).1)
     × Good (leased s u b h cache) (lease a u b p t).0) (sym waits.1) (
@@ -80,6 +85,7 @@ lease_moves s u b q h cache at free law left home a good =
         boards_long = moved.boards_long;
         users = moved.users;
         boards = moved.boards;
+        out = moved.out;
       },
     )
 

@@ -1,5 +1,5 @@
 -- Users of a new core, one more after the others.
-use Rattle.std.proofs.Common.{◌≡◌, ◌∙◌, ◌<◌, ◌+◌, ◌++◌, ◌⊎◌, inl, inr, ℕ, zero, suc, List, [], ◌∷◌}
+use Rattle.std.proofs.Common.{Option, None, ◌≡◌, ◌∙◌, ◌<◌, ◌+◌, ◌++◌, ◌⊎◌, inl, inr, ℕ, zero, suc, List, [], ◌∷◌}
 use Rattle.std.proofs.Common.{length, map, replicate, Some, refl, sym, ap, subst, arith, get_or}
 use Rattle.std.specs.List.{slice_get}
 use Rattle.std.specs.Option.{option_map}
@@ -15,7 +15,7 @@ use Rattle.cam6_station.specs.Held.{Manned}
 use Rattle.cam6_station.specs.Held as board
 use Rattle.cam6_core.specs.State.{State, at_number}
 use Rattle.cam6_core.specs.Fresh.{fresh}
-use Rattle.cam6_core.specs.Good.{UserFits, BoardFits, Good}
+use Rattle.cam6_core.specs.Good.{UserFits, BoardFits, IsOnHisBoard, Good}
 use Rattle.cam6_core.specs.Model.{User, user, or_nobody, newcomer, resting, Seat, seat, idle}
 use Rattle.cam6_core.specs.Model.{machine_of as alone_of}
 use Rattle.cam6_core.specs.Internal.Starting.{IsNewcomer, AreNewcomersTo, AreNewcomers}
@@ -70,6 +70,19 @@ newcomers_fit limits users made (suc i) x at =
     subst (λ (p : User). UserFits (alone_of p) x p.stage) (sym is)
     (fits_newcomer limit x (made.each i limit x has at))
 
+-- and is out on no board
+newcomers_rest : (limits : List Side) (bs : List Seat) (u : ℕ) →
+    IsOnHisBoard bs u (user (map newcomer limits) u).stage
+newcomers_rest limits bs zero = tt
+newcomers_rest limits bs (suc i) =
+    subst (λ (o : Option User). IsOnHisBoard bs (suc i) (or_nobody o).stage)
+    (sym (slice_get-map newcomer limits i)) (by_limit (slice_get limits i))
+  where
+    by_limit : (o : Option Side) →
+        IsOnHisBoard bs (suc i) (or_nobody (option_map newcomer o)).stage
+    by_limit None = tt
+    by_limit (Some limit) = tt
+
 only_idle : (n b : ℕ) (y : Manned) → slice_get (replicate n board.idle) b ≡ Some y →
     (y ≡ board.idle) × (seat (replicate n idle) b ≡ idle)
 only_idle zero b y at = cc at
@@ -89,4 +102,5 @@ begins_good limits n s made idle_boards = record {
       subst (λ (z : Manned). BoardFits (map newcomer limits) b z (seat (replicate n idle) b))
       (sym both.0)
       (subst (λ (t : Seat). BoardFits (map newcomer limits) b board.idle t) (sym both.1) tt);
+  out = newcomers_rest limits (replicate n idle);
 }

@@ -39,7 +39,17 @@ BoardFits us b (board.loaded u h) (loaded v left home) =
     × IsOutWith (machine_of (user us u)) b h (user us u).stage
 BoardFits us b y s = ⊥
 
--- as many users and as many boards, each as the model has it
+-- a board is loaded for this user
+abbrev pub IsLoadedFor : ℕ → Seat → Type 0
+IsLoadedFor u (loaded v left home) = v ≡ u
+IsLoadedFor u s = ⊥
+
+-- where a user is out on a board, it is loaded for him
+abbrev pub IsOnHisBoard : List Seat → ℕ → Stage → Type 0
+IsOnHisBoard bs u (out b c) = IsLoadedFor u (seat bs b)
+IsOnHisBoard bs u stage = ⊤
+
+-- as many users and as many boards, each as the model has it; and whoever is out has a board
 pub record Good (s : State) (a : Model) : Type 0 where
   pub users_long : length s.users ≡ length a.users
   pub boards_long : length s.boards ≡ length a.boards
@@ -47,3 +57,4 @@ pub record Good (s : State) (a : Model) : Type 0 where
       UserFits (machine_of (user a.users u)) x (user a.users u).stage
   pub boards : (b : ℕ) (y : Manned) → slice_get s.boards b ≡ Some y →
       BoardFits a.users b y (seat a.boards b)
+  pub out : (u : ℕ) → IsOnHisBoard a.boards u (user a.users u).stage
