@@ -1,4 +1,4 @@
--- The numbers of refusals.
+-- The numbers of refusals, of commands and of events.
 use Rattle.std.specs.Prelude.{ℕ}
 use Rattle.cam6_table.specs.Faults as rule
 use Rattle.cam6_block.specs.Refusals as block
@@ -8,6 +8,8 @@ use Rattle.cam6_commands.specs.declared.faults.Fault.TheVariants.{NoCycle, OutOf
 use Rattle.cam6_commands.specs.declared.faults.Fault.TheVariants.{AboveLimit}
 use Rattle.cam6_commands.specs.declared.refusals.Refusal.{Refusal}
 use Rattle.cam6_commands.specs.declared.refusals.Refusal.TheVariants as refusal
+use Rattle.cam6_commands.specs.declared.refused.Refused.{Refused}
+use Rattle.cam6_commands.specs.declared.refused.Refused.TheVariants as why
 
 -- of a number, a name or what the machine has
 abbrev pub fault_number : Fault → ℕ
@@ -26,3 +28,15 @@ refusal_number (refusal.Fault fault) = fault_number fault
 refusal_number (refusal.Text fault) = fault.number
 refusal_number (refusal.Stops address fault) = rule.fault_number fault
 refusal_number (refusal.NotReversible entry half cause) = block.cause_number cause
+
+-- 101 to 109 of an event
+abbrev pub refused_number : Refused → ℕ
+refused_number why.NoSuchNumber = 101
+refused_number why.UserIsWaiting = 102
+refused_number why.UserIsNotQueued = 103
+refused_number why.BoardIsNotIdle = 104
+refused_number why.BoardHoldsNothing = 105
+refused_number why.BoardIsDead = 106
+refused_number why.BoardIsNotDead = 107
+refused_number why.NothingIsFinished = 108
+refused_number why.NoTableIsCached = 109

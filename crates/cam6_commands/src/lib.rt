@@ -1,34 +1,41 @@
-//! Commands, and what is replied to them: the values, their numbers and their limits. Nothing here
-//! says what a command does.
+//! Commands, and what is replied to them; events of users and boards, and what comes of them: the
+//! values, their numbers and their limits. Nothing here says what a command or an event does.
 //!
 //! Contract: a reply is what was done or why it was refused (`Reply`), and each refusal has one
 //! number, 20 to 67 (`Refusal::number`, `specs/Numbers.antt`). What was looked at has a type that
 //! says so: the number of a plane, of a row of a side, a set of states and a number of steps are
 //! made of the number that a user gave, or refused for it (`specs/Checks.antt`). The rows of a
-//! reply are data: digits of a row, colours of a row, the digits of all rows of a plane.
+//! reply are data: digits of a row, colours of a row, the digits of all rows of a plane. An event
+//! is refused for one of nine reasons, each with its number, 101 to 109 (`Refused::number`).
 //!
 //! So `PlaneNumber::of(4)` is refused with `Fault::OutOfRange`, whose number is 65.
 //!
 //! Stands on: `cam6_planes`, `cam6_wiring`, `cam6_forth`, `cam6_table` and `cam6_block`.
 //!
 //! Read next: `commands`, with `texts` and `limits`; `faults` and `refusals`; `checks`; then
-//! `replies` with `rows`.
+//! `replies` with `rows`; and `events` with `outcomes` and `refused`.
 #![tactic(auto)]
 
 mod checks;
 mod commands;
+mod events;
 mod faults;
 mod limits;
+mod outcomes;
 mod refusals;
+mod refused;
 mod replies;
 mod rows;
 mod texts;
 
 pub use checks::{Mask, PlaneNumber, RowNumber, StepCount};
 pub use commands::{Command, NamedEntries, NamedEntry};
+pub use events::Event;
 pub use faults::Fault;
 pub use limits::{MAX_COLOUR, MAX_MASK, MAX_NAME, MAX_RULES, MAX_STEPS};
+pub use outcomes::Outcome;
 pub use refusals::Refusal;
+pub use refused::Refused;
 pub use replies::{Done, Reply};
 pub use rows::{PlaneRows, RowColours, RowText};
 pub use texts::{Names, Text};

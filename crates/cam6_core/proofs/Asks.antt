@@ -17,8 +17,8 @@ use Rattle.cam6_core.specs.Good.{UserFits, Good}
 use Rattle.cam6_core.specs.Goes.{Moves, Spares, MayWant, WantsMemory}
 use Rattle.cam6_core.specs.declared.parts.Whereabouts.{Whereabouts}
 use Rattle.cam6_core.specs.declared.parts.Whereabouts.TheVariants as whereabouts
-use Rattle.cam6_core.specs.declared.events.Event.TheVariants as event
-use Rattle.cam6_core.specs.declared.outcomes.Outcome.TheVariants.{Asked}
+use Rattle.cam6_commands.specs.declared.events.Event.TheVariants as event
+use Rattle.cam6_commands.specs.declared.outcomes.Outcome.TheVariants.{Asked}
 use Rattle.cam6_core.proofs.Numbers.{is_number, else_with, twice_with, again_with}
 use Rattle.cam6_core.proofs.Frames.{IsOnNone, user_moves}
 use Rattle.cam6_core.proofs.Inversions.{at_rest}

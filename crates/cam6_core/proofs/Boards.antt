@@ -22,9 +22,9 @@ use Rattle.cam6_core.specs.Good.{UserFits, IsOutWith, BoardFits, Good, IsLoadedF
 use Rattle.cam6_core.specs.Goes.{Moves, SparesBoardsBut, SparesOthers}
 use Rattle.cam6_core.specs.declared.parts.Whereabouts.{Whereabouts}
 use Rattle.cam6_core.specs.declared.parts.Whereabouts.TheVariants as whereabouts
-use Rattle.cam6_core.specs.declared.events.Event.TheVariants as event
-use Rattle.cam6_core.specs.declared.outcomes.Outcome.{Outcome}
-use Rattle.cam6_core.specs.declared.outcomes.Outcome.TheVariants.{Banded, Preempted, Failed, Repaired}
+use Rattle.cam6_commands.specs.declared.events.Event.TheVariants as event
+use Rattle.cam6_commands.specs.declared.outcomes.Outcome.{Outcome}
+use Rattle.cam6_commands.specs.declared.outcomes.Outcome.TheVariants.{Banded, Preempted, Failed, Repaired}
 use Rattle.cam6_core.proofs.Numbers.{within, set_else, else_with}
 use Rattle.cam6_core.proofs.Frames.{IsOnlyOn, IsOnNone, rests_anywhere, board_moves, both_move}
 use Rattle.cam6_core.proofs.Inversions.{at_work, at_idle, at_death}

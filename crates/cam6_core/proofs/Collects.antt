@@ -9,8 +9,8 @@ use Rattle.cam6_core.specs.Good.{Good}
 use Rattle.cam6_core.specs.Goes.{Moves, Spares}
 use Rattle.cam6_core.specs.declared.parts.Whereabouts.{Whereabouts}
 use Rattle.cam6_core.specs.declared.parts.Whereabouts.TheVariants as whereabouts
-use Rattle.cam6_core.specs.declared.events.Event.TheVariants as event
-use Rattle.cam6_core.specs.declared.outcomes.Outcome.TheVariants.{Collected}
+use Rattle.cam6_commands.specs.declared.events.Event.TheVariants as event
+use Rattle.cam6_commands.specs.declared.outcomes.Outcome.TheVariants.{Collected}
 use Rattle.cam6_core.proofs.Numbers.{is_number, else_with}
 use Rattle.cam6_core.proofs.Frames.{IsOnNone, user_moves}
 use Rattle.cam6_core.proofs.Inversions.{at_end}

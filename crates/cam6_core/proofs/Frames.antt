@@ -34,7 +34,7 @@ not_there : (m : Machine) (b d : ℕ) (h : Held) (stage : Stage) → IsOnlyOn b 
 not_there m b d h (out e c) only apart held = apart (sym held.0 ∙ only)
 not_there m b d h stage only apart held = absurd held
 
-user_else : (us : List User) (u v : ℕ) (p : User) → v ≢ u →
+pub user_else : (us : List User) (u v : ℕ) (p : User) → v ≢ u →
     user (with_number us u p) v ≡ user us v
 user_else us u v p apart = ap or_nobody (else_with us u v p apart)
 

@@ -19,8 +19,8 @@ use Rattle.cam6_core.specs.Good.{IsOutWith, IsLoadedFor, Good}
 use Rattle.cam6_core.specs.Goes.{Moves, Spares}
 use Rattle.cam6_core.specs.Internal.Returning.{IsLoadedWith}
 use Rattle.cam6_core.specs.declared.parts.Whereabouts.TheVariants as whereabouts
-use Rattle.cam6_core.specs.declared.events.Event.TheVariants as event
-use Rattle.cam6_core.specs.declared.outcomes.Outcome.TheVariants.{Leased}
+use Rattle.cam6_commands.specs.declared.events.Event.TheVariants as event
+use Rattle.cam6_commands.specs.declared.outcomes.Outcome.TheVariants.{Leased}
 use Rattle.cam6_core.proofs.Numbers.{within, set_else, is_number, else_with}
 use Rattle.cam6_core.proofs.Frames.{IsOnlyOn, both_move, user_here, seat_here}
 use Rattle.cam6_core.proofs.Inversions.{in_queue, at_idle}

@@ -18,3 +18,13 @@ pub mod Boards
 pub mod Collects
 -- Users of a new core, one more after the others.
 pub mod Starting
+-- The model's users and boards stand where the core's do.
+pub mod Standings
+-- Events one after another, by one event at a time.
+pub mod Chains
+-- What the model has of a user is what the events and what came of them say.
+pub mod Histories
+-- The headline, from what the model says.
+pub mod Heads
+-- Two lists of events that agree on a user's commands.
+pub mod Agreement

@@ -12,11 +12,11 @@ use Rattle.cam6_core.specs.Model.{Model, turn}
 use Rattle.cam6_core.specs.Good.{Good}
 use Rattle.cam6_core.specs.declared.parts.Whereabouts.{Whereabouts}
 use Rattle.cam6_core.specs.declared.parts.Whereabouts.TheVariants.{Resting}
-use Rattle.cam6_core.specs.declared.events.Event.{Event}
-use Rattle.cam6_core.specs.declared.events.Event.TheVariants as event
-use Rattle.cam6_core.specs.declared.outcomes.Outcome.{Outcome}
-use Rattle.cam6_core.specs.declared.outcomes.Outcome.TheVariants.{NoMemory, Refused}
-use Rattle.cam6_core.specs.declared.refused.Refused.{Refused as Reason}
+use Rattle.cam6_commands.specs.declared.events.Event.{Event}
+use Rattle.cam6_commands.specs.declared.events.Event.TheVariants as event
+use Rattle.cam6_commands.specs.declared.outcomes.Outcome.{Outcome}
+use Rattle.cam6_commands.specs.declared.outcomes.Outcome.TheVariants.{NoMemory, Refused}
+use Rattle.cam6_commands.specs.declared.refused.Refused.{Refused as Reason}
 
 -- memory may be wanted for a command of a user at rest
 abbrev pub MayWant : Option Whereabouts → Command → Type 0

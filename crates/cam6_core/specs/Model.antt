@@ -10,11 +10,11 @@ use Rattle.cam6_model.specs.Machine.{Machine}
 use Rattle.cam6_slot.specs.Lefts.{bands_of_step, bands_of, home_after}
 use Rattle.cam6_core.specs.History.{alone}
 use Rattle.cam6_core.specs.State.{at_number, with_number}
-use Rattle.cam6_core.specs.declared.events.Event.{Event}
-use Rattle.cam6_core.specs.declared.events.Event.TheVariants as event
-use Rattle.cam6_core.specs.declared.outcomes.Outcome.{Outcome}
-use Rattle.cam6_core.specs.declared.outcomes.Outcome.TheVariants as outcome
-use Rattle.cam6_core.specs.declared.refused.Refused.TheVariants.{NoSuchNumber}
+use Rattle.cam6_commands.specs.declared.events.Event.{Event}
+use Rattle.cam6_commands.specs.declared.events.Event.TheVariants as event
+use Rattle.cam6_commands.specs.declared.outcomes.Outcome.{Outcome}
+use Rattle.cam6_commands.specs.declared.outcomes.Outcome.TheVariants as outcome
+use Rattle.cam6_commands.specs.declared.refused.Refused.TheVariants.{NoSuchNumber}
 
 -- where a user's command is; while it is queued, how many bands are left, and how many from home
 pub data Stage : Type 0 where

@@ -9,10 +9,10 @@ use Rattle.cam6_station.specs.Held as board
 use Rattle.cam6_core.specs.State.{State, at_number}
 use Rattle.cam6_core.specs.declared.parts.Whereabouts.{Whereabouts}
 use Rattle.cam6_core.specs.declared.parts.Whereabouts.TheVariants as user
-use Rattle.cam6_core.specs.declared.events.Event.{Event}
-use Rattle.cam6_core.specs.declared.events.Event.TheVariants as event
-use Rattle.cam6_core.specs.declared.refused.Refused.{Refused}
-use Rattle.cam6_core.specs.declared.refused.Refused.TheVariants as why
+use Rattle.cam6_commands.specs.declared.events.Event.{Event}
+use Rattle.cam6_commands.specs.declared.events.Event.TheVariants as event
+use Rattle.cam6_commands.specs.declared.refused.Refused.{Refused}
+use Rattle.cam6_commands.specs.declared.refused.Refused.TheVariants as why
 
 -- where a user stands
 pub data Status : Type 0 where
@@ -111,15 +111,3 @@ refusal s event.Evict = first ((s.no_table, why.NoTableIsCached) ∷ [])
 refusal s (event.Collect u) = first
     ((is_missing (s.user u), why.NoSuchNumber)
     ∷ (not (is_finished (s.user u)), why.NothingIsFinished) ∷ [])
-
--- the number of a reason
-abbrev pub refused_number : Refused → ℕ
-refused_number why.NoSuchNumber = 101
-refused_number why.UserIsWaiting = 102
-refused_number why.UserIsNotQueued = 103
-refused_number why.BoardIsNotIdle = 104
-refused_number why.BoardHoldsNothing = 105
-refused_number why.BoardIsDead = 106
-refused_number why.BoardIsNotDead = 107
-refused_number why.NothingIsFinished = 108
-refused_number why.NoTableIsCached = 109

@@ -3,12 +3,10 @@ ghost use Rattle.std.specs.Prelude.{◌≡◌, true, false};
 ghost use Rattle.cam6_core.specs.Refusals.{standing, is_waiting, is_queued, is_finished};
 ghost use Rattle.cam6_core.specs.Refusals.{is_idle, is_loaded, is_dead, is_missing};
 ghost use Rattle.cam6_core.specs.Goes.{Goes, Takes, Spares};
-ghost use Rattle.cam6_core.specs.declared.events.Event.TheVariants as event;
+ghost use Rattle.cam6_commands.specs.declared.events.Event.TheVariants as event;
 
-use crate::events::Event;
-use crate::outcomes::Outcome;
 use crate::parts::{Core, Whereabouts};
-use cam6_commands::{Command, Reply};
+use cam6_commands::{Command, Event, Outcome, Reply};
 use cam6_slot::Asked;
 use cam6_slot::laws::places_have_the_side;
 use cam6_station::Banded;

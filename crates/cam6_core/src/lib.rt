@@ -17,21 +17,20 @@
 //!
 //! Stands on: `cam6_station`, `cam6_slot`, `cam6_cache` and what they stand on.
 //!
-//! Read next: `events` and `outcomes`, with `refused`; `parts`, what a core holds; `start`;
-//! `refusals`; `applying`, event by event; then `users_and_boards`, by which they go about it.
+//! Read next: `Event`, `Outcome` and `Refused` of `cam6_commands`; `parts`, what a core holds;
+//! `start`; `refusals`; `applying`, event by event; then `users_and_boards`, by which they go about
+//! it.
 #![tactic(auto)]
 
 mod applying;
-mod events;
-mod outcomes;
+pub mod laws;
 mod parts;
 mod refusals;
-mod refused;
+mod runs;
 mod start;
 mod users_and_boards;
 
-pub use events::Event;
-pub use outcomes::Outcome;
+pub use cam6_commands::{Event, Outcome, Refused};
 pub use parts::{Core, Whereabouts};
-pub use refused::Refused;
+pub use runs::run;
 pub use start::{MAX_BOARDS, MAX_USERS};

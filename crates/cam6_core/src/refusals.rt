@@ -3,14 +3,13 @@ ghost use Rattle.std.specs.Prelude.{◌≡◌};
 ghost use Rattle.std.specs.Option.{option_copied};
 ghost use Rattle.cam6_commands.specs.declared.commands.Command.{Command};
 ghost use Rattle.cam6_core.specs.State.{at_number};
-ghost use Rattle.cam6_core.specs.declared.events.Event.TheVariants as event;
+ghost use Rattle.cam6_commands.specs.declared.events.Event.TheVariants as event;
 ghost use Rattle.cam6_core.specs.Refusals.{standing, refusal, loaded_refusal, is_missing};
 ghost use Rattle.cam6_core.specs.Refusals.{is_waiting, is_queued, is_finished};
 ghost use Rattle.cam6_core.specs.Refusals.{is_idle, is_loaded, is_dead};
 
-use crate::events::Event;
 use crate::parts::{Core, Whereabouts};
-use crate::refused::Refused;
+use cam6_commands::{Event, Refused};
 
 impl Core {
     /// The first reason against an event, if there is one.

@@ -1,12 +1,14 @@
-//! The program `cam6`: command lines on standard input, one reply line for each on standard output.
+//! The program `cam6`: command lines on standard input, or lines of events, one line of an answer
+//! for each on standard output.
 //!
 //! Contract: `options` reads the words as `clap` takes them (`specs/CommandLine.antt`), and
 //! `failure_of` is each end's exit status (`specs/Statuses.antt`), with which `ended` ends. What is
 //! written for what is read, and that turns run out only where as many bytes were read, is the
-//! contract of `serve_streams`: that of `serve_alone` in `cam6_session`, with the program's turns
-//! (`specs/Turns.antt`).
+//! contract of `serve_streams` and of `replay_streams` (`specs/Replays.antt`): those of
+//! `serve_alone` and of `replay` in `cam6_session`, with the program's turns (`specs/Turns.antt`).
 //!
-//! Stands on: `cam6_planes`, for the sides; `cam6_session`, `clap`, `thiserror`.
+//! Stands on: `cam6_planes`, for the sides; `cam6_cache`, for the number of its tables; `cam6_core`,
+//! `cam6_session`, `clap`, `thiserror`.
 //!
 //! Read next: `modes` and `words`, the command line; then `streams` and `statuses`.
 #![tactic(auto)]
@@ -25,7 +27,6 @@ mod words;
 #[cfg(test)]
 mod words_tests;
 
-use cam6_planes::Side;
 use cam6_session::End;
 use modes::{Options, Refused};
 use statuses::{NO_MEMORY, WRITE_FAILED, failure_of, refusal_of};
@@ -34,7 +35,7 @@ use std::env::Env;
 use std::io;
 use std::io::{BufReader, ErrorKind};
 use std::process::ExitCode;
-use streams::serve_streams;
+use streams::{replay_streams, serve_streams};
 
 fn main(rt: HostRuntime) -> ExitCode {
     run(&rt)
@@ -43,7 +44,7 @@ fn main(rt: HostRuntime) -> ExitCode {
 /// Reads the words, and does what they ask for.
 fn run<R: Env + Input + Print + Eprint + AllocGlobal>(rt: &R) -> ExitCode {
     let refused = match options_given(rt) {
-        Ok(Options::Alone { limit }) => return over_standard_streams(rt, limit),
+        Ok(options) => return over_standard_streams(rt, options),
         Err(refused) => refused,
     };
     let (status, text) = refusal_of(&refused);
@@ -81,14 +82,23 @@ fn unreadable(alloc: Global, kind: ErrorKind) -> Refused
     }
 }
 
-/// Serves one machine over standard input and output.
-fn over_standard_streams<R: Input + Print + Eprint + AllocGlobal>(rt: &R, limit: Side) -> ExitCode {
+/// Serves one machine, or users who share boards, over standard input and output.
+fn over_standard_streams<R: Input + Print + Eprint + AllocGlobal>(
+    rt: &R,
+    options: Options,
+) -> ExitCode {
     let alloc = rt.alloc();
     let Ok(mut reader) = BufReader::new(alloc, rt.reader()) else {
         return failed(rt, NO_MEMORY, "cam6: no memory\n");
     };
     let mut writer = io::writer(rt);
-    ended(rt, serve_streams(alloc, limit, &mut reader, &mut writer))
+    let end = match options {
+        Options::Alone { limit } => serve_streams(alloc, limit, &mut reader, &mut writer),
+        Options::Replay { sharing, limit } => {
+            replay_streams(alloc, sharing, limit, &mut reader, &mut writer)
+        }
+    };
+    ended(rt, end)
 }
 
 /// Ends as a session ended.

@@ -1,6 +1,7 @@
 //! What the words of the command line ask for.
 
 use cam6_planes::Side;
+use std::marker::Model;
 use thiserror::Error;
 
 /// What the program is to do.
@@ -11,6 +12,37 @@ pub enum Options {
         /// The largest side that the machine may have.
         limit: Side,
     },
+    /// Do the events of the lines on standard input.
+    Replay {
+        sharing: Sharing,
+        /// The largest side that each user's machine may have.
+        limit: Side,
+    },
+}
+
+/// How many users share how many boards, and a cache of how many tables. Of each there is one at
+/// least, and no more than a core can have.
+#[derive(Clone, Copy, Debug, PartialEq, Eq)]
+pub struct Sharing {
+    pub(crate) users: usize,
+    pub(crate) boards: usize,
+    pub(crate) cache: usize,
+}
+
+impl Model for Sharing {
+    ghost use Rattle.cam6_host.specs.Sharing.{Shared, IsWithin};
+
+    ghost Value = { Shared };
+
+    ghost view = { λ s. record { users = s.users; boards = s.boards; cache = s.cache } };
+
+    ghost inverse = { λ s. record { users = s.users; boards = s.boards; cache = s.cache } };
+
+    ghost invariant = { λ s. IsWithin (record {
+      users = s.users;
+      boards = s.boards;
+      cache = s.cache;
+    }) };
 }
 
 /// Why the words ask for nothing.

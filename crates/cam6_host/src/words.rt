@@ -1,13 +1,17 @@
 //! The words of the command line.
-ghost use Rattle.std.specs.Prelude.{◌≡◌, [], IfOk, IsSome, MatchResult, Some, false, map};
-ghost use Rattle.std.specs.Prelude.{◌⊎◌, IsErr, string_bytes};
-ghost use Rattle.clap.specs.Words.{App, app_of, fault_of, kind_of, rule_of, subcommand_of};
-ghost use Rattle.clap.specs.Words.{subcommand_rows_of};
+ghost use Rattle.std.specs.Prelude.{◌≡◌, ◌<◌, ◌≤◌, [], IfOk, IsSome, MatchResult, Some, false};
+ghost use Rattle.std.specs.Prelude.{◌⊎◌, IsErr, map, string_bytes};
+ghost use Rattle.clap.specs.Words.{App, app_of, fault_of, found_of, kind_of, rows_of, rule_of};
+ghost use Rattle.clap.specs.Words.{subcommand_of, subcommand_rows_of};
 ghost use Rattle.cam6_host.specs.CommandLine.{AreSides, HasMode, IsOfKind, IsProgram, Refuses};
-ghost use Rattle.cam6_host.specs.CommandLine.{TextsAt, mode_of, side_option as option_of_sides};
-ghost use Rattle.cam6_host.specs.CommandLine.{side_said, single};
+ghost use Rattle.cam6_host.specs.CommandLine.{TextsAt, mode_of, number_at as number_told};
+ghost use Rattle.cam6_host.specs.CommandLine.{number_option as option_of_numbers};
+ghost use Rattle.cam6_host.specs.CommandLine.{replay as replay_of, side_at};
+ghost use Rattle.cam6_host.specs.CommandLine.{side_option as option_of_sides, side_said};
 
-use crate::modes::{Options, Refused};
+use crate::modes::{Options, Refused, Sharing};
+use cam6_cache::MAX_CAPACITY;
+use cam6_core::{MAX_BOARDS, MAX_USERS};
 use cam6_planes::Side;
 use clap::builder::ValueParser;
 use clap::error::ErrorKind;
@@ -30,28 +34,61 @@ pub fn options(alloc: Global, words: &[String]) -> Result<Options, Refused>
         return Err(Refused::NoMemory);
     };
     match command.try_get_matches_from(words) {
-        Ok(matches) => Ok(Options::Alone {
-            limit: limit_given(&matches),
-        }),
+        Ok(matches) => Ok(mode_given(&matches)),
         Err(error) => Err(refusal(alloc, error)),
     }
 }
 
-/// The largest side that the machine may have.
-fn limit_given(matches: &ArgMatches<'_>) -> Side
+/// What clap's matches ask for.
+fn mode_given(matches: &ArgMatches<'_>) -> Options
     requires { IsSome (mode_of (subcommand_rows_of matches.now)) }
-    ensures { mode_of (subcommand_rows_of matches.now) ≡ Some (single result) }
+    ensures { HasMode result (mode_of (subcommand_rows_of matches.now)) }
 {
-    let Some(alone) = matches.subcommand_matches("alone") else {
-        return Side::S256;
-    };
-    let Some(word) = alone.get_str("side") else {
+    if let Some(alone) = matches.subcommand_matches("alone") {
+        return Options::Alone {
+            limit: side_given(alone),
+        };
+    }
+    if let Some(replay) = matches.subcommand_matches("replay") {
+        return Options::Replay {
+            sharing: Sharing {
+                users: number_given(replay, "users", MAX_USERS),
+                boards: number_given(replay, "boards", MAX_BOARDS),
+                cache: number_given(replay, "cache", MAX_CAPACITY),
+            },
+            limit: side_given(replay),
+        };
+    }
+    Options::Alone { limit: Side::S256 }
+}
+
+/// The largest side that a machine may have.
+fn side_given(matches: &ArgMatches<'_>) -> Side
+    requires { IsSome (side_at (rows_of (found_of matches.now))) }
+    ensures { side_at (rows_of (found_of matches.now)) ≡ Some result }
+{
+    let Some(word) = matches.get_str("side") else {
         unreachable!()
     };
     let Some(side) = side_of_word(word) else {
         unreachable!()
     };
     side
+}
+
+/// The number at an option, 1 to a most one.
+fn number_given(matches: &ArgMatches<'_>, name: &str, most: usize) -> usize
+    requires { IsSome (number_told name.now most (rows_of (found_of matches.now))) }
+    ensures number { number_told name.now most (rows_of (found_of matches.now)) ≡ Some result }
+    ensures within { (0 < result) × (result ≤ most) }
+{
+    let Some(word) = matches.get_str(name) else {
+        unreachable!()
+    };
+    let Ok(number) = word.parse::<usize>() else {
+        unreachable!()
+    };
+    number
 }
 
 /// The side that a word is.
@@ -75,7 +112,32 @@ pub fn program<'a>(alloc: Global) -> Result<Command<'a>, AllocError>
         .arg(side_option(alloc))?;
     Command::new(alloc, "cam6")
         .about("A CAM-6 cellular automata machine; without words, as `alone`")
-        .subcommand(alone)
+        .subcommand(alone)?
+        .subcommand(replay(alloc)?)
+}
+
+/// `replay`.
+fn replay<'a>(alloc: Global) -> Result<Command<'a>, AllocError>
+    ensures { IfOk result (λ command. (sides : TextsAt) × AreSides sides
+        × (app_of command ≡ replay_of sides)) }
+{
+    Command::new(alloc, "replay")
+        .about("Does the events of lines on standard input: users who share boards and tables")
+        .arg(number_option(alloc, "users", MAX_USERS, "4").help("Users, each with a machine"))?
+        .arg(number_option(alloc, "boards", MAX_BOARDS, "2").help("Boards"))?
+        .arg(number_option(alloc, "cache", MAX_CAPACITY, "16").help("Tables that are kept"))?
+        .arg(side_option(alloc))
+}
+
+/// An option that is a number, 1 to a most one.
+fn number_option<'a>(alloc: Global, name: &'a str, most: usize, default: &'a str) -> Arg<'a>
+    ensures rule { rule_of result ≡ option_of_numbers name.now most default.now }
+    ensures global { result.global ≡ false }
+{
+    Arg::new(alloc, name)
+        .long(name)
+        .value_parser(ValueParser::Unsigned(1, most as u64))
+        .default_value(default)
 }
 
 /// `--side`.
@@ -87,7 +149,7 @@ fn side_option<'a>(alloc: Global) -> Arg<'a>
         .long("side")
         .value_parser(ValueParser::Names(SIDES.as_slice()))
         .default_value("256")
-        .help("The largest side that the machine may have")
+        .help("The largest side that a machine may have")
 }
 
 /// What clap's error means for the program.

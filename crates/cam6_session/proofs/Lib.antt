@@ -16,7 +16,9 @@ pub mod Runs
 pub mod Known
 -- Whatever ends a session, what it wrote is a front of the answers to all lines.
 pub mod Fronts
+-- Lines of events are answered by what comes of the events, one after another.
+pub mod Replaying
 -- Writes one after another make one front.
 pub mod Writes
--- Serving stops where the writer failed.
-pub mod Stopping
+-- A line is answered by what was told, or serving stops where the writer failed.
+pub mod Telling

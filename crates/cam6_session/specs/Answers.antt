@@ -27,15 +27,24 @@ by_machine = record {
   says = λ line. is_ok (command line);
 }
 
+-- what is said among what lines say
+abbrev pub among : {A : Type 0} → List (Result A LineFault) → List A
+among [] = []
+among (Ok a ∷ later) = a ∷ among later
+among (Err fault ∷ later) = among later
+
+-- one text for each thing said: of the next thing that it came to, or of the fault of a line that
+-- says nothing
+abbrev pub texts_by : {A B : Type 0} → (B → List ℕ) → List (Result A LineFault) → List B → List ℕ
+texts_by text [] came = []
+texts_by text (Err fault ∷ later) came = fault_bytes fault ++ 10 ∷ texts_by text later came
+texts_by text (Ok a ∷ later) [] = []
+texts_by text (Ok a ∷ later) (b ∷ came) = text b ++ 10 ∷ texts_by text later came
+
 -- the commands among what lines say
 abbrev pub commands : List (Result Command LineFault) → List Command
-commands [] = []
-commands (Ok c ∷ later) = c ∷ commands later
-commands (Err fault ∷ later) = commands later
+commands = among
 
--- one text for each thing said: the next reply to a command, the fault of a line that says none
+-- the next reply to each command, and the fault of each line that says none
 abbrev pub texts_of : List (Result Command LineFault) → List Reply → List ℕ
-texts_of [] replies = []
-texts_of (Err fault ∷ later) replies = fault_bytes fault ++ 10 ∷ texts_of later replies
-texts_of (Ok c ∷ later) [] = []
-texts_of (Ok c ∷ later) (r ∷ replies) = reply_bytes r ++ 10 ∷ texts_of later replies
+texts_of = texts_by reply_bytes

@@ -2,11 +2,16 @@
 use Rattle.std.specs.Prelude.{◌≡◌, ◌≢◌, ◌↔◌, List, ℕ, [], ◌∷◌, ◌++◌, map, All}
 use Rattle.cam6_model.specs.Machine.{Machine}
 use Rattle.cam6_model.specs.Alone.{replies, after_all}
+use Rattle.cam6_commands.specs.declared.outcomes.Outcome.{Outcome}
+use Rattle.cam6_core.specs.State.{State}
+use Rattle.cam6_core.specs.Runs.{GoThrough}
 use Rattle.cam6_wire.specs.Commands.{command}
+use Rattle.cam6_wire.specs.Events.{event}
 use Rattle.cam6_wire.specs.OneLine.{HasNoLf}
 use Rattle.cam6_session.specs.Lines.{lines, ended_lines, joined}
 use Rattle.cam6_session.specs.Answering.{Answering, AreAnswered}
 use Rattle.cam6_session.specs.Answers.{by_machine, commands, texts_of}
+use Rattle.cam6_session.specs.Events.{by_core, events, outcome_texts}
 
 -- a text has the lines that it was joined of, and what is behind them is one more if it isn't empty
 abbrev pub LinesAreFound : Type 0
@@ -25,6 +30,15 @@ AnswersAreReplies =
     AreAnswered by_machine m taken written n
     ↔ ((written ≡ texts_of (map command taken) (replies m (commands (map command taken))))
     × (n ≡ after_all m (commands (map command taken))))
+
+-- the answers of a core to lines are what came of the events among them, one after another, and the
+-- faults of the others, in the order of the lines
+abbrev pub AnswersAreOutcomes : Type 0
+AnswersAreOutcomes =
+    (s t : State) (taken : List (List ℕ)) (written : List ℕ) →
+    AreAnswered by_core s taken written t
+    ↔ ((rs : List Outcome) × GoThrough s (events (map event taken)) rs t
+    × (written ≡ outcome_texts (map event taken) rs))
 
 -- lines are answered as others before them left what is asked, so a session can be taken up again
 abbrev pub AnswersGoOn : {S : Type 0} → Answering S → Type 0

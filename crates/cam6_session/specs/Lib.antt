@@ -1,6 +1,7 @@
 -- In the order of reading: the lines of a text, what is kept of a line, reading one, the bytes that
 -- turns take, writing; ways of answering lines, answering one, how serving ends, and what the
--- machine answers; a session alone, its main theorem, and the laws.
+-- machine answers; a session alone and its main theorem; what a core answers, and what a replay
+-- writes; and the laws.
 pub mod Lines
 pub mod Held
 pub mod Reading
@@ -12,4 +13,6 @@ pub mod Sessions
 pub mod Answers
 pub mod Alone
 pub mod Headline
+pub mod Events
+pub mod Replays
 pub mod Laws

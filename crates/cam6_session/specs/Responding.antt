@@ -1,14 +1,31 @@
 -- What answering one line does to a writer, whose bytes may not be known, and to what is asked.
-use Rattle.std.specs.Prelude.{◌≡◌, ◌≢◌, ◌≤◌, ℕ, List, [], length, Option, Result, Ok, Err}
+use Rattle.std.specs.Prelude.{◌≡◌, ◌≢◌, ◌≤◌, ℕ, List, [], ◌∷◌, ◌++◌, length, Option, Result}
+use Rattle.std.specs.Prelude.{Ok, Err}
 use Rattle.std.specs.Prelude.{true, false}
 use Rattle.std.specs.Io.KnownBytes.{Appends, Keeps}
 use Rattle.cam6_wire.specs.Limits.{limit_of}
+use Rattle.cam6_wire.specs.Replies.{fault_bytes}
+use Rattle.cam6_wire.specs.declared.faults.LineFault.{LineFault}
+use Rattle.cam6_wire.specs.declared.faults.LineFault.TheVariants as fault
 use Rattle.cam6_session.specs.Answering.{Answering}
 use Rattle.cam6_session.specs.Front.{WritesSome}
 use Rattle.cam6_session.specs.declared.sessions.End.{End}
 use Rattle.cam6_session.specs.declared.sessions.End.TheVariants as end
 use Rattle.cam6_session.specs.declared.sessions.Stop.{Stop}
 use Rattle.cam6_session.specs.declared.sessions.Stop.TheVariants as stop
+
+-- a text was written as a line and serving goes on, or the writer failed behind a front of it
+abbrev pub Tells : Result (Unit {0}) Stop → List ℕ → Option (List ℕ) → Option (List ℕ) → Type 0
+Tells (Ok done) text old new = Appends old new (text ++ 10 ∷ [])
+Tells (Err stop.WriteFault) text old new = WritesSome old new (text ++ 10 ∷ [])
+Tells (Err (stop.NoMemory done)) text old new = ⊥
+
+-- a line's fault was told; for want of memory nothing was, and serving stops
+abbrev pub TellsFault : Result (Unit {0}) Stop → LineFault → Option (List ℕ) → Option (List ℕ)
+    → Type 0
+TellsFault result fault.NoMemory old new =
+    (result ≡ Err (stop.NoMemory false)) × Keeps old new
+TellsFault result f old new = Tells result (fault_bytes f) old new
 
 -- memory is taken for a line that is neither empty nor too long
 abbrev pub TakesMemory : List ℕ → Type 0

@@ -5,7 +5,7 @@ ghost use Rattle.cam6_wire.specs.declared.faults.LineFault.TheVariants.{NoMemory
 ghost use Rattle.cam6_wire.specs.Commands.{command as what_is_said, IsFaultOf, IsSaid};
 ghost use Rattle.cam6_session.specs.Answers.{by_machine};
 ghost use Rattle.cam6_session.specs.Held.{Holds};
-ghost use Rattle.cam6_session.specs.Responding.{Responds, TakesMemory};
+ghost use Rattle.cam6_session.specs.Responding.{Responds, TakesMemory, Tells, TellsFault};
 
 use crate::desks::Ask;
 use crate::line_buffer::LineBuf;
@@ -113,8 +113,7 @@ fn respond_to<W: Write, D: Ask>(
     let Ok(text) = reply_text(alloc, &reply) else {
         return Err(Stop::NoMemory { done: true });
     };
-    send(writer, text.as_bytes())?;
-    Ok(())
+    tell(writer, text.as_bytes())
 }
 
 fn respond_fault<W: Write>(fault: LineFault, writer: &mut W) -> Result<(), Stop>
@@ -122,11 +121,23 @@ fn respond_fault<W: Write>(fault: LineFault, writer: &mut W) -> Result<(), Stop>
         (fault ≡ NoMemory → TakesMemory l) →
         Responds by_machine result l (W.contents writer.old) (W.contents writer.new) m m }
 {
+    tell_fault(fault, writer)
+}
+
+/// Tells a line's fault; for want of memory nothing is told.
+pub(crate) fn tell_fault<W: Write>(fault: LineFault, writer: &mut W) -> Result<(), Stop>
+    ensures { TellsFault result fault (W.contents writer.old) (W.contents writer.new) }
+{
     match fault {
         LineFault::NoMemory => Err(Stop::NoMemory { done: false }),
-        _ => {
-            send(writer, fault_text(fault).as_bytes())?;
-            Ok(())
-        }
+        _ => tell(writer, fault_text(fault).as_bytes()),
     }
+}
+
+/// Writes an answer as a line.
+pub(crate) fn tell<W: Write>(writer: &mut W, text: &[u8]) -> Result<(), Stop>
+    ensures { Tells result text.now (W.contents writer.old) (W.contents writer.new) }
+{
+    send(writer, text)?;
+    Ok(())
 }

@@ -31,6 +31,7 @@ mod desks;
 pub mod laws;
 mod line_buffer;
 mod lines;
+mod replays;
 mod sessions;
 mod writers;
 
@@ -39,5 +40,6 @@ pub use answerers::Answerer;
 pub use desks::Ask;
 pub use line_buffer::LineBuf;
 pub use lines::{Line, next_line};
+pub use replays::replay;
 pub use sessions::{End, Stop, answer_lines, serve};
 pub use writers::{WriteFault, send};

@@ -1,5 +1,5 @@
--- No reply nests deep.
-use Rattle.std.proofs.Common.{◌≡◌, ◌≤◌, ℕ, List, [], ◌∷◌, refl, arith}
+-- No reply nests deep, and no outcome.
+use Rattle.std.proofs.Common.{◌≡◌, ◌≤◌, ℕ, List, [], ◌∷◌, Some, None, refl, arith}
 use Rattle.serde_json.specs.Data.{depth, items_depth}
 use Rattle.serde_json.specs.Read.{max_depth}
 use Rattle.cam6_commands.specs.declared.refusals.Refusal.{Refusal}
@@ -11,14 +11,17 @@ use Rattle.cam6_commands.specs.declared.replies.Done.{Done as WhatIsDone}
 use Rattle.cam6_commands.specs.declared.replies.Done.TheVariants.{Set, Rule, Cycle, Side, Run}
 use Rattle.cam6_commands.specs.declared.replies.Done.TheVariants.{Back, Row, Plane, Clear}
 use Rattle.cam6_commands.specs.declared.replies.Done.TheVariants.{Drop, Rules, Map, Colours, Count}
+use Rattle.cam6_commands.specs.declared.outcomes.Outcome.{Outcome}
+use Rattle.cam6_commands.specs.declared.outcomes.Outcome.TheVariants as outcome
 use Rattle.cam6_block.specs.declared.refusals.NotReversible.TheVariants as cause
 use Rattle.cam6_wire.specs.Replies.{texts, done_data, refusal_data, reply_data}
+use Rattle.cam6_wire.specs.Outcomes.{outcome_data}
 
 flat_texts : (rows : List (List ℕ)) → items_depth (texts rows) ≡ 0
 flat_texts [] = refl
 flat_texts (row ∷ rows) = omega (arith, flat_texts rows)
 
-flat_done : (done : WhatIsDone) → depth (done_data done) ≤ max_depth
+flat_done : (done : WhatIsDone) → depth (done_data done) ≤ 2
 flat_done Set = omega arith
 flat_done Clear = omega arith
 flat_done Rule = omega arith
@@ -34,7 +37,7 @@ flat_done (Back position) = omega arith
 flat_done (Row bits) = omega arith
 flat_done (Plane rows) = omega (arith, flat_texts rows)
 
-flat_refusal : (refusal : Refusal) → depth (refusal_data refusal) ≤ max_depth
+flat_refusal : (refusal : Refusal) → depth (refusal_data refusal) ≤ 2
 flat_refusal (Fault fault) = omega arith
 flat_refusal (Text fault) = omega arith
 flat_refusal (Stops address fault) = omega arith
@@ -42,6 +45,23 @@ flat_refusal (NotReversible entry half cause.Hood) = omega arith
 flat_refusal (NotReversible entry half cause.Centres) = omega arith
 flat_refusal (NotReversible entry half (cause.Meeting phase a b)) = omega arith
 
+two_deep : (reply : Reply) → depth (reply_data reply) ≤ 2
+two_deep (Done done) = flat_done done
+two_deep (Refused refusal) = flat_refusal refusal
+
 pub flat_reply : (reply : Reply) → depth (reply_data reply) ≤ max_depth
-flat_reply (Done done) = flat_done done
-flat_reply (Refused refusal) = flat_refusal refusal
+flat_reply reply = omega (arith, two_deep reply)
+
+-- a reply that is collected stands one deeper
+pub flat_outcome : (o : Outcome) → depth (outcome_data o) ≤ max_depth
+flat_outcome outcome.NoMemory = omega arith
+flat_outcome (outcome.Refused reason) = omega arith
+flat_outcome (outcome.Asked left) = omega arith
+flat_outcome (outcome.Leased left) = omega arith
+flat_outcome (outcome.Banded left) = omega arith
+flat_outcome (outcome.Preempted left) = omega arith
+flat_outcome (outcome.Failed (Some left)) = omega arith
+flat_outcome (outcome.Failed None) = omega arith
+flat_outcome outcome.Repaired = omega arith
+flat_outcome outcome.Evicted = omega arith
+flat_outcome (outcome.Collected reply) = omega (arith, two_deep reply)

@@ -1,5 +1,5 @@
--- No reply has a float in it.
-use Rattle.std.proofs.Common.{◌≡◌, ℕ, List, [], ◌∷◌, false, refl}
+-- No reply has a float in it, and no outcome.
+use Rattle.std.proofs.Common.{◌≡◌, ℕ, List, [], ◌∷◌, false, Some, None, refl}
 use Rattle.serde_json.specs.Written.{has_float, items_have_float}
 use Rattle.cam6_commands.specs.declared.refusals.Refusal.{Refusal}
 use Rattle.cam6_commands.specs.declared.refusals.Refusal.TheVariants.{Fault, Text, Stops}
@@ -10,8 +10,11 @@ use Rattle.cam6_commands.specs.declared.replies.Done.{Done as WhatIsDone}
 use Rattle.cam6_commands.specs.declared.replies.Done.TheVariants.{Set, Rule, Cycle, Side, Run}
 use Rattle.cam6_commands.specs.declared.replies.Done.TheVariants.{Back, Row, Plane, Clear}
 use Rattle.cam6_commands.specs.declared.replies.Done.TheVariants.{Drop, Rules, Map, Colours, Count}
+use Rattle.cam6_commands.specs.declared.outcomes.Outcome.{Outcome}
+use Rattle.cam6_commands.specs.declared.outcomes.Outcome.TheVariants as outcome
 use Rattle.cam6_block.specs.declared.refusals.NotReversible.TheVariants as cause
 use Rattle.cam6_wire.specs.Replies.{texts, done_data, refusal_data, reply_data}
+use Rattle.cam6_wire.specs.Outcomes.{outcome_data}
 
 texts_without_float : (rows : List (List ℕ)) → items_have_float (texts rows) ≡ false
 texts_without_float [] = refl
@@ -44,3 +47,16 @@ refusal_without_float (NotReversible entry half (cause.Meeting phase a b)) = ref
 pub reply_without_float : (reply : Reply) → has_float (reply_data reply) ≡ false
 reply_without_float (Done done) = done_without_float done
 reply_without_float (Refused refusal) = refusal_without_float refusal
+
+pub outcome_without_float : (o : Outcome) → has_float (outcome_data o) ≡ false
+outcome_without_float outcome.NoMemory = refl
+outcome_without_float (outcome.Refused reason) = refl
+outcome_without_float (outcome.Asked left) = refl
+outcome_without_float (outcome.Leased left) = refl
+outcome_without_float (outcome.Banded left) = refl
+outcome_without_float (outcome.Preempted left) = refl
+outcome_without_float (outcome.Failed (Some left)) = refl
+outcome_without_float (outcome.Failed None) = refl
+outcome_without_float outcome.Repaired = refl
+outcome_without_float outcome.Evicted = refl
+outcome_without_float (outcome.Collected reply) = rw (reply_without_float reply)

@@ -2,20 +2,22 @@
 
 -- A map's length is the count of its keys.
 pub mod Members
--- No reply has a float in it.
+-- No reply has a float in it, and no outcome.
 pub mod Floats
--- No reply nests deep.
+-- No reply nests deep, and no outcome.
 pub mod Flat
--- What a line says, step by step as it is read.
-pub mod Saying
 -- What holds of a value that is there after some steps, if there is one.
 pub mod Steps
 -- Of what is read, each object has its keys in byte order, each once.
 pub mod Ordered
+-- What a line says, by the value that it is: as commands show it, or as events do.
+pub mod Saying
 -- An object with as many keys as are found in it has these keys and no others.
 pub mod Exactly
 -- What stands at a key, where something is read there.
 pub mod Found
+-- Values with a word at a key, by which what they show is told apart.
+pub mod Worded
 -- Colours as a list of numbers: what is read of one, and what one says.
 pub mod ColourLists
 -- Colours are as many as the values that they are read of.
@@ -26,8 +28,12 @@ pub mod ColourDigits
 pub mod ShownEntries
 -- A line that says a command has a value that shows it.
 pub mod Showing
+-- A line that says an event has a value that shows it.
+pub mod ShowingEvents
 -- A line whose value shows a command says it.
 pub mod Telling
+-- A line whose value shows an event says it.
+pub mod TellingEvents
 -- JSON's compact text has no control character, so it is one line.
 pub mod Plain
 -- What stands between the quotes of a JSON string, unescaped, is UTF-8 where the bytes are.
@@ -38,5 +44,5 @@ pub mod Utf8Tokens
 pub mod Utf8Values
 -- and those of the value that serde_json makes of it.
 pub mod TextsAreUtf8
--- The text of a rule that a line defines is UTF-8.
+-- The text of a rule that a line defines is UTF-8, and of one that its ask defines.
 pub mod RuleTexts

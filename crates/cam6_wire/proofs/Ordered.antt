@@ -12,6 +12,7 @@ use Rattle.json.specs.Json as json
 use Rattle.json.specs.Lex.{tokens}
 use Rattle.serde_json.specs.Data.{Num, Data, null, boolean, number, string, array, object, put}
 use Rattle.serde_json.specs.Data.{Items, no_items, item, Members, no_members, member}
+use Rattle.serde_json.specs.Find.{get_member}
 use Rattle.serde_json.specs.Read.{number_of, of_json, of_items, of_members, max_depth, read}
 use Rattle.cam6_wire.specs.Commands.{value_of}
 use Rattle.cam6_wire.proofs.Steps.{of_map, of_step}
@@ -161,3 +162,25 @@ value_is_ordered line =
     ordered_if (is_utf8 line) (read line)
     (ordered_read
     (option_and_then (λ p. json.if_last p.0 p.1) (json.value max_depth (tokens line))))
+
+ordered_or : (o : Ordering) (x : Option Data) (e : Data) → IfSome x IsOrdered → IsOrdered e →
+    IfSome (match_ordering o x (Some e) x) IsOrdered
+ordered_or Less x e later here = later
+ordered_or Equal x e later here = here
+ordered_or Greater x e later here = later
+
+ordered_at : (key : List ℕ) (held : Members) → HaveOrder held →
+    IfSome (get_member key held) IsOrdered
+ordered_at key no_members given = tt
+ordered_at key (member next e held) given =
+    ordered_or (slice_cmp nat_cmp key next) (get_member key held) e (ordered_at key held given.1)
+    given.0
+
+and_is : (o : Option Data) → IfSome o IsOrdered → IfSome o (λ d. (o ≡ Some d) × IsOrdered d)
+and_is None given = tt
+and_is (Some d) given = (refl, given)
+
+-- what stands at a key of an ordered object
+pub ordered_found : (key : List ℕ) (held : Members) → HaveOrder held →
+    IfSome (get_member key held) (λ d. (get_member key held ≡ Some d) × IsOrdered d)
+ordered_found key held given = and_is (get_member key held) (ordered_at key held given)

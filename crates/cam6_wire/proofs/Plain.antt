@@ -12,7 +12,8 @@ use Rattle.serde_json.specs.Written.{number_text, comma_if, compact_text, items_
 use Rattle.cam6_wire.specs.Replies.{reply_data, reply_bytes, fault_bytes, fault_then}
 use Rattle.cam6_wire.specs.Faults.{fault_number}
 use Rattle.cam6_wire.specs.OneLine.{HasNoLf}
-use Rattle.cam6_wire.specs.Laws.{ReplyIsLine, FaultIsLine}
+use Rattle.cam6_wire.specs.Outcomes.{outcome_data, outcome_bytes}
+use Rattle.cam6_wire.specs.Laws.{ReplyIsLine, FaultIsLine, OutcomeIsLine}
 
 -- no byte is that of a control character
 abbrev IsPlain : List ℕ → Type 0
@@ -152,3 +153,8 @@ unfolding fault_bytes
 fault_is_line fault =
     one_line (compact_text (object (fault_then (fault_number fault) no_members)))
     (plain_text (object (fault_then (fault_number fault) no_members)))
+
+pub outcome_is_line : OutcomeIsLine
+unfolding outcome_bytes
+outcome_is_line outcome =
+    one_line (compact_text (outcome_data outcome)) (plain_text (outcome_data outcome))

@@ -1,15 +1,19 @@
--- The text of a rule that a line defines is UTF-8.
-use Rattle.std.proofs.Common.{◌≡◌, ℕ, List, Bool, true, false, cond, codes, Option, Some, None, Ok}
-use Rattle.std.proofs.Common.{IsUtf8, refl, ap}
+-- The text of a rule that a line defines is UTF-8, and of one that its ask defines.
+use Rattle.std.proofs.Common.{◌≡◌, ℕ, List, Bool, true, false, cond, codes, Option, Some, None}
+use Rattle.std.proofs.Common.{IsUtf8, refl, ap, subst}
 use Rattle.std.specs.Str.{is_utf8}
 use Rattle.serde_json.specs.Data.{Data}
 use Rattle.serde_json.specs.Read.{read}
 use Rattle.cam6_wiring.specs.declared.wirings.Wiring.{Wiring}
 use Rattle.cam6_commands.specs.declared.commands.Command.TheVariants.{Rule}
+use Rattle.cam6_commands.specs.declared.events.Event.TheVariants.{Ask}
 use Rattle.cam6_wire.specs.Fields.{text_at}
-use Rattle.cam6_wire.specs.Commands.{command}
+use Rattle.cam6_wire.specs.Commands.{value_of}
+use Rattle.cam6_wire.specs.Shown.{Shows}
+use Rattle.cam6_wire.specs.Laws.{TextIsUtf8, AskedTextIsUtf8}
 use Rattle.cam6_wire.proofs.Showing.{said_is_shown}
-use Rattle.cam6_wire.proofs.TextsAreUtf8.{texts_are_utf8, text_at_utf8}
+use Rattle.cam6_wire.proofs.ShowingEvents.{said_event_is_shown}
+use Rattle.cam6_wire.proofs.TextsAreUtf8.{HasTexts, texts_are_utf8, text_at_utf8}
 
 -- a line that has a value is UTF-8, and is read as the value
 of_utf8 : (valid : Bool) (o : Option Data) (d : Data) → cond valid o None ≡ Some d →
@@ -17,10 +21,25 @@ of_utf8 : (valid : Bool) (o : Option Data) (d : Data) → cond valid o None ≡ 
 of_utf8 true o d is = (refl, is)
 of_utf8 false o d is = let never : ⊥ = cc in absurd never
 
-pub said_has_text : (line name text : List ℕ) (wiring : Wiring) →
-    command line ≡ Ok (Rule name wiring text) → IsUtf8 text
+-- the text of a rule that a value with UTF-8 texts shows
+shown_has_text : (d : Data) (name text : List ℕ) (wiring : Wiring) → HasTexts d →
+    Shows d (Rule name wiring text) → IsUtf8 text
+shown_has_text d name text wiring has shows =
+    text_at_utf8 (codes "text") d text has (ap (text_at (codes "text")) shows)
+
+value_has_texts : (line : List ℕ) (d : Data) → value_of line ≡ Some d → HasTexts d
+value_has_texts line d is =
+    let found = of_utf8 (is_utf8 line) (read line) d is in
+    texts_are_utf8 line d found.0 found.1
+
+pub said_has_text : TextIsUtf8
 said_has_text line name text wiring said =
     let shown = (said_is_shown line (Rule name wiring text) said).1 in
-    let found = of_utf8 (is_utf8 line) (read line) shown.0 shown.1 in
-    text_at_utf8 (codes "text") shown.0 text (texts_are_utf8 line shown.0 found.0 found.1)
-    (ap (text_at (codes "text")) shown.2)
+    shown_has_text shown.0 name text wiring (value_has_texts line shown.0 shown.1) shown.2
+
+-- the command of an ask is one of the values in it
+pub asked_has_text : AskedTextIsUtf8
+asked_has_text line name text user wiring said =
+    let shown = (said_event_is_shown line (Ask user (Rule name wiring text)) said).1 in
+    let held = subst HasTexts shown.2.2 (value_has_texts line shown.0 shown.1) in
+    shown_has_text shown.2.0 name text wiring held.1 shown.2.1

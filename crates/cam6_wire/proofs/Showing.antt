@@ -1,15 +1,10 @@
 -- A line that says a command has a value that shows it.
-use Rattle.std.proofs.Common.{◌≡◌, ◌<◌, ◌≤◌, ℕ, List, length, Bool, true, false, cond, nat_lt}
-use Rattle.std.proofs.Common.{codes, Option, Some, None, IfSome, Result, Ok, Err, ok_or, option_map}
-use Rattle.std.proofs.Common.{bytes_eq, Less, refl, ap, ◌∙◌, arith}
+use Rattle.std.proofs.Common.{◌≡◌, ◌<◌, ℕ, List, length, codes, Option, Some, IfSome, Ok}
+use Rattle.std.proofs.Common.{option_map, refl, cond, bytes_eq, Less}
 use Rattle.std.specs.Cmp.Lexicographic.{slice_cmp}
 use Rattle.std.specs.Ordering.{nat_cmp}
-use Rattle.std.specs.Str.{is_utf8}
-use Rattle.std.proofs.lemmas.Option.{IfSome_then}
-use Rattle.std.proofs.lemmas.Slice.Eq.{bytes_eq-Decides}
 use Rattle.serde_json.specs.Data.{Data, string, array, object, Members, no_members, member}
 use Rattle.serde_json.specs.Find.{get}
-use Rattle.serde_json.specs.Read.{read}
 use Rattle.cam6_wiring.specs.Wiring.{wired}
 use Rattle.cam6_wiring.specs.declared.wirings.Wiring.{Wiring}
 use Rattle.cam6_commands.specs.declared.commands.Command.{Command}
@@ -18,8 +13,6 @@ use Rattle.cam6_commands.specs.declared.commands.Command.TheVariants.{Row, Plane
 use Rattle.cam6_commands.specs.declared.commands.Command.TheVariants.{Drop as DropRule, Rules, Map}
 use Rattle.cam6_commands.specs.declared.commands.Command.TheVariants.{Side as SetSide, Colours}
 use Rattle.cam6_commands.specs.declared.commands.Command.TheVariants.{Count}
-use Rattle.cam6_wire.specs.declared.faults.LineFault.{LineFault}
-use Rattle.cam6_wire.specs.declared.faults.LineFault.TheVariants.{NoCommand, TooLong}
 use Rattle.cam6_wire.specs.Fields.{count, number_at, text_at, bits_at, colours_at}
 use Rattle.cam6_wire.specs.Fields.{◌>>=◌}
 use Rattle.cam6_wire.specs.Replies.{natural, naturals}
@@ -27,27 +20,27 @@ use Rattle.cam6_wiring.specs.Texts.{half_text, hood_text, minor_text}
 use Rattle.cam6_wiring.specs.Texts.{half_named, hood_named, minor_named}
 use Rattle.cam6_wire.specs.Wirings.{wiring_in}
 use Rattle.cam6_wire.specs.Entries.{entries_at}
-use Rattle.cam6_wire.specs.Limits.{limit_of}
-use Rattle.cam6_wire.specs.Commands.{set_fields, set_of, sole_number, clear_of, rule_fields}
-use Rattle.cam6_wire.specs.Commands.{rule_of, drop_of, listing_of, cycle_of, run_of, back_of}
-use Rattle.cam6_wire.specs.Commands.{row_fields, row_of, plane_of, side_of, map_of, colours_of}
-use Rattle.cam6_wire.specs.Commands.{count_of, by_word, shown_in, from_value, value_of, command}
+use Rattle.cam6_wire.specs.Commands.{set_fields, set_of, clear_of, rule_fields, rule_of, drop_of}
+use Rattle.cam6_wire.specs.Commands.{listing_of, cycle_of, run_of, back_of, row_fields, row_of}
+use Rattle.cam6_wire.specs.Commands.{plane_of, side_of, map_of, colours_of, count_of, by_word}
+use Rattle.cam6_wire.specs.Commands.{sole_number, shown_in, command}
 use Rattle.cam6_wire.specs.Shown.{Shows}
 use Rattle.cam6_wire.specs.Laws.{SaidIsShown}
-use Rattle.cam6_wire.proofs.Steps.{of_map, of_step, of_value, of_test, of_two, of_three}
-use Rattle.cam6_wire.proofs.Ordered.{IsOrdered, value_is_ordered}
+use Rattle.cam6_wire.proofs.Steps.{of_map, of_two, of_three}
+use Rattle.cam6_wire.proofs.Ordered.{IsOrdered}
 use Rattle.cam6_wire.proofs.Exactly.{these}
-use Rattle.cam6_wire.proofs.Saying.{not_empty}
+use Rattle.cam6_wire.proofs.Saying.{is_shown, not_empty}
 use Rattle.cam6_wire.proofs.Found.{number_found, text_found, AreDigits, bits_found}
 use Rattle.cam6_wire.proofs.Found.{half_found, hood_found, minor_found, of_object}
 use Rattle.cam6_wire.proofs.ColourLists.{HasColours, colours_found}
 use Rattle.cam6_wire.proofs.ShownEntries.{HasEntries, entries_found}
+use Rattle.cam6_wire.proofs.Worded.{HasWord, of_word, word_shown, number_later}
 
 -- what holds of a value whose word at the key do is known
-abbrev HasWord : List ℕ → Data → Type 0
-HasWord word d = IsOrdered d × (get (codes "do") d ≡ Some (string word))
+abbrev HasDo : List ℕ → Data → Type 0
+HasDo word d = HasWord (codes "do") word d
 
-set_held : (held : Members) → count held ≡ 4 → HasWord (codes "set") (object held) →
+set_held : (held : Members) → count held ≡ 4 → HasDo (codes "set") (object held) →
     IfSome (set_fields (object held)) (Shows (object held))
 set_held held same given =
     of_three (λ plane. get (codes "plane") (object held) ≡ Some (natural plane))
@@ -70,41 +63,11 @@ set_held held same given =
     (number_found (codes "plane") (object held)) (number_found (codes "row") (object held))
     (bits_found (codes "bits") (object held))
 
-set_shown : (d : Data) → HasWord (codes "set") d → IfSome (set_of d) (Shows d)
+set_shown : (d : Data) → HasDo (codes "set") d → IfSome (set_of d) (Shows d)
 unfolding set_of
-set_shown d given = of_object 4 set_fields (HasWord (codes "set")) Shows set_held d given
+set_shown d given = of_object 4 set_fields (HasDo (codes "set")) Shows set_held d given
 
--- a value that has a word and a number, and nothing else
-abbrev IsOfNumber : List ℕ → List ℕ → Data → ℕ → Type 0
-IsOfNumber word key d n =
-    d ≡ object (member (codes "do") (string word) (member key (natural n) no_members))
-
-number_held : (word key : List ℕ) → slice_cmp nat_cmp (codes "do") key ≡ Less →
-    (held : Members) → count held ≡ 2 → HasWord word (object held) →
-    IfSome (number_at key (object held)) (IsOfNumber word key (object held))
-number_held word key later held same given =
-    IfSome_then (number_at key (object held)) (number_found key (object held))
-    (λ n at.
-    these (member (codes "do") (string word) (member key (natural n) no_members)) held
-    ((later, tt), (tt, tt)) same given.0 (given.1, (at, tt)))
-
-sole_held : (word key : List ℕ) → slice_cmp nat_cmp (codes "do") key ≡ Less → (d : Data) →
-    HasWord word d → IfSome (sole_number key d) (IsOfNumber word key d)
-unfolding sole_number
-sole_held word key later d given =
-    of_object 2 (number_at key) (HasWord word) (IsOfNumber word key) (number_held word key later)
-    d given
-
--- a command of one number is shown by such a value
-sole_shown : (word key : List ℕ) (make : ℕ → Command) (d : Data) →
-    slice_cmp nat_cmp (codes "do") key ≡ Less →
-    ((n : ℕ) → IsOfNumber word key d n → Shows d (make n)) →
-    HasWord word d → IfSome (option_map make (sole_number key d)) (Shows d)
-sole_shown word key make d later shows given =
-    of_map (IsOfNumber word key d) (Shows d) make shows (sole_number key d)
-    (sole_held word key later d given)
-
-row_held : (held : Members) → count held ≡ 3 → HasWord (codes "row") (object held) →
+row_held : (held : Members) → count held ≡ 3 → HasDo (codes "row") (object held) →
     IfSome (row_fields (object held)) (Shows (object held))
 row_held held same given =
     of_two (λ plane. get (codes "plane") (object held) ≡ Some (natural plane))
@@ -118,11 +81,11 @@ row_held held same given =
     (number_at (codes "plane") (object held)) (number_at (codes "row") (object held))
     (number_found (codes "plane") (object held)) (number_found (codes "row") (object held))
 
-row_shown : (d : Data) → HasWord (codes "row") d → IfSome (row_of d) (Shows d)
+row_shown : (d : Data) → HasDo (codes "row") d → IfSome (row_of d) (Shows d)
 unfolding row_of
-row_shown d given = of_object 3 row_fields (HasWord (codes "row")) Shows row_held d given
+row_shown d given = of_object 3 row_fields (HasDo (codes "row")) Shows row_held d given
 
-drop_held : (held : Members) → count held ≡ 2 → HasWord (codes "drop") (object held) →
+drop_held : (held : Members) → count held ≡ 2 → HasDo (codes "drop") (object held) →
     IfSome (option_map DropRule (text_at (codes "name") (object held))) (Shows (object held))
 drop_held held same given =
     of_map (λ name. get (codes "name") (object held) ≡ Some (string name)) (Shows (object held))
@@ -134,24 +97,24 @@ drop_held held same given =
     held ((refl, tt), (tt, tt)) same given.0 (given.1, (at_name, tt)))
     (text_at (codes "name") (object held)) (text_found (codes "name") (object held))
 
-drop_shown : (d : Data) → HasWord (codes "drop") d → IfSome (drop_of d) (Shows d)
+drop_shown : (d : Data) → HasDo (codes "drop") d → IfSome (drop_of d) (Shows d)
 unfolding drop_of
 drop_shown d given =
-    of_object 2 (λ x. option_map DropRule (text_at (codes "name") x)) (HasWord (codes "drop"))
+    of_object 2 (λ x. option_map DropRule (text_at (codes "name") x)) (HasDo (codes "drop"))
     Shows drop_held d given
 
-rules_held : (held : Members) → count held ≡ 1 → HasWord (codes "rules") (object held) →
+rules_held : (held : Members) → count held ≡ 1 → HasDo (codes "rules") (object held) →
     IfSome (Some Rules) (Shows (object held))
 rules_held held same given =
     these (member (codes "do") (string (codes "rules")) no_members) held (tt, tt) same given.0
     (given.1, tt)
 
-rules_shown : (d : Data) → HasWord (codes "rules") d → IfSome (listing_of d) (Shows d)
+rules_shown : (d : Data) → HasDo (codes "rules") d → IfSome (listing_of d) (Shows d)
 unfolding listing_of
 rules_shown d given =
-    of_object 1 (λ x. Some Rules) (HasWord (codes "rules")) Shows rules_held d given
+    of_object 1 (λ x. Some Rules) (HasDo (codes "rules")) Shows rules_held d given
 
-map_held : (held : Members) → count held ≡ 2 → HasWord (codes "map") (object held) →
+map_held : (held : Members) → count held ≡ 2 → HasDo (codes "map") (object held) →
     IfSome (option_map Map (colours_at (codes "colours") (object held))) (Shows (object held))
 map_held held same given =
     of_map (HasColours (codes "colours") (object held)) (Shows (object held)) Map
@@ -164,10 +127,10 @@ map_held held same given =
     ))
     (colours_at (codes "colours") (object held)) (colours_found (codes "colours") (object held))
 
-map_shown : (d : Data) → HasWord (codes "map") d → IfSome (map_of d) (Shows d)
+map_shown : (d : Data) → HasDo (codes "map") d → IfSome (map_of d) (Shows d)
 unfolding map_of
 map_shown d given =
-    of_object 2 (λ x. option_map Map (colours_at (codes "colours") x)) (HasWord (codes "map"))
+    of_object 2 (λ x. option_map Map (colours_at (codes "colours") x)) (HasDo (codes "map"))
     Shows map_held d given
 
 -- the wiring of a rule
@@ -189,7 +152,7 @@ wiring_found d =
     (text_at (codes "minor") d >>= minor_named)
     (half_found (codes "half") d) (hood_found (codes "hood") d) (minor_found (codes "minor") d)
 
-rule_held : (held : Members) → count held ≡ 6 → HasWord (codes "rule") (object held) →
+rule_held : (held : Members) → count held ≡ 6 → HasDo (codes "rule") (object held) →
     IfSome (rule_fields (object held)) (Shows (object held))
 rule_held held same given =
     of_three (λ name. get (codes "name") (object held) ≡ Some (string name))
@@ -215,11 +178,11 @@ rule_held held same given =
     (text_found (codes "name") (object held)) (wiring_found (object held))
     (text_found (codes "text") (object held))
 
-rule_shown : (d : Data) → HasWord (codes "rule") d → IfSome (rule_of d) (Shows d)
+rule_shown : (d : Data) → HasDo (codes "rule") d → IfSome (rule_of d) (Shows d)
 unfolding rule_of
-rule_shown d given = of_object 6 rule_fields (HasWord (codes "rule")) Shows rule_held d given
+rule_shown d given = of_object 6 rule_fields (HasDo (codes "rule")) Shows rule_held d given
 
-cycle_held : (held : Members) → count held ≡ 2 → HasWord (codes "cycle") (object held) →
+cycle_held : (held : Members) → count held ≡ 2 → HasDo (codes "cycle") (object held) →
     IfSome (option_map Cycle (entries_at (codes "entries") (object held))) (Shows (object held))
 cycle_held held same given =
     of_map (HasEntries (object held)) (Shows (object held)) Cycle
@@ -233,84 +196,54 @@ cycle_held held same given =
     ))
     (entries_at (codes "entries") (object held)) (entries_found held given.0.1)
 
-cycle_shown : (d : Data) → HasWord (codes "cycle") d → IfSome (cycle_of d) (Shows d)
+cycle_shown : (d : Data) → HasDo (codes "cycle") d → IfSome (cycle_of d) (Shows d)
 unfolding cycle_of
 cycle_shown d given =
-    of_object 2 (λ x. option_map Cycle (entries_at (codes "entries") x)) (HasWord (codes "cycle"))
+    of_object 2 (λ x. option_map Cycle (entries_at (codes "entries") x)) (HasDo (codes "cycle"))
     Shows cycle_held d given
 
--- one word after another
-of_word : (word key : List ℕ) (d : Data) (x y : Option Command) →
-    IsOrdered d → get (codes "do") d ≡ Some (string word) →
-    (HasWord key d → IfSome x (Shows d)) → IfSome y (Shows d) →
-    IfSome (cond (bytes_eq word key) x y) (Shows d)
-of_word word key d x y ordered at here later =
-    of_test (Shows d) (bytes_eq word key) x y
-    (λ is. here (ordered, at ∙ ap (λ w. Some (string w)) ((bytes_eq-Decides word key).0 is))) later
-
-word_shown : (word : List ℕ) (d : Data) → IsOrdered d →
-    get (codes "do") d ≡ Some (string word) → IfSome (by_word word d) (Shows d)
+by_word_shown : (word : List ℕ) (d : Data) → HasDo word d → IfSome (by_word word d) (Shows d)
 unfolding clear_of run_of back_of plane_of side_of colours_of count_of
-word_shown word d ordered at =
-    of_word word (codes "set") d (set_of d) _ ordered at (set_shown d)
-    (of_word word (codes "clear") d (clear_of d) _ ordered at
-    (sole_shown (codes "clear") (codes "plane") Clear d refl (λ n is. is))
-    (of_word word (codes "rule") d (rule_of d) _ ordered at (rule_shown d)
-    (of_word word (codes "drop") d (drop_of d) _ ordered at (drop_shown d)
-    (of_word word (codes "rules") d (listing_of d) _ ordered at (rules_shown d)
-    (of_word word (codes "cycle") d (cycle_of d) _ ordered at (cycle_shown d)
-    (of_word word (codes "run") d (run_of d) _ ordered at
-    (sole_shown (codes "run") (codes "n") Run d refl (λ n is. is))
-    (of_word word (codes "back") d (back_of d) _ ordered at
-    (sole_shown (codes "back") (codes "n") Back d refl (λ n is. is))
-    (of_word word (codes "row") d (row_of d) _ ordered at (row_shown d)
-    (of_word word (codes "plane") d (plane_of d) _ ordered at
-    (sole_shown (codes "plane") (codes "plane") Plane d refl (λ n is. is))
-    (of_word word (codes "side") d (side_of d) _ ordered at
-    (sole_shown (codes "side") (codes "side") SetSide d refl (λ n is. is))
-    (of_word word (codes "map") d (map_of d) _ ordered at (map_shown d)
-    (of_word word (codes "colours") d (colours_of d) _ ordered at
-    (sole_shown (codes "colours") (codes "row") Colours d refl (λ n is. is))
-    (of_word word (codes "count") d (count_of d) _ ordered at
-    (sole_shown (codes "count") (codes "mask") Count d refl (λ n is. is)) tt)))))))))))))
+by_word_shown word d has =
+    one (codes "set") (set_of d) _ (set_shown d)
+    (one (codes "clear") (clear_of d) _ (sole (codes "clear") (codes "plane") Clear refl (λ n is. is))
+    (one (codes "rule") (rule_of d) _ (rule_shown d)
+    (one (codes "drop") (drop_of d) _ (drop_shown d)
+    (one (codes "rules") (listing_of d) _ (rules_shown d)
+    (one (codes "cycle") (cycle_of d) _ (cycle_shown d)
+    (one (codes "run") (run_of d) _ (sole (codes "run") (codes "n") Run refl (λ n is. is))
+    (one (codes "back") (back_of d) _ (sole (codes "back") (codes "n") Back refl (λ n is. is))
+    (one (codes "row") (row_of d) _ (row_shown d)
+    (one (codes "plane") (plane_of d) _ (sole (codes "plane") (codes "plane") Plane refl (λ n is. is))
+    (one (codes "side") (side_of d) _ (sole (codes "side") (codes "side") SetSide refl (λ n is. is))
+    (one (codes "map") (map_of d) _ (map_shown d)
+    (one (codes "colours") (colours_of d) _
+    (sole (codes "colours") (codes "row") Colours refl (λ n is. is))
+    (one (codes "count") (count_of d) _ (sole (codes "count") (codes "mask") Count refl (λ n is. is))
+    tt)))))))))))))
+  where
+    one : (its : List ℕ) (x y : Option Command) → (HasDo its d → IfSome x (Shows d)) →
+        IfSome y (Shows d) → IfSome (cond (bytes_eq word its) x y) (Shows d)
+    one its x y here later = of_word (codes "do") word its d (Shows d) x y has here later
+
+    -- a command of one number
+    sole : (its key : List ℕ) (make : ℕ → Command) → slice_cmp nat_cmp (codes "do") key ≡ Less →
+        ((n : ℕ) →
+        d ≡ object (member (codes "do") (string its) (member key (natural n) no_members)) →
+        Shows d (make n)) →
+        HasDo its d → IfSome (option_map make (sole_number key d)) (Shows d)
+    sole its key make later holds =
+        number_later (codes "do") its key make d (Shows d) later holds
 
 pub command_shown : (d : Data) → IsOrdered d → IfSome (shown_in d) (Shows d)
 command_shown d ordered =
-    of_step (λ word. get (codes "do") d ≡ Some (string word)) (Shows d) (λ word. by_word word d)
-    (λ word at. word_shown word d ordered at)
-    (text_at (codes "do") d) (text_found (codes "do") d)
-
--- a line that says a command isn't too long
-not_too_long : (limit n : ℕ) (said : Result Command LineFault) (c : Command) (b : Bool) →
-    nat_lt limit n ≡ b → cond b (Err TooLong) said ≡ Ok c → (n ≤ limit) × (said ≡ Ok c)
-not_too_long limit n said c true is e = let never : ⊥ = cc in absurd never
-not_too_long limit n said c false is e = (grind arith, e)
-
--- it has a value, which is a command
-has_command : (o : Option Command) (c : Command) → ok_or o NoCommand ≡ Ok c → o ≡ Some c
-has_command None c e = let never : ⊥ = cc in absurd never
-has_command (Some x) c e = let same : x ≡ c = cc in ap Some same
-
-has_value : (line : List ℕ) (o : Option Data) (c : Command) → from_value line o ≡ Ok c →
-    (d : Data) × (o ≡ Some d) × (shown_in d ≡ Some c)
-has_value line None c e = let never : ⊥ = cc in absurd never
-has_value line (Some d) c e = (d, refl, has_command (shown_in d) c e)
+    word_shown by_word (codes "do") d (Shows d) ordered (λ word has. by_word_shown word d has)
 
 pub said_is_shown : SaidIsShown
-said_is_shown line c said =
-    let short =
-    not_too_long (limit_of line) (length line) (from_value line (value_of line)) c _ refl said in
-    let value = has_value line (value_of line) c short.1 in
-    let ordered = of_value IsOrdered (value_of line) value.0 (value_is_ordered line) value.1 in
-    let is = of_value (Shows value.0) (shown_in value.0) c (command_shown value.0 ordered) value.2 in
-    (short.0, (value.0, value.1, is))
-
-is_read : (b : Bool) (o : Option Data) (d : Data) → cond b o None ≡ Some d → o ≡ Some d
-is_read true o d e = e
-is_read false o d e = let never : ⊥ = cc in absurd never
+said_is_shown line c said = is_shown shown_in Shows command_shown line c said
 
 -- a line that says a command isn't empty
 pub said_not_empty : (line : List ℕ) (c : Command) → command line ≡ Ok c → 0 < length line
 said_not_empty line c said =
     let value = (said_is_shown line c said).1 in
-    not_empty line value.0 (is_read (is_utf8 line) (read line) value.0 value.1)
+    not_empty line value.0 value.1

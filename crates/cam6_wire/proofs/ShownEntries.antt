@@ -1,8 +1,5 @@
 -- A list that is read as a cycle's entries shows them.
-use Rattle.std.proofs.Common.{◌≡◌, ℕ, List, ◌∷◌, codes, Option, Some, None, IfSome, refl}
-use Rattle.std.proofs.Common.{Ordering, Less, Equal, Greater}
-use Rattle.std.specs.Ordering.{nat_cmp, match_ordering}
-use Rattle.std.specs.Cmp.Lexicographic.{slice_cmp}
+use Rattle.std.proofs.Common.{◌≡◌, ℕ, List, ◌∷◌, codes, Option, Some, IfSome, refl}
 use Rattle.std.proofs.lemmas.Option.{IfSome_then}
 use Rattle.serde_json.specs.Data.{Data, null, boolean, number, string, array, object}
 use Rattle.serde_json.specs.Data.{Items, no_items, item, Members, no_members, member}
@@ -15,7 +12,7 @@ use Rattle.cam6_wiring.specs.Texts.{grid_text, grid_named}
 use Rattle.cam6_wire.specs.Entries.{rule_name_in, entry_fields, entry_in, entries_in, entries_at}
 use Rattle.cam6_wire.specs.Shown.{ShowsEntry, ShowsEntries}
 use Rattle.cam6_wire.proofs.Steps.{of_step, of_four}
-use Rattle.cam6_wire.proofs.Ordered.{IsOrdered, AreOrdered, HaveOrder}
+use Rattle.cam6_wire.proofs.Ordered.{IsOrdered, AreOrdered, HaveOrder, ordered_found}
 use Rattle.cam6_wire.proofs.Exactly.{these}
 use Rattle.cam6_wire.proofs.Found.{number_found, text_found, grid_found, of_object}
 
@@ -65,24 +62,6 @@ entries_shown (item d items) given =
     (λ entries show. (shows, show)) (entries_in items) (entries_shown items given.1))
     (entry_in d) (entry_shown d given.0)
 
-ordered_or : (o : Ordering) (x : Option Data) (e : Data) → IfSome x IsOrdered → IsOrdered e →
-    IfSome (match_ordering o x (Some e) x) IsOrdered
-ordered_or Less x e later here = later
-ordered_or Equal x e later here = here
-ordered_or Greater x e later here = later
-
--- what stands at a key of an ordered object
-ordered_at : (key : List ℕ) (held : Members) → HaveOrder held →
-    IfSome (get_member key held) IsOrdered
-ordered_at key no_members given = tt
-ordered_at key (member next e held) given =
-    ordered_or (slice_cmp nat_cmp key next) (get_member key held) e (ordered_at key held given.1)
-    given.0
-
-and_is : (o : Option Data) → IfSome o IsOrdered → IfSome o (λ d. (o ≡ Some d) × IsOrdered d)
-and_is None given = tt
-and_is (Some d) given = (refl, given)
-
 abbrev pub HasEntries : Data → List NamedEntry → Type 0
 HasEntries d entries =
     (items : Items) × ShowsEntries items entries ×
@@ -106,5 +85,4 @@ entries_found held given =
     of_step (λ d. (get_member (codes "entries") held ≡ Some d) × IsOrdered d)
     (HasEntries (object held)) (λ d. as_array d >>= λ items. entries_in items)
     (λ d given. entries_held (get_member (codes "entries") held) d given)
-    (get_member (codes "entries") held)
-    (and_is (get_member (codes "entries") held) (ordered_at (codes "entries") held given))
+    (get_member (codes "entries") held) (ordered_found (codes "entries") held given)

@@ -1,6 +1,6 @@
 -- A line whose value shows a command says it.
 use Rattle.std.proofs.Common.{◌≡◌, ℕ, ◌/◌, List, [], ◌∷◌, length, codes}
-use Rattle.std.proofs.Common.{Option, Some, Ok, ok_or, option_and_then, option_map, refl, ap, ◌∙◌}
+use Rattle.std.proofs.Common.{Option, Some, Ok, option_and_then, option_map, refl, ap, ◌∙◌}
 use Rattle.cam6_planes.specs.Side.{side_number}
 use Rattle.cam6_planes.specs.declared.sides.Side.{Side}
 use Rattle.cam6_planes.proofs.DigitsRead.{digits_said}
@@ -17,7 +17,6 @@ use Rattle.cam6_commands.specs.declared.commands.Command.TheVariants.{Side as Se
 use Rattle.cam6_commands.specs.declared.commands.Command.TheVariants.{Count}
 use Rattle.cam6_commands.specs.Limits.{cell_states}
 use Rattle.cam6_commands.specs.declared.commands.NamedEntry.{NamedEntry}
-use Rattle.cam6_wire.specs.declared.faults.LineFault.TheVariants.{NoCommand}
 use Rattle.cam6_wire.specs.Fields.{text_at, ◌>>=◌}
 use Rattle.cam6_wire.specs.Replies.{natural, naturals}
 use Rattle.cam6_wiring.specs.Texts.{half_text, hood_text, minor_text, grid_text}
@@ -28,10 +27,11 @@ use Rattle.cam6_wire.specs.Wirings.{wiring_in}
 use Rattle.cam6_wire.specs.Entries.{rule_name_in, entry_in, entries_in}
 use Rattle.cam6_wire.specs.Commands.{set_of, sole_number, clear_of, rule_of, drop_of, listing_of}
 use Rattle.cam6_wire.specs.Commands.{cycle_of, run_of, back_of, row_of, plane_of, side_of, map_of}
-use Rattle.cam6_wire.specs.Commands.{colours_of, count_of, by_word, shown_in, from_value}
+use Rattle.cam6_wire.specs.Commands.{colours_of, count_of, by_word, shown_in}
 use Rattle.cam6_wire.specs.Shown.{ShowsEntries, Shows}
 use Rattle.cam6_wire.specs.Laws.{ShownIsSaid}
-use Rattle.cam6_wire.proofs.Saying.{short_line}
+use Rattle.cam6_wire.proofs.Saying.{is_said}
+use Rattle.cam6_wire.proofs.Worded.{by_its_word}
 use Rattle.cam6_wire.proofs.ColourLists.{colours_said}
 
 -- three steps that all give a value
@@ -146,7 +146,8 @@ drop_said : (name : List ℕ) →
 unfolding drop_of
 drop_said name = refl
 
-rules_said : listing_of (object (member (codes "do") (string (codes "rules")) no_members)) ≡ Some Rules
+rules_said :
+    listing_of (object (member (codes "do") (string (codes "rules")) no_members)) ≡ Some Rules
 unfolding listing_of
 rules_said = refl
 
@@ -160,61 +161,34 @@ unfolding map_of
 map_said colours sixteen = ap (option_map Map) (colours_said colours sixteen)
 
 -- a command is what a value says by its word
-by_its_word : (d : Data) (word : List ℕ) (c : Command) → text_at (codes "do") d ≡ Some word →
-    by_word word d ≡ Some c → shown_in d ≡ Some c
-by_its_word d word c at is = ap (λ o. o >>= λ word. by_word word d) at ∙ is
+told : (d e : Data) (word : List ℕ) (c : Command) → d ≡ e → text_at (codes "do") e ≡ Some word →
+    by_word word e ≡ Some c → shown_in d ≡ Some c
+told = by_its_word by_word (codes "do")
 
--- the same of a value that is another one
-of_same : (d e : Data) (c : Command) → d ≡ e → shown_in e ≡ Some c → shown_in d ≡ Some c
-of_same d e c same is = ap shown_in same ∙ is
-
--- and where it has a word and one number
-sole_said : (d : Data) (word key : List ℕ) (n : ℕ) (c : Command) →
-    d ≡ object (member (codes "do") (string word) (member key (natural n) no_members)) →
-    shown_in (object (member (codes "do") (string word) (member key (natural n) no_members)))
-    ≡ Some c →
-    shown_in d ≡ Some c
-sole_said d word key n c same is = ap shown_in same ∙ is
-
-says_shown : (d : Data) (c : Command) → Shows d c → shown_in d ≡ Some c
+pub says_shown : (d : Data) (c : Command) → Shows d c → shown_in d ≡ Some c
 unfolding sole_number clear_of run_of back_of plane_of side_of colours_of count_of
 says_shown d (Set plane row bits) shows =
-    of_same d _ (Set plane row bits) shows.3
-    (by_its_word _ (codes "set") (Set plane row bits) refl
-    (set_said plane row shows.0 bits shows.1 shows.2))
-says_shown d (Clear n) shows =
-    sole_said d (codes "clear") (codes "plane") n (Clear n) shows refl
+    told d _ (codes "set") (Set plane row bits) shows.3 refl
+    (set_said plane row shows.0 bits shows.1 shows.2)
+says_shown d (Clear n) shows = told d _ (codes "clear") (Clear n) shows refl refl
 says_shown d (DropRule name) shows =
-    of_same d _ (DropRule name) shows
-    (by_its_word _ (codes "drop") (DropRule name) refl (drop_said name))
-says_shown d Rules shows =
-    of_same d _ Rules shows (by_its_word _ (codes "rules") Rules refl rules_said)
+    told d _ (codes "drop") (DropRule name) shows refl (drop_said name)
+says_shown d Rules shows = told d _ (codes "rules") Rules shows refl rules_said
 says_shown d (Map colours) shows =
-    of_same d _ (Map colours) shows.1
-    (by_its_word _ (codes "map") (Map colours) refl (map_said colours shows.0))
-says_shown d (Colours n) shows =
-    sole_said d (codes "colours") (codes "row") n (Colours n) shows refl
-says_shown d (Count n) shows =
-    sole_said d (codes "count") (codes "mask") n (Count n) shows refl
+    told d _ (codes "map") (Map colours) shows.1 refl (map_said colours shows.0)
+says_shown d (Colours n) shows = told d _ (codes "colours") (Colours n) shows refl refl
+says_shown d (Count n) shows = told d _ (codes "count") (Count n) shows refl refl
 says_shown d (Rule name wiring text) shows =
-    of_same d _ (Rule name wiring text) shows
-    (by_its_word _ (codes "rule") (Rule name wiring text) refl (rule_said wiring name text))
+    told d _ (codes "rule") (Rule name wiring text) shows refl (rule_said wiring name text)
 says_shown d (Cycle entries) shows =
-    of_same d _ (Cycle entries) shows.2
-    (by_its_word _ (codes "cycle") (Cycle entries) refl (cycle_said shows.0 entries shows.1))
-says_shown d (Run n) shows =
-    sole_said d (codes "run") (codes "n") n (Run n) shows refl
-says_shown d (Back n) shows =
-    sole_said d (codes "back") (codes "n") n (Back n) shows refl
+    told d _ (codes "cycle") (Cycle entries) shows.2 refl (cycle_said shows.0 entries shows.1)
+says_shown d (Run n) shows = told d _ (codes "run") (Run n) shows refl refl
+says_shown d (Back n) shows = told d _ (codes "back") (Back n) shows refl refl
 says_shown d (Row plane row) shows =
-    of_same d _ (Row plane row) shows
-    (by_its_word _ (codes "row") (Row plane row) refl (row_said plane row))
-says_shown d (Plane n) shows =
-    sole_said d (codes "plane") (codes "plane") n (Plane n) shows refl
-says_shown d (SetSide n) shows =
-    sole_said d (codes "side") (codes "side") n (SetSide n) shows refl
+    told d _ (codes "row") (Row plane row) shows refl (row_said plane row)
+says_shown d (Plane n) shows = told d _ (codes "plane") (Plane n) shows refl refl
+says_shown d (SetSide n) shows = told d _ (codes "side") (SetSide n) shows refl refl
 
 pub shown_is_said : ShownIsSaid
-shown_is_said line d c short is shows =
-    short_line line short ∙ ap (from_value line) is ∙
-    ap (λ o. ok_or o NoCommand) (says_shown d c shows)
+shown_is_said line d c within is shows =
+    is_said shown_in line d c within is (says_shown d c shows)

@@ -1,6 +1,6 @@
 -- What a line says: the JSON value that it is, and the command that the value is.
-use Rattle.std.specs.Prelude.{◌≡◌, ℕ, List, [], ◌∷◌, length, codes, nat_lt, Bool, true, false}
-use Rattle.std.specs.Prelude.{if◌then◌else◌}
+use Rattle.std.specs.Prelude.{◌≡◌, ◌<◌, ◌≤◌, ℕ, List, [], ◌∷◌, length, codes, nat_lt, Bool}
+use Rattle.std.specs.Prelude.{true, false, if◌then◌else◌}
 use Rattle.std.specs.Prelude.{Option, Some, None, option_map, ok_or, Result, Ok, Err, ⊤}
 use Rattle.std.specs.Option.{option_map_or}
 use Rattle.std.specs.Str.{bytes_eq, is_utf8}
@@ -150,24 +150,37 @@ takes_text d = option_map_or keeps_text (shown_in d) false
 abbrev pub value_of : List ℕ → Option Data
 value_of line = if is_utf8 line then read line else None
 
--- what a line says by its value, or the fault where it has none or it is no command
-abbrev pub from_value : List ℕ → Option Data → Result Command LineFault
-from_value line None = Err NoJson
-from_value line (Some d) = ok_or (shown_in d) NoCommand
+-- what a line says by its value, as values of its kind show it, or the fault where it has none or
+-- shows none
+abbrev pub from_value : {A : Type 0} → (Data → Option A) → List ℕ → Option Data → Result A LineFault
+from_value shown line None = Err NoJson
+from_value shown line (Some d) = ok_or (shown d) NoCommand
 
--- what a line says
+-- what a line says, as values of its kind show it
+abbrev pub said_by : {A : Type 0} → (Data → Option A) → List ℕ → Result A LineFault
+said_by shown line =
+    if nat_lt (limit_of line) (length line) then Err TooLong
+    else from_value shown line (value_of line)
+
+-- the command that a line says, or its fault
 abbrev pub command : List ℕ → Result Command LineFault
-command line =
-    if nat_lt (limit_of line) (length line) then Err TooLong else from_value line (value_of line)
+command = said_by shown_in
 
 -- the fault that was answered is what the line says, unless memory ran out
-abbrev pub IsFaultOf : LineFault → Result Command LineFault → Type 0
+abbrev pub IsFaultOf : {A : Type 0} → LineFault → Result A LineFault → Type 0
 IsFaultOf NoMemory said = ⊤
 IsFaultOf TooLong said = said ≡ Err TooLong
 IsFaultOf NoJson said = said ≡ Err NoJson
 IsFaultOf NoCommand said = said ≡ Err NoCommand
 
 -- what was answered is what the line says, unless memory ran out
-abbrev pub IsSaid : Result Command LineFault → Result Command LineFault → Type 0
+abbrev pub IsSaid : {A : Type 0} → Result A LineFault → Result A LineFault → Type 0
 IsSaid (Ok answered) said = said ≡ Ok answered
 IsSaid (Err fault) said = IsFaultOf fault said
+
+-- why no value was found of a line: it is too long, or no JSON, or memory ran out
+abbrev pub IsLinesFault : LineFault → List ℕ → Type 0
+IsLinesFault NoMemory line = ⊤
+IsLinesFault TooLong line = limit_of line < length line
+IsLinesFault NoJson line = (length line ≤ limit_of line) × (value_of line ≡ None)
+IsLinesFault NoCommand line = ⊥

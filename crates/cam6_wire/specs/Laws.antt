@@ -1,18 +1,24 @@
--- The laws that tie what a line says to the values that commands are shown by, that the text of a
--- rule is UTF-8, and that answers are lines.
+-- The laws that tie what a line says to the values that commands and events are shown by, that the
+-- text of a rule is UTF-8, and that answers are lines.
 use Rattle.std.specs.Prelude.{◌≡◌, ◌≤◌, ℕ, List, length, Some, Ok}
 use Rattle.std.specs.Str.{IsUtf8}
 use Rattle.serde_json.specs.Data.{Data}
 use Rattle.cam6_wiring.specs.declared.wirings.Wiring.{Wiring}
 use Rattle.cam6_commands.specs.declared.commands.Command.{Command}
 use Rattle.cam6_commands.specs.declared.commands.Command.TheVariants.{Rule}
+use Rattle.cam6_commands.specs.declared.events.Event.{Event}
+use Rattle.cam6_commands.specs.declared.events.Event.TheVariants.{Ask}
+use Rattle.cam6_commands.specs.declared.outcomes.Outcome.{Outcome}
 use Rattle.cam6_commands.specs.declared.replies.Reply.{Reply}
 use Rattle.cam6_wire.specs.declared.faults.LineFault.{LineFault}
 use Rattle.cam6_wire.specs.Limits.{limit_of}
 use Rattle.cam6_wire.specs.Commands.{command, value_of}
+use Rattle.cam6_wire.specs.Events.{event}
+use Rattle.cam6_wire.specs.Outcomes.{outcome_bytes}
 use Rattle.cam6_wire.specs.Replies.{reply_bytes, fault_bytes}
 use Rattle.cam6_wire.specs.OneLine.{HasNoLf}
 use Rattle.cam6_wire.specs.Shown.{Shows}
+use Rattle.cam6_wire.specs.ShownEvents.{ShowsEvent}
 
 -- a line whose value shows a command says it
 abbrev pub ShownIsSaid : Type 0
@@ -32,6 +38,24 @@ TextIsUtf8 =
     (line name text : List ℕ) (wiring : Wiring) → command line ≡ Ok (Rule name wiring text) →
     IsUtf8 text
 
+-- a line whose value shows an event says it
+abbrev pub ShownEventIsSaid : Type 0
+ShownEventIsSaid =
+    (line : List ℕ) (d : Data) (e : Event) → length line ≤ limit_of line →
+    value_of line ≡ Some d → ShowsEvent d e → event line ≡ Ok e
+
+-- a line says no other event
+abbrev pub SaidEventIsShown : Type 0
+SaidEventIsShown =
+    (line : List ℕ) (e : Event) → event line ≡ Ok e →
+    (length line ≤ limit_of line) × ((d : Data) × (value_of line ≡ Some d) × ShowsEvent d e)
+
+-- the text of a rule that a line's ask defines is UTF-8
+abbrev pub AskedTextIsUtf8 : Type 0
+AskedTextIsUtf8 =
+    (line name text : List ℕ) (user : ℕ) (wiring : Wiring) →
+    event line ≡ Ok (Ask user (Rule name wiring text)) → IsUtf8 text
+
 -- the text of a reply is one line, whatever stands in it
 abbrev pub ReplyIsLine : Type 0
 ReplyIsLine = (reply : Reply) → HasNoLf (reply_bytes reply)
@@ -39,3 +63,7 @@ ReplyIsLine = (reply : Reply) → HasNoLf (reply_bytes reply)
 -- and that of a line's fault
 abbrev pub FaultIsLine : Type 0
 FaultIsLine = (fault : LineFault) → HasNoLf (fault_bytes fault)
+
+-- and that of what comes of an event
+abbrev pub OutcomeIsLine : Type 0
+OutcomeIsLine = (outcome : Outcome) → HasNoLf (outcome_bytes outcome)

@@ -1,13 +1,16 @@
 -- In the order of reading: faults, the limit of a line, what stands at a key, wirings, entries,
--- commands, replies; then texts of one line, the values by which commands
--- are shown, and the laws.
+-- commands, events, replies, outcomes; then texts of one line, the values by which commands and
+-- events are shown, and the laws.
 pub mod Faults
 pub mod Limits
 pub mod Fields
 pub mod Wirings
 pub mod Entries
 pub mod Commands
+pub mod Events
 pub mod Replies
+pub mod Outcomes
 pub mod OneLine
 pub mod Shown
+pub mod ShownEvents
 pub mod Laws

@@ -1,12 +1,13 @@
 //! A line as a command.
-ghost use Rattle.std.specs.Prelude.{◌≡◌, ◌<◌, ◌≤◌, length, Err, IfOk, IfSome, IsOk, false};
+ghost use Rattle.std.specs.Prelude.{◌≡◌, ◌<◌, ◌≤◌, length, Err, IfErr, IfOk, IfSome, IsOk, Some};
+ghost use Rattle.std.specs.Prelude.{false};
 ghost use Rattle.std.specs.Option.{option_map_or};
 ghost use Rattle.cam6_wire.specs.declared.faults.LineFault.TheVariants.{NoMemory};
 ghost use Rattle.serde_json.specs.View.{view};
 ghost use Rattle.cam6_commands.specs.RuleTexts.{HasText};
 ghost use Rattle.cam6_wire.specs.Commands.{set_of, sole_number, rule_of, drop_of, listing_of};
 ghost use Rattle.cam6_wire.specs.Commands.{cycle_of, row_of, map_of, by_word};
-ghost use Rattle.cam6_wire.specs.Commands.{shown_in, command, IsSaid};
+ghost use Rattle.cam6_wire.specs.Commands.{shown_in, command, value_of, IsLinesFault, IsSaid};
 ghost use Rattle.cam6_wire.specs.Commands.{keeps_text, takes_text};
 ghost use Rattle.cam6_wire.specs.Limits.{limit_of};
 
@@ -29,19 +30,28 @@ pub fn read_command(alloc: Global, line: &[u8]) -> Result<Command, LineFault>
         (0 < length line.now) × (length line.now ≤ limit_of line.now) }
     ensures texts { IfOk result (λ command. HasText command) }
 {
+    let value = line_value(alloc, line)?;
+    command_shown(alloc, &value)?.ok_or(LineFault::NoCommand)
+}
+
+/// The JSON value that a line is, unless the line is too long.
+pub(crate) fn line_value(alloc: Global, line: &[u8]) -> Result<Value, LineFault>
+    ensures value { IfOk result (λ value. (length line.now ≤ limit_of line.now)
+        × (value_of line.now ≡ Some (view value))) }
+    ensures fault { IfErr result (λ fault. IsLinesFault fault line.now) }
+    ensures memory { result ≡ Err NoMemory →
+        (0 < length line.now) × (length line.now ≤ limit_of line.now) }
+{
     if line.len() > LINE_LIMIT {
         return Err(LineFault::TooLong);
     }
-    let value = match Value::from_slice(alloc, line) {
-        Ok(value) => value,
-        Err(e) => {
-            return match e.classify() {
-                Category::Memory => Err(LineFault::NoMemory),
-                _ => Err(LineFault::NoJson),
-            };
-        }
-    };
-    command_shown(alloc, &value)?.ok_or(LineFault::NoCommand)
+    match Value::from_slice(alloc, line) {
+        Ok(value) => Ok(value),
+        Err(e) => match e.classify() {
+            Category::Memory => Err(LineFault::NoMemory),
+            _ => Err(LineFault::NoJson),
+        },
+    }
 }
 
 /// The command that a JSON value shows.
@@ -125,7 +135,7 @@ fn set_of(value: &Value) -> Option<Command>
 
 /// The number at a key of an object that has two, `do` and this one.
 #[tactic(auto, unfolding(crate::specs::Commands::sole_number))]
-fn sole_number(value: &Value, key: &str) -> Option<u64>
+pub(crate) fn sole_number(value: &Value, key: &str) -> Option<u64>
     ensures { result ≡ sole_number key.now (view value.now) }
 {
     if !has_size(value, 2) {

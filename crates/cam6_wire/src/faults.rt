@@ -1,10 +1,10 @@
-//! Why a line is no command.
+//! Why a line is no command, and why it is no event.
 ghost use Rattle.std.specs.Prelude.{◌≡◌};
 ghost use Rattle.cam6_wire.specs.Faults.{fault_number};
 
 use std::alloc::{AllocError, AllocFailed};
 
-/// Why a line isn't read as a command.
+/// Why a line isn't read as a command, or as an event.
 #[derive(Clone, Copy, Debug, PartialEq, Eq)]
 pub enum LineFault {
     /// Memory was asked for and refused.
@@ -13,7 +13,7 @@ pub enum LineFault {
     TooLong,
     /// The line is no JSON value.
     NoJson,
-    /// The line is a JSON value that is no command.
+    /// The line is a JSON value that is no command, or no event.
     NoCommand,
 }
 

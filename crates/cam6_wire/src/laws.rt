@@ -1,7 +1,9 @@
-//! Laws that tie what a line says to the values that commands are shown by, that the text of a rule
-//! is UTF-8, and that answers are lines. Each is the contract of a function that does nothing.
+//! Laws that tie what a line says to the values that commands and events are shown by, that the
+//! text of a rule is UTF-8, and that answers are lines. Each is the contract of a function that
+//! does nothing.
 ghost use Rattle.cam6_wire.specs.Laws.{ShownIsSaid, SaidIsShown, TextIsUtf8};
-ghost use Rattle.cam6_wire.specs.Laws.{ReplyIsLine, FaultIsLine};
+ghost use Rattle.cam6_wire.specs.Laws.{ShownEventIsSaid, SaidEventIsShown, AskedTextIsUtf8};
+ghost use Rattle.cam6_wire.specs.Laws.{ReplyIsLine, FaultIsLine, OutcomeIsLine};
 
 /// A line whose value shows a command says it.
 pub fn a_shown_command_is_said()
@@ -18,6 +20,21 @@ pub fn a_rules_text_is_utf8()
     ensures law { TextIsUtf8 }
 {}
 
+/// A line whose value shows an event says it.
+pub fn a_shown_event_is_said()
+    ensures law { ShownEventIsSaid }
+{}
+
+/// A line that says an event has a value that shows it: its keys, and no others.
+pub fn a_said_event_is_shown()
+    ensures law { SaidEventIsShown }
+{}
+
+/// The text of a rule that a line's ask defines is UTF-8.
+pub fn an_asked_rules_text_is_utf8()
+    ensures law { AskedTextIsUtf8 }
+{}
+
 /// The text of a reply is one line, whatever stands in it.
 pub fn a_reply_is_one_line()
     ensures law { ReplyIsLine }
@@ -26,4 +43,9 @@ pub fn a_reply_is_one_line()
 /// The text of a line's fault is one line.
 pub fn a_fault_is_one_line()
     ensures law { FaultIsLine }
+{}
+
+/// The text of what comes of an event is one line.
+pub fn an_outcome_is_one_line()
+    ensures law { OutcomeIsLine }
 {}

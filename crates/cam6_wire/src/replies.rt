@@ -43,7 +43,7 @@ pub fn fault_text(fault: LineFault) -> &'static str
     }
 }
 
-fn reply_value(alloc: Global, reply: &Reply) -> Result<Value, AllocError>
+pub(crate) fn reply_value(alloc: Global, reply: &Reply) -> Result<Value, AllocError>
     ensures { IfOk result (λ value. view value ≡ reply_data reply.now) }
 {
     match reply {
@@ -138,7 +138,7 @@ fn cause_value(
 }
 
 /// The reply to a command of which nothing is told but that it is done.
-fn ok_value(alloc: Global, word: &str) -> Result<Value, AllocError>
+pub(crate) fn ok_value(alloc: Global, word: &str) -> Result<Value, AllocError>
     ensures { IfOk result (λ value. view value ≡ done word.now no_members) }
 {
     json!(in alloc; {"ok": word})

@@ -1,5 +1,6 @@
-use Rattle.std.proofs.Common.{◌∙◌, sym}
+use Rattle.std.proofs.Common.{subst}
 use Rattle.clap.specs.Words.{app_of}
+use Rattle.cam6_host.specs.CommandLine.{HasMode}
 use Rattle.cam6_host.proofs.Refusals.{is_simple_program, refused_as_clap_does, some_program}
 use Rattle.cam6_host.proofs.ModesGiven.{mode_of_matches}
 use Rattle.cam6_host.proofs.words.options.Goals as goal
@@ -7,8 +8,8 @@ use Rattle.cam6_host.proofs.words.options.Goals as goal
 pub returns-in_default-clause-refused : goal.returns-in_default-clause-refused
 returns-in_default-clause-refused c = (some_program.0, some_program.1, tt)
 
-pub limit_given-requires : goal.limit_given-requires
-limit_given-requires c =
+pub mode_given-requires : goal.mode_given-requires
+mode_given-requires c =
     (mode_of_matches (app_of c.in-Ok.command) _ c.in-Ok-try_get_matches_from.matches c.in-Ok.ensures
     c.in-Ok-try_get_matches_from.ensures.matches c.in-Ok-try_get_matches_from.ensures.kinds).0
 
@@ -18,7 +19,8 @@ returns-in-Ok-try_get_matches_from-clause-mode c =
     let mode = mode_of_matches (app_of c.in-Ok.command) _ c.in-Ok-try_get_matches_from.matches
     c.in-Ok.ensures c.in-Ok-try_get_matches_from.ensures.matches
     c.in-Ok-try_get_matches_from.ensures.kinds in
-    (app_of c.in-Ok.command, c.in-Ok.ensures, sym mode.1 ∙ c.limit_given.ensures)
+    let has = subst (HasMode c.mode_given.result) mode.1 c.mode_given.ensures in
+    (app_of c.in-Ok.command, c.in-Ok.ensures, has)
 
 pub returns-in-Ok-try_get_matches_from-clause-refused :
     goal.returns-in-Ok-try_get_matches_from-clause-refused

@@ -2,8 +2,8 @@ use Rattle.std.proofs.Common.{◌∙◌, sym, ap, subst}
 use Rattle.cam6_core.specs.State.{State, with_user}
 use Rattle.cam6_core.specs.Goes.{Moves, Spares}
 use Rattle.cam6_core.specs.declared.parts.Whereabouts.TheVariants as whereabouts
-use Rattle.cam6_core.specs.declared.events.Event.TheVariants as event
-use Rattle.cam6_core.specs.declared.outcomes.Outcome.TheVariants as outcome
+use Rattle.cam6_commands.specs.declared.events.Event.TheVariants as event
+use Rattle.cam6_commands.specs.declared.outcomes.Outcome.TheVariants as outcome
 use Rattle.cam6_core.proofs.Asks.{replaced, as_it_was, ask_spares, finished_at_once, put_in_queue, was_wanted}
 use Rattle.cam6_core.proofs.parts.Core.ask.Goals as goal
 

@@ -2,8 +2,8 @@ use Rattle.std.proofs.Common.{◌∙◌, sym, ap, subst, set}
 use Rattle.std.specs.List.{slice_get}
 use Rattle.cam6_core.specs.State.{State, board_of}
 use Rattle.cam6_core.specs.Goes.{Moves}
-use Rattle.cam6_core.specs.declared.events.Event.TheVariants as event
-use Rattle.cam6_core.specs.declared.outcomes.Outcome.TheVariants as outcome
+use Rattle.cam6_commands.specs.declared.events.Event.TheVariants as event
+use Rattle.cam6_commands.specs.declared.outcomes.Outcome.TheVariants as outcome
 use Rattle.cam6_core.proofs.Leases.{idle_at, lease_goes}
 use Rattle.cam6_core.proofs.parts.Core.lease.Goals as goal
 

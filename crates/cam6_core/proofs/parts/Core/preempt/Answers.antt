@@ -2,8 +2,8 @@ use Rattle.std.proofs.Common.{◌∙◌, sym, refl, ap, subst}
 use Rattle.cam6_core.specs.State.{State, with_user, with_board}
 use Rattle.cam6_core.specs.Goes.{Moves, Spares}
 use Rattle.cam6_core.specs.declared.parts.Whereabouts.TheVariants as whereabouts
-use Rattle.cam6_core.specs.declared.events.Event.TheVariants as event
-use Rattle.cam6_core.specs.declared.outcomes.Outcome.TheVariants as outcome
+use Rattle.cam6_commands.specs.declared.events.Event.TheVariants as event
+use Rattle.cam6_commands.specs.declared.outcomes.Outcome.TheVariants as outcome
 use Rattle.cam6_station.specs.Held as board
 use Rattle.cam6_core.proofs.Boards.{preempt_goes, spares_boards}
 use Rattle.cam6_core.proofs.parts.Core.preempt.Goals as goal

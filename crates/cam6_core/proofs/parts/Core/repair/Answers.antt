@@ -1,8 +1,8 @@
 use Rattle.std.proofs.Common.{sym, refl, subst}
 use Rattle.cam6_station.specs.Held as board
 use Rattle.cam6_core.specs.Goes.{Moves, Spares}
-use Rattle.cam6_core.specs.declared.events.Event.TheVariants as event
-use Rattle.cam6_core.specs.declared.outcomes.Outcome.TheVariants as outcome
+use Rattle.cam6_commands.specs.declared.events.Event.TheVariants as event
+use Rattle.cam6_commands.specs.declared.outcomes.Outcome.TheVariants as outcome
 use Rattle.cam6_core.proofs.Boards.{repair_goes, spares_boards}
 use Rattle.cam6_core.proofs.parts.Core.repair.Goals as goal
 

@@ -1,6 +1,6 @@
 //! Why an event is refused.
 ghost use Rattle.std.specs.Prelude.{◌≡◌};
-ghost use Rattle.cam6_core.specs.Refusals.{refused_number};
+ghost use Rattle.cam6_commands.specs.Numbers.{refused_number};
 
 /// Why an event is refused.
 #[derive(Clone, Copy, Debug, PartialEq, Eq)]

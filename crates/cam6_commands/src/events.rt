@@ -1,6 +1,6 @@
 //! What may happen to a core.
 
-use cam6_commands::Command;
+use crate::commands::Command;
 
 /// An event, with its numbers as they were given. Users are numbered from 1, and boards from 0.
 #[derive(Debug, Drop)]

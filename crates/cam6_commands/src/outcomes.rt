@@ -1,7 +1,7 @@
 //! What comes of an event.
 
 use crate::refused::Refused;
-use cam6_commands::Reply;
+use crate::replies::Reply;
 
 /// What comes of an event. The numbers are those of the bands that are left behind it.
 #[derive(Debug, Drop)]

@@ -1,0 +1,34 @@
+-- What a core answers to lines of events.
+use Rattle.std.specs.Prelude.{◌≡◌, ℕ, List, [], ◌∷◌, ◌++◌, Result, Ok, Err, is_ok}
+use Rattle.cam6_commands.specs.declared.events.Event.{Event}
+use Rattle.cam6_commands.specs.declared.outcomes.Outcome.{Outcome}
+use Rattle.cam6_core.specs.State.{State}
+use Rattle.cam6_core.specs.Goes.{Goes, Spares}
+use Rattle.cam6_wire.specs.declared.faults.LineFault.{LineFault}
+use Rattle.cam6_wire.specs.Events.{event}
+use Rattle.cam6_wire.specs.Outcomes.{outcome_bytes}
+use Rattle.cam6_wire.specs.Replies.{fault_bytes}
+use Rattle.cam6_session.specs.Answering.{Answering}
+use Rattle.cam6_session.specs.Answers.{among, texts_by}
+
+-- what a line says may be answered so from s on, and then the core is at t: an event goes as one
+-- does, and what comes of it is told; a fault is told, and leaves the core
+abbrev pub IsTold : State → Result Event LineFault → List ℕ → State → Type 0
+IsTold s (Ok e) text t =
+    (r : Outcome) × Goes s e r t × Spares e s t × (text ≡ outcome_bytes r ++ 10 ∷ [])
+IsTold s (Err fault) text t = (text ≡ fault_bytes fault ++ 10 ∷ []) × (t ≡ s)
+
+-- the core answers what a line says, and does the event that it says
+abbrev pub by_core : Answering State
+by_core = record {
+  answers = λ s line text t. IsTold s (event line) text t;
+  says = λ line. is_ok (event line);
+}
+
+-- the events among what lines say
+abbrev pub events : List (Result Event LineFault) → List Event
+events = among
+
+-- what came of each event, and the fault of each line that says none
+abbrev pub outcome_texts : List (Result Event LineFault) → List Outcome → List ℕ
+outcome_texts = texts_by outcome_bytes

@@ -1,0 +1,112 @@
+//! A stream of event lines, each answered by one line.
+ghost use Rattle.std.specs.Prelude.{◌≡◌, List, ℕ, Ok, Err};
+ghost use Rattle.cam6_core.specs.State.{State};
+ghost use Rattle.cam6_wire.specs.Commands.{IsFaultOf, IsSaid};
+ghost use Rattle.cam6_wire.specs.Events.{event as what_happens};
+ghost use Rattle.cam6_wire.specs.declared.faults.LineFault.TheVariants.{NoMemory};
+ghost use Rattle.cam6_session.specs.Events.{by_core};
+ghost use Rattle.cam6_session.specs.Held.{Holds};
+ghost use Rattle.cam6_session.specs.Replays.{WritesOutcomes};
+ghost use Rattle.cam6_session.specs.Responding.{Responds, TakesMemory};
+ghost use Rattle.cam6_session.specs.Sessions.{AnswersReader};
+ghost use Rattle.cam6_session.specs.Spending.{SpendsItsTurns};
+
+use crate::answerers::{Answerer, tell, tell_fault};
+use crate::line_buffer::LineBuf;
+use crate::sessions::{End, Stop, answer_lines};
+use cam6_commands::Event;
+use cam6_core::Core;
+use cam6_wire::{LineFault, outcome_text, read_event};
+use std::alloc::Global;
+use std::io::{BufRead, Write};
+
+/// Does the event of each line of the reader, and tells what comes of it by one line, until the
+/// input ends or something fails. Each look at the reader takes a turn.
+pub fn replay<R: BufRead, W: Write>(
+    alloc: Global,
+    reader: &mut R,
+    writer: &mut W,
+    core: &mut Core,
+    turns: u64,
+) -> End
+    ensures served { AnswersReader by_core result
+        (R.remaining reader.old) (R.remaining reader.new)
+        (W.contents writer.old) (W.contents writer.new) core.old core.new }
+    // Where the core was new, the replies that the lines give each user are those of his machine
+    // alone.
+    ensures headline { WritesOutcomes result (R.remaining reader.old)
+        (W.contents writer.old) (W.contents writer.new) core.old core.new }
+    ensures turns { SpendsItsTurns result turns
+        (R.remaining reader.old) (R.remaining reader.new) }
+{
+    answer_lines(alloc, reader, writer, core, turns)
+}
+
+/// A core answers lines of events.
+impl Answerer for Core {
+    ghost use Rattle.std.specs.Prelude.{List, ℕ, ⊤};
+    ghost use Rattle.cam6_core.specs.State.{State};
+    ghost use Rattle.cam6_session.specs.Events.{by_core};
+    ghost use Rattle.cam6_session.specs.Held.{Holds};
+    ghost use Rattle.cam6_session.specs.Responding.{Responds};
+
+    ghost state = { State };
+
+    ghost asked = { λ core. core };
+
+    // A core may always be given a line.
+    ghost may_answer = { λ _. ⊤ };
+
+    ghost answering = { by_core };
+
+    fn respond<W: Write>(
+        &mut self,
+        alloc: Global,
+        line: &LineBuf,
+        writer: &mut W,
+    ) -> Result<(), Stop>
+        ensures ready { ⊤ }
+        ensures responds { (l : List ℕ) → Holds line.now l → Responds by_core result l
+            (W.contents writer.old) (W.contents writer.new) self.old self.new }
+    {
+        match said(alloc, line) {
+            Ok(event) => respond_to(alloc, event, writer, self),
+            Err(fault) => respond_fault(fault, writer),
+        }
+    }
+}
+
+/// What a line says of users and boards.
+fn said(alloc: Global, line: &LineBuf) -> Result<Event, LineFault>
+    ensures said { (l : List ℕ) → Holds line.now l → IsSaid result (what_happens l) }
+    ensures memory { (l : List ℕ) → Holds line.now l → result ≡ Err NoMemory → TakesMemory l }
+{
+    let Some(bytes) = line.bytes() else {
+        return Err(LineFault::TooLong);
+    };
+    read_event(alloc, bytes)
+}
+
+fn respond_to<W: Write>(
+    alloc: Global,
+    event: Event,
+    writer: &mut W,
+    core: &mut Core,
+) -> Result<(), Stop>
+    ensures { (l : List ℕ) → what_happens l ≡ Ok event → Responds by_core result l
+        (W.contents writer.old) (W.contents writer.new) core.old core.new }
+{
+    let outcome = core.apply(event);
+    let Ok(text) = outcome_text(alloc, &outcome) else {
+        return Err(Stop::NoMemory { done: true });
+    };
+    tell(writer, text.as_bytes())
+}
+
+fn respond_fault<W: Write>(fault: LineFault, writer: &mut W) -> Result<(), Stop>
+    ensures { (l : List ℕ) (s : State) → IsFaultOf fault (what_happens l) →
+        (fault ≡ NoMemory → TakesMemory l) →
+        Responds by_core result l (W.contents writer.old) (W.contents writer.new) s s }
+{
+    tell_fault(fault, writer)
+}

@@ -1,0 +1,103 @@
+//! A line as an event.
+ghost use Rattle.std.specs.Prelude.{◌≡◌, ◌<◌, ◌≤◌, length, Err, IfOk, IsOk, false};
+ghost use Rattle.std.specs.Option.{option_map_or};
+ghost use Rattle.cam6_wire.specs.declared.faults.LineFault.TheVariants.{NoMemory};
+ghost use Rattle.serde_json.specs.View.{view};
+ghost use Rattle.cam6_wire.specs.Commands.{IsSaid};
+ghost use Rattle.cam6_wire.specs.Events.{ask_of, evict_of, lease_of, event_by_word};
+ghost use Rattle.cam6_wire.specs.Events.{event, event_in, keeps_text_of, takes_text_of};
+ghost use Rattle.cam6_wire.specs.Limits.{limit_of};
+
+use crate::commands::{command_shown, line_value, sole_number};
+use crate::faults::LineFault;
+use crate::fields::{has_size, number_at, text_at};
+use cam6_commands::Event;
+use serde_json::Value;
+use std::alloc::{AllocError, Global};
+
+/// What a line says of users and boards. Numbers are those of the line, whether or not there is
+/// such a user or board.
+pub fn read_event(alloc: Global, line: &[u8]) -> Result<Event, LineFault>
+    ensures said { IsSaid result (event line.now) }
+    // No memory is wanted for an empty line, nor for one that is too long.
+    ensures memory { result ≡ Err NoMemory →
+        (0 < length line.now) × (length line.now ≤ limit_of line.now) }
+{
+    let value = line_value(alloc, line)?;
+    event_shown(alloc, &value)?.ok_or(LineFault::NoCommand)
+}
+
+/// The event that a JSON value shows.
+pub fn event_shown(alloc: Global, value: &Value) -> Result<Option<Event>, AllocError>
+    ensures event { IfOk result (λ event. event ≡ event_in (view value.now)) }
+    // Memory is wanted for a rule, a name and entries of an ask alone, once all of them are looked
+    // at.
+    ensures memory { takes_text_of (view value.now) ≡ false → IsOk result }
+{
+    let Some(word) = text_at(value, "event") else {
+        return Ok(None);
+    };
+    by_word(alloc, word, value)
+}
+
+#[tactic(auto, unfolding(crate::specs::Events::band_of, crate::specs::Events::preempt_of, crate::specs::Events::fail_of, crate::specs::Events::repair_of, crate::specs::Events::collect_of))]
+fn by_word(alloc: Global, word: &str, value: &Value) -> Result<Option<Event>, AllocError>
+    ensures event { IfOk result (λ event. event ≡ event_by_word word.now (view value.now)) }
+    ensures memory { option_map_or keeps_text_of (event_by_word word.now (view value.now)) false
+        ≡ false → IsOk result }
+{
+    match word {
+        "ask" => ask_of(alloc, value),
+        "lease" => Ok(lease_of(value)),
+        "band" => Ok(sole_number(value, "board").map(Event::Band)),
+        "preempt" => Ok(sole_number(value, "board").map(Event::Preempt)),
+        "fail" => Ok(sole_number(value, "board").map(Event::Fail)),
+        "repair" => Ok(sole_number(value, "board").map(Event::Repair)),
+        "evict" => Ok(evict_of(value)),
+        "collect" => Ok(sole_number(value, "user").map(Event::Collect)),
+        _ => Ok(None),
+    }
+}
+
+#[tactic(auto, unfolding(crate::specs::Events::ask_of))]
+fn ask_of(alloc: Global, value: &Value) -> Result<Option<Event>, AllocError>
+    ensures event { IfOk result (λ event. event ≡ ask_of (view value.now)) }
+    ensures memory { option_map_or keeps_text_of (ask_of (view value.now)) false ≡ false
+        → IsOk result }
+{
+    if !has_size(value, 3) {
+        return Ok(None);
+    }
+    let Some(user) = number_at(value, "user") else {
+        return Ok(None);
+    };
+    let Some(shown) = value.get("command") else {
+        return Ok(None);
+    };
+    match command_shown(alloc, shown)? {
+        Some(command) => Ok(Some(Event::Ask(user, command))),
+        None => Ok(None),
+    }
+}
+
+#[tactic(auto, unfolding(crate::specs::Events::lease_of))]
+fn lease_of(value: &Value) -> Option<Event>
+    ensures { result ≡ lease_of (view value.now) }
+{
+    if !has_size(value, 3) {
+        return None;
+    }
+    let user = number_at(value, "user")?;
+    let board = number_at(value, "board")?;
+    Some(Event::Lease(user, board))
+}
+
+#[tactic(auto, unfolding(crate::specs::Events::evict_of))]
+fn evict_of(value: &Value) -> Option<Event>
+    ensures { result ≡ evict_of (view value.now) }
+{
+    if !has_size(value, 1) {
+        return None;
+    }
+    Some(Event::Evict)
+}

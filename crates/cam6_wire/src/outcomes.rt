@@ -1,0 +1,49 @@
+//! What comes of events as lines of JSON.
+ghost use Rattle.std.specs.Prelude.{◌≡◌, Some, IfOk, string_bytes};
+ghost use Rattle.serde_json.specs.Read.{read};
+ghost use Rattle.serde_json.specs.View.{view};
+ghost use Rattle.cam6_wire.specs.Outcomes.{left_behind, outcome_bytes, outcome_data};
+
+use crate::replies::{ok_value, reply_value};
+use cam6_commands::Outcome;
+use cam6_planes::NoMemory;
+use serde_json::{Value, json};
+use std::alloc::{AllocError, Global};
+
+/// The line that tells what came of an event, without its LF. Want of memory is told by the number
+/// 0.
+pub fn outcome_text(alloc: Global, outcome: &Outcome) -> Result<String, NoMemory>
+    ensures text { IfOk result (λ text. string_bytes text ≡ outcome_bytes outcome.now) }
+    ensures value { IfOk result (λ text.
+        read (string_bytes text) ≡ Some (outcome_data outcome.now)) }
+{
+    Ok(outcome_value(alloc, outcome)?.to_string(alloc)?)
+}
+
+fn outcome_value(alloc: Global, outcome: &Outcome) -> Result<Value, AllocError>
+    ensures { IfOk result (λ value. view value ≡ outcome_data outcome.now) }
+{
+    match outcome {
+        Outcome::NoMemory => json!(in alloc; {"refused": 0}),
+        Outcome::Refused(reason) => json!(in alloc; {"refused": reason.number()}),
+        Outcome::Asked(left) => left_value(alloc, "ask", *left),
+        Outcome::Leased(left) => left_value(alloc, "lease", *left),
+        Outcome::Banded(left) => left_value(alloc, "band", *left),
+        Outcome::Preempted(left) => left_value(alloc, "preempt", *left),
+        Outcome::Failed(Some(left)) => left_value(alloc, "fail", *left),
+        Outcome::Failed(None) => ok_value(alloc, "fail"),
+        Outcome::Repaired => ok_value(alloc, "repair"),
+        Outcome::Evicted => ok_value(alloc, "evict"),
+        Outcome::Collected(reply) => {
+            let reply = reply_value(alloc, reply)?;
+            json!(in alloc; {"ok": "collect", "reply": reply})
+        }
+    }
+}
+
+/// An event that leaves so many bands.
+fn left_value(alloc: Global, word: &str, left: u64) -> Result<Value, AllocError>
+    ensures { IfOk result (λ value. view value ≡ left_behind left word.now) }
+{
+    json!(in alloc; {"left": left, "ok": word})
+}
