@@ -1,5 +1,5 @@
 -- Two lists of events that agree on a user's commands.
-use Rattle.std.proofs.Common.{◌≡◌, ◌∙◌, ℕ, List, ◌⊎◌, inl, inr, Option, Some, None, sym, ap, subst}
+use Rattle.std.proofs.Common.{◌≡◌, ◌∙◌, ℕ, List, ◌⊎◌, inl, inr, Option, Some, None, sym, subst}
 use Rattle.std.proofs.lemmas.List.{same_from_push}
 use Rattle.cam6_planes.specs.declared.sides.Side.{Side}
 use Rattle.cam6_commands.specs.declared.commands.Command.{Command}

@@ -1,7 +1,6 @@
 -- The headline, from what the model says.
-use Rattle.std.proofs.Common.{◌≡◌, ◌∙◌, ◌<◌, ℕ, zero, suc, List, [], ◌∷◌, ◌++◌, length, map, Option}
-use Rattle.std.proofs.Common.{Some, None, sym, refl, ap, subst, arith}
-use Rattle.std.specs.List.{slice_get}
+use Rattle.std.proofs.Common.{◌≡◌, ◌∙◌, ℕ, zero, suc, List, [], ◌∷◌, ◌++◌, length, map, Option}
+use Rattle.std.proofs.Common.{Some, sym, refl, ap, subst}
 use Rattle.std.proofs.lemmas.List.{length-map}
 use Rattle.cam6_planes.specs.declared.sides.Side.{Side}
 use Rattle.cam6_commands.specs.declared.commands.Command.{Command}
@@ -15,7 +14,7 @@ use Rattle.cam6_core.specs.Fresh.{fresh}
 use Rattle.cam6_core.specs.History.{alone, replies_of}
 use Rattle.cam6_core.specs.State.{State, at_number, IsNumber}
 use Rattle.cam6_core.specs.Model.{Stage, resting, queued, out, finished, User, Model, user}
-use Rattle.cam6_core.specs.Model.{or_nobody, newcomer, machine_of}
+use Rattle.cam6_core.specs.Model.{newcomer, machine_of}
 use Rattle.cam6_core.specs.Good.{UserFits, Good}
 use Rattle.cam6_core.specs.Runs.{AreTheModels, after_all, GoThrough}
 use Rattle.cam6_core.specs.Headline.{commands, given, AreGiven, Headline, HeadlineFromNew}

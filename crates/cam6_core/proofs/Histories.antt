@@ -1,11 +1,10 @@
 -- What the model has of a user is what the events and what came of them say.
-use Rattle.std.proofs.Common.{◌≡◌, ◌≢◌, ◌∙◌, ℕ, ◌-◌, ◌==◌, ◌&&◌, cond, Bool, true, false, List, [], ◌∷◌}
-use Rattle.std.proofs.Common.{◌++◌, length, set, Option, Some, None, sym, refl, ap, subst, arith}
+use Rattle.std.proofs.Common.{◌≡◌, ◌∙◌, ℕ, ◌-◌, ◌==◌, ◌&&◌, cond, Bool, true, false, List, [], ◌∷◌}
+use Rattle.std.proofs.Common.{◌++◌, length, set, Option, Some, None, sym, refl, ap, subst}
 use Rattle.std.proofs.Common.{ne_eqb, eq-eqb, append_assoc, if◌then◌else◌}
 use Rattle.std.proofs.lemmas.List.{append-nil}
 use mathlib.Core.Logic.{dite}
 use native.Mathlib.Decide.{ℕ_discrete}
-use Rattle.cam6_planes.specs.declared.sides.Side.{Side}
 use Rattle.cam6_commands.specs.declared.commands.Command.{Command}
 use Rattle.cam6_commands.specs.declared.events.Event.{Event}
 use Rattle.cam6_commands.specs.declared.events.Event.TheVariants as event
@@ -47,6 +46,11 @@ asked p = in_order (listed_at p.stage p.done)
 
 abbrev pub told : User → List Reply
 told p = in_order (replies_of p.limit p.done)
+
+-- nothing, whichever it is
+neither : {A : Type 0} (b : Bool) → cond {A = List A} b [] [] ≡ []
+neither true = refl
+neither false = refl
 
 -- from one user to another of his limit with these commands and these replies beside
 pub record Gains (p q : User) (cs : List Command) (xs : List Reply) : Type 0 where
@@ -134,12 +138,11 @@ module _ (us : List User) (u : ℕ) (is : IsNumber (length us) u) where
   -- one user changes, and gains nothing
   kept : (v : ℕ) (q : User) → Gains (user us v) q [] [] →
       Gains (user us u) (user (with_number us v q) u) [] []
-  kept v q gains = both (v == u) (changed v q [] [] gains)
-    where
-      both : (b : Bool) → Gains (user us u) (user (with_number us v q) u)
-          (cond b [] []) (cond b [] []) → Gains (user us u) (user (with_number us v q) u) [] []
-      both true gains = gains
-      both false gains = gains
+  kept v q gains =
+      let p : User = user (with_number us v q) u in
+      subst (λ (cs : List Command). Gains (user us u) p cs []) (neither (v == u))
+      (subst (Gains (user us u) p (if v == u then [] else [])) (neither (v == u))
+      (changed v q [] [] gains))
 
 module _ (a : Model) (u : ℕ) where
   -- no user changes
@@ -174,13 +177,9 @@ module _ (a : Model) (u : ℕ) where
       let q : User = at_stage p (begun c n) in record {
         long = long_with a.users v q;
         gains = λ is. subst (Gains (user a.users u) (user (with_number a.users v q) u)
-            (if v == u then c ∷ [] else [])) (either (v == u))
+            (if v == u then c ∷ [] else [])) (neither (v == u))
             (changed a.users u is v q (c ∷ []) [] (asks_one p c n rests));
       }
-    where
-      either : (b : Bool) → cond {A = List Reply} b [] [] ≡ []
-      either true = refl
-      either false = refl
   ask_step v c stage rests =
       no_user (event.Ask v c) (outcome.Refused NoSuchNumber) a.boards refl refl
 
@@ -199,9 +198,10 @@ module _ (a : Model) (u : ℕ) where
   band_step b dead = no_user (event.Band b) (outcome.Refused NoSuchNumber) a.boards refl refl
   band_step b (loaded v left home) = by_test (left == 1)
     where
-      by_test : (z : Bool) → Steps a u (event.Band b) (cond z
-          (with_both a v (at_stage (user a.users v) (over (user a.users v).stage)) b idle,
-          outcome.Banded 0) (with_seat a b (loaded v (left - 1) home), outcome.Banded (left - 1)))
+      by_test : (z : Bool) → Steps a u (event.Band b) (cond z (
+        with_both a v (at_stage (user a.users v) (over (user a.users v).stage)) b idle,
+        outcome.Banded 0,
+      ) (with_seat a b (loaded v (left - 1) home), outcome.Banded (left - 1)))
       by_test true =
           let p : User = user a.users v in
           one_user (event.Band b) (outcome.Banded 0) v (at_stage p (over p.stage))
@@ -242,13 +242,9 @@ module _ (a : Model) (u : ℕ) where
         long = long_with a.users v q;
         gains = λ is. subst (λ (cs : List Command).
             Gains (user a.users u) (user (with_number a.users v q) u) cs
-            (if v == u then x ∷ [] else [])) (either (v == u))
+            (if v == u then x ∷ [] else [])) (neither (v == u))
             (changed a.users u is v q [] (x ∷ []) (collects_one p c ends));
       }
-    where
-      either : (b : Bool) → cond {A = List Command} b [] [] ≡ []
-      either true = refl
-      either false = refl
   collect_step v stage ends =
       no_user (event.Collect v) (outcome.Refused NoSuchNumber) a.boards refl refl
 
@@ -264,14 +260,14 @@ module _ (a : Model) (u : ℕ) where
   step (event.Collect v) = collect_step v (user a.users v).stage refl
 
   -- nothing is gained by what isn't accepted
-  no_command : (e : Event) (r : Outcome) → accepted r ≡ false → asked_by u e r ≡ []
-  no_command (event.Ask v c) r nay =
+  asks_nothing : (e : Event) (r : Outcome) → accepted r ≡ false → asked_by u e r ≡ []
+  asks_nothing (event.Ask v c) r nay =
       ap (λ (b : Bool). cond (b && (v == u)) (c ∷ []) []) nay
-  no_command e r nay = refl
+  asks_nothing e r nay = refl
 
-  no_reply : (e : Event) (r : Outcome) → accepted r ≡ false → given_to u e r ≡ []
-  no_reply (event.Collect v) (outcome.Collected x) nay = cc nay
-  no_reply e r nay = refl
+  gets_nothing : (e : Event) (r : Outcome) → accepted r ≡ false → given_to u e r ≡ []
+  gets_nothing (event.Collect v) (outcome.Collected x) nay = cc nay
+  gets_nothing e r nay = refl
 
   -- the same for what comes of an event, where that is the model's if it is accepted
   one : (e : Event) (r : Outcome) → (accepted r ≡ true → r ≡ (turn a e).1) →
@@ -281,12 +277,13 @@ module _ (a : Model) (u : ℕ) where
       by_test : (b : Bool) → accepted r ≡ b → Steps a u e (cond b (turn a e).0 a, r)
       by_test true took =
           subst (λ (q : Outcome). Steps a u e ((turn a e).0, q)) (sym (law took)) (step e)
-      by_test false nay = no_user e r a.boards (no_command e r nay) (no_reply e r nay)
+      by_test false nay = no_user e r a.boards (asks_nothing e r nay) (gets_nothing e r nay)
 
 -- what is accepted is the model's
 of_answer : (o : Option Reason) (a : Model) (e : Event) (r : Outcome) → AnswersAs o a e r →
     accepted r ≡ true → r ≡ (turn a e).1
-of_answer (Some reason) a e r answers took = let e : false ≡ true = sym (ap accepted answers) ∙ took in cc e
+of_answer (Some reason) a e r answers took =
+    let never : false ≡ true = sym (ap accepted answers) ∙ took in cc never
 of_answer None a e outcome.NoMemory answers took = cc took
 of_answer None a e (outcome.Refused reason) answers took = absurd answers
 of_answer None a e (outcome.Asked left) answers took = answers

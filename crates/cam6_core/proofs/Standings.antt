@@ -1,10 +1,9 @@
 -- The model's users and boards stand where the core's do.
-use Rattle.std.proofs.Common.{◌≡◌, ◌∙◌, ◌<◌, ℕ, zero, suc, List, [], ◌∷◌, length, Option, Some, None}
-use Rattle.std.proofs.Common.{sym, refl, ap, subst, arith}
+use Rattle.std.proofs.Common.{◌≡◌, ◌∙◌, ℕ, zero, suc, List, [], ◌∷◌, length, Option, Some, None}
+use Rattle.std.proofs.Common.{sym, refl, ap, arith}
 use Rattle.std.specs.List.{slice_get}
 use Rattle.std.specs.Option.{option_map}
 use Rattle.cam6_cache.specs.Cached.{is_empty}
-use Rattle.cam6_commands.specs.declared.commands.Command.{Command}
 use Rattle.cam6_commands.specs.declared.events.Event.{Event}
 use Rattle.cam6_commands.specs.declared.events.Event.TheVariants as event
 use Rattle.cam6_model.specs.Machine.{Machine}

@@ -8,7 +8,14 @@
 //! the core agreed with before (`goes`, `specs/Goes.antt`): what comes of the event is the model's,
 //! and the core agrees with the model behind it (`specs/Good.antt`). An event leaves whoever it
 //! doesn't name, and what the other boards hold, as they were (`others`). An ask alone may find no
-//! memory, and then nothing changes.
+//! memory, and then nothing changes. `run` folds this over any list of events: from a new core the
+//! replies that a user is given are, in order, those that his machine alone gives to his accepted
+//! commands (`headline`, `specs/Headline.antt`), and what comes of each event is the model's, with
+//! the bands that are left (`count`, `specs/Runs.antt`).
+//!
+//! The laws: whatever goes one event after another has the headline and the count; and two lists of
+//! events that agree on a user's accepted commands give him equal replies, as far as both have
+//! answered.
 //!
 //! So, of two users and a board: user 1 asks for a run of one step at side 256 and is told of 16
 //! bands. Leased, moved by three bands and preempted, 13 are left. User 2 may use the board
@@ -18,8 +25,8 @@
 //! Stands on: `cam6_station`, `cam6_slot`, `cam6_cache` and what they stand on.
 //!
 //! Read next: `Event`, `Outcome` and `Refused` of `cam6_commands`; `parts`, what a core holds;
-//! `start`; `refusals`; `applying`, event by event; then `users_and_boards`, by which they go about
-//! it.
+//! `start`; `refusals`; `applying`, event by event, with `users_and_boards`, by which they go about
+//! it; then `runs` and `laws`.
 #![tactic(auto)]
 
 mod applying;

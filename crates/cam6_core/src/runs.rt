@@ -9,11 +9,7 @@ use cam6_planes::NoMemory;
 use std::alloc::Global;
 
 /// Does events one after another. Without memory for what comes of them none is done.
-pub fn run(
-    alloc: Global,
-    core: &mut Core,
-    events: Vec<Event>,
-) -> Result<Vec<Outcome>, NoMemory>
+pub fn run(alloc: Global, core: &mut Core, events: Vec<Event>) -> Result<Vec<Outcome>, NoMemory>
     // Where the core was new, the replies that each user is given are, in order, those that his
     // machine alone, evaluating rule words cell by cell, gives to his accepted commands.
     ensures headline { IfOk result (λ outcomes.

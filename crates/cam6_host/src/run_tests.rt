@@ -147,6 +147,19 @@ const UP_TO_256: &[u8] = b"{\"fault\":67}\n{\"ok\":\"side\"}\n{\"ok\":\"side\"}\
 
 const UP_TO_512: &[u8] = b"{\"ok\":\"side\"}\n{\"ok\":\"side\"}\n{\"ok\":\"side\"}\n";
 
+const EVENTS: &[u8] = b"nope\n{\"event\":\"collect\",\"user\":4}\n{\"event\":\"collect\",\"user\":5}
+{\"event\":\"repair\",\"board\":1}\n{\"event\":\"repair\",\"board\":2}
+{\"event\":\"ask\",\"user\":1,\"command\":{\"do\":\"side\",\"side\":256}}
+{\"event\":\"collect\",\"user\":1}\n";
+
+const SHARED_BY_FOUR: &[u8] =
+    b"{\"fault\":2}\n{\"refused\":108}\n{\"refused\":101}\n{\"refused\":107}\n{\"refused\":101}
+{\"left\":0,\"ok\":\"ask\"}\n{\"ok\":\"collect\",\"reply\":{\"ok\":\"side\"}}\n";
+
+const SHARED_BY_FIVE: &[u8] =
+    b"{\"fault\":2}\n{\"refused\":108}\n{\"refused\":108}\n{\"refused\":101}\n{\"refused\":101}
+{\"left\":0,\"ok\":\"ask\"}\n{\"ok\":\"collect\",\"reply\":{\"fault\":67}}\n";
+
 const TURNS_ARE_UP: &[u8] = b"cam6: turn bound reached\n";
 
 const NO_UTF8: &[u8] = b"cam6: a word is not UTF-8\n";
@@ -245,6 +258,23 @@ fn words_limit_the_side(rt: HostRuntime) {
     }
 }
 
+// As many users and boards as the words say, and their limit; 4, 2 and 256 where they say nothing.
+#[test]
+fn words_share_a_core(rt: HostRuntime) {
+    let (cam6, replay) = (b"cam6".as_slice(), b"replay".as_slice());
+    for (words, outcomes) in [
+        ([cam6, replay].as_slice(), SHARED_BY_FOUR),
+        (
+            &[cam6, replay, b"--users=5", b"--boards", b"1", b"--side=128"],
+            SHARED_BY_FIVE,
+        ),
+    ] {
+        let got = run_over(rt.alloc(), words, EVENTS, Fault::None);
+        assert_eq!(rt; got.0, ExitCode::SUCCESS, "{words:?}");
+        assert_eq!(rt; got.1.as_slice(), outcomes, "{words:?}");
+    }
+}
+
 // No test has so many bytes that the turns of a run are up, so what then follows is tried alone.
 #[test]
 fn turns_that_are_up_have_their_status(rt: HostRuntime) {
@@ -263,7 +293,7 @@ fn words_have_their_status(rt: HostRuntime) {
         (b"--help".as_slice(), 0),
         (b"help", 0),
         (b"fly", 2),
-        (b"replay", 2),
+        (b"serve", 2),
         (b"--side", 2),
     ] {
         let got = run_with(rt.alloc(), &[b"cam6", word], Fault::None);

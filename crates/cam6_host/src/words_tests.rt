@@ -25,6 +25,16 @@ fn words_of(alloc: Global, line: &str) -> Result<Vec<String>, Fail> {
     Ok(words)
 }
 
+/// The users, boards and tables that are shared, and the largest side.
+fn numbers_of(options: &Options) -> Option<(usize, usize, usize, Side)> {
+    match options {
+        Options::Replay { sharing, limit } => {
+            Some((sharing.users, sharing.boards, sharing.cache, *limit))
+        }
+        Options::Alone { .. } => None,
+    }
+}
+
 #[test]
 fn words_have_a_limit(rt: HostRuntime) -> Result<(), Fail> {
     let alloc = rt.alloc();
@@ -44,6 +54,36 @@ fn words_have_a_limit(rt: HostRuntime) -> Result<(), Fail> {
     Ok(())
 }
 
+// Of `replay`: the users, boards and tables that are said, or else their defaults, and the side.
+#[test]
+fn words_have_numbers(rt: HostRuntime) -> Result<(), Fail> {
+    let alloc = rt.alloc();
+    for (line, want) in [
+        ("cam6 replay", (4, 2, 16, Side::S256)),
+        ("cam6 replay --users 1", (1, 2, 16, Side::S256)),
+        ("cam6 replay --users=32", (32, 2, 16, Side::S256)),
+        ("cam6 replay --boards 1", (4, 1, 16, Side::S256)),
+        ("cam6 replay --boards 8", (4, 8, 16, Side::S256)),
+        ("cam6 replay --cache 1", (4, 2, 1, Side::S256)),
+        ("cam6 replay --cache 64", (4, 2, 64, Side::S256)),
+        ("cam6 replay --side 128", (4, 2, 16, Side::S128)),
+        ("cam6 replay --side=512", (4, 2, 16, Side::S512)),
+        (
+            "cam6 replay --cache 3 --side 512 --users=9 --boards 5",
+            (9, 5, 3, Side::S512),
+        ),
+        ("cam6 replay --users +07", (7, 2, 16, Side::S256)),
+    ] {
+        let read = options(alloc, words_of(alloc, line)?.as_slice());
+        let got = match &read {
+            Ok(options) => numbers_of(options),
+            Err(_) => None,
+        };
+        assert!(rt; got == Some(want), "{line}");
+    }
+    Ok(())
+}
+
 // The status of words that are refused: 0 for help, which is no refusal, and 2 for all others.
 #[test]
 fn words_are_refused(rt: HostRuntime) -> Result<(), Fail> {
@@ -52,11 +92,12 @@ fn words_are_refused(rt: HostRuntime) -> Result<(), Fail> {
         ("cam6 --help", 0),
         ("cam6 -h", 0),
         ("cam6 alone --help", 0),
+        ("cam6 replay --help", 0),
         ("cam6 help", 0),
         ("cam6 --version", 2),
-        ("cam6 replay", 2),
         ("cam6 serve", 2),
         ("cam6 --side 256", 2),
+        ("cam6 --users 4", 2),
         ("cam6 alone --side 200", 2),
         ("cam6 alone --side 1024", 2),
         ("cam6 alone --side 0256", 2),
@@ -64,7 +105,24 @@ fn words_are_refused(rt: HostRuntime) -> Result<(), Fail> {
         ("cam6 alone --side 128 --side 128", 2),
         ("cam6 alone 256", 2),
         ("cam6 alone --users 2", 2),
+        ("cam6 alone --boards 2", 2),
+        ("cam6 alone --cache 2", 2),
         ("cam6 alone alone", 2),
+        ("cam6 alone replay", 2),
+        ("cam6 replay --users 0", 2),
+        ("cam6 replay --users 33", 2),
+        ("cam6 replay --users -1", 2),
+        ("cam6 replay --users", 2),
+        ("cam6 replay --users 4 --users 4", 2),
+        ("cam6 replay --boards 0", 2),
+        ("cam6 replay --boards 9", 2),
+        ("cam6 replay --cache 0", 2),
+        ("cam6 replay --cache 65", 2),
+        ("cam6 replay --cache x", 2),
+        ("cam6 replay --side 1024", 2),
+        ("cam6 replay --port 1", 2),
+        ("cam6 replay 4", 2),
+        ("cam6 Replay", 2),
         ("cam6 Alone", 2),
         ("cam6 fly", 2),
     ] {

@@ -3,15 +3,14 @@
 //! The words name files of `data/`; `play` of `cam6_examples` says what they ask for, and does all
 //! but the way. The program makes no claim of its own beyond being safe.
 //!
-//! Stands on: `cam6_examples`, how files are read and compared; `cam6_core`, what comes of events;
-//! `cam6_wire`, commands and replies as texts; `cam6_planes` and `cam6_commands`.
+//! Stands on: `cam6_examples`, how files are read and compared; `cam6_core`, with what it begins;
+//! `cam6_session`, how lines of events are answered; `cam6_planes` and `cam6_cache`.
 //!
 //! Read next: `data/`, the examples; `ways`, with what a core begins; `lines`, what a line asks
-//! for; `players`, what is done about it; then `outcomes`, what is told.
+//! for; then `players`, what is done about it.
 #![tactic(auto)]
 
 mod lines;
-mod outcomes;
 mod players;
 mod ways;
 

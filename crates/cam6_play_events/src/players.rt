@@ -1,62 +1,176 @@
-//! Lines for a core, answered one by one.
+//! Lines of events, answered by a replay: one by one, and all of them at once.
 
-use crate::lines::{Line, read_line};
-use crate::outcomes::outcome_text;
-use cam6_commands::Command;
-use cam6_core::{Core, Event, MAX_BOARDS, Outcome};
+use crate::lines::{Line, number_of, read_line};
+use cam6_core::{Core, MAX_BOARDS};
 use cam6_examples::{Sent, Unplayable, add_line, no_memory};
+use cam6_session::{End, replay};
 use std::alloc::Global;
 use std::io;
 
-/// What comes back of each line.
-pub fn answered(alloc: Global, core: Core, sent: &[Sent]) -> io::Result<Vec<u8>> {
+/// How often one replay looks at its lines at most.
+const TURNS: u64 = 1_000_000;
+
+/// What is to be made of the outcome of a line of events.
+#[derive(Clone, Copy)]
+enum Mark {
+    /// It is what comes back.
+    Answer,
+    /// It isn't.
+    Passed,
+    /// There was no line of events: this comes back.
+    Unread,
+}
+
+/// A core that is told lines of events one by one, with what it was told.
+#[derive(Drop)]
+pub struct Told {
+    alloc: Global,
+    core: Core,
+    lines: Vec<u8>,
+    marks: Vec<Mark>,
+    answers: Vec<u8>,
+}
+
+impl Told {
+    pub fn new(alloc: Global, core: Core) -> Told {
+        Told {
+            alloc,
+            core,
+            lines: Vec::new(alloc),
+            marks: Vec::new(alloc),
+            answers: Vec::new(alloc),
+        }
+    }
+
+    /// What comes back of the lines, each told by itself.
+    pub fn answered(&mut self, sent: &[Sent]) -> io::Result<()> {
+        for line in sent {
+            let line = str::from_utf8(line.bytes.as_slice()).unwrap_or("");
+            match read_line(line) {
+                Ok(Line::Event) => self.answer(line)?,
+                Ok(Line::Bands(board, times)) => {
+                    let outcome = self.bands(board, times, Mark::Answer)?;
+                    add_line(&mut self.answers, outcome.as_str())?;
+                }
+                Ok(Line::Reply(user, command)) => self.reply(user, command)?,
+                Err(Unplayable::Unread) => {
+                    self.marks.push(Mark::Unread)?;
+                    add_line(&mut self.answers, "unread")?;
+                }
+                Err(Unplayable::NoMemory) => return Err(no_memory()),
+            }
+        }
+        Ok(())
+    }
+
+    /// What came back, and what comes back where another core is told the same lines all at once.
+    pub fn both_ways(self, other: Core) -> io::Result<Vec<Vec<u8>>> {
+        let at_once = told_at_once(
+            self.alloc,
+            other,
+            self.lines.as_slice(),
+            self.marks.as_slice(),
+        )?;
+        let mut all = Vec::new(self.alloc);
+        all.push(self.answers)?;
+        all.push(at_once)?;
+        Ok(all)
+    }
+
+    /// Tells a line, whose outcome comes back.
+    fn answer(&mut self, line: &str) -> io::Result<()> {
+        let outcome = self.tell(line, 1, Mark::Answer)?;
+        add_line(&mut self.answers, outcome.as_str())
+    }
+
+    /// Tells a line so many times: what comes of the last, which has this mark.
+    fn tell(&mut self, line: &str, times: u64, mark: Mark) -> io::Result<String> {
+        let mut lines = Vec::new(self.alloc);
+        for turn in 1..=times {
+            add_line(&mut lines, line)?;
+            self.marks
+                .push(if turn == times { mark } else { Mark::Passed })?;
+        }
+        self.lines.extend_from_slice(lines.as_slice())?;
+        let mut told = Vec::new(self.alloc);
+        let mut reader = lines.as_slice();
+        let end = replay(self.alloc, &mut reader, &mut told, &mut self.core, TURNS);
+        if end != End::EndOfInput {
+            return Err(no_memory());
+        }
+        let text = str::from_utf8(told.as_slice()).unwrap_or("");
+        let outcomes = text.trim_end_matches('\n');
+        let (_before, last) = outcomes.rsplit_once('\n').unwrap_or(("", outcomes));
+        Ok(String::from_str(self.alloc, last)?)
+    }
+
+    /// So many bands of a board: what comes of the last, which has this mark.
+    fn bands(&mut self, board: u64, times: u64, mark: Mark) -> io::Result<String> {
+        let line = format!(in self.alloc; r#"{{"event":"band","board":{board}}}"#)?;
+        self.tell(line.as_str(), times, mark)
+    }
+
+    /// A command from its ask to its collect: what is collected, or why it isn't asked for.
+    fn reply(&mut self, user: u64, command: &str) -> io::Result<()> {
+        let ask = format!(in self.alloc; r#"{{"event":"ask","user":{user},"command":{command}}}"#)?;
+        let asked = self.tell(ask.as_str(), 1, Mark::Passed)?;
+        match left_in(asked.as_str()) {
+            None => return self.pass(asked.as_str()),
+            Some(0) => {}
+            Some(left) => self.by_some_board(user, left)?,
+        }
+        let collect = format!(in self.alloc; r#"{{"event":"collect","user":{user}}}"#)?;
+        self.answer(collect.as_str())
+    }
+
+    /// The outcome of the line before comes back.
+    fn pass(&mut self, outcome: &str) -> io::Result<()> {
+        if let Some(last) = self.marks.last_mut() {
+            *last = Mark::Answer;
+        }
+        add_line(&mut self.answers, outcome)
+    }
+
+    /// The first board that takes a user's command does so many bands of it.
+    fn by_some_board(&mut self, user: u64, left: u64) -> io::Result<()> {
+        for board in 0..MAX_BOARDS as u64 {
+            let lease = format!(in self.alloc;
+                r#"{{"event":"lease","user":{user},"board":{board}}}"#
+            )?;
+            let leased = self.tell(lease.as_str(), 1, Mark::Passed)?;
+            if left_in(leased.as_str()).is_some() {
+                self.bands(board, left, Mark::Passed)?;
+                break;
+            }
+        }
+        Ok(())
+    }
+}
+
+/// How many bands an outcome leaves, if it is one that says so.
+fn left_in(outcome: &str) -> Option<u64> {
+    let (left, _word) = outcome.strip_prefix(r#"{"left":"#)?.split_once(',')?;
+    number_of(left).ok()
+}
+
+/// What comes back where a core is told lines all at once, by their marks.
+fn told_at_once(alloc: Global, core: Core, lines: &[u8], marks: &[Mark]) -> io::Result<Vec<u8>> {
     let mut core = core;
+    let mut told = Vec::new(alloc);
+    let mut reader = lines;
+    if replay(alloc, &mut reader, &mut told, &mut core, TURNS) != End::EndOfInput {
+        return Err(no_memory());
+    }
+    let mut outcomes = str::from_utf8(told.as_slice()).unwrap_or("").split('\n');
     let mut answers = Vec::new(alloc);
-    for line in sent {
-        match outcome_of(alloc, &mut core, line.bytes.as_slice())? {
-            Some(outcome) => add_line(&mut answers, outcome_text(alloc, &outcome)?.as_str())?,
-            None => add_line(&mut answers, "unread")?,
+    for mark in marks {
+        match mark {
+            Mark::Unread => add_line(&mut answers, "unread")?,
+            Mark::Passed => {
+                outcomes.next();
+            }
+            Mark::Answer => add_line(&mut answers, outcomes.next().unwrap_or("nothing"))?,
         }
     }
     Ok(answers)
-}
-
-/// What comes of a line, or nothing where it can't be read or asks for no event.
-fn outcome_of(alloc: Global, core: &mut Core, line: &[u8]) -> io::Result<Option<Outcome>> {
-    match read_line(alloc, str::from_utf8(line).unwrap_or("")) {
-        Ok(Line::Event(event)) => Ok(Some(core.apply(event))),
-        Ok(Line::Bands(board, times)) => Ok(after_bands(core, board, times)),
-        Ok(Line::Reply(user, command)) => Ok(Some(after_all(core, user, command))),
-        Err(Unplayable::Unread) => Ok(None),
-        Err(Unplayable::NoMemory) => Err(no_memory()),
-    }
-}
-
-/// What comes of the last of so many bands of a board, if there is one.
-fn after_bands(core: &mut Core, board: u64, times: u64) -> Option<Outcome> {
-    let mut last = None;
-    for _ in 0..times {
-        last = Some(core.apply(Event::Band(board)));
-    }
-    last
-}
-
-/// A command from its ask to its collect: what is collected, or why it isn't.
-fn after_all(core: &mut Core, user: u64, command: Command) -> Outcome {
-    match core.apply(Event::Ask(user, command)) {
-        Outcome::Asked(0) => core.apply(Event::Collect(user)),
-        Outcome::Asked(left) => after_board(core, user, left),
-        outcome => outcome,
-    }
-}
-
-/// The same from there on, where so many bands are left: the first board that takes it does them.
-fn after_board(core: &mut Core, user: u64, left: u64) -> Outcome {
-    for board in 0..MAX_BOARDS as u64 {
-        if let Outcome::Leased(_) = core.apply(Event::Lease(user, board)) {
-            let _ = after_bands(core, board, left);
-            break;
-        }
-    }
-    core.apply(Event::Collect(user))
 }

@@ -3,7 +3,7 @@ ghost use Rattle.std.specs.Prelude.{◌≡◌, ◌<◌, ◌≤◌, length, IfOk}
 ghost use Rattle.cam6_cache.specs.Limits.{max_capacity};
 ghost use Rattle.cam6_core.specs.Limits.{max_users, max_boards};
 
-use crate::players::answered;
+use crate::players::Told;
 use cam6_cache::MAX_CAPACITY;
 use cam6_core::{Core, MAX_BOARDS, MAX_USERS};
 use cam6_examples::{Sent, Unplayable, Way, no_memory};
@@ -40,7 +40,10 @@ impl Way for EventWay {
 
     fn played(&self, alloc: Global, sent: &[Sent]) -> io::Result<Vec<Vec<u8>>> {
         let core = self.core(alloc).map_err(|_| no_memory())?;
-        Ok(vec![in alloc; answered(alloc, core, sent)?]?)
+        let other = self.core(alloc).map_err(|_| no_memory())?;
+        let mut told = Told::new(alloc, core);
+        told.answered(sent)?;
+        told.both_ways(other)
     }
 
     fn is_session(&self) -> bool {

@@ -108,8 +108,7 @@ writes_outcomes e None remaining old new s t served = tt
 writes_outcomes e (Some all) remaining None new s t served = tt
 writes_outcomes e (Some all) remaining (Some out) new s t served =
     let has = has_answered by_core e s t served.0 served.1 served.2 served.6 in
-    let came = only_outcomes s t has.done (served.2 ++ has.missing) has.answered in
-    (
+    let came = only_outcomes s t has.done (served.2 ++ has.missing) has.answered in (
       served.2,
       served.5,
       record {

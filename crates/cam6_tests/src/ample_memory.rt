@@ -6,7 +6,8 @@ ghost use Rattle.cam6_table.specs.RuleTexts.{IsCodeFor};
 
 use cam6_board::{Board, FlakyBoard, SoftBoard};
 use cam6_cache::{Key, TableCache};
-use cam6_commands::{Command, Done, Fault, Refusal, Reply};
+use cam6_commands::{Command, Done, Event, Fault, Outcome, Refusal, Reply};
+use cam6_core::{Core, run};
 use cam6_forth::{ParseFault, Rule, parse};
 use cam6_machine::{Machine, Now, replies_alone};
 use cam6_planes::{NoMemory, Planes, Side};
@@ -202,4 +203,24 @@ fn sessions_are_served(rt: HostRuntime) {
     let end = serve_alone(rt.alloc(), Side::S256, &mut reader, &mut writer, 9);
     assert_eq!(rt; end, End::EndOfInput);
     assert_eq!(rt; writer.as_slice(), REFUSED);
+}
+
+// Cells of no state: the reply to its command alone wants no memory for it.
+#[test]
+fn events_run(rt: HostRuntime) -> Result<(), Fail> {
+    let alloc = rt.alloc();
+    let mut core = Core::new(alloc, 1, 1, 1, [Side::S128].as_slice())?;
+    let mut events = Vec::new(alloc);
+    events.push(Event::Ask(1, Command::Count { mask: 0 }))?;
+    events.push(Event::Collect(1))?;
+    let outcomes = run(alloc, &mut core, events)?;
+    assert_eq!(rt; outcomes.len(), 2);
+    assert!(rt; matches!(outcomes.get(0), Some(Outcome::Asked(0))));
+    assert!(rt;
+        matches!(
+            outcomes.get(1),
+            Some(Outcome::Collected(Reply::Done(Done::Count { count: 0 })))
+        )
+    );
+    Ok(())
 }

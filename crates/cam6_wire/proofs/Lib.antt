@@ -44,5 +44,5 @@ pub mod Utf8Tokens
 pub mod Utf8Values
 -- and those of the value that serde_json makes of it.
 pub mod TextsAreUtf8
--- The text of a rule that a line defines is UTF-8, and of one that its ask defines.
+-- The text of a rule is UTF-8 where a line defines it, and where its ask does.
 pub mod RuleTexts

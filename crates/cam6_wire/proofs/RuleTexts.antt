@@ -1,9 +1,6 @@
--- The text of a rule that a line defines is UTF-8, and of one that its ask defines.
-use Rattle.std.proofs.Common.{◌≡◌, ℕ, List, Bool, true, false, cond, codes, Option, Some, None}
-use Rattle.std.proofs.Common.{IsUtf8, refl, ap, subst}
-use Rattle.std.specs.Str.{is_utf8}
+-- The text of a rule is UTF-8 where a line defines it, and where its ask does.
+use Rattle.std.proofs.Common.{◌≡◌, ℕ, List, codes, Some, IsUtf8, ap, subst}
 use Rattle.serde_json.specs.Data.{Data}
-use Rattle.serde_json.specs.Read.{read}
 use Rattle.cam6_wiring.specs.declared.wirings.Wiring.{Wiring}
 use Rattle.cam6_commands.specs.declared.commands.Command.TheVariants.{Rule}
 use Rattle.cam6_commands.specs.declared.events.Event.TheVariants.{Ask}
@@ -11,15 +8,10 @@ use Rattle.cam6_wire.specs.Fields.{text_at}
 use Rattle.cam6_wire.specs.Commands.{value_of}
 use Rattle.cam6_wire.specs.Shown.{Shows}
 use Rattle.cam6_wire.specs.Laws.{TextIsUtf8, AskedTextIsUtf8}
+use Rattle.cam6_wire.proofs.Saying.{is_text}
 use Rattle.cam6_wire.proofs.Showing.{said_is_shown}
 use Rattle.cam6_wire.proofs.ShowingEvents.{said_event_is_shown}
 use Rattle.cam6_wire.proofs.TextsAreUtf8.{HasTexts, texts_are_utf8, text_at_utf8}
-
--- a line that has a value is UTF-8, and is read as the value
-of_utf8 : (valid : Bool) (o : Option Data) (d : Data) → cond valid o None ≡ Some d →
-    (valid ≡ true) × (o ≡ Some d)
-of_utf8 true o d is = (refl, is)
-of_utf8 false o d is = let never : ⊥ = cc in absurd never
 
 -- the text of a rule that a value with UTF-8 texts shows
 shown_has_text : (d : Data) (name text : List ℕ) (wiring : Wiring) → HasTexts d →
@@ -29,7 +21,7 @@ shown_has_text d name text wiring has shows =
 
 value_has_texts : (line : List ℕ) (d : Data) → value_of line ≡ Some d → HasTexts d
 value_has_texts line d is =
-    let found = of_utf8 (is_utf8 line) (read line) d is in
+    let found = is_text line d is in
     texts_are_utf8 line d found.0 found.1
 
 pub said_has_text : TextIsUtf8

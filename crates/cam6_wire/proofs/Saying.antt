@@ -21,15 +21,21 @@ value_found line d text e = ap (λ b. cond b (read line) None) (is_utf8-from_IsU
 
 -- a line that is no JSON has none
 pub no_value : (line : List ℕ) → (IsUtf8 line → read line ≡ None) → value_of line ≡ None
-no_value line none = by_text (is_utf8 line) refl
+no_value line none = unless (is_utf8 line) refl
   where
-    by_text : (b : Bool) → is_utf8 line ≡ b → cond b (read line) None ≡ None
-    by_text false is = refl
-    by_text true is = none (IsUtf8-from_is_utf8 line is)
+    unless : (b : Bool) → is_utf8 line ≡ b → cond b (read line) None ≡ None
+    unless false is = refl
+    unless true is = none (IsUtf8-from_is_utf8 line is)
 
-is_read : (b : Bool) (o : Option Data) (d : Data) → cond b o None ≡ Some d → o ≡ Some d
-is_read true o d is = is
-is_read false o d is = let never : ⊥ = cc in absurd never
+by_text : (valid : Bool) (o : Option Data) (d : Data) → cond valid o None ≡ Some d →
+    (valid ≡ true) × (o ≡ Some d)
+by_text true o d is = (refl, is)
+by_text false o d is = let never : ⊥ = cc in absurd never
+
+-- a line that has a value is UTF-8, and is read as the value
+pub is_text : (line : List ℕ) (d : Data) → value_of line ≡ Some d →
+    (is_utf8 line ≡ true) × (read line ≡ Some d)
+is_text line d is = by_text (is_utf8 line) (read line) d is
 
 some_byte : (line : List ℕ) (d : Data) → read line ≡ Some d → 0 < length line
 unfolding serde_json_on_literals
@@ -38,7 +44,7 @@ some_byte (byte ∷ bytes) d is = omega arith
 
 -- a line with a value isn't empty
 pub not_empty : (line : List ℕ) (d : Data) → value_of line ≡ Some d → 0 < length line
-not_empty line d is = some_byte line d (is_read (is_utf8 line) (read line) d is)
+not_empty line d is = some_byte line d (is_text line d is).1
 
 not_long : (limit n : ℕ) → n ≤ limit → nat_lt limit n ≡ false
 not_long limit n within = grind arith
@@ -76,8 +82,8 @@ pub is_shown : {A : Type 0} (shown : Data → Option A) (Form : Data → A → T
     (length line ≤ limit_of line) × ((d : Data) × (value_of line ≡ Some d) × Form d a)
 is_shown shown Form forms line a said =
     let short =
-    not_too_long (limit_of line) (length line) (from_value shown line (value_of line)) a _ refl said
-    in
+    not_too_long (limit_of line) (length line) (from_value shown line (value_of line)) a _ refl
+    said in
     let value = has_value shown line (value_of line) a short.1 in
     let ordered = of_value IsOrdered (value_of line) value.0 (value_is_ordered line) value.1 in
     let form = of_value (Form value.0) (shown value.0) a (forms value.0 ordered) value.2 in

@@ -206,7 +206,8 @@ by_word_shown : (word : List ℕ) (d : Data) → HasDo word d → IfSome (by_wor
 unfolding clear_of run_of back_of plane_of side_of colours_of count_of
 by_word_shown word d has =
     one (codes "set") (set_of d) _ (set_shown d)
-    (one (codes "clear") (clear_of d) _ (sole (codes "clear") (codes "plane") Clear refl (λ n is. is))
+    (one (codes "clear") (clear_of d) _
+    (sole (codes "clear") (codes "plane") Clear refl (λ n is. is))
     (one (codes "rule") (rule_of d) _ (rule_shown d)
     (one (codes "drop") (drop_of d) _ (drop_shown d)
     (one (codes "rules") (listing_of d) _ (rules_shown d)
@@ -214,12 +215,14 @@ by_word_shown word d has =
     (one (codes "run") (run_of d) _ (sole (codes "run") (codes "n") Run refl (λ n is. is))
     (one (codes "back") (back_of d) _ (sole (codes "back") (codes "n") Back refl (λ n is. is))
     (one (codes "row") (row_of d) _ (row_shown d)
-    (one (codes "plane") (plane_of d) _ (sole (codes "plane") (codes "plane") Plane refl (λ n is. is))
+    (one (codes "plane") (plane_of d) _
+    (sole (codes "plane") (codes "plane") Plane refl (λ n is. is))
     (one (codes "side") (side_of d) _ (sole (codes "side") (codes "side") SetSide refl (λ n is. is))
     (one (codes "map") (map_of d) _ (map_shown d)
     (one (codes "colours") (colours_of d) _
     (sole (codes "colours") (codes "row") Colours refl (λ n is. is))
-    (one (codes "count") (count_of d) _ (sole (codes "count") (codes "mask") Count refl (λ n is. is))
+    (one (codes "count") (count_of d) _
+    (sole (codes "count") (codes "mask") Count refl (λ n is. is))
     tt)))))))))))))
   where
     one : (its : List ℕ) (x y : Option Command) → (HasDo its d → IfSome x (Shows d)) →
