@@ -1,9 +1,9 @@
 #!/usr/bin/env python3
-"""Plays the sessions of a worked example at a host that two users share, under schedules by chance, and compares all
+"""Plays the sessions of worked examples at a host that two users share, under schedules by chance, and compares all
 that comes back.
 
-usage: replays.py PROGRAM PLAYER EXAMPLE                 plays each session by three seeds, and says how each play went
-       replays.py PROGRAM PLAYER EXAMPLE SESSION SEED    prints one play: lines of events, and what must come back
+usage: replays.py PROGRAM PLAYER EXAMPLE..                     plays each session by three seeds, and says how it went
+       replays.py print PROGRAM PLAYER EXAMPLE SESSION SEED    prints a play: its lines, and what must come back
 
 A session's user is one of the two, by chance; the other one has commands of his own, with rules of the same names.
 Boards do their steps band by band, commands are taken off them inside a step and behind whole ones, boards fail and
@@ -385,7 +385,8 @@ def print_play(program, player, path, number, seed):
 
 
 if __name__ == "__main__":
-    if len(sys.argv) == 6:
-        print_play(*sys.argv[1:4], *map(int, sys.argv[4:]))
+    if sys.argv[1] == "print":
+        print_play(*sys.argv[2:5], *map(int, sys.argv[5:]))
     else:
-        play_all(*sys.argv[1:])
+        for example in sys.argv[3:]:
+            play_all(*sys.argv[1:3], example)
