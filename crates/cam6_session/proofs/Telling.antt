@@ -1,6 +1,6 @@
 -- A line is answered by what was told, or serving stops where the writer failed.
 use Rattle.std.proofs.Common.{◌≡◌, ℕ, List, [], ◌∷◌, ◌++◌, Option, Result, Ok, Err, sym, ap}
-use Rattle.std.proofs.Common.{◌∙◌, ◌≢◌, refl, subst, true, is_ok}
+use Rattle.std.proofs.Common.{◌∙◌, ◌≢◌, refl, subst, true, false, is_ok}
 use Rattle.std.specs.Io.KnownBytes.{Keeps}
 use Rattle.cam6_model.specs.Machine.{Machine}
 use Rattle.cam6_model.specs.Alone.{reply, after}
@@ -18,7 +18,8 @@ use Rattle.cam6_wire.specs.Replies.{reply_bytes, fault_bytes}
 use Rattle.cam6_session.specs.Answering.{Answering}
 use Rattle.cam6_session.specs.Answers.{text_to, after_line, by_machine}
 use Rattle.cam6_session.specs.Events.{IsTold, by_core}
-use Rattle.cam6_session.specs.Responding.{Responds, TakesMemory, Tells, TellsFault}
+use Rattle.cam6_session.specs.Responding.{Responds, TakesMemory, Tells, TellsText}
+use Rattle.cam6_session.specs.Responding.{TellsFault}
 use Rattle.cam6_session.specs.declared.sessions.Stop.{Stop}
 use Rattle.cam6_session.specs.declared.sessions.Stop.TheVariants.{WriteFault, NoMemory}
 
@@ -37,6 +38,16 @@ module _ {S : Type 0} (by : Answering S) (line : List ℕ) (old new : Option (Li
   told (Ok done) text s t tells answers = (text ++ 10 ∷ [], answers, tells)
   told (Err WriteFault) text s t tells answers = (text ++ 10 ∷ [], answers, tells)
   told (Err (NoMemory done)) text s t tells answers = absurd tells
+
+  -- a text that is the line's answer was told, or no memory was found for it
+  text_told : (result : Result (Unit {0}) Stop) (text : List ℕ) (s t : S)
+      → TellsText result text old new → by.answers s line (text ++ 10 ∷ []) t
+      → by.says line ≡ true → Responds by result line old new s t
+  text_told (Ok done) text s t tells answers says = (text ++ 10 ∷ [], answers, tells)
+  text_told (Err WriteFault) text s t tells answers says = (text ++ 10 ∷ [], answers, tells)
+  text_told (Err (NoMemory true)) text s t tells answers says =
+      (text ++ 10 ∷ [], answers, says, tells)
+  text_told (Err (NoMemory false)) text s t tells answers says = absurd tells
 
   -- a fault was told, or memory ran out
   fault_told : (result : Result (Unit {0}) Stop) (f : LineFault) (s : S)
@@ -57,14 +68,15 @@ module _ {S : Type 0} (by : Answering S) (line : List ℕ) (old new : Option (Li
 
 module _ (result : Result (Unit {0}) Stop) (line : List ℕ) (old new : Option (List ℕ)) where
   -- the reply of a machine was told
-  pub reply_told : (c : Command) (text : List ℕ) (m n : Machine) → Tells result text old new
+  pub reply_told : (c : Command) (text : List ℕ) (m n : Machine) → TellsText result text old new
       → command line ≡ Ok c → text ≡ reply_bytes (reply m c) → n ≡ after m c
       → Responds by_machine result line old new m n
   reply_told c text m n tells said is stands =
-      told by_machine line old new result text m n tells (
+      text_told by_machine line old new result text m n tells (
         ap (λ l. l ++ 10 ∷ []) (is ∙ ap (text_to m) (sym said)),
         stands ∙ ap (after_line m) (sym said),
       )
+      (ap is_ok said)
 
   pub fault_told_by_machine : (f : LineFault) (m : Machine) → TellsFault result f old new
       → IsFaultOf f (command line) → (f ≡ fault.NoMemory → TakesMemory line)
@@ -77,12 +89,12 @@ module _ (result : Result (Unit {0}) Stop) (line : List ℕ) (old new : Option (
 
   -- what came of an event was told
   pub outcome_told : (e : Event) (r : Outcome) (text : List ℕ) (s t : State)
-      → Tells result text old new → event line ≡ Ok e → text ≡ outcome_bytes r → Goes s e r t
+      → TellsText result text old new → event line ≡ Ok e → text ≡ outcome_bytes r → Goes s e r t
       → Spares e s t → Responds by_core result line old new s t
   outcome_told e r text s t tells said is goes spares =
-      told by_core line old new result text s t tells
+      text_told by_core line old new result text s t tells
       (subst (λ x. IsTold s x (text ++ 10 ∷ []) t) (sym said)
-      (r, goes, spares, ap (λ l. l ++ 10 ∷ []) is))
+      (r, goes, spares, ap (λ l. l ++ 10 ∷ []) is)) (ap is_ok said)
 
   pub fault_told_by_core : (f : LineFault) (s : State) → TellsFault result f old new
       → IsFaultOf f (event line) → (f ≡ fault.NoMemory → TakesMemory line)

@@ -38,30 +38,8 @@ pub front_at_fault : (old new : Option (List ℕ)) (bytes : List ℕ)
 front_at_fault old new bytes (Ok done) failed front = let never : ⊥ = cc in absurd never
 front_at_fault old new bytes (Err fault) failed front = front
 
-module _ (old : Option (List ℕ)) (text : List ℕ) where
-  pub front_of_text : (new : Option (List ℕ)) → WritesSome old new text
-      → WritesSome old new (text ++ 10 ∷ [])
-  front_of_text new front =
-      let is = ap (λ l. l ++ 10 ∷ []) front.2 ∙ append_assoc front.0 front.1 (10 ∷ []) in
-      (front.0, front.1 ++ 10 ∷ [], is, front.3)
-
-  pub text_and_front : (now new : Option (List ℕ)) → Appends old now text
-      → WritesSome now new (10 ∷ []) → WritesSome old new (text ++ 10 ∷ [])
-  text_and_front now new first front =
-      let is = ap (λ l. text ++ l) front.2 ∙ sym (append_assoc text front.0 front.1) in
-      (text ++ front.0, front.1, is, Appends-trans old now new text front.0 first front.3)
-
-  pub text_and_newline : (now then new : Option (List ℕ)) → Appends old now text
-      → Appends now then (10 ∷ []) → Keeps then new → Appends old new (text ++ 10 ∷ [])
-  text_and_newline now then new first newline kept =
-      Appends-kept old then new (text ++ 10 ∷ [])
-      (Appends-trans old now then text (10 ∷ []) first newline) kept
-
-  pub text_and_no_flush : (now then new : Option (List ℕ)) → Appends old now text
-      → Appends now then (10 ∷ []) → Keeps then new → WritesSome old new (text ++ 10 ∷ [])
-  text_and_no_flush now then new first newline kept = (
-    text ++ 10 ∷ [],
-    [],
-    sym (append-nil (text ++ 10 ∷ [])),
-    text_and_newline now then new first newline kept,
-  )
+-- all was written, and then the writer did not flush
+pub whole_and_no_flush : (old now new : Option (List ℕ)) (bytes : List ℕ) → Appends old now bytes
+    → Keeps now new → WritesSome old new bytes
+whole_and_no_flush old now new bytes written kept =
+    (bytes, [], sym (append-nil bytes), Appends-kept old now new bytes written kept)

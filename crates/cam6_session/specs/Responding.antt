@@ -20,6 +20,12 @@ Tells (Ok done) text old new = Appends old new (text ++ 10 ∷ [])
 Tells (Err stop.WriteFault) text old new = WritesSome old new (text ++ 10 ∷ [])
 Tells (Err (stop.NoMemory done)) text old new = ⊥
 
+-- the same, or no memory was found for the line, and nothing was written
+abbrev pub TellsText : Result (Unit {0}) Stop → List ℕ → Option (List ℕ) → Option (List ℕ)
+    → Type 0
+TellsText (Err (stop.NoMemory true)) text old new = Keeps old new
+TellsText result text old new = Tells result text old new
+
 -- a line's fault was told; for want of memory nothing was, and serving stops
 abbrev pub TellsFault : Result (Unit {0}) Stop → LineFault → Option (List ℕ) → Option (List ℕ)
     → Type 0

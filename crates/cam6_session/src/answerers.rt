@@ -1,18 +1,18 @@
 //! Who answers lines.
-ghost use Rattle.std.specs.Prelude.{◌≡◌, List, ℕ, Ok, Err};
+ghost use Rattle.std.specs.Prelude.{◌≡◌, List, ℕ, Ok, Err, string_bytes};
 ghost use Rattle.cam6_model.specs.Machine.{Machine};
 ghost use Rattle.cam6_wire.specs.declared.faults.LineFault.TheVariants.{NoMemory};
 ghost use Rattle.cam6_wire.specs.Commands.{command as what_is_said, IsFaultOf, IsSaid};
 ghost use Rattle.cam6_session.specs.Answers.{by_machine};
 ghost use Rattle.cam6_session.specs.Held.{Holds};
-ghost use Rattle.cam6_session.specs.Responding.{Responds, TakesMemory, Tells, TellsFault};
+ghost use Rattle.cam6_session.specs.Responding.{Responds, TakesMemory, TellsText, TellsFault};
 
 use crate::desks::Ask;
 use crate::line_buffer::LineBuf;
 use crate::sessions::Stop;
 use crate::writers::send;
 use cam6_commands::Command;
-use cam6_wire::{LineFault, fault_text, read_command, reply_text};
+use cam6_wire::{LineFault, fault_line, read_command, reply_text};
 use std::alloc::Global;
 use std::io::Write;
 
@@ -113,7 +113,7 @@ fn respond_to<W: Write, D: Ask>(
     let Ok(text) = reply_text(alloc, &reply) else {
         return Err(Stop::NoMemory { done: true });
     };
-    tell(writer, text.as_bytes())
+    tell(writer, text)
 }
 
 fn respond_fault<W: Write>(fault: LineFault, writer: &mut W) -> Result<(), Stop>
@@ -130,14 +130,21 @@ pub(crate) fn tell_fault<W: Write>(fault: LineFault, writer: &mut W) -> Result<(
 {
     match fault {
         LineFault::NoMemory => Err(Stop::NoMemory { done: false }),
-        _ => tell(writer, fault_text(fault).as_bytes()),
+        _ => {
+            send(writer, fault_line(fault).as_bytes())?;
+            Ok(())
+        }
     }
 }
 
 /// Writes an answer as a line.
-pub(crate) fn tell<W: Write>(writer: &mut W, text: &[u8]) -> Result<(), Stop>
-    ensures { Tells result text.now (W.contents writer.old) (W.contents writer.new) }
+pub(crate) fn tell<W: Write>(writer: &mut W, text: String) -> Result<(), Stop>
+    ensures { TellsText result (string_bytes text) (W.contents writer.old) (W.contents writer.new) }
 {
-    send(writer, text)?;
+    let mut line = text;
+    if line.push('\n').is_err() {
+        return Err(Stop::NoMemory { done: true });
+    }
+    send(writer, line.as_bytes())?;
     Ok(())
 }

@@ -100,7 +100,7 @@ fn respond_to<W: Write>(
     let Ok(text) = outcome_text(alloc, &outcome) else {
         return Err(Stop::NoMemory { done: true });
     };
-    tell(writer, text.as_bytes())
+    tell(writer, text)
 }
 
 fn respond_fault<W: Write>(fault: LineFault, writer: &mut W) -> Result<(), Stop>

@@ -1,5 +1,4 @@
 //! Answers as lines.
-ghost use Rattle.std.specs.Prelude.{[], ◌∷◌, ◌++◌};
 ghost use Rattle.cam6_session.specs.Front.{WritesFront};
 
 use std::io::Write;
@@ -8,13 +7,11 @@ use std::io::Write;
 #[derive(Clone, Copy, Debug, PartialEq, Eq)]
 pub struct WriteFault;
 
-/// Writes a text and an LF, and flushes.
-pub fn send<W: Write>(writer: &mut W, text: &[u8]) -> Result<(), WriteFault>
-    ensures { WritesFront result (W.contents writer.old) (W.contents writer.new)
-        (text.now ++ 10 ∷ []) }
+/// Writes a line with its LF, in one write where the writer takes it whole, and flushes.
+pub fn send<W: Write>(writer: &mut W, line: &[u8]) -> Result<(), WriteFault>
+    ensures { WritesFront result (W.contents writer.old) (W.contents writer.new) line.now }
 {
-    write_bytes(writer, text)?;
-    write_bytes(writer, b"\n")?;
+    write_bytes(writer, line)?;
     match writer.flush() {
         Ok(()) => Ok(()),
         Err(_) => Err(WriteFault),

@@ -78,7 +78,7 @@ impl Lease {
     }
 
     /// One band was done on the board. Where it came to is known without being told.
-    pub fn band(self, _end: BandEnd) -> Lease
+    pub fn band(mut self, end: BandEnd) -> Lease
         requires { 0 < lease_left self }
         // For whatever machine and command, and whatever end was told.
         ensures stands { (m : Machine) (c : Command) (before after : StoredJob)
@@ -93,18 +93,34 @@ impl Lease {
         ensures home { lease_home result ≡ lease_home self }
         ensures board { result.board ≡ self.board }
     {
-        let Lease {
-            mut work,
-            rows,
-            board,
-        } = self;
-        let rows = rows + BAND as u16;
-        let side = work.home().planes().side().number();
+        self.advance(end);
+        self
+    }
+
+    /// The same where the lease lies, which is above a kilobyte: a band doesn't move it.
+    pub fn advance(&mut self, _end: BandEnd)
+        requires { 0 < lease_left self.old }
+        // For whatever machine and command, and whatever end was told.
+        ensures stands { (m : Machine) (c : Command) (before after : StoredJob)
+            (end : BandEnd) (tables : List (List ℕ)) →
+            TablesFit self.old.work tables → StandsOut self.old before m c →
+            Moves tables before end after → StandsOut self.new after m c }
+        ensures fits { (before after : StoredJob) (end : BandEnd) (tables : List (List ℕ)) →
+            JobFits self.old before → Moves tables before end after → JobFits self.new after }
+        ensures tables { (tables : List (List ℕ)) →
+            TablesFit self.old.work tables → TablesFit self.new.work tables }
+        ensures left { lease_left self.new + 1 ≡ lease_left self.old }
+        ensures home { lease_home self.new ≡ lease_home self.old }
+        ensures board { self.new.board ≡ self.old.board }
+    {
+        let rows = self.rows + BAND as u16;
+        let side = self.work.home().planes().side().number();
         if usize::from(rows) < side {
-            return Lease::new(work, rows, board);
+            self.rows = rows;
+            return;
         }
-        work.go();
-        Lease::new(work, 0, board)
+        self.work.go();
+        self.rows = 0;
     }
 
     /// The command is taken off the board, with bands left to do. Behind a whole step the image

@@ -101,18 +101,20 @@ impl Station {
         requires { IsLoaded self.old }
         ensures { BandGives self.old result self.new }
     {
-        let Post::Loaded(user, lease) = mem::replace(&mut self.post, Post::Idle) else {
+        let Post::Loaded(_, lease) = &mut self.post else {
             unreachable!()
         };
         let Ok(end) = self.board.band() else {
             unreachable!()
         };
-        let lease = lease.band(end);
+        lease.advance(end);
         let left = lease.left();
         if left > 0 {
-            self.post = Post::Loaded(user, lease);
             return Banded::More(left);
         }
+        let Post::Loaded(user, lease) = mem::replace(&mut self.post, Post::Idle) else {
+            unreachable!()
+        };
         let Ok(image) = self.board.unload() else {
             unreachable!()
         };

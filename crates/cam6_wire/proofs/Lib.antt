@@ -34,6 +34,10 @@ pub mod ShowingEvents
 pub mod Telling
 -- A line whose value shows an event says it.
 pub mod TellingEvents
+-- The compact text of a value of whole numbers, whose keys are in order, is read back as the value.
+pub mod ReadBack
+-- The text of what a band leaves, and what it is read as.
+pub mod BandTexts
 -- JSON's compact text has no control character, so it is one line.
 pub mod Plain
 -- What stands between the quotes of a JSON string, unescaped, is UTF-8 where the bytes are.

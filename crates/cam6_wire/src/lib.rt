@@ -6,7 +6,7 @@
 //! wants memory for a rule, a name and entries alone, never for a value that shows no command. The
 //! text of a rule that either answers is UTF-8. `reply_text` is exactly the compact JSON text of a
 //! reply (`specs/Replies.antt`), which reads back as the reply's value; `fault_text` is that of a
-//! line's fault, and takes no memory. `read_event` answers what a line says of users and boards in
+//! line's fault, `fault_line` the same with its LF, and neither takes memory. `read_event` answers what a line says of users and boards in
 //! the same way (`specs/Events.antt`), a command within an ask as `command_shown` has it; and
 //! `outcome_text` is the compact JSON text of what comes of an event (`specs/Outcomes.antt`).
 //!
@@ -36,4 +36,4 @@ pub use commands::{LINE_LIMIT, command_shown, read_command};
 pub use events::{event_shown, read_event};
 pub use faults::LineFault;
 pub use outcomes::outcome_text;
-pub use replies::{fault_text, reply_text};
+pub use replies::{fault_line, fault_text, reply_text};

@@ -1,5 +1,5 @@
 //! What comes of events as lines of JSON.
-ghost use Rattle.std.specs.Prelude.{◌≡◌, Some, IfOk, string_bytes};
+ghost use Rattle.std.specs.Prelude.{◌≡◌, ◌<◌, ◌^◌, ◌++◌, Some, IfOk, codes, decimal, string_bytes};
 ghost use Rattle.serde_json.specs.Read.{read};
 ghost use Rattle.serde_json.specs.View.{view};
 ghost use Rattle.cam6_wire.specs.Outcomes.{left_behind, outcome_bytes, outcome_data};
@@ -17,7 +17,20 @@ pub fn outcome_text(alloc: Global, outcome: &Outcome) -> Result<String, NoMemory
     ensures value { IfOk result (λ text.
         read (string_bytes text) ≡ Some (outcome_data outcome.now)) }
 {
-    Ok(outcome_value(alloc, outcome)?.to_string(alloc)?)
+    match outcome {
+        // This is told for each band of a run, so its text is made without a value between.
+        Outcome::Banded(left) => Ok(band_text(alloc, *left)?),
+        _ => Ok(outcome_value(alloc, outcome)?.to_string(alloc)?),
+    }
+}
+
+/// What a band leaves, its keys in byte order.
+fn band_text(alloc: Global, left: u64) -> Result<String, AllocError>
+    ensures text { IfOk result (λ text. string_bytes text
+        ≡ codes "{\"left\":" ++ decimal left ++ codes ",\"ok\":\"band\"}") }
+    ensures fits { left < 2 ^ 64 }
+{
+    format!(in alloc; "{{\"left\":{left},\"ok\":\"band\"}}")
 }
 
 fn outcome_value(alloc: Global, outcome: &Outcome) -> Result<Value, AllocError>

@@ -1,5 +1,6 @@
 //! Replies and the faults of lines as lines of JSON.
-ghost use Rattle.std.specs.Prelude.{◌≡◌, ◌≢◌, ◌≤◌, Some, IfOk, string_bytes, length, map, take};
+ghost use Rattle.std.specs.Prelude.{◌≡◌, ◌≢◌, ◌≤◌, [], ◌∷◌, ◌++◌, Some, IfOk, string_bytes, length};
+ghost use Rattle.std.specs.Prelude.{map, take};
 ghost use Rattle.std.specs.Prelude.{codes};
 ghost use Rattle.std.specs.List.{AllByRecursion};
 ghost use Rattle.std.specs.Str.{IsAscii};
@@ -40,6 +41,19 @@ pub fn fault_text(fault: LineFault) -> &'static str
         LineFault::TooLong => "{\"fault\":1}",
         LineFault::NoJson => "{\"fault\":2}",
         LineFault::NoCommand => "{\"fault\":3}",
+    }
+}
+
+/// The same line with its LF.
+pub fn fault_line(fault: LineFault) -> &'static str
+    requires fault { fault ≢ LineFault.NoMemory }
+    ensures { result.now ≡ fault_bytes fault ++ 10 ∷ [] }
+{
+    match fault {
+        LineFault::NoMemory => unreachable!(),
+        LineFault::TooLong => "{\"fault\":1}\n",
+        LineFault::NoJson => "{\"fault\":2}\n",
+        LineFault::NoCommand => "{\"fault\":3}\n",
     }
 }
 

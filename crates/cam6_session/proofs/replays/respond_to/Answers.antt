@@ -5,7 +5,7 @@ use Rattle.cam6_session.proofs.replays.respond_to.Goals as goal
 pub returns : goal.returns
 returns g c l said =
     outcome_told _ l _ _ c.args.event c.apply-outcome.result _ _ _ c.tell.ensures said
-    (c.as_bytes.ensures.value ∙ c.in-Ok.ensures.text) c.apply-outcome.ensures.goes
+    c.in-Ok.ensures.text c.apply-outcome.ensures.goes
     c.apply-outcome.ensures.others
 
 pub returns-in_default : goal.returns-in_default

@@ -5,7 +5,7 @@ use Rattle.cam6_slot.specs.Works.{StoredWork}
 use Rattle.cam6_slot.specs.Leases.{StoredLease, JobFits, TablesFit}
 use Rattle.cam6_slot.specs.Stands.{StandsOut}
 use Rattle.cam6_slot.proofs.Banding.{fits_inside, fits_behind, stands_inside, stands_behind}
-use Rattle.cam6_slot.proofs.leases.Lease.band.Goals as goal
+use Rattle.cam6_slot.proofs.leases.Lease.advance.Goals as goal
 
 pub returns-then-from-side-clause-stands : goal.returns-then-from-side-clause-stands
 returns-then-from-side-clause-stands c m by before after end tables true_tables stands moves =
@@ -16,8 +16,7 @@ returns-then-from-side-clause-stands c m by before after end tables true_tables 
       board = c.self.inside.board;
     } in
     let there = subst (λ (x : StoredLease). StandsOut x before m by) same stands in
-    subst (λ (x : StoredLease). StandsOut x after m by) (sym (c.new.ensures))
-    (stands_inside l before after end tables there.fits moves m by c.self.invariant.work
+    stands_inside l before after end tables there.fits moves m by c.self.invariant.work
     (subst (λ (x : StoredLease). TablesFit x.work tables) same true_tables) there
     (omega (
       arith,
@@ -25,7 +24,7 @@ returns-then-from-side-clause-stands c m by before after end tables true_tables 
       c.from.ensures,
       c.number-side.ensures.value,
       ap side_number (c.side.ensures.side ∙ ap (λ (p : Stored). p.side) (c.planes.ensures ∙ c.home.ensures.planes)),
-    )))
+    ))
 
 pub returns-then-from-side-clause-fits : goal.returns-then-from-side-clause-fits
 returns-then-from-side-clause-fits c before after end tables fits moves =
@@ -35,8 +34,7 @@ returns-then-from-side-clause-fits c before after end tables fits moves =
       rows = c.self.inside.rows;
       board = c.self.inside.board;
     } in
-    subst (λ (x : StoredLease). JobFits x after) (sym (c.new.ensures))
-    (fits_inside l before after end tables
+    fits_inside l before after end tables
     (subst (λ (x : StoredLease). JobFits x before) same fits) moves
     (omega (
       arith,
@@ -44,7 +42,7 @@ returns-then-from-side-clause-fits c before after end tables fits moves =
       c.from.ensures,
       c.number-side.ensures.value,
       ap side_number (c.side.ensures.side ∙ ap (λ (p : Stored). p.side) (c.planes.ensures ∙ c.home.ensures.planes)),
-    )))
+    ))
 
 pub returns-clause-stands : goal.returns-clause-stands
 returns-clause-stands c m by before after end tables true_tables stands moves =
@@ -55,7 +53,7 @@ returns-clause-stands c m by before after end tables true_tables stands moves =
       board = c.self.inside.board;
     } in
     let there = subst (λ (x : StoredLease). StandsOut x before m by) same stands in
-    subst (λ (x : StoredLease). StandsOut x after m by) (sym (c.new-2.ensures ∙ ap (λ (w : StoredWork). record { work = w; rows = 0; board = c.self.inside.board }) c.go.ensures))
+    subst (λ (w : StoredWork). StandsOut (record { work = w; rows = 0; board = c.self.inside.board }) after m by) (sym c.go.ensures)
     (stands_behind l before after end tables there.fits moves m by c.self.invariant.work
     (subst (λ (x : StoredLease). TablesFit x.work tables) same true_tables) there
     (omega (
@@ -74,7 +72,7 @@ returns-clause-fits c before after end tables fits moves =
       rows = c.self.inside.rows;
       board = c.self.inside.board;
     } in
-    subst (λ (x : StoredLease). JobFits x after) (sym (c.new-2.ensures ∙ ap (λ (w : StoredWork). record { work = w; rows = 0; board = c.self.inside.board }) c.go.ensures))
+    subst (λ (w : StoredWork). JobFits (record { work = w; rows = 0; board = c.self.inside.board }) after) (sym c.go.ensures)
     (fits_behind l before after end tables
     (subst (λ (x : StoredLease). JobFits x before) same fits) moves
     (omega (
