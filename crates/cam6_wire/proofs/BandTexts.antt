@@ -1,10 +1,9 @@
 -- The text of what a band leaves, and what it is read as.
-use Rattle.std.proofs.Common.{◌≡◌, ℕ, ◌<◌, ◌^◌, ◌++◌, codes, decimal, Some, refl, arith, rules}
+use Rattle.std.proofs.Common.{◌≡◌, ℕ, ◌<◌, ◌^◌, ◌++◌, codes, decimal, Some, refl, rules}
 use Rattle.serde_json.specs.Read.{read}
-use Rattle.serde_json.specs.Written.{compact_text}
 use Rattle.serde_json.proofs.OnLiterals.{serde_json_on_literals}
 use Rattle.cam6_commands.specs.declared.outcomes.Outcome.TheVariants.{Banded}
-use Rattle.cam6_wire.specs.Outcomes.{left_behind, outcome_bytes, outcome_data}
+use Rattle.cam6_wire.specs.Outcomes.{outcome_bytes, outcome_data}
 use Rattle.cam6_wire.proofs.Flat.{flat_outcome}
 use Rattle.cam6_wire.proofs.ReadBack.{read_back}
 

@@ -38,6 +38,8 @@ pub mod TellingEvents
 pub mod ReadBack
 -- The text of what a band leaves, and what it is read as.
 pub mod BandTexts
+-- Lines of bands that are spelled plainly say those bands.
+pub mod PlainBands
 -- JSON's compact text has no control character, so it is one line.
 pub mod Plain
 -- What stands between the quotes of a JSON string, unescaped, is UTF-8 where the bytes are.

@@ -1,5 +1,5 @@
 //! A line as an event.
-ghost use Rattle.std.specs.Prelude.{◌≡◌, ◌<◌, ◌≤◌, length, Err, IfOk, IsOk, false};
+ghost use Rattle.std.specs.Prelude.{◌≡◌, ◌<◌, ◌≤◌, length, Ok, Err, IfOk, IsOk, IfSome, false};
 ghost use Rattle.std.specs.Option.{option_map_or};
 ghost use Rattle.cam6_wire.specs.declared.faults.LineFault.TheVariants.{NoMemory};
 ghost use Rattle.serde_json.specs.View.{view};
@@ -23,8 +23,27 @@ pub fn read_event(alloc: Global, line: &[u8]) -> Result<Event, LineFault>
     ensures memory { result ≡ Err NoMemory →
         (0 < length line.now) × (length line.now ≤ limit_of line.now) }
 {
+    if let Some(board) = plain_band(line) {
+        return Ok(Event::Band(board));
+    }
     let value = line_value(alloc, line)?;
     event_shown(alloc, &value)?.ok_or(LineFault::NoCommand)
+}
+
+/// The board of a band whose line is spelled plainly, as most lines of a replay are: such a line is
+/// known without its JSON value. Every other line is left to that.
+fn plain_band(line: &[u8]) -> Option<u64>
+    ensures { IfSome result (λ board. event line.now ≡ Ok (Event.Band board)) }
+{
+    let rest = line.strip_prefix(b"{\"event\":\"band\",\"board\":".as_slice())?;
+    if rest.len() != 2 || rest[1] != b'}' {
+        return None;
+    }
+    let digit = rest[0];
+    if digit < b'0' || b'9' < digit {
+        return None;
+    }
+    Some(u64::from(digit - b'0'))
 }
 
 /// The event that a JSON value shows.
