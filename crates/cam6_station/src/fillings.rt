@@ -28,6 +28,7 @@ impl Model for Filling {
 
 impl Filling {
     ghost use Rattle.cam6_slot.specs.Leases.{TablesFit};
+    ghost use Rattle.cam6_station.specs.Loading.{IsBehindLoads};
 
     /// Tables of which nothing is said.
     pub fn new(alloc: Global) -> Result<Filling, NoMemory> {
@@ -48,6 +49,7 @@ impl Filling {
     /// takes no memory but for what is newly cached; where that is refused nobody sees it.
     pub fn fill(&mut self, cache: &mut TableCache, lease: &Lease)
         ensures tables { TablesFit lease.now.work self.new }
+        ensures loads { IsBehindLoads lease.now.work cache.old cache.new }
         ensures capacity { cache.new.capacity ≡ cache.old.capacity }
     {
         // There is a place for each.
