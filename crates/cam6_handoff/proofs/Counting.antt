@@ -1,0 +1,53 @@
+-- Desks and seats, one more after the others.
+use Rattle.std.proofs.Common.{◌≡◌, ◌∙◌, ◌<◌, ◌+◌, ◌++◌, ◌⊎◌, inl, inr, ℕ, zero, suc, List, [], ◌∷◌}
+use Rattle.std.proofs.Common.{length, Some, refl, sym, ap, subst, arith, get_or}
+use Rattle.std.specs.List.{slice_get}
+use Rattle.std.proofs.lemmas.List.{length-append}
+use Rattle.std.proofs.lemmas.Option.{same_Some, slice_get-get_or}
+use Rattle.cam6_planes.specs.declared.sides.Side.{Side}
+use Rattle.cam6_machine.specs.Stored.{StoredMachine, machine_of}
+use Rattle.cam6_model.specs.Machine.{blank}
+use Rattle.cam6_handoff.specs.Boot.{AreBlankDesksTo, AreIdleSeats, IsSeatOf}
+use Rattle.cam6_handoff.specs.Desks.{IsBlankDesk}
+use Rattle.cam6_handoff.specs.Holding.{BoardStance}
+use Rattle.cam6_handoff.specs.Standing.{Stance, standing}
+
+-- what stands in a list with one more at its end
+last_or_before : {A : Type 0} (xs : List A) (x : A) (i : ℕ) (y : A) →
+    slice_get (xs ++ x ∷ []) i ≡ Some y → (slice_get xs i ≡ Some y) ⊎ ((i ≡ length xs) × (x ≡ y))
+last_or_before [] x zero y at = inr (refl, same_Some x y at)
+last_or_before [] x (suc i) y at = cc at
+last_or_before (z ∷ xs) x zero y at = inl at
+last_or_before (z ∷ xs) x (suc i) y at = elim (last_or_before xs x i y at) [
+  | inl before ↦ inl before
+  | inr last ↦ inr (ap suc last.0, last.1)
+]
+
+pub one_more_desk : (n : ℕ) (limits : List Side) (desks : List Stance) (m : StoredMachine)
+    (d : Side) → AreBlankDesksTo n limits desks → n < length limits →
+    machine_of m ≡ blank (get_or limits n d) →
+    AreBlankDesksTo (n + 1) limits (desks ++ standing m ∷ [])
+one_more_desk n limits desks m d made some new = record {
+  long = omega (arith, length-append desks (standing m ∷ []), made.long);
+  each = λ i limit x at there. elim (last_or_before desks (standing m) i x there) [
+    | inl before ↦ made.each i limit x at before
+    | inr last ↦
+        let here : slice_get limits n ≡ Some limit =
+        ap (slice_get limits) (sym (last.0 ∙ made.long)) ∙ at in
+        let same : get_or limits n d ≡ limit =
+        same_Some (get_or limits n d) limit (sym (slice_get-get_or limits n d some) ∙ here) in
+        subst (IsBlankDesk limit) last.1 (new ∙ ap blank same)
+  ];
+}
+
+pub one_more_seat : (n users : ℕ) (seats : List BoardStance) (seat : BoardStance) →
+    AreIdleSeats n users seats → IsSeatOf n users seat → AreIdleSeats (n + 1) users (seats ++ seat ∷ [])
+one_more_seat n users seats seat made new = record {
+  long = omega (arith, length-append seats (seat ∷ []), made.long);
+  each = λ i x there. elim (last_or_before seats seat i x there) [
+    | inl before ↦ made.each i x before
+    | inr last ↦
+        subst (λ k. IsSeatOf k users x) (sym (last.0 ∙ made.long))
+        (subst (IsSeatOf n users) last.1 new)
+  ];
+}

@@ -1,0 +1,21 @@
+use Rattle.std.proofs.Common.{◌≡◌, []}
+use Rattle.cam6_handoff.specs.Boot.{AreBlankDesksTo, AreIdleSeats}
+use Rattle.cam6_handoff.specs.declared.rule.View.TheVariants.{First}
+use Rattle.cam6_handoff.proofs.boot.boot.Given as goal
+
+abbrev pub invariant-loop-user : goal.invariant-loop-user
+invariant-loop-user l = record {
+  same : l.first.table_id ≡ l.initial.first.table_id;
+  next : l.first.me ≡ (First l.user 0, []);
+  limits : l.limits ≡ l.fn.limits;
+  users : l.users ≡ l.fn.users;
+  made : AreBlankDesksTo l.user l.limits l.desks.items;
+}
+
+abbrev pub invariant-loop-board : goal.invariant-loop-board
+invariant-loop-board l = record {
+  same : l.first.table_id ≡ l.initial.first.table_id;
+  next : l.first.me ≡ (First l.users l.board, []);
+  users : l.users ≡ l.fn.users;
+  made : AreIdleSeats l.board l.users l.seats.items;
+}

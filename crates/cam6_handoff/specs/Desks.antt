@@ -1,0 +1,62 @@
+-- What the calls of a desk give, by where it stands before and behind.
+use Rattle.std.specs.Prelude.{◌≡◌, ◌<◌, Option, Some, None, false}
+use Rattle.cam6_commands.specs.declared.commands.Command.{Command}
+use Rattle.cam6_commands.specs.declared.replies.Reply.{Reply}
+use Rattle.cam6_machine.specs.Stored.{machine_of}
+use Rattle.cam6_model.specs.Alone.{reply, after}
+use Rattle.cam6_model.specs.Machine.{Machine, blank}
+use Rattle.cam6_model.specs.Memory.{may_want_memory}
+use Rattle.cam6_planes.specs.declared.sides.Side.{Side}
+use Rattle.cam6_slot.specs.Lefts.{bands_of}
+use Rattle.cam6_handoff.specs.Rule.{asked_machine, asked_command}
+use Rattle.cam6_handoff.specs.Standing.{Stance, standing, waiting, nowhere}
+use Rattle.cam6_handoff.specs.declared.desks.Put.{Put}
+use Rattle.cam6_handoff.specs.declared.desks.Put.TheVariants.{Answered, Waiting}
+
+-- the desk stands at this machine
+abbrev pub StandsAt : Machine → Stance → Type 0
+StandsAt m (standing s) = machine_of s ≡ m
+StandsAt m (waiting asked) = ⊥
+StandsAt m nowhere = ⊥
+
+-- it waits for what this command makes of this machine
+abbrev pub WaitsFor : Machine → Command → Stance → Type 0
+WaitsFor m c (waiting asked) = (asked_machine asked ≡ m) × (asked_command asked ≡ c)
+WaitsFor m c (standing s) = ⊥
+WaitsFor m c nowhere = ⊥
+
+-- a command without bands is answered as the machine alone does it, and else the desk waits for it
+abbrev pub PutOn : Machine → Command → Put → Stance → Type 0
+PutOn m c (Answered r) new = (bands_of m c ≡ 0) × (r ≡ reply m c) × StandsAt (after m c) new
+PutOn m c Waiting new = (0 < bands_of m c) × WaitsFor m c new
+
+abbrev pub PutGives : Stance → Command → Put → Stance → Type 0
+PutGives (standing s) c put new = PutOn (machine_of s) c put new
+PutGives (waiting asked) c put new = ⊥
+PutGives nowhere c put new = ⊥
+
+-- a desk that waited has the machine alone's reply, and stands at the machine after the command
+abbrev pub CollectGives : Stance → Option Reply → Stance → Type 0
+CollectGives old None new = new ≡ old
+CollectGives (waiting asked) (Some r) new =
+    (r ≡ reply (asked_machine asked) (asked_command asked))
+    × StandsAt (after (asked_machine asked) (asked_command asked)) new
+CollectGives (standing s) (Some r) new = ⊥
+CollectGives nowhere (Some r) new = ⊥
+
+-- the machine alone's reply, and the desk at the machine after the command
+abbrev pub AskGives : Stance → Command → Reply → Stance → Type 0
+AskGives (standing s) c r new =
+    (r ≡ reply (machine_of s) c) × StandsAt (after (machine_of s) c) new
+AskGives (waiting asked) c r new = ⊥
+AskGives nowhere c r new = ⊥
+
+-- no memory is wanted for the command on the machine at which the desk stands
+abbrev pub WantsNone : Stance → Command → Type 0
+WantsNone (standing s) c = may_want_memory (machine_of s) c ≡ false
+WantsNone (waiting asked) c = ⊥
+WantsNone nowhere c = ⊥
+
+-- the desk stands at the blank machine of a limit
+abbrev pub IsBlankDesk : Side → Stance → Type 0
+IsBlankDesk limit desk = StandsAt (blank limit) desk

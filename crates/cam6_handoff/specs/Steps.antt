@@ -1,0 +1,56 @@
+-- What each kind of step tells: the word that it found, and the view of its seat behind it.
+use Rattle.std.specs.Prelude.{◌≡◌, ◌≢◌, ℕ, ◌+◌, ◌<◌, [], ◌∷◌, Some, None}
+use Rattle.atomic_table.specs.Table.{Step}
+use Rattle.atomic_table.specs.Seated.{TableId}
+use Rattle.cam6_slot.specs.Finished.{StoredFinished}
+use Rattle.cam6_slot.specs.Parking.{StoredQueued}
+use Rattle.cam6_slot.specs.declared.resting.Place.TheVariants.{Queued, Finished}
+use Rattle.cam6_handoff.specs.declared.rule.View.{View}
+use Rattle.cam6_handoff.specs.declared.rule.View.TheVariants.{First, Unseated, Rests, Waits}
+use Rattle.cam6_handoff.specs.declared.rule.View.TheVariants.{Idle, Holds}
+use Rattle.cam6_handoff.specs.Rule.{Slot, Seated, IsAskedDone}
+
+-- the number of a view's board
+abbrev pub board_in : View → ℕ
+board_in (First desks boards) = 0
+board_in (Unseated u) = 0
+board_in (Rests u) = 0
+board_in (Waits u asked) = 0
+board_in (Idle b) = b
+board_in (Holds b u q) = b
+
+-- put: 0 is found, and the desk waits for what it put
+abbrev pub PutTells : Step Slot → Seated → ℕ → Seated → Type 0
+PutTells step before found after =
+    (found ≡ 0)
+    × ((q : StoredQueued) → before.1 ≡ (step.word, Some (Queued q)) ∷ [] →
+    after ≡ (Waits step.word q, []))
+
+-- take: where 1 is found the board has the place, and else nothing changes
+abbrev pub TakeTells : Step Slot → Seated → ℕ → Seated → Type 0
+TakeTells step before found after =
+    (found ≡ 1 → (q : StoredQueued)
+    × (after ≡ (Holds (board_in before.0) step.word q, (step.word, Some (Queued q)) ∷ [])))
+    × (found ≢ 1 → after ≡ before)
+
+-- back and done: the board's own word is found, and it has nothing any more
+abbrev pub GiveTells : Step Slot → Seated → ℕ → Seated → Type 0
+GiveTells step before found after =
+    (found ≡ 3 + board_in before.0) × (after ≡ (Idle (board_in before.0), []))
+
+-- collect: where 2 is found the desk has what it asked for, and else nothing changes
+abbrev pub CollectTells : Step Slot → Seated → ℕ → Seated → Type 0
+CollectTells step before found after =
+    (found ≡ 2 → (f : StoredFinished)
+    × ((asked : StoredQueued) → before.0 ≡ Waits step.word asked → IsAskedDone asked f)
+    × (after ≡ (Rests step.word, (step.word, Some (Finished f)) ∷ [])))
+    × (found ≢ 2 → after ≡ before)
+
+-- first take: the desk has its slot, with nothing in it
+abbrev pub SitTells : Step Slot → Seated → ℕ → Seated → Type 0
+SitTells step before found after = after ≡ (Rests step.word, (step.word, None) ∷ [])
+
+-- a seat is of the table, which has a word and a slot for each user, and the user is one of them
+abbrev pub IsAt : TableId → ℕ → TableId → ℕ → Type 0
+IsAt table users own user =
+    (own ≡ table) × (user < users) × (table.words ≡ users) × (table.slots ≡ users)

@@ -1,0 +1,117 @@
+//! The table at the beginning, and its seats.
+ghost use Rattle.std.specs.Prelude.{◌≡◌, ◌+◌, ◌<◌, ◌≤◌, [], IfOk, length};
+ghost use Rattle.std.specs.Arc.{arc_value};
+ghost use Rattle.cam6_handoff.specs.Standing.{standing};
+ghost use Rattle.cam6_handoff.specs.Limits.{max_users, max_boards};
+ghost use Rattle.cam6_handoff.specs.Boot.{AreBlankDesks, AreIdleSeats, IsSeatOf};
+ghost use Rattle.cam6_handoff.specs.Internal.Cutting.{IsFirstOf, behind_desk, new_desk};
+ghost use Rattle.cam6_handoff.specs.Internal.Cutting.{behind_board, new_board};
+ghost use Rattle.cam6_handoff.specs.declared.rule.View.TheVariants.{First};
+
+use crate::desks::{Desk, HandTable, desk_of};
+use crate::rule::{Counts, View};
+use crate::seats::{BoardSeat, seat_of};
+use crate::steps;
+use crate::steps::Chair;
+use atomic_table::{Split, Table};
+use cam6_machine::Machine;
+use cam6_planes::{NoMemory, Side};
+use cam6_slot::Resting;
+use cam6_station::Filling;
+use std::alloc::Global;
+use std::sync::Arc;
+
+/// Users that a table can have at most.
+pub const MAX_USERS: usize = 32;
+
+/// Boards that a table can have at most.
+pub const MAX_BOARDS: usize = 8;
+
+struct DeskCut;
+
+impl Split<View> for DeskCut {
+    ghost left = { behind_desk };
+
+    ghost right = { new_desk };
+}
+
+struct BoardCut;
+
+impl Split<View> for BoardCut {
+    ghost left = { behind_board };
+
+    ghost right = { new_board };
+}
+
+/// Cuts the next desk's seat, which takes its slot.
+fn cut_desk(table: Arc<HandTable>, first: &mut Chair, user: usize, resting: Resting) -> Desk
+    requires of { IsFirstOf (arc_value table).shared.table_id
+        (arc_value table).shared.key.users first.old.table_id }
+    requires user { user < (arc_value table).shared.key.users }
+    requires next { first.old.me ≡ (First user 0, []) }
+    ensures of { first.new.table_id ≡ first.old.table_id }
+    ensures next { first.new.me ≡ (First (user + 1) 0, []) }
+    ensures desk { result ≡ standing resting }
+{
+    let mut seat = table.shared.split_seat::<DeskCut>(first);
+    steps::sit(&table.shared, &mut seat, user);
+    desk_of(table, seat, user, resting)
+}
+
+/// Cuts the next board's seat.
+fn cut_board(
+    table: Arc<HandTable>,
+    first: &mut Chair,
+    users: usize,
+    board: u8,
+    filling: Filling,
+) -> BoardSeat
+    requires of { IsFirstOf (arc_value table).shared.table_id users first.old.table_id }
+    requires users { (arc_value table).shared.key.users ≡ users }
+    requires a_user { 0 < users }
+    requires next { first.old.me ≡ (First users board, []) }
+    ensures of { first.new.table_id ≡ first.old.table_id }
+    ensures next { first.new.me ≡ (First users (board + 1), []) }
+    ensures seat { IsSeatOf board users result }
+{
+    let seat = table.shared.split_seat::<BoardCut>(first);
+    seat_of(table, seat, board, users, filling)
+}
+
+/// A table for so many users and boards: a desk for each user, with a blank machine of his limit,
+/// and a seat for each board, which holds nothing. All memory of the hand-off is taken here.
+pub fn boot(
+    alloc: Global,
+    users: usize,
+    boards: u8,
+    limits: &[Side],
+) -> Result<(Vec<Desk>, Vec<BoardSeat>), NoMemory>
+    requires a_user { 0 < users }
+    requires users { users ≤ max_users }
+    requires a_board { 0 < boards }
+    requires boards { boards ≤ max_boards }
+    requires limits { length limits.now ≡ users }
+    ensures desks { IfOk result (λ made. AreBlankDesks limits.now made.0.items) }
+    ensures seats { IfOk result (λ made. AreIdleSeats boards users made.1.items) }
+    // The constants are the limits that contracts speak of.
+    ensures most_users { MAX_USERS ≡ max_users }
+    ensures most_boards { MAX_BOARDS ≡ max_boards }
+{
+    let words = [0; MAX_USERS];
+    let counts = Counts {
+        users: users as u64,
+    };
+    let (table, mut first) = HandTable::vacant(alloc, &words[..users], users, &counts)?;
+    let table = Arc::new(alloc, table)?;
+    let mut desks = Vec::with_capacity(alloc, users)?;
+    for user in 0..users {
+        let resting = Resting::new(Machine::new(alloc, limits[user])?);
+        desks.push(cut_desk(Arc::clone(&table)?, &mut first, user, resting))?;
+    }
+    let mut seats = Vec::with_capacity(alloc, usize::from(boards))?;
+    for board in 0..boards {
+        let filling = Filling::new(alloc)?;
+        seats.push(cut_board(Arc::clone(&table)?, &mut first, users, board, filling))?;
+    }
+    Ok((desks, seats))
+}

@@ -1,0 +1,157 @@
+//! A user's desk.
+ghost use Rattle.std.specs.Prelude.{◌≡◌, [], ◌∷◌, Some, None};
+ghost use Rattle.std.specs.Arc.{arc_value};
+ghost use Rattle.cam6_handoff.specs.declared.rule.View.TheVariants.{Rests};
+ghost use Rattle.cam6_handoff.specs.Standing.{standing};
+ghost use Rattle.cam6_handoff.specs.Steps.{IsAt};
+
+use crate::rule::{Counts, Handing, View};
+use crate::steps;
+use crate::steps::Chair;
+use atomic_table::Table;
+use cam6_commands::{Command, Reply};
+use cam6_planes::NoMemory;
+use cam6_slot::{Asked, Place, Resting};
+use std::alloc::Global;
+use std::marker::Model;
+use std::sync::{Arc, Wait};
+
+pub(crate) type HandTable = Table<Option<Place>, View, Counts, Handing, Global>;
+
+/// The desk of one user: it has his machine, or waits for what a command makes of it.
+#[derive(Drop)]
+pub struct Desk {
+    table: Arc<HandTable>,
+    seat: Chair,
+    user: usize,
+    resting: Option<Resting>,
+}
+
+impl Model for Desk {
+    ghost use Rattle.std.specs.Arc.{arc_value};
+    ghost use Rattle.cam6_handoff.specs.Steps.{IsAt};
+    ghost use Rattle.cam6_handoff.specs.Standing.{Stance};
+    ghost use Rattle.cam6_handoff.specs.Internal.Chairs.{stance_of, DeskChair};
+
+    ghost Value = { Stance };
+
+    ghost view = { λ d. stance_of d.resting d.seat.me.0 };
+
+    ghost invariant = { λ d.
+        IsAt (arc_value d.table).shared.table_id (arc_value d.table).shared.key.users
+        d.seat.table_id d.user × DeskChair d.user d.resting d.seat.me };
+}
+
+/// What comes of a command that is put at a desk.
+#[derive(Drop)]
+pub enum Put {
+    /// It is done.
+    Answered(Reply),
+    /// Its steps wait for a board.
+    Waiting,
+}
+
+impl Desk {
+    ghost use Rattle.std.specs.Prelude.{IfOk, IsOk, OnErr};
+    ghost use Rattle.cam6_handoff.specs.Standing.{is_waiting, IsResting};
+    ghost use Rattle.cam6_handoff.specs.Desks.{PutGives, CollectGives, AskGives, WantsNone};
+
+    /// Whether it waits for what was put last.
+    pub fn is_waiting(&self) -> bool
+        ensures { result ≡ is_waiting self.now }
+    {
+        self.resting.is_none()
+    }
+
+    /// Does a command without steps, and hands the steps of another over to whichever board takes
+    /// them. All memory of a command is taken here; where there is none the desk is as it was.
+    pub fn put(&mut self, command: Command) -> Result<Put, NoMemory>
+        requires { IsResting self.old }
+        ensures gives { IfOk result (λ put. PutGives self.old command put self.new) }
+        ensures err { OnErr result (self.new ≡ self.old) }
+        // Memory is wanted as by a machine alone.
+        ensures memory { WantsNone self.old command → IsOk result }
+    {
+        let Some(resting) = self.resting.take() else {
+            unreachable!()
+        };
+        match resting.ask(command) {
+            Asked::NoMemory(same) => {
+                self.resting = Some(same);
+                Err(NoMemory)
+            }
+            Asked::Finished(finished) => {
+                let (resting, reply) = finished.collect();
+                self.resting = Some(resting);
+                Ok(Put::Answered(reply))
+            }
+            Asked::Queued(queued) => {
+                steps::put(&self.table.shared, &mut self.seat, self.user, queued);
+                Ok(Put::Waiting)
+            }
+        }
+    }
+
+    /// The reply to what was put, if it is there. The desk has the machine again then.
+    pub fn try_collect(&mut self) -> Option<Reply>
+        ensures { CollectGives self.old result self.new }
+    {
+        if self.resting.is_some() {
+            return None;
+        }
+        let finished = steps::collect(&self.table.shared, &mut self.seat, self.user)?;
+        let (resting, reply) = finished.collect();
+        self.resting = Some(resting);
+        Some(reply)
+    }
+
+    /// The reply to a command, waited for where a board does its steps.
+    pub fn ask<R: Wait>(&mut self, rt: &R, command: Command) -> Result<Reply, NoMemory>
+        requires { IsResting self.old }
+        ensures gives { IfOk result (λ reply. AskGives self.old command reply self.new) }
+        ensures err { OnErr result (self.new ≡ self.old) }
+        ensures memory { WantsNone self.old command → IsOk result }
+    {
+        match self.put(command)? {
+            Put::Answered(reply) => Ok(reply),
+            Put::Waiting => Ok(self.wait(rt)),
+        }
+    }
+
+    fn wait<R: Wait>(&mut self, rt: &R) -> Reply
+        ensures { CollectGives self.old (Some result) self.new }
+    {
+        for _ in rt.forever() {
+            if let Some(reply) = self.try_collect() {
+                return reply;
+            }
+            self.sleep(rt);
+        }
+        unreachable!()
+    }
+
+    /// Sleeps while the word is as it was, unless what was asked is finished.
+    fn sleep<R: Wait>(&self, rt: &R) {
+        let seen = self.table.shared.peek(self.user);
+        if seen != steps::DONE {
+            self.table
+                .shared
+                .park(rt, self.user, (seen & 0xffff_ffff) as u32);
+        }
+    }
+}
+
+/// A desk whose seat has taken its slot, with a machine.
+pub(crate) fn desk_of(table: Arc<HandTable>, seat: Chair, user: usize, resting: Resting) -> Desk
+    requires at { IsAt (arc_value table).shared.table_id (arc_value table).shared.key.users
+        seat.table_id user }
+    requires rests { seat.me ≡ (Rests user, (user, None) ∷ []) }
+    ensures { result ≡ standing resting }
+{
+    Desk {
+        table,
+        seat,
+        user,
+        resting: Some(resting),
+    }
+}

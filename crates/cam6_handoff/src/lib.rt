@@ -1,0 +1,34 @@
+//! The hand-off table: users' commands go between threads, from a desk to whichever board takes them
+//! and back, with one word and one slot for each user.
+//!
+//! Contract: a desk has the machine of its user, or waits for what a command makes of it
+//! (`specs/Standing.antt`). What is put at a desk is answered at once as the machine alone answers
+//! it, or waits for a board; what is collected there is the machine alone's reply, and the desk has
+//! the machine after the command (`specs/Desks.antt`), whatever other threads do. A board's seat
+//! holds no lease, or one whose place it took (`specs/Seats.antt`): what it puts back stands for
+//! whatever that place stood for, and what it puts as done is that machine after that command.
+//! Between any two steps the table keeps its rule (`specs/Rule.antt`), one row for each word. Each
+//! step is one exchange on one word, and none is tried again but while `Desk::ask` waits, which
+//! alone may wait. All memory but that of commands is taken by `boot`.
+//!
+//! So, of two desks and two boards: desk 1 puts a run of one step and waits. Board 0 takes it, and
+//! board 1 finds nothing of user 1. Behind three bands board 0 puts it back, board 1 takes it, and
+//! behind the rest puts it as done. Desk 1 collects the reply that its machine alone would give.
+//!
+//! Stands on: `cam6_slot`, `cam6_station`, `cam6_board`, `cam6_cache`, `cam6_machine`,
+//! `cam6_commands` and `cam6_planes`, and `atomic_table`.
+//!
+//! Read next: `rule`; `steps`, one function for each kind; `boot`, with the seats' cutting; `desks`
+//! and `seats`.
+#![tactic(auto)]
+
+mod boot;
+mod desks;
+mod rule;
+mod seats;
+mod steps;
+
+pub use boot::boot as boot_table;
+pub use desks::{Desk, Put};
+pub use rule::{Counts, Handing, View};
+pub use seats::BoardSeat;

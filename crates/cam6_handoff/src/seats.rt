@@ -1,0 +1,136 @@
+//! A board's seat.
+ghost use Rattle.std.specs.Prelude.{◌≡◌, ◌<◌, ◌≤◌, [], None};
+ghost use Rattle.std.specs.Arc.{arc_value};
+ghost use Rattle.cam6_handoff.specs.declared.rule.View.TheVariants.{Idle};
+ghost use Rattle.cam6_handoff.specs.Holding.{nothing};
+ghost use Rattle.cam6_handoff.specs.Internal.Chairs.{BoardChair};
+
+use crate::desks::HandTable;
+use crate::steps;
+use crate::steps::Chair;
+use cam6_board::{Job, Tables};
+use cam6_cache::TableCache;
+use cam6_slot::{Finished, Lease, Queued};
+use cam6_station::Filling;
+use std::marker::Model;
+use std::sync::Arc;
+
+/// The seat of a board: it holds nothing, or has taken the place of a user.
+#[derive(Drop)]
+pub struct BoardSeat {
+    table: Arc<HandTable>,
+    seat: Chair,
+    board: u8,
+    users: usize,
+    /// The word of the user whose place was taken.
+    taken: Option<usize>,
+    filling: Filling,
+}
+
+impl Model for BoardSeat {
+    ghost use Rattle.std.specs.Arc.{arc_value};
+    ghost use Rattle.cam6_handoff.specs.Holding.{BoardStance};
+    ghost use Rattle.cam6_handoff.specs.Internal.Chairs.{board_stance, BoardChair};
+
+    ghost Value = { BoardStance };
+
+    ghost view = { λ s. board_stance s.board s.users s.filling s.seat.me.0 };
+
+    ghost invariant = { λ s.
+        BoardChair (arc_value s.table).shared.table_id (arc_value s.table).shared.key.users
+        s.users s.seat.table_id s.board s.taken s.seat.me };
+}
+
+impl BoardSeat {
+    ghost use Rattle.cam6_slot.specs.Leases.{TablesFit};
+    ghost use Rattle.cam6_station.specs.Loading.{IsBehindLoads};
+    ghost use Rattle.cam6_handoff.specs.Holding.{IsIdle, emptied};
+    ghost use Rattle.cam6_handoff.specs.Seats.{TakeGives, Accepts, AcceptsDone};
+
+    /// The board's number.
+    pub fn number(&self) -> u8
+        ensures { result ≡ self.now.number }
+    {
+        self.board
+    }
+
+    /// The number of users, who are numbered from 1.
+    pub fn users(&self) -> usize
+        ensures { result ≡ self.now.users }
+    {
+        self.users
+    }
+
+    /// Takes the user's command onto this board, if it waits there.
+    pub fn try_take(&mut self, user: usize) -> Option<(Lease, Job)>
+        requires idle { IsIdle self.old }
+        requires a_user { 0 < user }
+        requires user { user ≤ self.old.users }
+        ensures { TakeGives self.old user result self.new }
+    {
+        let word = user - 1;
+        let queued = steps::take(&self.table.shared, &mut self.seat, word, self.board)?;
+        self.taken = Some(word);
+        Some(queued.lease(self.board))
+    }
+
+    /// Gives the user's command back, to wait again.
+    pub fn put_back(&mut self, queued: Queued)
+        requires { Accepts self.old.holds queued }
+        ensures { self.new ≡ emptied self.old }
+    {
+        let Some(word) = self.taken.take() else {
+            unreachable!()
+        };
+        steps::back(&self.table.shared, &mut self.seat, word, queued);
+    }
+
+    /// Gives what is finished to the user's desk, and wakes it.
+    pub fn put_done(&mut self, finished: Finished)
+        requires { AcceptsDone self.old.holds finished }
+        ensures { self.new ≡ emptied self.old }
+    {
+        let Some(word) = self.taken.take() else {
+            unreachable!()
+        };
+        steps::done(&self.table.shared, &mut self.seat, word, finished);
+    }
+
+    /// Fills the tables that a lease needs, in the order of their uses, each through the cache.
+    pub fn fill(&mut self, lease: &Lease, cache: &mut TableCache)
+        ensures tables { TablesFit lease.now.work self.new.tables }
+        ensures others { self.new ≡ record self.old { tables = self.new.tables } }
+        ensures loads { IsBehindLoads lease.now.work cache.old cache.new }
+    {
+        self.filling.fill(cache, lease);
+    }
+
+    /// The tables that were filled last.
+    pub fn tables(&self) -> &Tables
+        ensures { result.now ≡ self.now.tables }
+    {
+        self.filling.tables()
+    }
+}
+
+/// The seat of an idle board.
+pub(crate) fn seat_of(
+    table: Arc<HandTable>,
+    seat: Chair,
+    board: u8,
+    users: usize,
+    filling: Filling,
+) -> BoardSeat
+    requires { BoardChair (arc_value table).shared.table_id (arc_value table).shared.key.users
+        users seat.table_id board None seat.me }
+    ensures { result ≡ record { number = board; users = users; holds = nothing; tables = filling } }
+{
+    BoardSeat {
+        table,
+        seat,
+        board,
+        users,
+        taken: None,
+        filling,
+    }
+}

@@ -1,0 +1,158 @@
+//! The steps, each one exchange on one word.
+ghost use Rattle.std.specs.Prelude.{◌≡◌, ◌≢◌, ℕ, ◌<◌, [], ◌∷◌, MatchOption};
+ghost use Rattle.cam6_commands.specs.declared.commands.Command.{Command};
+ghost use Rattle.cam6_model.specs.Machine.{Machine};
+ghost use Rattle.cam6_slot.specs.Finished.{IsDone};
+ghost use Rattle.cam6_slot.specs.Parking.{StoredQueued};
+ghost use Rattle.cam6_slot.specs.Stands.{Stands};
+ghost use Rattle.cam6_handoff.specs.Rule.{StandsForAsked, IsAskedDone};
+ghost use Rattle.cam6_handoff.specs.Steps.{PutTells, TakeTells, GiveTells, CollectTells};
+ghost use Rattle.cam6_handoff.specs.Steps.{SitTells, IsAt};
+ghost use Rattle.cam6_handoff.specs.declared.rule.View.TheVariants.{Unseated, Rests, Waits, Idle, Holds};
+
+use crate::rule::{Counts, Handing, View};
+use atomic_table::{Play, Seat, Shared};
+use cam6_slot::{Finished, Place, Queued};
+
+/// The desk has the machine.
+pub(crate) const MINE: u64 = 0;
+
+/// The command waits for a board.
+pub(crate) const READY: u64 = 1;
+
+/// The command is finished.
+pub(crate) const DONE: u64 = 2;
+
+/// The first board has it; board b is b more.
+pub(crate) const OUT: u64 = 3;
+
+pub(crate) type Shelf = Shared<Option<Place>, View, Counts, Handing>;
+
+pub(crate) type Chair = Seat<Option<Place>, View>;
+
+struct Putting;
+
+impl Play<Option<Place>, View> for Putting {
+    ghost then = { PutTells };
+}
+
+struct Taking;
+
+impl Play<Option<Place>, View> for Taking {
+    ghost then = { TakeTells };
+}
+
+struct Giving;
+
+impl Play<Option<Place>, View> for Giving {
+    ghost then = { GiveTells };
+}
+
+struct Collecting;
+
+impl Play<Option<Place>, View> for Collecting {
+    ghost then = { CollectTells };
+}
+
+struct Sitting;
+
+impl Play<Option<Place>, View> for Sitting {
+    ghost then = { SitTells };
+}
+
+/// A desk takes its slot for the first time.
+pub(crate) fn sit(shelf: &Shelf, chair: &mut Chair, user: usize)
+    requires at { IsAt shelf.now.table_id shelf.now.key.users chair.old.table_id user }
+    requires unseated { chair.old.me ≡ (Unseated user, []) }
+    ensures at { IsAt shelf.now.table_id shelf.now.key.users chair.new.table_id user }
+    ensures rests { chair.new.me ≡ (Rests user, (user, None) ∷ []) }
+{
+    shelf.load::<Sitting>(chair, user);
+}
+
+/// A desk hands over what is asked.
+pub(crate) fn put(shelf: &Shelf, chair: &mut Chair, user: usize, queued: Queued)
+    requires at { IsAt shelf.now.table_id shelf.now.key.users chair.old.table_id user }
+    requires rests { chair.old.me ≡ (Rests user, (user, None) ∷ []) }
+    requires asked { StandsForAsked queued queued }
+    ensures at { IsAt shelf.now.table_id shelf.now.key.users chair.new.table_id user }
+    ensures waits { chair.new.me ≡ (Waits user queued, []) }
+{
+    drop(shelf.exchange(chair, user, Some(Place::Queued(queued))));
+    let found = shelf.swap::<Putting>(chair, user, READY);
+    prove!(found == MINE);
+}
+
+/// A desk takes what it asked for, if it is finished.
+pub(crate) fn collect(shelf: &Shelf, chair: &mut Chair, user: usize) -> Option<Finished>
+    requires at { IsAt shelf.now.table_id shelf.now.key.users chair.old.table_id user }
+    requires waits { (asked : StoredQueued) × (chair.old.me ≡ (Waits user asked, [])) }
+    ensures at { IsAt shelf.now.table_id shelf.now.key.users chair.new.table_id user }
+    ensures found { MatchOption result (chair.new.me ≡ chair.old.me)
+        (λ f. (chair.new.me ≡ (Rests user, (user, None) ∷ []))
+        × ((asked : StoredQueued) → chair.old.me ≡ (Waits user asked, []) → IsAskedDone asked f)) }
+{
+    if shelf.compare_exchange::<Collecting>(chair, user, DONE, MINE) != DONE {
+        return None;
+    }
+    let Some(place) = shelf.exchange(chair, user, None) else {
+        unreachable!()
+    };
+    match place {
+        Place::Finished(finished) => Some(finished),
+        Place::Queued(_queued) => unreachable!(),
+    }
+}
+
+/// A board takes the user's place, if it waits there.
+pub(crate) fn take(shelf: &Shelf, chair: &mut Chair, user: usize, board: u8) -> Option<Queued>
+    requires at { IsAt shelf.now.table_id shelf.now.key.users chair.old.table_id user }
+    requires idle { chair.old.me ≡ (Idle board, []) }
+    ensures at { IsAt shelf.now.table_id shelf.now.key.users chair.new.table_id user }
+    ensures found { MatchOption result (chair.new.me ≡ chair.old.me)
+        (λ q. chair.new.me ≡ (Holds board user q, (user, None) ∷ [])) }
+{
+    if shelf.compare_exchange::<Taking>(chair, user, READY, OUT + board as u64) != READY {
+        return None;
+    }
+    let Some(place) = shelf.exchange(chair, user, None) else {
+        unreachable!()
+    };
+    match place {
+        Place::Queued(queued) => Some(queued),
+        Place::Finished(_finished) => unreachable!(),
+    }
+}
+
+/// A board gives a place back, to wait again.
+pub(crate) fn back(shelf: &Shelf, chair: &mut Chair, user: usize, queued: Queued)
+    requires at { IsAt shelf.now.table_id shelf.now.key.users chair.old.table_id user }
+    requires holds { (b : ℕ) × (q : StoredQueued)
+        × (chair.old.me ≡ (Holds b user q, (user, None) ∷ [])) }
+    requires stands { (b : ℕ) (q : StoredQueued) →
+        chair.old.me ≡ (Holds b user q, (user, None) ∷ []) →
+        (m : Machine) (c : Command) → Stands q m c → Stands queued m c }
+    ensures at { IsAt shelf.now.table_id shelf.now.key.users chair.new.table_id user }
+    ensures idle { (b : ℕ) (q : StoredQueued) →
+        chair.old.me ≡ (Holds b user q, (user, None) ∷ []) → chair.new.me ≡ (Idle b, []) }
+{
+    drop(shelf.exchange(chair, user, Some(Place::Queued(queued))));
+    shelf.swap::<Giving>(chair, user, READY);
+}
+
+/// A board gives what is finished, and wakes the desk.
+pub(crate) fn done(shelf: &Shelf, chair: &mut Chair, user: usize, finished: Finished)
+    requires at { IsAt shelf.now.table_id shelf.now.key.users chair.old.table_id user }
+    requires holds { (b : ℕ) × (q : StoredQueued)
+        × (chair.old.me ≡ (Holds b user q, (user, None) ∷ [])) }
+    requires is_done { (b : ℕ) (q : StoredQueued) →
+        chair.old.me ≡ (Holds b user q, (user, None) ∷ []) →
+        (m : Machine) (c : Command) → Stands q m c → IsDone finished m c }
+    ensures at { IsAt shelf.now.table_id shelf.now.key.users chair.new.table_id user }
+    ensures idle { (b : ℕ) (q : StoredQueued) →
+        chair.old.me ≡ (Holds b user q, (user, None) ∷ []) → chair.new.me ≡ (Idle b, []) }
+{
+    drop(shelf.exchange(chair, user, Some(Place::Finished(finished))));
+    shelf.swap::<Giving>(chair, user, DONE);
+    shelf.wake_one(user);
+}
