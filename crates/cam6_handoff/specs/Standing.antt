@@ -1,5 +1,5 @@
 -- Where a desk stands.
-use Rattle.std.specs.Prelude.{Bool, true, false, ⊤}
+use Rattle.std.specs.Prelude.{◌≡◌, Bool, true, false}
 use Rattle.cam6_machine.specs.Stored.{StoredMachine}
 use Rattle.cam6_slot.specs.Parking.{StoredQueued}
 
@@ -15,6 +15,4 @@ is_waiting (waiting asked) = true
 is_waiting nowhere = true
 
 abbrev pub IsResting : Stance → Type 0
-IsResting (standing m) = ⊤
-IsResting (waiting asked) = ⊥
-IsResting nowhere = ⊥
+IsResting s = is_waiting s ≡ false

@@ -22,6 +22,8 @@
 //! and `seats`.
 #![tactic(auto)]
 
+#[cfg(test)]
+mod asking_tests;
 mod boot;
 mod desks;
 mod rule;
