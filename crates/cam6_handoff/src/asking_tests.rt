@@ -1,6 +1,6 @@
 //! A desk that is asked, where nothing waits.
 
-use crate::boot_table;
+use crate::boot;
 use cam6_commands::{Command, Done, Reply};
 use cam6_planes::{NoMemory, Side};
 
@@ -8,7 +8,7 @@ use cam6_planes::{NoMemory, Side};
 // thread, so that no board is wanted.
 #[test]
 fn a_command_without_steps_is_asked(rt: HostRuntime) -> Result<(), NoMemory> {
-    let (desks, _seats) = boot_table(rt.alloc(), 1, 1, &[Side::S128])?;
+    let (desks, _seats) = boot(rt.alloc(), 1, 1, &[Side::S128])?;
     for mut desk in desks {
         if !desk.is_waiting() {
             let reply = desk.ask(&rt, Command::Count { mask: 2 })?;

@@ -18,19 +18,19 @@
 //! Stands on: `cam6_slot`, `cam6_station`, `cam6_board`, `cam6_cache`, `cam6_machine`,
 //! `cam6_commands` and `cam6_planes`, and `atomic_table`.
 //!
-//! Read next: `rule`; `steps`, one function for each kind; `boot`, with the seats' cutting; `desks`
+//! Read next: `rule`; `steps`, one function for each kind; `start`, with the cutting of seats; `desks`
 //! and `seats`.
 #![tactic(auto)]
 
 #[cfg(test)]
 mod asking_tests;
-mod boot;
 mod desks;
 mod rule;
 mod seats;
+mod start;
 mod steps;
 
-pub use boot::boot as boot_table;
 pub use desks::{Desk, Put};
 pub use rule::{Counts, Handing, View};
 pub use seats::BoardSeat;
+pub use start::{MAX_BOARDS, MAX_USERS, boot};

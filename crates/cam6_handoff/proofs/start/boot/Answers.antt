@@ -7,7 +7,7 @@ use Rattle.cam6_handoff.specs.Rule.{Rule}
 use Rattle.cam6_handoff.specs.declared.rule.View.TheVariants.{First}
 use Rattle.cam6_handoff.proofs.Counting.{one_more_desk, one_more_seat}
 use Rattle.cam6_handoff.proofs.Keeps.{opens, take_zeros}
-use Rattle.cam6_handoff.proofs.boot.boot.Goals as goal
+use Rattle.cam6_handoff.proofs.start.boot.Goals as goal
 
 pub vacant-requires : goal.vacant-requires
 vacant-requires c =

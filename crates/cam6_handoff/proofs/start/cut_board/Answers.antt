@@ -3,7 +3,7 @@ use Rattle.atomic_table.specs.Table.{Splits}
 use Rattle.cam6_handoff.specs.Rule.{Rule, Seated}
 use Rattle.cam6_handoff.specs.Internal.Cutting.{behind_board, new_board}
 use Rattle.cam6_handoff.proofs.Keeps.{cuts_board}
-use Rattle.cam6_handoff.proofs.boot.cut_board.Goals as goal
+use Rattle.cam6_handoff.proofs.start.cut_board.Goals as goal
 
 pub split_seat-seat-requires : goal.split_seat-seat-requires
 split_seat-seat-requires c =

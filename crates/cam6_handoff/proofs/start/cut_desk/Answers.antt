@@ -3,7 +3,7 @@ use Rattle.atomic_table.specs.Table.{Splits}
 use Rattle.cam6_handoff.specs.Rule.{Rule, Seated}
 use Rattle.cam6_handoff.specs.Internal.Cutting.{behind_desk, new_desk}
 use Rattle.cam6_handoff.proofs.Keeps.{cuts_desk}
-use Rattle.cam6_handoff.proofs.boot.cut_desk.Goals as goal
+use Rattle.cam6_handoff.proofs.start.cut_desk.Goals as goal
 
 pub split_seat-seat-requires : goal.split_seat-seat-requires
 split_seat-seat-requires c =
