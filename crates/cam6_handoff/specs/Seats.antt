@@ -1,5 +1,5 @@
 -- What the calls of a board's seat give, and what it may be given back.
-use Rattle.std.specs.Prelude.{◌≡◌, ℕ, Option, Some, None}
+use Rattle.std.specs.Prelude.{◌≡◌, ◌<◌, ℕ, Option, Some, None}
 use Rattle.cam6_board.specs.Jobs.{StoredJob}
 use Rattle.cam6_commands.specs.declared.commands.Command.{Command}
 use Rattle.cam6_model.specs.Machine.{Machine}
@@ -10,12 +10,13 @@ use Rattle.cam6_slot.specs.Parking.{StoredQueued}
 use Rattle.cam6_slot.specs.Stands.{Stands, StandsOut}
 use Rattle.cam6_handoff.specs.Holding.{BoardStance, Holding, nothing, holding}
 
--- a lease of this place with its job: the job fits it, its bands are those of the place, and it stands
--- for whatever the place stands for
+-- a lease of this place with its job: the job fits it, its bands are those of the place, one at least,
+-- and it stands for whatever the place stands for
 pub record IsLeaseOf (v : StoredQueued) (number : ℕ) (lease : StoredLease) (job : StoredJob)
     : Type 0 where
   pub fits : JobFits lease job
   pub left : lease_left lease ≡ queued_left v
+  pub some : 0 < lease_left lease
   pub home : lease_home lease ≡ queued_home v
   pub board : lease.board ≡ number
   pub stands : (m : Machine) (c : Command) → Stands v m c → StandsOut lease job m c

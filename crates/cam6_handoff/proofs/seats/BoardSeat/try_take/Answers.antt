@@ -29,6 +29,7 @@ returns c =
       record {
         fits = c.lease.ensures.fits;
         left = c.lease.ensures.left;
+        some = c.lease.ensures.some;
         home = c.lease.ensures.home;
         board = c.lease.ensures.board ∙ ap (λ (b : BoardStance). b.number) c.self.view_is;
         stands = c.lease.ensures.stands;
