@@ -1,0 +1,2 @@
+-- What a board holds at its seat.
+pub mod Counters

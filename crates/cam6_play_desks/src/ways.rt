@@ -1,0 +1,55 @@
+//! The way in which lines of users and boards are played.
+ghost use Rattle.std.specs.Prelude.{◌<◌, ◌≤◌, IfOk};
+ghost use Rattle.cam6_handoff.specs.Limits.{max_users, max_boards};
+
+use crate::players::answered;
+use cam6_examples::{Sent, Unplayable, Way, limit_of};
+use cam6_handoff::{MAX_BOARDS, MAX_USERS};
+use cam6_planes::Side;
+use std::alloc::Global;
+use std::io;
+
+/// `desks USERS BOARDS [within LIMIT]`: so many users, each with a blank machine of this limit, and
+/// so many idle boards.
+#[derive(Drop)]
+pub struct DeskWay {
+    users: usize,
+    boards: usize,
+    limit: Side,
+    ghost users_fit: { (0 < users) × (users ≤ max_users) },
+    ghost boards_fit: { (0 < boards) × (boards ≤ max_boards) },
+}
+
+impl Way for DeskWay {
+    fn read(_alloc: Global, words: &str) -> Result<DeskWay, Unplayable> {
+        let sizes = words.strip_prefix("desks ").ok_or(Unplayable::Unread)?;
+        let (users, rest) = sizes.split_once(' ').ok_or(Unplayable::Unread)?;
+        let (boards, limit) = rest.split_once(' ').unwrap_or((rest, ""));
+        Ok(DeskWay {
+            users: size_of(users, MAX_USERS)?,
+            boards: size_of(boards, MAX_BOARDS)?,
+            limit: limit_of(limit)?,
+        })
+    }
+
+    fn played(&self, alloc: Global, sent: &[Sent]) -> io::Result<Vec<Vec<u8>>> {
+        let answers = answered(alloc, self.users, self.boards as u8, self.limit, sent)?;
+        Ok(vec![in alloc; answers]?)
+    }
+
+    fn is_session(&self) -> bool {
+        false
+    }
+}
+
+/// A number from 1 to the most that there can be.
+fn size_of(text: &str, most: usize) -> Result<usize, Unplayable>
+    ensures { IfOk result (λ size. (0 < size) × (size ≤ most)) }
+{
+    let size = text.parse().map_err(|_| Unplayable::Unread)?;
+    if (1..=most).contains(&size) {
+        Ok(size)
+    } else {
+        Err(Unplayable::Unread)
+    }
+}
