@@ -12,7 +12,7 @@ use Rattle.cam6_slot.specs.Finished.{StoredFinished as FinishedPlace}
 use Rattle.cam6_slot.specs.Parking.{StoredQueued as QueuedPlace}
 use Rattle.cam6_slot.specs.declared.resting.Place.TheVariants.{Queued, Finished}
 use Rattle.cam6_handoff.specs.Rule.{Slot, Shared, Seated, At, NoOne, Only, Desk, Row, uncut, unseated, resting, queued, out, finished, Rule, is_first, is_desk_of, is_board_of, StandsForAsked, IsAskedDone}
-use Rattle.cam6_handoff.specs.Steps.{PutTells, TakeTells, GiveTells, CollectTells, SitTells}
+use Rattle.cam6_handoff.specs.Steps.{PutTells, TakeTells, BackTells, DoneTells, CollectTells, SitTells}
 use Rattle.cam6_handoff.specs.declared.rule.View.{View}
 use Rattle.cam6_handoff.specs.declared.rule.View.TheVariants.{First, Unseated, Rests, Waits, Idle, Holds}
 use Rattle.cam6_handoff.proofs.Rows.{clash, self_eqb, one_at, moved, Turns, same_set, same_snoc, same_after, SameBy, only, no_one, carry}
@@ -157,11 +157,11 @@ module _ (users : ℕ) where
         moved users s r u n id (Rests u) w (set s.homes u (some (Some (Queued q)))) at (put_turns u q) (length-set s.homes u _) (λ j ne. set_else s.homes u j _ ne)
             (queued id q q (get_or-set_same s.words u n 0 wide ∙ is) (set_here s.homes u _ wide') st
             (at_here s.views id (Rests u) w at, only_kept (is_desk_of u) s.views id w id row.2 refl) (none_kept (is_board_of u) s.views id w row.3 refl)),
-        (row.0, λ q' e. let head : ◌≡◌ {A = ℕ × Slot} (u, Some (Queued q)) (u, Some (Queued q')) = cc in let part : ◌≡◌ {A = Slot} (Some (Queued q)) (Some (Queued q')) = ap (λ (z : ℕ × Slot). z.1) head in let same : q ≡ q' = cc in λ i. (Waits u (same i), [])),
+        (row.0, (λ q' e. let head : ◌≡◌ {A = ℕ × Slot} (u, Some (Queued q)) (u, Some (Queued q')) = cc in let part : ◌≡◌ {A = Slot} (Some (Queued q)) (Some (Queued q')) = ap (λ (z : ℕ × Slot). z.1) head in let same : q ≡ q' = cc in λ i. (Waits u (same i), [])), is),
       )
 
   pub backs : (slots u id b n : ℕ) (q q' : QueuedPlace) → n ≡ 1 → u < users → ((asked : QueuedPlace) → StandsForAsked asked q → StandsForAsked asked q')
-      → Allows (Rule users) slots id (Holds b u q, (u, Some (Queued q')) ∷ []) u (λ _. n) (GiveTells (step slots u n 0 none) (Holds b u q, (u, Some (Queued q')) ∷ []))
+      → Allows (Rule users) slots id (Holds b u q, (u, Some (Queued q')) ∷ []) u (λ _. n) (BackTells (step slots u n 0 none) (Holds b u q, (u, Some (Queued q')) ∷ []))
   backs slots u id b n q q' is small law s r _ at _ = let row = holds_row s.words s.homes s.views u id b q at (r.rows u small) in let t = row.3 in
       let wide : u < length s.words = (let e = r.words in omega arith) in let wide' : u < length s.homes = (let e = r.slots in omega arith) in (
         Idle b,
@@ -170,11 +170,11 @@ module _ (users : ℕ) where
         moved users s r u n id (Holds b u q) (Idle b) (set s.homes u (some (Some (Queued q')))) at (give_turns b u q) (length-set s.homes u _) (λ j ne. set_else s.homes u j _ ne)
             (queued t.0 t.1 q' (get_or-set_same s.words u n 0 wide ∙ is) (set_here s.homes u _ wide') (law t.1 t.2)
             (other_desk s id b u q t.0 t.1 (Idle b) at refl t.3) (none_left (is_board_of u) s.views id (Idle b) id row.2 refl refl)),
-        (row.1, refl),
+        (row.1, refl, is),
       )
 
   pub finishes : (slots u id b n : ℕ) (q : QueuedPlace) (f : FinishedPlace) → n ≡ 2 → u < users → ((asked : QueuedPlace) → StandsForAsked asked q → IsAskedDone asked f)
-      → Allows (Rule users) slots id (Holds b u q, (u, Some (Finished f)) ∷ []) u (λ _. n) (GiveTells (step slots u n 0 none) (Holds b u q, (u, Some (Finished f)) ∷ []))
+      → Allows (Rule users) slots id (Holds b u q, (u, Some (Finished f)) ∷ []) u (λ _. n) (DoneTells (step slots u n 0 none) (Holds b u q, (u, Some (Finished f)) ∷ []))
   finishes slots u id b n q f is small law s r _ at _ = let row = holds_row s.words s.homes s.views u id b q at (r.rows u small) in let t = row.3 in
       let wide : u < length s.words = (let e = r.words in omega arith) in let wide' : u < length s.homes = (let e = r.slots in omega arith) in (
         Idle b,
@@ -183,7 +183,7 @@ module _ (users : ℕ) where
         moved users s r u n id (Holds b u q) (Idle b) (set s.homes u (some (Some (Finished f)))) at (give_turns b u q) (length-set s.homes u _) (λ j ne. set_else s.homes u j _ ne)
             (finished t.0 t.1 f (get_or-set_same s.words u n 0 wide ∙ is) (set_here s.homes u _ wide') (law t.1 t.2)
             (other_desk s id b u q t.0 t.1 (Idle b) at refl t.3) (none_left (is_board_of u) s.views id (Idle b) id row.2 refl refl)),
-        (row.1, refl),
+        (row.1, refl, is),
       )
 
   pub took : (slots u id b old n : ℕ) → old ≡ 1 → n ≡ 3 + b → u < users
@@ -198,7 +198,7 @@ module _ (users : ℕ) where
             (out row.0 id b row.1 q (get_or-set_same s.words u n 0 wide ∙ is) (set_here s.homes u none (let e = r.slots in omega arith)) row.4
             (set_else s.views id row.0 _ (λ same. let e = one_at s.views id row.0 (Idle b) (Waits u row.1) at k.0 same in cc) ∙ k.0, only_else (is_desk_of u) s.views id (Holds b u q) (Idle b) row.0 at refl refl k.1)
             (at_here s.views id (Idle b) _ at, only_new (is_board_of u) s.views id (Holds b u q) row.6)),
-        ((λ _. (q, refl)), λ miss. absurd (miss (hit ∙ was))),
+        ((λ _. (q, refl, is)), λ miss. absurd (miss (hit ∙ was))),
       ))
       (λ miss. stays s r u id (Idle b, []) (TakeTells (step slots u old n none) (Idle b, []) x) at ((λ hit. absurd (miss (hit ∙ sym was))), λ _. refl))
 
@@ -213,7 +213,7 @@ module _ (users : ℕ) where
         moved users s r u n id (Waits u asked) (Rests u) (set s.homes u none) at (collect_turns u asked) (length-set s.homes u _) (λ j ne. set_else s.homes u j _ ne)
             (resting id (get_or-set_same s.words u n 0 wide ∙ is) (set_here s.homes u none (let e = r.slots in omega arith))
             (at_here s.views id (Waits u asked) _ at, only_kept (is_desk_of u) s.views id (Rests u) id row.3 refl) (none_kept (is_board_of u) s.views id (Rests u) row.4 refl)),
-        ((λ _. (f, (λ other e. let sa : asked ≡ other = cc in subst (λ (z : QueuedPlace). IsAskedDone z f) sa row.2), refl)), λ miss. absurd (miss (hit ∙ was))),
+        ((λ _. (f, (λ other e. let sa : asked ≡ other = cc in subst (λ (z : QueuedPlace). IsAskedDone z f) sa row.2), refl, is)), λ miss. absurd (miss (hit ∙ was))),
       ))
       (λ miss. stays s r u id (Waits u asked, []) (CollectTells (step slots u old n none) (Waits u asked, []) x) at ((λ hit. absurd (miss (hit ∙ sym was))), λ _. refl))
 

@@ -1,4 +1,5 @@
--- What each kind of step tells: the word that it found, and the view of its seat behind it.
+-- What each kind of step tells: the word that it found, the view of its seat behind it, and the word that
+-- it left. A step has its new word as an operand, of an exchange that looks first as the second one.
 use Rattle.std.specs.Prelude.{◌≡◌, ◌≢◌, ℕ, ◌+◌, ◌<◌, [], ◌∷◌, Some, None}
 use Rattle.atomic_table.specs.Table.{Step}
 use Rattle.atomic_table.specs.Seated.{TableId}
@@ -19,31 +20,42 @@ board_in (Waits u asked) = 0
 board_in (Idle b) = b
 board_in (Holds b u q) = b
 
--- put: 0 is found, and the desk waits for what it put
+-- put: 0 is found, the desk waits for what it put, and 1 is left
 abbrev pub PutTells : Step Slot → Seated → ℕ → Seated → Type 0
 PutTells step before found after =
     (found ≡ 0)
     × ((q : StoredQueued) → before.1 ≡ (step.word, Some (Queued q)) ∷ [] →
     after ≡ (Waits step.word q, []))
+    × (step.first ≡ 1)
 
--- take: where 1 is found the board has the place, and else nothing changes
+-- take: where 1 is found the board has the place and its own word is left, and else nothing changes
 abbrev pub TakeTells : Step Slot → Seated → ℕ → Seated → Type 0
 TakeTells step before found after =
     (found ≡ 1 → (q : StoredQueued)
-    × (after ≡ (Holds (board_in before.0) step.word q, (step.word, Some (Queued q)) ∷ [])))
+    × (after ≡ (Holds (board_in before.0) step.word q, (step.word, Some (Queued q)) ∷ []))
+    × (step.second ≡ 3 + board_in before.0))
     × (found ≢ 1 → after ≡ before)
 
--- back and done: the board's own word is found, and it has nothing any more
-abbrev pub GiveTells : Step Slot → Seated → ℕ → Seated → Type 0
-GiveTells step before found after =
+-- the board's own word is found, it has nothing any more, and this one is left
+abbrev pub GiveTells : ℕ → Step Slot → Seated → ℕ → Seated → Type 0
+GiveTells left step before found after =
     (found ≡ 3 + board_in before.0) × (after ≡ (Idle (board_in before.0), []))
+    × (step.first ≡ left)
 
--- collect: where 2 is found the desk has what it asked for, and else nothing changes
+-- back leaves 1, and done leaves 2
+abbrev pub BackTells : Step Slot → Seated → ℕ → Seated → Type 0
+BackTells = GiveTells 1
+
+abbrev pub DoneTells : Step Slot → Seated → ℕ → Seated → Type 0
+DoneTells = GiveTells 2
+
+-- collect: where 2 is found the desk has what it asked for and 0 is left, and else nothing changes
 abbrev pub CollectTells : Step Slot → Seated → ℕ → Seated → Type 0
 CollectTells step before found after =
     (found ≡ 2 → (f : StoredFinished)
     × ((asked : StoredQueued) → before.0 ≡ Waits step.word asked → IsAskedDone asked f)
-    × (after ≡ (Rests step.word, (step.word, Some (Finished f)) ∷ [])))
+    × (after ≡ (Rests step.word, (step.word, Some (Finished f)) ∷ []))
+    × (step.second ≡ 0))
     × (found ≢ 2 → after ≡ before)
 
 -- first take: the desk has its slot, with nothing in it

@@ -6,8 +6,8 @@ ghost use Rattle.cam6_slot.specs.Finished.{IsDone};
 ghost use Rattle.cam6_slot.specs.Parking.{StoredQueued};
 ghost use Rattle.cam6_slot.specs.Stands.{Stands};
 ghost use Rattle.cam6_handoff.specs.Rule.{StandsForAsked, IsAskedDone};
-ghost use Rattle.cam6_handoff.specs.Steps.{PutTells, TakeTells, GiveTells, CollectTells};
-ghost use Rattle.cam6_handoff.specs.Steps.{SitTells, IsAt};
+ghost use Rattle.cam6_handoff.specs.Steps.{PutTells, TakeTells, BackTells, DoneTells};
+ghost use Rattle.cam6_handoff.specs.Steps.{CollectTells, SitTells, IsAt};
 ghost use Rattle.cam6_handoff.specs.declared.rule.View.TheVariants.{Unseated, Rests, Waits, Idle, Holds};
 
 use crate::rule::{Counts, Handing, View};
@@ -42,10 +42,16 @@ impl Play<Option<Place>, View> for Taking {
     ghost then = { TakeTells };
 }
 
-struct Giving;
+struct GivingBack;
 
-impl Play<Option<Place>, View> for Giving {
-    ghost then = { GiveTells };
+impl Play<Option<Place>, View> for GivingBack {
+    ghost then = { BackTells };
+}
+
+struct GivingDone;
+
+impl Play<Option<Place>, View> for GivingDone {
+    ghost then = { DoneTells };
 }
 
 struct Collecting;
@@ -137,7 +143,7 @@ pub(crate) fn back(shelf: &Shelf, chair: &mut Chair, user: usize, queued: Queued
         chair.old.me ≡ (Holds b user q, (user, None) ∷ []) → chair.new.me ≡ (Idle b, []) }
 {
     drop(shelf.exchange(chair, user, Some(Place::Queued(queued))));
-    shelf.swap::<Giving>(chair, user, READY);
+    shelf.swap::<GivingBack>(chair, user, READY);
 }
 
 /// A board gives what is finished, and wakes the desk.
@@ -153,6 +159,6 @@ pub(crate) fn done(shelf: &Shelf, chair: &mut Chair, user: usize, finished: Fini
         chair.old.me ≡ (Holds b user q, (user, None) ∷ []) → chair.new.me ≡ (Idle b, []) }
 {
     drop(shelf.exchange(chair, user, Some(Place::Finished(finished))));
-    shelf.swap::<Giving>(chair, user, DONE);
+    shelf.swap::<GivingDone>(chair, user, DONE);
     shelf.wake_one(user);
 }

@@ -3,7 +3,7 @@ use mathlib.Core.Option.{none}
 use Rattle.atomic_table.specs.Table.{step, rest, Allows}
 use Rattle.cam6_slot.specs.declared.resting.Place.TheVariants.{Finished}
 use Rattle.cam6_handoff.specs.Rule.{Rule, Seated, asked_machine, asked_command}
-use Rattle.cam6_handoff.specs.Steps.{GiveTells}
+use Rattle.cam6_handoff.specs.Steps.{DoneTells}
 use Rattle.cam6_handoff.proofs.Keeps.{finishes}
 use Rattle.cam6_handoff.proofs.steps.done.Goals as goal
 
@@ -13,5 +13,5 @@ swap-requires c = let users : ℕ = c.args.shelf.now.key.users in let slots : �
     let is = c.exchange.ensures.3 ∙ ap (λ (m : Seated). (m.0, (u, Some (Finished x)) ∷ rest m.1)) was in (
       search rules,
       search rules,
-      subst (λ (m : Seated). Allows (Rule users) slots id m u (λ _. 2) (GiveTells (step slots u 2 0 none) m)) (sym is) (finishes users slots u id b 2 q x refl c.requires.at.1 (λ asked st. c.requires.is_done b q was (asked_machine asked) (asked_command asked) st)),
+      subst (λ (m : Seated). Allows (Rule users) slots id m u (λ _. 2) (DoneTells (step slots u 2 0 none) m)) (sym is) (finishes users slots u id b 2 q x refl c.requires.at.1 (λ asked st. c.requires.is_done b q was (asked_machine asked) (asked_command asked) st)),
     )
