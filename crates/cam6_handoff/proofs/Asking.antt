@@ -28,5 +28,6 @@ asked old between new c put r is given =
           collected.0 ∙ ap (λ (m : Machine). reply m (asked_command q)) machine ∙
               ap (λ (d : Command). reply (machine_of s) d) command,
           subst (λ (d : Command). StandsAt (after (machine_of s) d) new) command
-              (subst (λ (m : Machine). StandsAt (after m (asked_command q)) new) machine collected.1),
+              (subst (λ (m : Machine). StandsAt (after m (asked_command q)) new) machine
+              collected.1),
         )

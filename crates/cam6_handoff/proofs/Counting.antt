@@ -41,7 +41,8 @@ one_more_desk n limits desks m d made some new = record {
 }
 
 pub one_more_seat : (n users : ℕ) (seats : List BoardStance) (seat : BoardStance) →
-    AreIdleSeats n users seats → IsSeatOf n users seat → AreIdleSeats (n + 1) users (seats ++ seat ∷ [])
+    AreIdleSeats n users seats → IsSeatOf n users seat → AreIdleSeats (n + 1) users
+    (seats ++ seat ∷ [])
 one_more_seat n users seats seat made new = record {
   long = omega (arith, length-append seats (seat ∷ []), made.long);
   each = λ i x there. elim (last_or_before seats seat i x there) [

@@ -1,4 +1,5 @@
--- In the order of reading: the rule of the table, with what its steps tell; where a desk stands and what
+-- In the order of reading: the rule of the table, with what its steps tell; where a desk stands and
+-- what
 -- its calls give; what a board's seat holds and what its calls give.
 pub mod Rule
 pub mod Steps

@@ -1,4 +1,5 @@
-use Rattle.std.proofs.Common.{◌∙◌, ◌+◌, ◌++◌, [], ◌∷◌, ℕ, List, replicate, None, refl, sym, ap, subst, arith}
+use Rattle.std.proofs.Common.{◌∙◌, ◌+◌, ◌++◌, [], ◌∷◌, ℕ, List, replicate, None, refl, sym, ap}
+use Rattle.std.proofs.Common.{subst, arith}
 use Rattle.cam6_handoff.specs.Standing.{Stance}
 use Rattle.atomic_table.specs.Table.{opening}
 use Rattle.cam6_machine.specs.Stored.{machine_of}

@@ -7,8 +7,12 @@ use Rattle.cam6_handoff.proofs.Keeps.{sits}
 use Rattle.cam6_handoff.proofs.steps.sit.Goals as goal
 
 pub load-requires : goal.load-requires
-load-requires c = let users : ℕ = c.args.shelf.now.key.users in let slots : ℕ = c.args.shelf.now.table_id.slots in let u : ℕ = c.args.user in let id : ℕ = c.args.chair.now.id in (
-  search rules,
-  search rules,
-  subst (λ (m : Seated). Allows (Rule users) slots id m u (λ x. x) (SitTells (step slots u 0 0 none) m)) (sym c.requires.unseated) (sits users slots u id c.requires.at.1),
-)
+load-requires c = let users : ℕ = c.args.shelf.now.key.users in let slots : ℕ =
+    c.args.shelf.now.table_id.slots in let u : ℕ = c.args.user in let id : ℕ =
+    c.args.chair.now.id in (
+      search rules,
+      search rules,
+      subst (λ (m : Seated). Allows (Rule users) slots id m u (λ x. x)
+          (SitTells (step slots u 0 0 none) m)) (sym c.requires.unseated)
+          (sits users slots u id c.requires.at.1),
+    )

@@ -38,5 +38,6 @@ pub returns : goal.returns
 returns c =
     let h = held _ _ _ _ _ _ c.self.invariant.4 c.take.ensures.value c.in-Some.is in
     let e = c.back.ensures.idle c.self.inside.board h.1.0 h.1.1 in
-    ap (λ (m : Seated). board_stance c.self.inside.board c.self.inside.users c.self.inside.filling m.0) e ∙
+    ap (λ (m : Seated). board_stance c.self.inside.board c.self.inside.users c.self.inside.filling
+    m.0) e ∙
     ap emptied c.self.view_is
