@@ -1,8 +1,7 @@
 -- The rule of the hand-off table: what holds of a user's word, his slot and the views of all seats.
 --
 -- A user's word is 0 where his desk has the machine, 1 where his command waits for a board, 2 where
--- it
--- is finished, and 3 + b where board b has it.
+-- it is finished, and 3 + b where board b has it.
 use Rattle.std.specs.Prelude.{◌≡◌, ℕ, ◌+◌, ◌<◌, ◌≤◌, Bool, true, false, eqb, List, length}
 use Rattle.std.specs.Prelude.{slice_index, Option, Some, None}
 use mathlib.Core.Option.{some, none}

@@ -11,8 +11,7 @@ use Rattle.cam6_slot.specs.Stands.{Stands, StandsOut}
 use Rattle.cam6_handoff.specs.Holding.{BoardStance, Holding, nothing, holding}
 
 -- a lease of this place with its job: the job fits it, its bands are those of the place, one at
--- least,
--- and it stands for whatever the place stands for
+-- least, and it stands for whatever the place stands for
 pub record IsLeaseOf (v : StoredQueued) (number : ℕ) (lease : StoredLease) (job : StoredJob)
     : Type 0 where
   pub fits : JobFits lease job
