@@ -1,5 +1,5 @@
--- What each kind of step tells: the word that it found, the view of its seat behind it, and the word
--- that it left. A step has its new word as its first operand, and one that looks first as its second.
+-- What each kind of step tells: the word that it found, the view of its seat behind it, and the
+-- word that it left. That is a step's first operand, and the second one of a step that looks first.
 use Rattle.std.specs.Prelude.{◌≡◌, ◌≢◌, ℕ, ◌+◌, ◌<◌, [], ◌∷◌, Some, None}
 use Rattle.atomic_table.specs.Table.{Step}
 use Rattle.atomic_table.specs.Seated.{TableId}
