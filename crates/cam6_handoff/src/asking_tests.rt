@@ -9,11 +9,11 @@ use cam6_planes::{NoMemory, Side};
 #[test]
 fn a_command_without_steps_is_asked(rt: HostRuntime) -> Result<(), NoMemory> {
     let (desks, _seats) = boot(rt.alloc(), 1, 1, &[Side::S128])?;
+    assert_eq!(rt; desks.len(), 1);
     for mut desk in desks {
-        if !desk.is_waiting() {
-            let reply = desk.ask(&rt, Command::Count { mask: 2 })?;
-            assert!(rt; matches!(reply, Reply::Done(Done::Count { count: 0 })));
-        }
+        assert!(rt; !desk.is_waiting());
+        let reply = desk.ask(&rt, Command::Count { mask: 2 })?;
+        assert!(rt; matches!(reply, Reply::Done(Done::Count { count: 0 })));
     }
     Ok(())
 }

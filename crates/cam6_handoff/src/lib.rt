@@ -1,5 +1,5 @@
-//! The hand-off table: users' commands go between threads, from a desk to whichever board takes them
-//! and back, with one word and one slot for each user.
+//! The hand-off table: users' commands go between threads, from a desk to whichever board takes
+//! them and back, with one word and one slot for each user.
 //!
 //! Contract: a desk has the machine of its user, or waits for what a command makes of it
 //! (`specs/Standing.antt`). What is put at a desk is answered at once as the machine alone answers
@@ -18,8 +18,8 @@
 //! Stands on: `cam6_slot`, `cam6_station`, `cam6_board`, `cam6_cache`, `cam6_machine`,
 //! `cam6_commands` and `cam6_planes`, and `atomic_table`.
 //!
-//! Read next: `rule`; `steps`, one function for each kind; `start`, with the cutting of seats; `desks`
-//! and `seats`.
+//! Read next: `rule`; `steps`, one function for each kind; `start`, with the cutting of seats;
+//! `desks` and `seats`.
 #![tactic(auto)]
 
 #[cfg(test)]
