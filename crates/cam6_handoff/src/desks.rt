@@ -1,5 +1,5 @@
 //! A user's desk.
-ghost use Rattle.std.specs.Prelude.{◌≡◌, [], ◌∷◌, Some, None};
+ghost use Rattle.std.specs.Prelude.{◌≡◌, [], ◌∷◌, Some, None, true};
 ghost use Rattle.std.specs.Arc.{arc_value};
 ghost use Rattle.cam6_handoff.specs.declared.rule.View.TheVariants.{Rests};
 ghost use Rattle.cam6_handoff.specs.Standing.{standing};
@@ -118,7 +118,9 @@ impl Desk {
         }
     }
 
-    fn wait<R: Wait>(&mut self, rt: &R) -> Reply
+    /// The reply to what was put, once it is there: what `ask` does behind a put that waits.
+    pub fn wait<R: Wait>(&mut self, rt: &R) -> Reply
+        requires { is_waiting self.old ≡ true }
         ensures { CollectGives self.old (Some result) self.new }
     {
         for _ in rt.forever() {

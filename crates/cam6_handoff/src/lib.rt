@@ -19,18 +19,20 @@
 //! `cam6_commands` and `cam6_planes`, and `atomic_table`.
 //!
 //! Read next: `rule`; `steps`, one function for each kind; `start`, with the cutting of seats;
-//! `desks` and `seats`.
+//! `desks` and `seats`; then `queues`.
 #![tactic(auto)]
 
 #[cfg(test)]
 mod asking_tests;
 mod desks;
+mod queues;
 mod rule;
 mod seats;
 mod start;
 mod steps;
 
 pub use desks::{Desk, Put};
+pub use queues::Queue;
 pub use rule::{Counts, Handing, View};
 pub use seats::BoardSeat;
 pub use start::{MAX_BOARDS, MAX_USERS, boot};

@@ -6,10 +6,12 @@ ghost use Rattle.cam6_handoff.specs.Holding.{nothing};
 ghost use Rattle.cam6_handoff.specs.Internal.Chairs.{BoardChair};
 
 use crate::desks::HandTable;
+use crate::queues::{Queue, queue_of};
 use crate::steps;
 use crate::steps::Chair;
 use cam6_board::{Job, Tables};
 use cam6_cache::TableCache;
+use cam6_planes::NoMemory;
 use cam6_slot::{Finished, Lease, Queued};
 use cam6_station::Filling;
 use std::marker::Model;
@@ -45,6 +47,7 @@ impl BoardSeat {
     ghost use Rattle.cam6_slot.specs.Leases.{TablesFit};
     ghost use Rattle.cam6_station.specs.Loading.{IsBehindLoads};
     ghost use Rattle.cam6_handoff.specs.Holding.{IsIdle, emptied};
+    ghost use Rattle.cam6_handoff.specs.Limits.{max_users};
     ghost use Rattle.cam6_handoff.specs.Seats.{TakeGives, Accepts, AcceptsDone};
 
     /// The board's number.
@@ -56,9 +59,16 @@ impl BoardSeat {
 
     /// The number of users, who are numbered from 1.
     pub fn users(&self) -> usize
-        ensures { result ≡ self.now.users }
+        ensures users { result ≡ self.now.users }
+        ensures few { result ≤ max_users }
     {
         self.users
+    }
+
+    /// A look at whose commands wait, for whatever decides when a board's command makes way.
+    pub fn queue(&self) -> Result<Queue, NoMemory> {
+        let table = Arc::clone(&self.table)?;
+        Ok(queue_of(table, self.users))
     }
 
     /// Takes the user's command onto this board, if it waits there.

@@ -69,6 +69,7 @@ fn cut_board(
     requires of { IsFirstOf (arc_value table).shared.table_id users first.old.table_id }
     requires users { (arc_value table).shared.key.users ≡ users }
     requires a_user { 0 < users }
+    requires few { users ≤ max_users }
     requires next { first.old.me ≡ (First users board, []) }
     ensures of { first.new.table_id ≡ first.old.table_id }
     ensures next { first.new.me ≡ (First users (board + 1), []) }

@@ -1,5 +1,5 @@
 -- What the seat of a desk and of a board has in the table.
-use Rattle.std.specs.Prelude.{◌≡◌, ℕ, ◌+◌, ◌<◌, [], ◌∷◌, List, Option, Some, None}
+use Rattle.std.specs.Prelude.{◌≡◌, ℕ, ◌+◌, ◌<◌, ◌≤◌, [], ◌∷◌, List, Option, Some, None}
 use Rattle.atomic_table.specs.Seated.{TableId}
 use Rattle.cam6_machine.specs.Stored.{StoredMachine}
 use Rattle.cam6_slot.specs.Parking.{StoredQueued}
@@ -9,6 +9,7 @@ use Rattle.cam6_handoff.specs.declared.rule.View.TheVariants.{Idle, Holds}
 use Rattle.cam6_handoff.specs.Rule.{Seated}
 use Rattle.cam6_handoff.specs.Standing.{Stance, standing, waiting, nowhere}
 use Rattle.cam6_handoff.specs.Holding.{Holding, nothing, holding, BoardStance}
+use Rattle.cam6_handoff.specs.Limits.{max_users}
 
 abbrev pub waits_at : View → Stance
 waits_at (First desks boards) = nowhere
@@ -44,8 +45,9 @@ TakenChair n b None me = me ≡ (Idle b, [])
 TakenChair n b (Some u) me =
     (u < n) × ((q : StoredQueued) × (me ≡ (Holds b u q, (u, None) ∷ [])))
 
--- a board's seat is of the table, which has so many users, and has taken what it says
+-- a board's seat is of the table, which has so many users, and has taken what it says. They aren't
+-- too many
 abbrev pub BoardChair : TableId → ℕ → ℕ → TableId → ℕ → Option ℕ → Seated → Type 0
 BoardChair table users n own b taken me =
     (own ≡ table) × (n ≡ users) × (table.words ≡ users) × (table.slots ≡ users)
-    × TakenChair n b taken me
+    × TakenChair n b taken me × (n ≤ max_users)

@@ -32,6 +32,7 @@ invariant_of-self c =
       i.3,
       subst (λ (t : Option ℕ). TakenChair c.self.inside.users c.self.inside.board t
           c.done.new.chair.me) (sym c.take.ensures.after) e,
+      i.5,
     )
 
 pub returns : goal.returns

@@ -12,6 +12,7 @@ invariant_of-self-2 c =
       i.2,
       i.3,
       (search rules, (c.in_ok-queued.queued, c.in_ok-queued.ensures.found)),
+      i.5,
     )
 
 pub returns : goal.returns

@@ -1,0 +1,35 @@
+//! Whose commands wait for a board.
+ghost use Rattle.std.specs.Prelude.{◌≡◌};
+ghost use Rattle.std.specs.Arc.{arc_value};
+
+use crate::desks::HandTable;
+use crate::steps;
+use std::sync::Arc;
+
+/// A look at the words of a table, by any thread. What it tells may have changed by the time that it
+/// is told.
+#[derive(Drop)]
+pub struct Queue {
+    table: Arc<HandTable>,
+    users: usize,
+    ghost words: { (arc_value table).shared.table_id.words ≡ users },
+}
+
+impl Queue {
+    /// Whether the command of another user than this one, who are numbered from 1, waits for a board.
+    pub fn has_other(&self, user: usize) -> bool {
+        for word in 0..self.users {
+            if word + 1 != user && self.table.shared.peek(word) == steps::READY {
+                return true;
+            }
+        }
+        false
+    }
+}
+
+/// A look at a table of so many users.
+pub(crate) fn queue_of(table: Arc<HandTable>, users: usize) -> Queue
+    requires { (arc_value table).shared.table_id.words ≡ users }
+{
+    Queue { table, users }
+}

@@ -1,0 +1,3 @@
+-- How the code goes about it: no public contract says it.
+pub mod Served
+pub mod Carried

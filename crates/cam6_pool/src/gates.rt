@@ -1,0 +1,23 @@
+//! What a worker asks before it goes on.
+
+/// What a gate answers.
+#[derive(Clone, Copy, Debug, PartialEq, Eq)]
+pub enum Turn {
+    /// The band may be done.
+    Go,
+    /// The command is to be taken off the board, and waits again.
+    Preempt,
+    /// The same, and the worker ends.
+    Stop,
+}
+
+/// Tells workers when to go on. It is asked by several threads at once.
+pub trait Gate {
+    /// Asked before each band of a user's command on a board. Users are numbered from 1, boards from
+    /// 0, the bands of a step from 0: a step at side s has s/16 of them.
+    fn turn(&self, board: u8, user: u8, band: u8) -> Turn;
+
+    /// Asked where no user could be taken onto a board: false ends its worker. It may wait for a
+    /// while, or until a command is put.
+    fn idle(&self, board: u8) -> bool;
+}

@@ -1,0 +1,190 @@
+//! The gate of a host: commands on a board make way for each other, and idle boards sleep.
+ghost use Rattle.std.specs.Prelude.{◌≡◌, IfOk, IsOk, OnErr};
+ghost use Rattle.cam6_handoff.specs.Desks.{AskGives, WantsNone};
+ghost use Rattle.cam6_handoff.specs.Standing.{IsResting};
+
+use crate::gates::{Gate, Turn};
+use cam6_commands::{Command, Reply};
+use cam6_handoff::{Desk, Put, Queue};
+use cam6_planes::NoMemory;
+use std::alloc::Global;
+use std::sync::atomic::{AtomicBool, Ordering};
+use std::sync::{Condvar, Mutex, Wait};
+use std::time::{Clock, Duration, Instant};
+
+/// What a command has of its board at least, in milliseconds, before another one that waits gets it.
+const SLICE: u64 = 2;
+
+/// A command has its board at least so many times as long as its tables took to be filled.
+const FILLINGS: u32 = 10;
+
+/// In milliseconds, how long a board sleeps at most where nothing rings.
+const POLL: u64 = 100;
+
+/// What a board is at, as its worker asks.
+#[derive(Drop)]
+struct Slice {
+    /// The user whose command is on the board; 0 where none is.
+    user: u8,
+    /// When he got it, and for how long.
+    began: Option<Instant>,
+    length: Duration,
+    /// When the worker asked last.
+    asked: Option<Instant>,
+    /// How often it had been rung when the board was idle last.
+    heard: u64,
+}
+
+/// The time from one moment to another, if the clock told both.
+fn between(from: Option<Instant>, to: Option<Instant>) -> Option<Duration> {
+    match (from, to) {
+        (Some(from), Some(to)) => Some(to.saturating_duration_since(from)),
+        _ => None,
+    }
+}
+
+impl Slice {
+    fn new() -> Slice {
+        Slice {
+            user: 0,
+            began: None,
+            length: Duration::from_millis(SLICE),
+            asked: None,
+            heard: 0,
+        }
+    }
+
+    /// For how long a command may have the board that comes onto it now: what has passed since the
+    /// worker asked last is what its tables took to be filled.
+    fn length_from(&self, now: Option<Instant>) -> Duration {
+        let filling = between(self.asked, now).unwrap_or(Duration::from_millis(0));
+        filling
+            .saturating_mul(FILLINGS)
+            .max(Duration::from_millis(SLICE))
+    }
+
+    /// A band of a user's command is asked for: whether the command has had its time, of whole steps.
+    /// Where the first band of a step comes late, tables were filled for another command of his.
+    fn ask(&mut self, user: u8, band: u8, now: Option<Instant>) -> bool {
+        let length = self.length_from(now);
+        self.asked = now;
+        if self.user != user || (band == 0 && length > self.length) {
+            self.user = user;
+            self.began = now;
+            self.length = length;
+            return false;
+        }
+        band == 0 && between(self.began, now).is_none_or(|had| had >= self.length)
+    }
+
+    /// The board is free.
+    fn free(&mut self, now: Option<Instant>) {
+        self.user = 0;
+        self.asked = now;
+    }
+}
+
+/// A gate that lets a command have its board for about two milliseconds of whole steps, or ten times
+/// as long as its tables took to be filled, where another command waits, and else for as long as it
+/// wants. A board without a command sleeps until a command is put, which has to be told by `ring`.
+#[derive(Drop)]
+pub struct SlicingGate<R> {
+    rt: R,
+    queue: Queue,
+    slices: Vec<Mutex<Slice>>,
+    /// How often it was rung.
+    bell: Mutex<u64>,
+    rung: Condvar,
+    stopping: AtomicBool,
+}
+
+impl<R: Wait + Clock + Drop> SlicingGate<R> {
+    /// A gate for the boards of a table, numbered from 0.
+    pub fn new(alloc: Global, rt: R, queue: Queue, boards: u8) -> Result<SlicingGate<R>, NoMemory> {
+        let mut slices = Vec::with_capacity(alloc, usize::from(boards))?;
+        for _ in 0..boards {
+            slices.push(Mutex::new(Slice::new()))?;
+        }
+        Ok(SlicingGate {
+            rt,
+            queue,
+            slices,
+            bell: Mutex::new(0),
+            rung: Condvar::new(),
+            stopping: AtomicBool::new(false),
+        })
+    }
+
+    /// Wakes a board, if one sleeps: a command was put.
+    pub fn ring(&self) {
+        let mut rings = self.bell.lock(&self.rt);
+        *rings = rings.wrapping_add(1);
+        self.rung.notify_one();
+    }
+
+    /// From now on each worker that asks is stopped.
+    pub fn stop(&self) {
+        self.stopping.store(true, Ordering::SeqCst);
+        let mut rings = self.bell.lock(&self.rt);
+        *rings = rings.wrapping_add(1);
+        self.rung.notify_all();
+    }
+
+    /// The reply to a command, as a desk's `ask` gives it, with boards that may sleep.
+    pub fn ask(&self, desk: &mut Desk, command: Command) -> Result<Reply, NoMemory>
+        requires { IsResting desk.old }
+        ensures gives { IfOk result (λ reply. AskGives desk.old command reply desk.new) }
+        ensures err { OnErr result (desk.new ≡ desk.old) }
+        ensures memory { WantsNone desk.old command → IsOk result }
+    {
+        match desk.put(command)? {
+            Put::Answered(reply) => Ok(reply),
+            Put::Waiting => {
+                self.ring();
+                Ok(desk.wait(&self.rt))
+            }
+        }
+    }
+
+    fn now(&self) -> Option<Instant> {
+        Instant::now(&self.rt).ok()
+    }
+
+    /// Sleeps until it is rung, or for a while, unless it was rung since the board was idle last.
+    fn listen(&self, heard: u64) -> u64 {
+        let poll = Duration::from_millis(POLL);
+        let bell = self.bell.lock(&self.rt);
+        let (rings, _) = self
+            .rung
+            .wait_timeout_while(&self.rt, bell, poll, |rings| *rings == heard);
+        *rings
+    }
+}
+
+impl<R: Wait + Clock + Drop> Gate for SlicingGate<R> {
+    fn turn(&self, board: u8, user: u8, band: u8) -> Turn {
+        if self.stopping.load(Ordering::SeqCst) {
+            return Turn::Stop;
+        }
+        let Some(slice) = self.slices.get(usize::from(board)) else {
+            return Turn::Go;
+        };
+        let mut slice = slice.lock(&self.rt);
+        let is_over = slice.ask(user, band, self.now());
+        if is_over && self.queue.has_other(usize::from(user)) {
+            slice.user = 0;
+            return Turn::Preempt;
+        }
+        Turn::Go
+    }
+
+    fn idle(&self, board: u8) -> bool {
+        let Some(slice) = self.slices.get(usize::from(board)) else {
+            return false;
+        };
+        let mut slice = slice.lock(&self.rt);
+        slice.heard = self.listen(slice.heard);
+        slice.free(self.now());
+        !self.stopping.load(Ordering::SeqCst)
+    }
+}
