@@ -3,7 +3,7 @@
 use crate::answers::no_memory;
 use crate::examples::{Part, bytes_of, read_example};
 use crate::faults::Unplayable;
-use crate::ways::Way;
+use crate::ways::{Played, Way};
 use std::alloc::Global;
 use std::env::Env;
 use std::fs::Files;
@@ -18,7 +18,7 @@ use std::{fs, io};
 /// that is wrong on purpose: what is printed of it shows that answers are compared. After the word
 /// `lines` comes one file, and the number of one of its sessions, or none for the first: its lines
 /// are printed as they are sent, for the program `cam6` to take.
-pub fn play<W: Way, R: Env + Files + Print + AllocGlobal>(rt: &R) -> io::Result<ExitCode> {
+pub fn play<W: Played<R>, R: Env + Files + Print + AllocGlobal>(rt: &R) -> io::Result<ExitCode> {
     let words = std::env::args(rt)?
         .skip(1)
         .collect::<Vec<String>>(rt.alloc())?;
@@ -53,7 +53,7 @@ fn parts_of<W: Way, R: Files + Print + AllocGlobal>(
 }
 
 /// Plays examples. Whether all came back, but for those that are wrong on purpose.
-fn play_files<W: Way, R: Files + Print + AllocGlobal>(
+fn play_files<W: Played<R>, R: Files + Print + AllocGlobal>(
     rt: &R,
     names: &[String],
 ) -> io::Result<bool> {
@@ -95,12 +95,15 @@ fn send<W: Way, R: Files + Print + AllocGlobal>(
 }
 
 /// Plays an example and prints whether all its lines came back.
-fn show<W: Way, R: Print + AllocGlobal>(rt: &R, name: &str, parts: &[Part<W>]) -> io::Result<bool> {
-    let alloc = rt.alloc();
+fn show<W: Played<R>, R: Print + AllocGlobal>(
+    rt: &R,
+    name: &str,
+    parts: &[Part<W>],
+) -> io::Result<bool> {
     let mut lines: usize = 0;
     for part in parts {
         let wanted = part.wanted.as_slice();
-        for answers in part.way.played(alloc, part.sent.as_slice())? {
+        for answers in part.way.played(rt, part.sent.as_slice())? {
             if let Some(line) = first_other(answers.as_slice(), wanted) {
                 let line = line.saturating_add(lines);
                 println!(rt; "{name}: line {line} that came back is another")?;

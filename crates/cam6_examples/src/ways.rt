@@ -10,9 +10,13 @@ pub trait Way: Drop {
     /// Reads the words behind `as`; `session` is also that of lines above the first `as`.
     fn read(alloc: Global, words: &str) -> Result<Self, Unplayable>;
 
-    /// What comes back of the lines, by each way in.
-    fn played(&self, alloc: Global, sent: &[Sent]) -> io::Result<Vec<Vec<u8>>>;
-
     /// Whether the program `cam6` takes such lines.
     fn is_session(&self) -> bool;
+}
+
+/// A way that is played by what a handle of the runtime allows: memory, and where the program asks
+/// for more of its handle, threads.
+pub trait Played<R>: Way {
+    /// What comes back of the lines, by each way in.
+    fn played(&self, rt: &R, sent: &[Sent]) -> io::Result<Vec<Vec<u8>>>;
 }

@@ -1,7 +1,7 @@
 //! The way in which lines to a machine and its boards are played.
 
 use crate::players::answered;
-use cam6_examples::{Sent, Unplayable, Way, limit_of};
+use cam6_examples::{Played, Sent, Unplayable, Way, limit_of};
 use cam6_planes::Side;
 use std::alloc::Global;
 use std::io;
@@ -31,13 +31,16 @@ impl Way for BoardWay {
         })
     }
 
-    fn played(&self, alloc: Global, sent: &[Sent]) -> io::Result<Vec<Vec<u8>>> {
-        let calls = self.calls.clone()?;
-        Ok(vec![in alloc; answered(alloc, self.limit, calls, sent)?]?)
-    }
-
     fn is_session(&self) -> bool {
         false
+    }
+}
+
+impl<R: AllocGlobal> Played<R> for BoardWay {
+    fn played(&self, rt: &R, sent: &[Sent]) -> io::Result<Vec<Vec<u8>>> {
+        let alloc = rt.alloc();
+        let calls = self.calls.clone()?;
+        Ok(vec![in alloc; answered(alloc, self.limit, calls, sent)?]?)
     }
 }
 

@@ -3,7 +3,7 @@ ghost use Rattle.std.specs.Prelude.{◌<◌, ◌≤◌, IfOk};
 ghost use Rattle.cam6_handoff.specs.Limits.{max_users, max_boards};
 
 use crate::players::answered;
-use cam6_examples::{Sent, Unplayable, Way, limit_of};
+use cam6_examples::{Played, Sent, Unplayable, Way, limit_of};
 use cam6_handoff::{MAX_BOARDS, MAX_USERS};
 use cam6_planes::Side;
 use std::alloc::Global;
@@ -32,13 +32,16 @@ impl Way for DeskWay {
         })
     }
 
-    fn played(&self, alloc: Global, sent: &[Sent]) -> io::Result<Vec<Vec<u8>>> {
-        let answers = answered(alloc, self.users, self.boards as u8, self.limit, sent)?;
-        Ok(vec![in alloc; answers]?)
-    }
-
     fn is_session(&self) -> bool {
         false
+    }
+}
+
+impl<R: AllocGlobal> Played<R> for DeskWay {
+    fn played(&self, rt: &R, sent: &[Sent]) -> io::Result<Vec<Vec<u8>>> {
+        let alloc = rt.alloc();
+        let answers = answered(alloc, self.users, self.boards as u8, self.limit, sent)?;
+        Ok(vec![in alloc; answers]?)
     }
 }
 

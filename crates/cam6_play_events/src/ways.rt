@@ -6,7 +6,7 @@ ghost use Rattle.cam6_core.specs.Limits.{max_users, max_boards};
 use crate::players::Told;
 use cam6_cache::MAX_CAPACITY;
 use cam6_core::{Core, MAX_BOARDS, MAX_USERS};
-use cam6_examples::{Sent, Unplayable, Way, no_memory};
+use cam6_examples::{Played, Sent, Unplayable, Way, no_memory};
 use cam6_planes::{NoMemory, Side};
 use std::alloc::Global;
 use std::io;
@@ -38,16 +38,19 @@ impl Way for EventWay {
         })
     }
 
-    fn played(&self, alloc: Global, sent: &[Sent]) -> io::Result<Vec<Vec<u8>>> {
+    fn is_session(&self) -> bool {
+        false
+    }
+}
+
+impl<R: AllocGlobal> Played<R> for EventWay {
+    fn played(&self, rt: &R, sent: &[Sent]) -> io::Result<Vec<Vec<u8>>> {
+        let alloc = rt.alloc();
         let core = self.core(alloc).map_err(|_| no_memory())?;
         let other = self.core(alloc).map_err(|_| no_memory())?;
         let mut told = Told::new(alloc, core);
         told.answered(sent)?;
         told.both_ways(other)
-    }
-
-    fn is_session(&self) -> bool {
-        false
     }
 }
 

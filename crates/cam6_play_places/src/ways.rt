@@ -1,7 +1,7 @@
 //! The way in which lines of a user are played.
 
 use crate::players::answered;
-use cam6_examples::{Sent, Unplayable, Way, limit_of};
+use cam6_examples::{Played, Sent, Unplayable, Way, limit_of};
 use cam6_planes::Side;
 use std::alloc::Global;
 use std::io;
@@ -22,11 +22,14 @@ impl Way for PlaceWay {
         })
     }
 
-    fn played(&self, alloc: Global, sent: &[Sent]) -> io::Result<Vec<Vec<u8>>> {
-        Ok(vec![in alloc; answered(alloc, self.limit, sent)?]?)
-    }
-
     fn is_session(&self) -> bool {
         false
+    }
+}
+
+impl<R: AllocGlobal> Played<R> for PlaceWay {
+    fn played(&self, rt: &R, sent: &[Sent]) -> io::Result<Vec<Vec<u8>>> {
+        let alloc = rt.alloc();
+        Ok(vec![in alloc; answered(alloc, self.limit, sent)?]?)
     }
 }

@@ -2,7 +2,7 @@
 
 use crate::{caches, inverses, rules, stacks};
 use cam6_cache::MAX_CAPACITY;
-use cam6_examples::{Sent, Unplayable, Way, wiring_of};
+use cam6_examples::{Played, Sent, Unplayable, Way, wiring_of};
 use cam6_wiring::Wiring;
 use std::alloc::Global;
 use std::io;
@@ -49,7 +49,14 @@ impl Way for RuleWay {
         }
     }
 
-    fn played(&self, alloc: Global, sent: &[Sent]) -> io::Result<Vec<Vec<u8>>> {
+    fn is_session(&self) -> bool {
+        false
+    }
+}
+
+impl<R: AllocGlobal> Played<R> for RuleWay {
+    fn played(&self, rt: &R, sent: &[Sent]) -> io::Result<Vec<Vec<u8>>> {
+        let alloc = rt.alloc();
         let answers = match self {
             RuleWay::Texts(wiring) => rules::faults_of_texts(alloc, *wiring, sent)?,
             RuleWay::Rules(wiring) => rules::kept_rules(alloc, *wiring, sent)?,
@@ -63,10 +70,6 @@ impl Way for RuleWay {
             RuleWay::Stacks => stacks::stacks(alloc, sent)?,
         };
         Ok(vec![in alloc; answers]?)
-    }
-
-    fn is_session(&self) -> bool {
-        false
     }
 }
 

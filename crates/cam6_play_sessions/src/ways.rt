@@ -1,7 +1,7 @@
 //! The ways in which lines are played.
 
 use crate::sessions;
-use cam6_examples::{Sent, Unplayable, Way, limit_of};
+use cam6_examples::{Played, Sent, Unplayable, Way, limit_of};
 use cam6_planes::Side;
 use std::alloc::Global;
 use std::io;
@@ -25,14 +25,17 @@ impl Way for LineWay {
         }
     }
 
-    fn played(&self, alloc: Global, sent: &[Sent]) -> io::Result<Vec<Vec<u8>>> {
+    fn is_session(&self) -> bool {
+        matches!(self, LineWay::Session(_))
+    }
+}
+
+impl<R: AllocGlobal> Played<R> for LineWay {
+    fn played(&self, rt: &R, sent: &[Sent]) -> io::Result<Vec<Vec<u8>>> {
+        let alloc = rt.alloc();
         match self {
             LineWay::Session(limit) => sessions::answered(alloc, *limit, sent),
             LineWay::Readings => Ok(vec![in alloc; sessions::read(alloc, sent)?]?),
         }
-    }
-
-    fn is_session(&self) -> bool {
-        matches!(self, LineWay::Session(_))
     }
 }
