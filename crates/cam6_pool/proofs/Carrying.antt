@@ -1,8 +1,6 @@
 -- What the seat accepts of a lease, and of what came off its board.
-use Rattle.std.proofs.Common.{◌≡◌, ◌∙◌, Ok, Err, sym, ap, true}
+use Rattle.std.proofs.Common.{◌≡◌, ◌∙◌, Ok, Err}
 use Rattle.cam6_band.specs.declared.images.AtRest.{AtRest}
-use Rattle.cam6_band.specs.Partway.{Mid}
-use Rattle.cam6_board.specs.Images.{planes_in, is_rest}
 use Rattle.cam6_board.specs.Jobs.{StoredJob}
 use Rattle.cam6_board.specs.declared.boards.BoardFault.{BoardFault}
 use Rattle.cam6_board.specs.declared.images.Image.{Image}
@@ -13,11 +11,9 @@ use Rattle.cam6_handoff.specs.Seats.{Accepts, AcceptsDone}
 use Rattle.cam6_model.specs.Machine.{Machine}
 use Rattle.cam6_slot.specs.Finished.{StoredFinished, IsDone}
 use Rattle.cam6_slot.specs.Leases.{StoredLease}
-use Rattle.cam6_slot.specs.Lefts.{lease_left}
 use Rattle.cam6_slot.specs.Parking.{StoredQueued}
 use Rattle.cam6_slot.specs.Stands.{Stands, StandsOut}
 use Rattle.cam6_pool.specs.declared.gates.Turn.{Turn}
-use Rattle.cam6_pool.specs.declared.gates.Turn.TheVariants.{Go}
 use Rattle.cam6_pool.specs.Internal.Carried.{Carries, CarriesDone}
 use Rattle.cam6_pool.specs.Internal.Served.{OffBoard}
 
@@ -46,30 +42,8 @@ module _ (p : Holding) (before after : StoredLease) (job : StoredJob)
     back (holding user v) has =
         λ m c st. let was = off.2 m c (has.1 m c st) in stands m c was.0 was.2 was.1
 
-  -- what is at rest without a band left is done
-  pub carries_done : (image : Image) → OffBoard before job (Ok (Go, image)) after →
-      CarriesDone p after image
-  carries_done image off = done p carries where
-    done : (h : Holding) → Carries h before job → CarriesDone h after image
-    done nothing has = absurd has
-    done (holding user v) has =
-        (off.0.0, off.1, off.0.1, λ m c st. off.2 m c (has.1 m c st))
-
--- and what is done is told as done
+-- what is at rest without a band left is told as done
 module _ (p : Holding) (l : StoredLease) (out : Image) (has : CarriesDone p l out) where
-  pub limit_of : (rest : AtRest) → out ≡ image.Rest rest →
-      rest.planes.limit ≡ l.work.home.limit
-  limit_of rest is = at p has where
-    at : (h : Holding) → CarriesDone h l out → rest.planes.limit ≡ l.work.home.limit
-    at nothing of = absurd of
-    at (holding user v) of = sym (ap (λ i. (planes_in i).limit) is) ∙ of.1.alike.limit
-
-  pub is_done : lease_left l ≡ 0
-  is_done = at p has where
-    at : (h : Holding) → CarriesDone h l out → lease_left l ≡ 0
-    at nothing of = absurd of
-    at (holding user v) of = of.0
-
   pub accepts_done : (rest : AtRest) (f : StoredFinished) → out ≡ image.Rest rest →
       ((m : Machine) (c : Command) (j : StoredJob) → StandsOut l j m c →
       j.image ≡ image.Rest rest → IsDone f m c) →
@@ -79,11 +53,3 @@ module _ (p : Holding) (l : StoredLease) (out : Image) (has : CarriesDone p l ou
     at nothing of = absurd of
     at (holding user v) of =
         λ m c st. let was = of.3 m c st in done m c was.0 was.2 (was.1 ∙ is)
-
-  pub never_mid : (mid : Mid) → out ≡ image.Mid mid → ⊥
-  never_mid mid is = at p has where
-    at : (h : Holding) → CarriesDone h l out → ⊥
-    at nothing of = of
-    at (holding user v) of =
-        let same : is_rest (image.Mid mid) ≡ true = ap is_rest (sym is) ∙ of.2 in
-        cc same

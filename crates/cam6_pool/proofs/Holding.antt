@@ -1,8 +1,7 @@
 -- A lease and what its board holds, from call to call of the board.
-use Rattle.std.proofs.Common.{◌≡◌, ◌∙◌, ◌<◌, ℕ, List, Ok, Err, sym, ap, subst, true}
+use Rattle.std.proofs.Common.{◌≡◌, ◌∙◌, ℕ, List, Ok, Err, sym, ap, subst}
 use Rattle.cam6_board.specs.Bands.{Moves}
-use Rattle.cam6_board.specs.Held.{Load, empty, loaded, MovesHeld, GivesBack, IsOfLimit, HasWork}
-use Rattle.cam6_board.specs.Held.{IsLoaded}
+use Rattle.cam6_board.specs.Held.{Load, empty, loaded, MovesHeld, GivesBack, IsOfLimit}
 use Rattle.cam6_board.specs.Images.{is_rest}
 use Rattle.cam6_board.specs.Jobs.{StoredJob}
 use Rattle.cam6_board.specs.declared.boards.BandEnd.{BandEnd}
@@ -15,28 +14,13 @@ use Rattle.cam6_slot.specs.Leases.{StoredLease, JobFits, TablesFit, ImageFits}
 use Rattle.cam6_slot.specs.Stands.{StandsOut}
 use Rattle.cam6_pool.specs.declared.gates.Turn.{Turn}
 use Rattle.cam6_pool.specs.declared.gates.Turn.TheVariants.{Go, Preempt, Stop}
-use Rattle.cam6_pool.specs.Internal.Served.{HoldsJobOf, StandsWith, Stood, RestsOn, RunGives}
+use Rattle.cam6_pool.specs.Internal.Served.{HoldsJobOf, StandsWith, Stood, RunGives}
 use Rattle.cam6_pool.specs.Internal.Served.{IsLeftBy, IsLeftOff, OffBoard}
 
 -- from lease to lease: what the first stood for the second stands for
 abbrev pub Keeps : StoredLease → Load → StoredLease → Load → Type 0
 Keeps before held after now =
     (m : Machine) (c : Command) → StandsWith before held m c → StandsWith after now m c
-
--- what is held has work where bands are left
-pub has_work : (l : StoredLease) (held : Load) → HoldsJobOf l held →
-    ((job : StoredJob) → JobFits l job → 0 < job.steps) → HasWork held
-has_work l empty holds work = absurd holds
-has_work l (loaded job tables) holds work = work job holds.0
-
-pub is_loaded : (l : StoredLease) (held : Load) → HoldsJobOf l held → IsLoaded held
-is_loaded l empty holds = absurd holds
-is_loaded l (loaded job tables) holds = tt
-
-pub rests : (l : StoredLease) (held : Load) → HoldsJobOf l held →
-    ((job : StoredJob) → JobFits l job → is_rest job.image ≡ true) → RestsOn held
-rests l empty holds rest = absurd holds
-rests l (loaded job tables) holds rest = rest job holds.0
 
 -- planes of the limit of what is held have that of the planes at home
 pub limit_at_home : (l : StoredLease) (held : Load) (limit : Side) → HoldsJobOf l held →
@@ -77,11 +61,6 @@ module _ (l k : StoredLease)
 -- off the board, from what bands made of a job that was loaded
 module _ (before after : StoredLease) (job : StoredJob) (tables : List (List ℕ)) (first now : Load)
     (is : first ≡ loaded job tables) where
-  pub off_fault : (fault : BoardFault) → RunGives before first (Err fault) after now →
-      OffBoard before job (Err fault) after
-  off_fault fault gives =
-      (gives.1, λ m c st. gives.2 m c (subst (λ (x : Load). StandsWith before x m c) (sym is) st))
-
   left_off : (turn : Turn) (image : Image) (j : StoredJob) (t : List (List ℕ)) →
       image ≡ j.image → IsLeftBy turn after (loaded j t) → IsLeftOff turn after image
   left_off Go image j t back left = (left.0, ap is_rest back ∙ left.1)
