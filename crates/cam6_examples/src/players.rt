@@ -1,7 +1,7 @@
 //! Files that are played, and what is told of each.
 
 use crate::answers::no_memory;
-use crate::examples::{Part, bytes_of, read_example};
+use crate::examples::{Part, Sent, bytes_of, read_example};
 use crate::faults::Unplayable;
 use crate::ways::{Played, Way};
 use std::alloc::Global;
@@ -18,7 +18,20 @@ use std::{fs, io};
 /// that is wrong on purpose: what is printed of it shows that answers are compared. After the word
 /// `lines` comes one file, and the number of one of its sessions, or none for the first: its lines
 /// are printed as they are sent, for the program `cam6` to take.
-pub fn play<W: Played<R>, R: Env + Files + Print + AllocGlobal>(rt: &R) -> io::Result<ExitCode> {
+pub fn play<W: Played, R: Env + Files + Print + AllocGlobal>(rt: &R) -> io::Result<ExitCode> {
+    let alloc = rt.alloc();
+    play_by(rt, &|way: &W, sent: &[Sent]| way.played(alloc, sent))
+}
+
+/// The same, where the ways are played by a closure, which may use all of the handle that it has, as to
+/// start threads.
+pub fn play_by<
+    W: Way,
+    R: Env + Files + Print + AllocGlobal,
+    F: Fn(&W, &[Sent]) -> io::Result<Vec<Vec<u8>>>,
+>(rt: &R, played: &F) -> io::Result<ExitCode>
+    requires { F.IsAlwaysCallable played.now }
+{
     let words = std::env::args(rt)?
         .skip(1)
         .collect::<Vec<String>>(rt.alloc())?;
@@ -27,7 +40,7 @@ pub fn play<W: Played<R>, R: Env + Files + Print + AllocGlobal>(rt: &R) -> io::R
         [first, name, number] if first.as_str() == "lines" => {
             send::<W, R>(rt, name.as_str(), number.as_str())?
         }
-        names => play_files::<W, R>(rt, names)?,
+        names => play_files(rt, names, played)?,
     };
     if is_well {
         Ok(ExitCode::SUCCESS)
@@ -53,15 +66,18 @@ fn parts_of<W: Way, R: Files + Print + AllocGlobal>(
 }
 
 /// Plays examples. Whether all came back, but for those that are wrong on purpose.
-fn play_files<W: Played<R>, R: Files + Print + AllocGlobal>(
-    rt: &R,
-    names: &[String],
-) -> io::Result<bool> {
+fn play_files<
+    W: Way,
+    R: Files + Print + AllocGlobal,
+    F: Fn(&W, &[Sent]) -> io::Result<Vec<Vec<u8>>>,
+>(rt: &R, names: &[String], played: &F) -> io::Result<bool>
+    requires { F.IsAlwaysCallable played.now }
+{
     let mut is_well = true;
     for name in names {
         let name = name.as_str();
         is_well &= match parts_of::<W, R>(rt, name)? {
-            Some(parts) => show(rt, name, parts.as_slice())? != name.starts_with("wrong_"),
+            Some(parts) => show(rt, name, parts.as_slice(), played)? != name.starts_with("wrong_"),
             None => false,
         };
     }
@@ -95,15 +111,18 @@ fn send<W: Way, R: Files + Print + AllocGlobal>(
 }
 
 /// Plays an example and prints whether all its lines came back.
-fn show<W: Played<R>, R: Print + AllocGlobal>(
+fn show<W: Way, R: Print + AllocGlobal, F: Fn(&W, &[Sent]) -> io::Result<Vec<Vec<u8>>>>(
     rt: &R,
     name: &str,
     parts: &[Part<W>],
-) -> io::Result<bool> {
+    played: &F,
+) -> io::Result<bool>
+    requires { F.IsAlwaysCallable played.now }
+{
     let mut lines: usize = 0;
     for part in parts {
         let wanted = part.wanted.as_slice();
-        for answers in part.way.played(rt, part.sent.as_slice())? {
+        for answers in played(&part.way, part.sent.as_slice())? {
             if let Some(line) = first_other(answers.as_slice(), wanted) {
                 let line = line.saturating_add(lines);
                 println!(rt; "{name}: line {line} that came back is another")?;

@@ -14,9 +14,8 @@ pub trait Way: Drop {
     fn is_session(&self) -> bool;
 }
 
-/// A way that is played by what a handle of the runtime allows: memory, and where the program asks
-/// for more of its handle, threads.
-pub trait Played<R>: Way {
+/// A way that is played by memory alone. `play_by` is for those that are played by more.
+pub trait Played: Way {
     /// What comes back of the lines, by each way in.
-    fn played(&self, rt: &R, sent: &[Sent]) -> io::Result<Vec<Vec<u8>>>;
+    fn played(&self, alloc: Global, sent: &[Sent]) -> io::Result<Vec<Vec<u8>>>;
 }

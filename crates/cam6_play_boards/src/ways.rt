@@ -36,9 +36,8 @@ impl Way for BoardWay {
     }
 }
 
-impl<R: AllocGlobal> Played<R> for BoardWay {
-    fn played(&self, rt: &R, sent: &[Sent]) -> io::Result<Vec<Vec<u8>>> {
-        let alloc = rt.alloc();
+impl Played for BoardWay {
+    fn played(&self, alloc: Global, sent: &[Sent]) -> io::Result<Vec<Vec<u8>>> {
         let calls = self.calls.clone()?;
         Ok(vec![in alloc; answered(alloc, self.limit, calls, sent)?]?)
     }

@@ -37,9 +37,8 @@ impl Way for DeskWay {
     }
 }
 
-impl<R: AllocGlobal> Played<R> for DeskWay {
-    fn played(&self, rt: &R, sent: &[Sent]) -> io::Result<Vec<Vec<u8>>> {
-        let alloc = rt.alloc();
+impl Played for DeskWay {
+    fn played(&self, alloc: Global, sent: &[Sent]) -> io::Result<Vec<Vec<u8>>> {
         let answers = answered(alloc, self.users, self.boards as u8, self.limit, sent)?;
         Ok(vec![in alloc; answers]?)
     }

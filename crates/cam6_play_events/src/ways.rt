@@ -43,9 +43,8 @@ impl Way for EventWay {
     }
 }
 
-impl<R: AllocGlobal> Played<R> for EventWay {
-    fn played(&self, rt: &R, sent: &[Sent]) -> io::Result<Vec<Vec<u8>>> {
-        let alloc = rt.alloc();
+impl Played for EventWay {
+    fn played(&self, alloc: Global, sent: &[Sent]) -> io::Result<Vec<Vec<u8>>> {
         let core = self.core(alloc).map_err(|_| no_memory())?;
         let other = self.core(alloc).map_err(|_| no_memory())?;
         let mut told = Told::new(alloc, core);

@@ -27,9 +27,8 @@ impl Way for PlaceWay {
     }
 }
 
-impl<R: AllocGlobal> Played<R> for PlaceWay {
-    fn played(&self, rt: &R, sent: &[Sent]) -> io::Result<Vec<Vec<u8>>> {
-        let alloc = rt.alloc();
+impl Played for PlaceWay {
+    fn played(&self, alloc: Global, sent: &[Sent]) -> io::Result<Vec<Vec<u8>>> {
         Ok(vec![in alloc; answered(alloc, self.limit, sent)?]?)
     }
 }

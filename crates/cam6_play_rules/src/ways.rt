@@ -54,9 +54,8 @@ impl Way for RuleWay {
     }
 }
 
-impl<R: AllocGlobal> Played<R> for RuleWay {
-    fn played(&self, rt: &R, sent: &[Sent]) -> io::Result<Vec<Vec<u8>>> {
-        let alloc = rt.alloc();
+impl Played for RuleWay {
+    fn played(&self, alloc: Global, sent: &[Sent]) -> io::Result<Vec<Vec<u8>>> {
         let answers = match self {
             RuleWay::Texts(wiring) => rules::faults_of_texts(alloc, *wiring, sent)?,
             RuleWay::Rules(wiring) => rules::kept_rules(alloc, *wiring, sent)?,

@@ -30,9 +30,8 @@ impl Way for LineWay {
     }
 }
 
-impl<R: AllocGlobal> Played<R> for LineWay {
-    fn played(&self, rt: &R, sent: &[Sent]) -> io::Result<Vec<Vec<u8>>> {
-        let alloc = rt.alloc();
+impl Played for LineWay {
+    fn played(&self, alloc: Global, sent: &[Sent]) -> io::Result<Vec<Vec<u8>>> {
         match self {
             LineWay::Session(limit) => sessions::answered(alloc, *limit, sent),
             LineWay::Readings => Ok(vec![in alloc; sessions::read(alloc, sent)?]?),

@@ -1,0 +1,4 @@
+-- Lemmas, in the order of reading.
+
+-- Seats that hold nothing, one after another.
+pub mod Idle

@@ -1,0 +1,165 @@
+//! All users and workers of a part.
+ghost use Rattle.cam6_play_workers.specs.Seats.{AreIdle};
+
+use crate::answers::Answer;
+use crate::gates::{GateWay, Watch};
+use crate::holds::{Hold, LOOKS, pause};
+use crate::houses::{Handle, House};
+use crate::users::User;
+use crate::ways::{BoardWay, WorkerWay};
+use crate::workers::{IdleSeat, Kind, Worker};
+use cam6_cache::TableCache;
+use cam6_examples::no_memory;
+use cam6_handoff::{BoardSeat, Desk, boot};
+use cam6_planes::{NoMemory, Side};
+use std::alloc::{AllocError, Global};
+use std::io;
+use std::sync::Arc;
+
+/// The users and the workers, and what these share.
+#[derive(Drop)]
+pub struct Hall<R: Handle> {
+    pub house: Arc<House<R>>,
+    pub users: Vec<User>,
+    pub workers: Vec<Worker>,
+    pub limit: Side,
+}
+
+impl<R: Handle + Send + Sync + 'static> Hall<R> {
+    /// A desk for each user, and a seat for each worker, none of which serves yet.
+    pub fn new(rt: R, way: &WorkerWay) -> Result<Hall<R>, NoMemory> {
+        let alloc = rt.alloc();
+        let limits = vec![in alloc; way.limit; way.users]?;
+        let (desks, seats) = boot(alloc, way.users, way.boards as u8, limits.as_slice())?;
+        let cache = TableCache::new(alloc, way.cached)?;
+        let is_held = matches!(way.gate, GateWay::Hold { .. });
+        let hold = Hold::new(is_held || matches!(way.board, BoardWay::Held));
+        let house = House::new(rt, cache, Watch::new(alloc, way.gate), hold);
+        Ok(Hall {
+            house: Arc::new(alloc, house)?,
+            users: users_at(alloc, desks)?,
+            workers: workers_at(alloc, seats)?,
+            limit: way.limit,
+        })
+    }
+
+    /// A worker serves at each seat. The board that fails does so at this call.
+    pub fn open(&mut self, board: BoardWay, call: u64) -> io::Result<()> {
+        for (number, worker) in self.workers.iter_mut().enumerate() {
+            let kind = match board {
+                BoardWay::Held => Kind::Held,
+                BoardWay::Failing { .. } if number == 0 => Kind::Failing(call),
+                _ => Kind::Soft,
+            };
+            worker.serve(&self.house, kind)?;
+        }
+        Ok(())
+    }
+
+    /// All threads end, and are joined. What was asked for is done first.
+    pub fn close(&mut self) -> io::Result<()> {
+        let rt = self.house.rt;
+        self.house.hold.end(&rt);
+        self.house.watch.lock(&rt).open();
+        self.house.tell_to_end(false);
+        for _ in 0..LOOKS {
+            if self.house.asking.count() == 0 {
+                break;
+            }
+            self.serve_again()?;
+            pause(&rt);
+        }
+        for user in self.users.iter_mut() {
+            user.join(&self.house)?;
+        }
+        self.end()
+    }
+
+    /// A worker serves again at each seat whose worker has ended.
+    fn serve_again(&mut self) -> io::Result<()> {
+        for worker in self.workers.iter_mut() {
+            worker.join_ended(&self.house);
+            worker.serve(&self.house, Kind::Soft)?;
+        }
+        Ok(())
+    }
+
+    /// A board that is held goes on, and all workers end.
+    pub fn end(&mut self) -> io::Result<()> {
+        self.house.hold.end(&self.house.rt);
+        self.house.tell_to_end(true);
+        for worker in self.workers.iter_mut() {
+            worker.join(&self.house.rt);
+        }
+        Ok(())
+    }
+
+    /// A worker serves again at the seat.
+    pub fn serve(&mut self, board: usize) -> io::Result<Answer> {
+        let Some(worker) = self.workers.get_mut(board) else {
+            return Ok(Answer::Is(false));
+        };
+        self.house.tell_to_end(false);
+        if worker.serve(&self.house, Kind::Soft)? {
+            Ok(Answer::Started)
+        } else {
+            Ok(Answer::Is(false))
+        }
+    }
+
+    /// The worker's end is waited for.
+    pub fn ended(&mut self, board: usize) -> Answer {
+        match self.workers.get_mut(board) {
+            Some(worker) => match worker.wait(&self.house) {
+                Some(ended) => Answer::Ended(ended),
+                None => Answer::Is(false),
+            },
+            None => Answer::Is(false),
+        }
+    }
+
+    /// The worker that has ended takes the user's command, if it waits, and puts it back.
+    pub fn left(&mut self, board: usize, user: usize) -> Answer {
+        match self.workers.get_mut(board) {
+            Some(Worker::Ended(left)) => match left.seat.left(user) {
+                Some(bands) => Answer::Left(bands),
+                None => Answer::Nothing,
+            },
+            _ => Answer::Is(false),
+        }
+    }
+
+    /// How often the board of a worker that has ended failed.
+    pub fn faults(&mut self, board: usize) -> Answer {
+        match self.workers.get_mut(board) {
+            Some(Worker::Ended(left)) => Answer::Faults(left.faults),
+            _ => Answer::Is(false),
+        }
+    }
+
+    pub fn evict(&mut self) -> Answer {
+        Answer::Is(self.house.cache.lock(&self.house.rt).evict_oldest())
+    }
+}
+
+/// Users at their desks, numbered from 1.
+fn users_at(alloc: Global, desks: Vec<Desk>) -> Result<Vec<User>, AllocError> {
+    let mut users = Vec::with_capacity(alloc, desks.len())?;
+    let mut number: u8 = 0;
+    for desk in desks {
+        number = number.wrapping_add(1);
+        users.push(User::new(alloc, number, desk))?;
+    }
+    Ok(users)
+}
+
+/// Seats at which nobody serves.
+fn workers_at(alloc: Global, seats: Vec<BoardSeat>) -> Result<Vec<Worker>, AllocError>
+    requires { AreIdle seats.items }
+{
+    let mut workers = Vec::with_capacity(alloc, seats.len())?;
+    for seat in seats {
+        workers.push(Worker::new(IdleSeat::new(seat)))?;
+    }
+    Ok(workers)
+}

@@ -1,0 +1,80 @@
+//! What a line asks for. Users are numbered from 1, boards from 0.
+//!
+//! ```text
+//! user USER {..}      the command is asked at the user's desk, and waited for: its reply
+//! start USER {..}     the command is asked by a thread of its own: that it has started
+//! join USER           what that thread asked for is waited for: its reply
+//! held                whether a board is held; one that may still come by is waited for
+//! release             the board that is held goes on: whether there was one
+//! asked USER          what the gate was asked for the user, with its answers but for Go
+//! apart USER USER     whether each of them had a board, and no board did a band of both
+//! ended BOARD         the worker's end is waited for: how it ended
+//! running NUMBER      whether so many workers run; it is waited for
+//! left BOARD USER     a worker that has ended takes the user's command, if it waits, and puts it
+//!                     back: the bands left of it
+//! faults BOARD        how often the board of a worker that has ended failed
+//! serve BOARD         a worker serves there again, with a board that never fails
+//! end                 a board that is held goes on, and all workers end
+//! evict               whether there was a table to drop from the cache
+//! alone USER          whether a machine alone answers the user's commands the same, and has the
+//!                     same planes
+//! ```
+
+/// What a line asks for.
+#[derive(Clone, Copy)]
+pub enum Ask<'a> {
+    /// The text of a command at a user's desk.
+    User(usize, &'a str),
+    Start(usize, &'a str),
+    Join(usize),
+    Held,
+    Release,
+    Asked(u8),
+    Apart(u8, u8),
+    Ended(usize),
+    Running(u32),
+    /// A board, and the user whose command it takes.
+    Left(usize, usize),
+    Faults(usize),
+    Serve(usize),
+    End,
+    Evict,
+    Alone(usize),
+}
+
+/// What a line asks for, if it can be read.
+pub fn read_line(line: &str) -> Option<Ask<'_>> {
+    let Some((verb, rest)) = line.split_once(' ') else {
+        return read_word(line);
+    };
+    let (number, rest) = rest.split_once(' ').unwrap_or((rest, ""));
+    match (verb, rest) {
+        ("user", command) if command.starts_with('{') => {
+            Some(Ask::User(number.parse().ok()?, command))
+        }
+        ("start", command) if command.starts_with('{') => {
+            Some(Ask::Start(number.parse().ok()?, command))
+        }
+        ("join", "") => Some(Ask::Join(number.parse().ok()?)),
+        ("asked", "") => Some(Ask::Asked(number.parse().ok()?)),
+        ("apart", other) => Some(Ask::Apart(number.parse().ok()?, other.parse().ok()?)),
+        ("ended", "") => Some(Ask::Ended(number.parse().ok()?)),
+        ("running", "") => Some(Ask::Running(number.parse().ok()?)),
+        ("left", user) => Some(Ask::Left(number.parse().ok()?, user.parse().ok()?)),
+        ("faults", "") => Some(Ask::Faults(number.parse().ok()?)),
+        ("serve", "") => Some(Ask::Serve(number.parse().ok()?)),
+        ("alone", "") => Some(Ask::Alone(number.parse().ok()?)),
+        _ => None,
+    }
+}
+
+/// What a line of one word asks for.
+fn read_word(line: &str) -> Option<Ask<'_>> {
+    match line {
+        "held" => Some(Ask::Held),
+        "release" => Some(Ask::Release),
+        "end" => Some(Ask::End),
+        "evict" => Some(Ask::Evict),
+        _ => None,
+    }
+}
