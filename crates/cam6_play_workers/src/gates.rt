@@ -16,6 +16,8 @@ pub enum GateWay {
     Once { turn: Turn, user: u8, band: u8 },
     /// Preempt about once in twenty times, by the numbers that come of this one, and Go otherwise.
     Chance { number: u64 },
+    /// Preempt where a command has had its time and another one waits, and Go otherwise.
+    Slices,
 }
 
 /// What the gate was asked, and what it answered.
@@ -48,6 +50,12 @@ impl Watch {
     /// Answers, and notes it.
     pub fn turn(&mut self, board: u8, user: u8, band: u8) -> Turn {
         let turn = self.answer(user, band);
+        self.note(board, user, band, turn);
+        turn
+    }
+
+    /// Notes what another gate answered.
+    pub fn note(&mut self, board: u8, user: u8, band: u8, turn: Turn) {
         let asked = Asked {
             board,
             user,
@@ -57,7 +65,6 @@ impl Watch {
         if self.asked.push(asked).is_err() {
             self.is_short = true;
         }
-        turn
     }
 
     /// Whether the first board at this user's band is to be held.

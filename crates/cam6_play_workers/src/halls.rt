@@ -12,6 +12,7 @@ use cam6_cache::TableCache;
 use cam6_examples::no_memory;
 use cam6_handoff::{BoardSeat, Desk, boot};
 use cam6_planes::{NoMemory, Side};
+use cam6_pool::SlicingGate;
 use std::alloc::{AllocError, Global};
 use std::io;
 use std::sync::Arc;
@@ -34,7 +35,8 @@ impl<R: Handle + Send + Sync + 'static> Hall<R> {
         let cache = TableCache::new(alloc, way.cached)?;
         let is_held = matches!(way.gate, GateWay::Hold { .. });
         let hold = Hold::new(is_held || matches!(way.board, BoardWay::Held));
-        let house = House::new(rt, cache, Watch::new(alloc, way.gate), hold);
+        let slices = slices_of(rt, way, seats.as_slice())?;
+        let house = House::new(rt, cache, Watch::new(alloc, way.gate), hold, slices);
         Ok(Hall {
             house: Arc::new(alloc, house)?,
             users: users_at(alloc, desks)?,
@@ -139,6 +141,22 @@ impl<R: Handle + Send + Sync + 'static> Hall<R> {
 
     pub fn evict(&mut self) -> Answer {
         Answer::Is(self.house.cache.lock(&self.house.rt).evict_oldest())
+    }
+}
+
+/// The gate of a host, where the way asks for it.
+fn slices_of<R: Handle>(
+    rt: R,
+    way: &WorkerWay,
+    seats: &[BoardSeat],
+) -> Result<Option<SlicingGate<R>>, NoMemory> {
+    match (way.gate, seats.first()) {
+        (GateWay::Slices, Some(seat)) => {
+            let queue = seat.queue()?;
+            let boards = way.boards as u8;
+            Ok(Some(SlicingGate::new(rt.alloc(), rt, queue, boards)?))
+        }
+        _ => Ok(None),
     }
 }
 

@@ -5,7 +5,7 @@ use cam6_board::{BandEnd, Board, BoardFault, Image, Job, SoftBoard, Tables};
 use cam6_planes::NoMemory;
 use std::sync::Arc;
 
-/// A board that never fails. Inside the first band of all such boards of a house its thread is held.
+/// A board that never fails. Inside the first band of all such boards its thread is held.
 #[derive(Drop)]
 pub struct HeldBoard<R: Handle> {
     inner: SoftBoard,

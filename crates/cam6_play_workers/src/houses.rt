@@ -1,9 +1,13 @@
 //! All that the threads of a part share.
+ghost use Rattle.std.specs.Prelude.{◌≡◌, false};
+ghost use Rattle.cam6_handoff.specs.Standing.{is_waiting};
 
 use crate::gates::Watch;
 use crate::holds::{Hold, LOOKS, pause};
 use cam6_cache::TableCache;
-use cam6_pool::{Gate, Turn};
+use cam6_commands::{Command, Reply};
+use cam6_handoff::{Desk, MAX_BOARDS};
+use cam6_pool::{Gate, SlicingGate, Turn};
 use std::sync::atomic::{AtomicBool, AtomicU64, Ordering};
 use std::sync::{Mutex, Wait};
 use std::thread::Threads;
@@ -83,12 +87,20 @@ pub struct House<R: Handle> {
     pub serving: Present,
     /// Users of whom a thread asks.
     pub asking: Present,
+    /// The gate that answers, where it isn't the one that notes what is asked.
+    slices: Option<SlicingGate<R>>,
     /// Workers that find nothing to do are to end.
     is_ending: AtomicBool,
 }
 
 impl<R: Handle> House<R> {
-    pub fn new(rt: R, cache: TableCache, watch: Watch, hold: Hold) -> House<R> {
+    pub fn new(
+        rt: R,
+        cache: TableCache,
+        watch: Watch,
+        hold: Hold,
+        slices: Option<SlicingGate<R>>,
+    ) -> House<R> {
         House {
             rt,
             cache: Mutex::new(cache),
@@ -96,6 +108,7 @@ impl<R: Handle> House<R> {
             hold,
             serving: Present::nobody(),
             asking: Present::nobody(),
+            slices,
             is_ending: AtomicBool::new(false),
         }
     }
@@ -103,11 +116,36 @@ impl<R: Handle> House<R> {
     /// Tells workers to end where they find nothing to do, or not to.
     pub fn tell_to_end(&self, is_ending: bool) {
         self.is_ending.store(is_ending, Ordering::SeqCst);
+        for _ in 0..MAX_BOARDS {
+            self.ring();
+        }
+    }
+
+    /// Wakes a worker, if one sleeps: a command was put.
+    pub fn ring(&self) {
+        if let Some(gate) = &self.slices {
+            gate.ring();
+        }
+    }
+
+    /// The reply to a command, waited for. None where there was no memory for it.
+    pub fn ask(&self, desk: &mut Desk, command: Command) -> Option<Reply>
+        requires { is_waiting desk.old ≡ false }
+    {
+        match &self.slices {
+            Some(gate) => gate.ask(desk, command).ok(),
+            None => desk.ask(&self.rt, command).ok(),
+        }
     }
 }
 
 impl<R: Handle> Gate for House<R> {
     fn turn(&self, board: u8, user: u8, band: u8) -> Turn {
+        if let Some(gate) = &self.slices {
+            let turn = gate.turn(board, user, band);
+            self.watch.lock(&self.rt).note(board, user, band, turn);
+            return turn;
+        }
         let mut watch = self.watch.lock(&self.rt);
         let turn = watch.turn(board, user, band);
         let holds = watch.holds(user, band);
@@ -118,8 +156,13 @@ impl<R: Handle> Gate for House<R> {
         turn
     }
 
-    fn idle(&self, _board: u8) -> bool {
-        pause(&self.rt);
+    fn idle(&self, board: u8) -> bool {
+        match &self.slices {
+            Some(gate) => {
+                gate.idle(board);
+            }
+            None => pause(&self.rt),
+        }
         !self.is_ending.load(Ordering::SeqCst)
     }
 }

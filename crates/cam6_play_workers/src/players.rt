@@ -89,7 +89,7 @@ fn of_user<R: Handle + Send + Sync + 'static>(
         return Ok(Answer::Is(false));
     };
     match ask {
-        Ask::User(_, command) => user.ask(&house.rt, command),
+        Ask::User(_, command) => user.ask(house, command),
         Ask::Start(_, command) => user.start(house, command),
         Ask::Join(_) => user.join(house),
         Ask::Alone(_) => user.alone(house.rt.alloc(), *limit),

@@ -15,7 +15,6 @@ use std::alloc::Global;
 use std::io;
 use std::sync::Arc;
 use std::thread::{JoinHandle, spawn};
-use std::time::Clock;
 
 /// What a thread comes back with that asked at a desk.
 #[derive(Drop)]
@@ -59,8 +58,8 @@ impl User {
     }
 
     /// The command is asked at the desk, and waited for.
-    pub fn ask<R: Handle>(&mut self, rt: &R, line: &str) -> io::Result<Answer> {
-        let alloc = rt.alloc();
+    pub fn ask<R: Handle>(&mut self, house: &House<R>, line: &str) -> io::Result<Answer> {
+        let alloc = house.rt.alloc();
         let Some(desk) = self.desk() else {
             return Ok(Answer::Is(false));
         };
@@ -68,7 +67,7 @@ impl User {
             Heard::Command(command) => command,
             Heard::Answer(answer) => return Ok(answer),
         };
-        let Some(reply) = reply_at(rt, desk, command)? else {
+        let Some(reply) = reply_at(house, desk, command)? else {
             return Ok(Answer::Is(false));
         };
         let text = text_of(alloc, &reply)?;
@@ -162,20 +161,24 @@ fn read(alloc: Global, line: &str) -> io::Result<Heard> {
 }
 
 /// The reply to a command. None where the desk waits, or no board has done the command for long.
-fn reply_at<R: Clock>(rt: &R, desk: &mut Desk, command: Command) -> io::Result<Option<Reply>> {
+fn reply_at<R: Handle>(
+    house: &House<R>,
+    desk: &mut Desk,
+    command: Command,
+) -> io::Result<Option<Reply>> {
     if desk.is_waiting() {
         return Ok(None);
     }
     match desk.put(command) {
         Ok(Put::Answered(reply)) => return Ok(Some(reply)),
-        Ok(Put::Waiting) => {}
+        Ok(Put::Waiting) => house.ring(),
         Err(_) => return Err(no_memory()),
     }
     for _ in 0..LOOKS {
         if let Some(reply) = desk.try_collect() {
             return Ok(Some(reply));
         }
-        pause(rt);
+        pause(&house.rt);
     }
     Ok(None)
 }
@@ -204,7 +207,7 @@ fn speak<R: Handle>(house: &House<R>, user: u8, mut desk: Desk, command: Command
     let reply = if desk.is_waiting() {
         None
     } else {
-        desk.ask(&house.rt, command).ok()
+        house.ask(&mut desk, command)
     };
     house.asking.leave(user);
     Spoken { desk, reply }

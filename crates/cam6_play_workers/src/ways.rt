@@ -29,8 +29,8 @@ pub enum BoardWay {
 
 /// `workers USERS BOARDS [within LIMIT] [cached NUMBER] [GATE] [BOARD]`: so many users, each with a
 /// blank machine of this limit, and so many boards, each with a worker. A gate is `hold USER BAND`,
-/// `preempt USER BAND`, `stop USER BAND` or `chance NUMBER`, and boards are `hold bands` or
-/// `fails FIRST LAST`.
+/// `preempt USER BAND`, `stop USER BAND`, `chance NUMBER` or `slices`, and boards are `hold bands`
+/// or `fails FIRST LAST`.
 #[derive(Drop)]
 pub struct WorkerWay {
     pub users: usize,
@@ -166,6 +166,9 @@ fn gate_of(words: &mut Words<'_>) -> Result<GateWay, Unplayable> {
     }
     if words.take("stop") {
         return once(Turn::Stop, words);
+    }
+    if words.take("slices") {
+        return Ok(GateWay::Slices);
     }
     if words.take("chance") {
         return Ok(GateWay::Chance {

@@ -183,7 +183,11 @@ impl<R: Wait + Clock + Drop> Gate for SlicingGate<R> {
             return false;
         };
         let mut slice = slice.lock(&self.rt);
-        slice.heard = self.listen(slice.heard);
+        // A command may have been put back at a word that the worker had looked at before. User 0 is
+        // nobody, so that any command that waits is another one's.
+        if !self.queue.has_other(0) {
+            slice.heard = self.listen(slice.heard);
+        }
         slice.free(self.now());
         !self.stopping.load(Ordering::SeqCst)
     }
