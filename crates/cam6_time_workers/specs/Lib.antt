@@ -1,0 +1,2 @@
+-- Seats that hold nothing.
+pub mod Seats
