@@ -1,8 +1,9 @@
 //! The worked examples: how their files are read, and what is told of them once they are played.
 //!
-//! Contract: it makes no claim beyond being safe. What is read is shown by the examples, and a
-//! program plays them: it has the ways (`Way`) that its own files ask for, and says how their lines
-//! are played (`Played`, or a closure that may start threads). `play` and `play_by` do the rest.
+//! Contract: it makes no claim beyond being safe, but that a size is within its bounds (`size_of`).
+//! What is read is shown by the examples, and a program plays them: it has the ways (`Way`) that its
+//! own files ask for, and says how their lines are played (`Played`, or a closure that may start
+//! threads). `play` and `play_by` do the rest.
 //!
 //! Stands on: `cam6_planes`, for rows and sides, and `cam6_wiring`, for the words of a wiring.
 //!
@@ -24,5 +25,5 @@ pub use answers::{add_line, no_memory};
 pub use examples::{Part, Sent, bytes_of, read_example};
 pub use faults::Unplayable;
 pub use players::{play, play_by};
-pub use settings::{limit_of, wiring_before, wiring_of};
+pub use settings::{limit_of, size_of, wiring_before, wiring_of};
 pub use ways::{Played, Way};

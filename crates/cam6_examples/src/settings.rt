@@ -1,4 +1,5 @@
 //! Settings, as the words of a way and the lines of an example say them.
+ghost use Rattle.std.specs.Prelude.{◌<◌, ◌≤◌, IfOk};
 
 use crate::faults::Unplayable;
 use cam6_planes::Side;
@@ -16,6 +17,18 @@ pub fn limit_of(text: &str) -> Result<Side, Unplayable> {
 pub fn side_of(number: &str) -> Result<Side, Unplayable> {
     let number = number.parse().map_err(|_| Unplayable::Unread)?;
     Side::of(number).ok_or(Unplayable::Unread)
+}
+
+/// A number from 1 to the most that there can be.
+pub fn size_of(text: &str, most: usize) -> Result<usize, Unplayable>
+    ensures { IfOk result (λ size. (0 < size) × (size ≤ most)) }
+{
+    let size = text.parse().map_err(|_| Unplayable::Unread)?;
+    if (1..=most).contains(&size) {
+        Ok(size)
+    } else {
+        Err(Unplayable::Unread)
+    }
 }
 
 /// The wiring that `HALF HOOD MINOR` says, as `A N/VONN &/CENTERS`.

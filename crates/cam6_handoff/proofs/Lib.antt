@@ -10,3 +10,5 @@ pub mod Chairs
 pub mod Asking
 -- Desks and seats, one more after the others.
 pub mod Counting
+-- Seats that hold nothing, one after another.
+pub mod Idle

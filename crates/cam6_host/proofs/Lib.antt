@@ -9,11 +9,11 @@ pub mod PlainCommands
 pub mod Kept
 -- The value of an option where clap takes the words: one that passes, said or by default.
 pub mod SettingsGiven
--- So the value of each option of `alone` and of `replay` is a side or a number.
+-- So the value of each option of `alone`, of `replay` and of `serve` is a side or a number.
 pub mod OptionsGiven
 -- The subcommand that clap finds where it takes the words: never help, which it answers itself.
 pub mod Subcommands
--- So the matches name a mode; what that says of the number of tables.
+-- So the matches name a mode.
 pub mod ModesGiven
 -- What the code reads of an option's text is the side or the number there.
 pub mod ValuesRead

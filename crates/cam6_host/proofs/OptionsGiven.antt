@@ -1,4 +1,5 @@
--- Where clap takes the words after `alone` or `replay`, each option says a side or a number.
+-- Where clap takes the words after `alone`, `replay` or `serve`, each option says a side or a
+-- number.
 use Rattle.std.proofs.Common.{◌≡◌, ◌||◌, ℕ, Bool, true, false, List, [], ◌∷◌, map, Some, codes}
 use Rattle.std.proofs.Common.{refl, sym, ap, ◌∙◌}
 use Rattle.std.specs.Borrow.{Bor}
@@ -15,7 +16,8 @@ use Rattle.cam6_planes.specs.declared.sides.Side.{Side}
 use Rattle.cam6_planes.specs.declared.sides.Side.TheVariants.{S128, S256, S512}
 use Rattle.cam6_cache.specs.Limits.{max_capacity}
 use Rattle.cam6_core.specs.Limits.{max_users, max_boards}
-use Rattle.cam6_host.specs.CommandLine.{AreSides, Mode, TextsAt, number_at, number_said, shared}
+use Rattle.cam6_host.specs.CommandLine.{AreSides, Mode, TextsAt, max_connections, max_port}
+use Rattle.cam6_host.specs.CommandLine.{number_at, number_said, served, served_at, shared}
 use Rattle.cam6_host.specs.CommandLine.{shared_at, side_at, side_said, side_text}
 use Rattle.cam6_host.proofs.SettingsGiven.{HasValue, Passes, Setting, arguments, value_given}
 
@@ -23,46 +25,59 @@ use Rattle.cam6_host.proofs.SettingsGiven.{HasValue, Passes, Setting, arguments,
 abbrev side : TextsAt → Setting
 side sides = record { name = codes "side"; parser = Names sides; default = side_text S256 }
 
-abbrev number : Text → ℕ → Text → Setting
-number name most default = record { name = name; parser = Unsigned 1 most; default = default }
+abbrev number : Text → ℕ → ℕ → Text → Setting
+number name least most default =
+    record { name = name; parser = Unsigned least most; default = default }
 
 abbrev users : Setting
-users = number (codes "users") max_users (codes "4")
+users = number (codes "users") 1 max_users (codes "4")
 
 abbrev boards : Setting
-boards = number (codes "boards") max_boards (codes "2")
+boards = number (codes "boards") 1 max_boards (codes "2")
 
 abbrev cache : Setting
-cache = number (codes "cache") max_capacity (codes "16")
+cache = number (codes "cache") 1 max_capacity (codes "16")
 
--- the options of `alone`, and of `replay`
-abbrev pub of_alone : TextsAt → List Setting
-of_alone sides = side sides ∷ []
+abbrev port : Setting
+port = number (codes "port") 1 max_port (codes "6006")
 
-abbrev pub of_replay : TextsAt → List Setting
-of_replay sides = users ∷ boards ∷ cache ∷ side sides ∷ []
+abbrev connections : Setting
+connections = number (codes "connections") 0 max_connections (codes "0")
 
--- the rows say a side, a number, and what `replay` asks for
+-- the options of `alone`, of `replay`, and of `serve`
+abbrev pub alone_options : TextsAt → List Setting
+alone_options sides = side sides ∷ []
+
+abbrev pub replay_options : TextsAt → List Setting
+replay_options sides = users ∷ boards ∷ cache ∷ side sides ∷ []
+
+abbrev pub serve_options : TextsAt → List Setting
+serve_options sides = port ∷ users ∷ boards ∷ cache ∷ connections ∷ side sides ∷ []
+
+-- the rows say a side, a number, what `replay` asks for, and what `serve` asks for
 abbrev pub HasSide : List Row → Type 0
 HasSide rows = (limit : Side) × (side_at rows ≡ Some limit)
 
-abbrev HasNumber : Text → ℕ → List Row → Type 0
-HasNumber name most rows = (n : ℕ) × (number_at name most rows ≡ Some n)
+abbrev HasNumber : Text → ℕ → ℕ → List Row → Type 0
+HasNumber name least most rows = (n : ℕ) × (number_at name least most rows ≡ Some n)
 
 abbrev pub IsShared : List Row → Type 0
 IsShared rows = (mode : Mode) × (shared_at rows ≡ Some mode)
 
+abbrev pub IsServed : List Row → Type 0
+IsServed rows = (mode : Mode) × (served_at rows ≡ Some mode)
+
 -- ---- a number
 
-number_passes : (most : ℕ) (text : Text) → is_unsigned_in 1 most text ≡ true
-    → number_said most text ≡ Some (digits_value 10 (without_leading_plus text))
-number_passes most text passes = rw passes refl
+number_passes : (least most : ℕ) (text : Text) → is_unsigned_in least most text ≡ true
+    → number_said least most text ≡ Some (digits_value 10 (without_leading_plus text))
+number_passes least most text passes = rw passes refl
 
-has_number : (name : Text) (most : ℕ) (default : Text) (rows : List Row)
-    → HasValue (number name most default) rows → HasNumber name most rows
-has_number name most default rows value = (
+has_number : (name : Text) (least most : ℕ) (default : Text) (rows : List Row)
+    → HasValue (number name least most default) rows → HasNumber name least most rows
+has_number name least most default rows value = (
   digits_value 10 (without_leading_plus value.0),
-  rw value.1 (number_passes most value.0 value.2),
+  rw value.1 (number_passes least most value.0 value.2),
 )
 
 -- ---- a side
@@ -114,24 +129,24 @@ module _ (sides : TextsAt) (are : AreSides sides) where
       let said = among_three value.0 value.2 in
       (said.0, rw value.1 said.1)
 
-  -- ---- where clap takes the words after `alone`, and after `replay`
+  -- ---- where clap takes the words after `alone`, after `replay`, and after `serve`
 
-  pub side_alone : (s : Shape) (words : List Text) → s.rules ≡ arguments (of_alone sides)
+  pub side_alone : (s : Shape) (words : List Text) → s.rules ≡ arguments (alone_options sides)
       → level_fault s [] nothing_held words false [] ≡ [] → HasSide (rows_after s.rules [] words)
   side_alone s words is passes = has_side (rows_after s.rules [] words)
       (value_given (side sides) [] [] s words refl refl default_passes is passes)
 
-  pub is_shared : (s : Shape) (words : List Text) → s.rules ≡ arguments (of_replay sides)
+  pub is_shared : (s : Shape) (words : List Text) → s.rules ≡ arguments (replay_options sides)
       → level_fault s [] nothing_held words false [] ≡ [] → IsShared (rows_after s.rules [] words)
   is_shared s words is passes =
       let rows = rows_after s.rules [] words in
-      let so_many_users = has_number users.name max_users users.default rows
+      let so_many_users = has_number users.name 1 max_users users.default rows
       (value_given users [] (boards ∷ cache ∷ side sides ∷ []) s words
       refl refl refl is passes) in
-      let so_many_boards = has_number boards.name max_boards boards.default rows
+      let so_many_boards = has_number boards.name 1 max_boards boards.default rows
       (value_given boards (users ∷ []) (cache ∷ side sides ∷ []) s words
       refl refl refl is passes) in
-      let so_many_tables = has_number cache.name max_capacity cache.default rows
+      let so_many_tables = has_number cache.name 1 max_capacity cache.default rows
       (value_given cache (users ∷ boards ∷ []) (side sides ∷ []) s words
       refl refl refl is passes) in
       let limit = has_side rows
@@ -139,3 +154,30 @@ module _ (sides : TextsAt) (are : AreSides sides) where
       refl refl default_passes is passes) in
       let mode = shared so_many_users.0 so_many_boards.0 so_many_tables.0 limit.0 in
       (mode, rw (so_many_users.1, so_many_boards.1, so_many_tables.1, limit.1) refl)
+
+  pub is_served : (s : Shape) (words : List Text) → s.rules ≡ arguments (serve_options sides)
+      → level_fault s [] nothing_held words false [] ≡ [] → IsServed (rows_after s.rules [] words)
+  is_served s words is passes =
+      let rows = rows_after s.rules [] words in
+      let at_port = has_number port.name 1 max_port port.default rows
+      (value_given port [] (users ∷ boards ∷ cache ∷ connections ∷ side sides ∷ []) s words
+      refl refl refl is passes) in
+      let so_many_users = has_number users.name 1 max_users users.default rows
+      (value_given users (port ∷ []) (boards ∷ cache ∷ connections ∷ side sides ∷ []) s words
+      refl refl refl is passes) in
+      let so_many_boards = has_number boards.name 1 max_boards boards.default rows
+      (value_given boards (port ∷ users ∷ []) (cache ∷ connections ∷ side sides ∷ []) s words
+      refl refl refl is passes) in
+      let so_many_tables = has_number cache.name 1 max_capacity cache.default rows
+      (value_given cache (port ∷ users ∷ boards ∷ []) (connections ∷ side sides ∷ []) s words
+      refl refl refl is passes) in
+      let so_often = has_number connections.name 0 max_connections connections.default rows
+      (value_given connections (port ∷ users ∷ boards ∷ cache ∷ []) (side sides ∷ []) s words
+      refl refl refl is passes) in
+      let limit = has_side rows
+      (value_given (side sides) (port ∷ users ∷ boards ∷ cache ∷ connections ∷ []) [] s words
+      refl refl default_passes is passes) in (
+        served so_many_users.0 so_many_boards.0 so_many_tables.0 limit.0 so_often.0 at_port.0,
+        rw (so_many_users.1, so_many_boards.1, so_many_tables.1, limit.1, so_often.1, at_port.1)
+            refl,
+      )

@@ -11,10 +11,10 @@ use Rattle.cam6_host.specs.CommandLine.{IsOfKind, IsProgram, Refuses, TextsAt, p
 use Rattle.cam6_host.specs.declared.modes.Refused.{Refused}
 use Rattle.cam6_host.specs.declared.modes.Refused.TheVariants.{Help, Words, NoMemory}
 
-pub program_is_simple : (sides others : TextsAt)
-    → is_simple_and_free (program sides others) ≡ true
+pub program_is_simple : (of_alone of_replay of_serve : TextsAt)
+    → is_simple_and_free (program of_alone of_replay of_serve) ≡ true
 unfolding clap_on_literals
-program_is_simple sides others = refl
+program_is_simple of_alone of_replay of_serve = refl
 
 abbrev at_first : {X : Type 0} → X → Bor X
 at_first x = record { ref_ptr = (0, 0); now = x }
@@ -24,14 +24,15 @@ pub some_program : (app : App) × IsProgram app
 some_program =
     let sides : TextsAt = at_first (at_first (side_text S128) ∷ at_first (side_text S256)
     ∷ at_first (side_text S512) ∷ []) in
-    (program sides sides, (sides, sides, refl, refl, refl))
+    (program sides sides sides, (sides, sides, sides, refl, refl, refl, refl))
 
-pub matches_program : (sides others : TextsAt) → is_simple (program sides others) ≡ true
+pub matches_program : (of_alone of_replay of_serve : TextsAt)
+    → is_simple (program of_alone of_replay of_serve) ≡ true
 unfolding clap_on_literals
-matches_program sides others = refl
+matches_program of_alone of_replay of_serve = refl
 
 pub is_simple_program : (app : App) → IsProgram app → is_simple_and_free app ≡ true
-is_simple_program app is = ap is_simple_and_free is.4 ∙ program_is_simple is.0 is.1
+is_simple_program app is = ap is_simple_and_free is.6 ∙ program_is_simple is.0 is.1 is.2
 
 refused_as_kind : (kinds : Kinds) (refused : Refused) (e : Error) → HasKind kinds e
     → IsOfKind refused (kind_of e) → Refuses kinds refused

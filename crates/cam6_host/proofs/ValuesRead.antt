@@ -21,32 +21,33 @@ pub side_by : (m : ArgMatches) (given : Option Text)
     → side_at (rows_of (found_of m)) ≡ option_and_then side_said given
 side_by m given is = ap (option_and_then side_said) (text_at m (codes "side") given is)
 
-pub number_by : (m : ArgMatches) (name : Text) (most : ℕ) (given : Option Text)
-    → given ≡ first_value (found_of m) name
-    → number_at name most (rows_of (found_of m)) ≡ option_and_then (number_said most) given
-number_by m name most given is =
-    ap (option_and_then (number_said most)) (text_at m name given is)
+pub number_by : (m : ArgMatches) (name : Text) (least most : ℕ) (given : Option Text)
+    → given ≡ first_value (found_of m) name → number_at name least most (rows_of (found_of m))
+    ≡ option_and_then (number_said least most) given
+number_by m name least most given is =
+    ap (option_and_then (number_said least most)) (text_at m name given is)
 
-pub is_said : (m : ArgMatches) (name : Text) (most : ℕ) (word : Text)
+pub is_said : (m : ArgMatches) (name : Text) (least most : ℕ) (word : Text)
     → Some word ≡ first_value (found_of m) name
-    → IsSome (number_at name most (rows_of (found_of m))) → IsSome (number_said most word)
-is_said m name most word is said =
-    subst (λ number. IsSome number) (number_by m name most (Some word) is) said
+    → IsSome (number_at name least most (rows_of (found_of m)))
+    → IsSome (number_said least most word)
+is_said m name least most word is said =
+    subst (λ number. IsSome number) (number_by m name least most (Some word) is) said
 
 -- a word that says a number has its digits, and the number is theirs
-pub is_in_range : (most : ℕ) (word : Text) → IsSome (number_said most word)
-    → IsUnsignedIn 1 most word
-is_in_range most word said = by_test (is_unsigned_in 1 most word) refl said
+pub is_in_range : (least most : ℕ) (word : Text) → IsSome (number_said least most word)
+    → IsUnsignedIn least most word
+is_in_range least most word said = by_test (is_unsigned_in least most word) refl said
   where
-    by_test : (b : Bool) → is_unsigned_in 1 most word ≡ b
+    by_test : (b : Bool) → is_unsigned_in least most word ≡ b
         → IsSome (cond b (Some (digits_value 10 (without_leading_plus word))) None)
-        → IsUnsignedIn 1 most word
-    by_test true is said = accepts-Accepts false (Unsigned 1 most) word is
+        → IsUnsignedIn least most word
+    by_test true is said = accepts-Accepts false (Unsigned least most) word is
     by_test false is said = let never : ⊥ = cc in absurd never
 
-pub number_is : (most : ℕ) (word : Text) (n : ℕ) → IsSome (number_said most word)
-    → n ≡ digits_value 10 (without_leading_plus word) → number_said most word ≡ Some n
-number_is most word n said is = by_test (is_unsigned_in 1 most word) said
+pub number_is : (least most : ℕ) (word : Text) (n : ℕ) → IsSome (number_said least most word)
+    → n ≡ digits_value 10 (without_leading_plus word) → number_said least most word ≡ Some n
+number_is least most word n said is = by_test (is_unsigned_in least most word) said
   where
     by_test : (b : Bool) → IsSome (cond b (Some (digits_value 10 (without_leading_plus word))) None)
         → cond b (Some (digits_value 10 (without_leading_plus word))) None ≡ Some n

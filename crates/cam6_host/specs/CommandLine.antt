@@ -16,7 +16,7 @@ use Rattle.cam6_planes.specs.declared.sides.Side.TheVariants.{S128, S256, S512}
 use Rattle.cam6_cache.specs.Limits.{max_capacity}
 use Rattle.cam6_core.specs.Limits.{max_users, max_boards}
 use Rattle.cam6_host.specs.declared.modes.Options.{Options}
-use Rattle.cam6_host.specs.declared.modes.Options.TheVariants.{Alone, Replay}
+use Rattle.cam6_host.specs.declared.modes.Options.TheVariants.{Alone, Replay, Serve}
 use Rattle.cam6_host.specs.declared.modes.Refused.{Refused}
 use Rattle.cam6_host.specs.declared.modes.Refused.TheVariants.{Help, Words, NoMemory}
 
@@ -32,9 +32,9 @@ side_said word = if bytes_eq word (side_text S128) then Some S128
     else (if bytes_eq word (side_text S256) then Some S256
     else (if bytes_eq word (side_text S512) then Some S512 else None))
 
--- a whole number from 1 to a most one, as a word
-abbrev pub number_said : ℕ → Text → Option ℕ
-number_said most word = if is_unsigned_in 1 most word
+-- a whole number from a least to a most one, as a word
+abbrev pub number_said : ℕ → ℕ → Text → Option ℕ
+number_said least most word = if is_unsigned_in least most word
     then Some (digits_value 10 (without_leading_plus word)) else None
 
 -- a reference to texts
@@ -53,22 +53,35 @@ side_option sides = record (new_rule (codes "side")) {
   defaults = side_text S256 ∷ [];
 }
 
--- an option of this name, a whole number from 1 to a most one, or else this word
-abbrev pub number_option : Text → ℕ → Text → Rule
-number_option name most default = record (new_rule name) {
+-- an option of this name, a whole number from a least to a most one, or else this word
+abbrev pub number_option : Text → ℕ → ℕ → Text → Rule
+number_option name least most default = record (new_rule name) {
   long = Some name;
-  parser = Some (Unsigned 1 most);
+  parser = Some (Unsigned least most);
   defaults = default ∷ [];
 }
 
 abbrev pub users_option : Rule
-users_option = number_option (codes "users") max_users (codes "4")
+users_option = number_option (codes "users") 1 max_users (codes "4")
 
 abbrev pub boards_option : Rule
-boards_option = number_option (codes "boards") max_boards (codes "2")
+boards_option = number_option (codes "boards") 1 max_boards (codes "2")
 
 abbrev pub cache_option : Rule
-cache_option = number_option (codes "cache") max_capacity (codes "16")
+cache_option = number_option (codes "cache") 1 max_capacity (codes "16")
+
+-- the most ports, and the most connections
+abbrev pub max_port : ℕ
+max_port = 65535
+
+abbrev pub max_connections : ℕ
+max_connections = 18446744073709551615
+
+abbrev pub port_option : Rule
+port_option = number_option (codes "port") 1 max_port (codes "6006")
+
+abbrev pub connections_option : Rule
+connections_option = number_option (codes "connections") 0 max_connections (codes "0")
 
 -- `alone`, with its option
 abbrev pub alone : TextsAt → App
@@ -85,16 +98,35 @@ replay sides =
     cache_option)
     (side_option sides)
 
--- `cam6`, with its subcommands; the three sides may be kept in two places
-abbrev pub program : TextsAt → TextsAt → App
-program sides others =
-    with_subcommand (with_subcommand (new_app (codes "cam6")) (alone sides).top)
-    (replay others).top
+-- `serve`, with its options
+abbrev pub serve : TextsAt → App
+serve sides =
+    with_rule
+    (with_rule
+    (with_rule
+    (with_rule
+    (with_rule
+    (with_rule (new_app (codes "serve")) port_option)
+    users_option)
+    boards_option)
+    cache_option)
+    connections_option)
+    (side_option sides)
+
+-- `cam6`, with its subcommands; the three sides may be kept in a place for each
+abbrev pub program : TextsAt → TextsAt → TextsAt → App
+program of_alone of_replay of_serve =
+    with_subcommand
+    (with_subcommand
+    (with_subcommand (new_app (codes "cam6")) (alone of_alone).top)
+    (replay of_replay).top)
+    (serve of_serve).top
 
 -- the program, wherever the three words are kept
 abbrev pub IsProgram : App → Type 0
 IsProgram app =
-    (sides others : TextsAt) × AreSides sides × AreSides others × (app ≡ program sides others)
+    (of_alone of_replay of_serve : TextsAt) × AreSides of_alone × AreSides of_replay
+    × AreSides of_serve × (app ≡ program of_alone of_replay of_serve)
 
 -- what the program is to do
 pub data Mode : Type 0 where
@@ -103,13 +135,17 @@ pub data Mode : Type 0 where
   -- let so many users share so many boards and a cache of so many tables, each with a machine whose
   -- side is at most this
   shared : ℕ → ℕ → ℕ → Side → Mode
+  -- serve so many users, boards and cached tables over a network, each user with a machine whose side
+  -- is at most this, for so many connections, at this port
+  served : ℕ → ℕ → ℕ → Side → ℕ → ℕ → Mode
 
 -- the side at the option `--side`, and the number at another one
 abbrev pub side_at : List Row → Option Side
 side_at rows = option_and_then side_said (first_of (codes "side") rows)
 
-abbrev pub number_at : Text → ℕ → List Row → Option ℕ
-number_at name most rows = option_and_then (number_said most) (first_of name rows)
+abbrev pub number_at : Text → ℕ → ℕ → List Row → Option ℕ
+number_at name least most rows =
+    option_and_then (number_said least most) (first_of name rows)
 
 -- the second step, if the first gave a value
 infixl 10 ◌>>=◌
@@ -119,11 +155,22 @@ x >>= f = option_and_then f x
 -- the mode of `replay` with these options
 abbrev pub shared_at : List Row → Option Mode
 shared_at rows = do
-  users ← number_at (codes "users") max_users rows
-  boards ← number_at (codes "boards") max_boards rows
-  cache ← number_at (codes "cache") max_capacity rows
+  users ← number_at (codes "users") 1 max_users rows
+  boards ← number_at (codes "boards") 1 max_boards rows
+  cache ← number_at (codes "cache") 1 max_capacity rows
   limit ← side_at rows
   Some (shared users boards cache limit)
+
+-- the mode of `serve` with these options
+abbrev pub served_at : List Row → Option Mode
+served_at rows = do
+  users ← number_at (codes "users") 1 max_users rows
+  boards ← number_at (codes "boards") 1 max_boards rows
+  cache ← number_at (codes "cache") 1 max_capacity rows
+  limit ← side_at rows
+  connections ← number_at (codes "connections") 0 max_connections rows
+  port ← number_at (codes "port") 1 max_port rows
+  Some (served users boards cache limit connections port)
 
 -- the mode that a subcommand names with its options, or none; any other name is no mode's. Without
 -- a subcommand it is `alone`, without options
@@ -131,13 +178,17 @@ abbrev pub mode_of : Option (Text × List Row) → Option Mode
 mode_of None = Some (single S256)
 mode_of (Some found) =
     if bytes_eq found.0 (codes "alone") then option_map single (side_at found.1)
-    else if bytes_eq found.0 (codes "replay") then shared_at found.1 else None
+    else if bytes_eq found.0 (codes "replay") then shared_at found.1
+    else if bytes_eq found.0 (codes "serve") then served_at found.1 else None
 
 -- the words ask for this
 abbrev pub HasMode : Options → Option Mode → Type 0
 HasMode (Alone limit) said = said ≡ Some (single limit)
 HasMode (Replay sharing limit) said =
     said ≡ Some (shared sharing.users sharing.boards sharing.cache limit)
+HasMode (Serve serving port) said =
+    said
+    ≡ Some (served serving.users serving.boards serving.cache serving.limit serving.connections port)
 
 -- an error of clap's of this kind is refused so
 abbrev pub IsOfKind : Refused → ErrorKind → Type 0

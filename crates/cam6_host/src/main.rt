@@ -1,21 +1,24 @@
 //! The program `cam6`: command lines on standard input, or lines of events, one line of an answer
-//! for each on standard output.
+//! for each on standard output; or command lines of many users over connections.
 //!
 //! Contract: `options` reads the words as `clap` takes them (`specs/CommandLine.antt`), and
-//! `failure_of` is each end's exit status (`specs/Statuses.antt`), with which `ended` ends. What is
-//! written for what is read, and that turns run out only where as many bytes were read, is the
-//! contract of `serve_streams` and of `replay_streams` (`specs/Replays.antt`): those of
-//! `serve_alone` and of `replay` in `cam6_session`, with the program's turns (`specs/Turns.antt`).
+//! `failure_of` is each end's exit status (`specs/Statuses.antt`), with which `ended` ends. So are
+//! `fault_of` and `refusal_of` the statuses of a host that can't go on, with which `closed` ends,
+//! and of words that ask for nothing, with which `told` ends. What is written for what is read, and
+//! that turns run out only where as many bytes were read, is the contract of `serve_streams` and of
+//! `replay_streams` (`specs/Replays.antt`): those of `serve_alone` and of `replay` in
+//! `cam6_session`, with the program's turns (`specs/Turns.antt`). What users are answered over
+//! connections, by `serve`, is said in `cam6_server`.
 //!
 //! Stands on: `cam6_planes`, for the sides; `cam6_cache`, for the number of its tables; `cam6_core`,
-//! `cam6_session`, `clap`, `thiserror`.
+//! `cam6_session`, `cam6_server`, `clap`, `thiserror`.
 //!
 //! Read next: `modes` and `words`, the command line; then `streams` and `statuses`.
 #![tactic(auto)]
 
-ghost use Rattle.std.specs.Prelude.{◌≡◌, MatchOption};
+ghost use Rattle.std.specs.Prelude.{◌≡◌, ◌≢◌, MatchOption};
 ghost use Rattle.std.specs.Process.{exit_status};
-ghost use Rattle.cam6_host.specs.Statuses.{failure};
+ghost use Rattle.cam6_host.specs.Statuses.{failure, fault as fault_told, refusal};
 ghost use Rattle.cam6_host.specs.Unreadable.{IsUnreadable};
 
 mod modes;
@@ -27,27 +30,50 @@ mod words;
 #[cfg(test)]
 mod words_tests;
 
+use cam6_planes::Side;
+use cam6_server::{Fault, Handle, Serving, serve_net};
 use cam6_session::End;
-use modes::{Options, Refused};
-use statuses::{NO_MEMORY, WRITE_FAILED, failure_of, refusal_of};
+use modes::{Options, Refused, Sharing};
+use statuses::{NO_MEMORY, WRITE_FAILED, failure_of, fault_of, refusal_of};
 use std::alloc::Global;
 use std::env::Env;
 use std::io;
 use std::io::{BufReader, ErrorKind};
+use std::net::{Ipv4Addr, Net, TcpListener, TcpStream};
 use std::process::ExitCode;
 use streams::{replay_streams, serve_streams};
 
 fn main(rt: HostRuntime) -> ExitCode {
-    run(&rt)
+    run(
+        &rt,
+        &|serving: Serving, port: u16| over_network(rt, serving, port),
+    )
 }
 
-/// Reads the words, and does what they ask for.
-fn run<R: Env + Input + Print + Eprint + AllocGlobal>(rt: &R) -> ExitCode {
-    let refused = match options_given(rt) {
-        Ok(options) => return over_standard_streams(rt, options),
-        Err(refused) => refused,
+/// Reads the words, and does what they ask for. Users are served over a network by a closure.
+fn run<R: Env + Input + Print + Eprint + AllocGlobal, F: Fn(Serving, u16) -> ExitCode>(
+    rt: &R,
+    served: &F,
+) -> ExitCode
+    requires { F.IsAlwaysCallable served.now }
+{
+    let options = match options_given(rt) {
+        Ok(options) => options,
+        Err(refused) => return told(rt, &refused),
     };
-    let (status, text) = refusal_of(&refused);
+    match options {
+        Options::Alone { limit } => alone(rt, limit),
+        Options::Replay { sharing, limit } => shared(rt, sharing, limit),
+        Options::Serve { serving, port } => served(serving, port),
+    }
+}
+
+/// Tells why the words ask for nothing, and ends.
+fn told(rt: &(impl Print + Eprint), refused: &Refused) -> ExitCode
+    // Help may end otherwise, where it can't be written.
+    ensures { (refusal refused.now).0 ≢ 0 → exit_status result ≡ (refusal refused.now).0 }
+{
+    let (status, text) = refusal_of(refused);
     if status != 0 {
         return failed(rt, status, text);
     }
@@ -82,23 +108,49 @@ fn unreadable(alloc: Global, kind: ErrorKind) -> Refused
     }
 }
 
-/// Serves one machine, or users who share boards, over standard input and output.
-fn over_standard_streams<R: Input + Print + Eprint + AllocGlobal>(
-    rt: &R,
-    options: Options,
-) -> ExitCode {
-    let alloc = rt.alloc();
-    let Ok(mut reader) = BufReader::new(alloc, rt.reader()) else {
+/// Serves one machine over standard input and output.
+fn alone<R: Input + Print + Eprint + AllocGlobal>(rt: &R, limit: Side) -> ExitCode {
+    let Ok(mut reader) = BufReader::new(rt.alloc(), rt.reader()) else {
         return failed(rt, NO_MEMORY, "cam6: no memory\n");
     };
-    let mut writer = io::writer(rt);
-    let end = match options {
-        Options::Alone { limit } => serve_streams(alloc, limit, &mut reader, &mut writer),
-        Options::Replay { sharing, limit } => {
-            replay_streams(alloc, sharing, limit, &mut reader, &mut writer)
-        }
-    };
+    let end = serve_streams(rt.alloc(), limit, &mut reader, &mut io::writer(rt));
     ended(rt, end)
+}
+
+/// Does the events of users who share boards, over standard input and output.
+fn shared<R: Input + Print + Eprint + AllocGlobal>(
+    rt: &R,
+    sharing: Sharing,
+    limit: Side,
+) -> ExitCode {
+    let Ok(mut reader) = BufReader::new(rt.alloc(), rt.reader()) else {
+        return failed(rt, NO_MEMORY, "cam6: no memory\n");
+    };
+    let end = replay_streams(rt.alloc(), sharing, limit, &mut reader, &mut io::writer(rt));
+    ended(rt, end)
+}
+
+/// Serves users over connections to a port of this machine.
+fn over_network<
+    R: Handle + Net<Listener = TcpListener, Stream = TcpStream> + Eprint + Send + Sync + 'static,
+>(rt: R, serving: Serving, port: u16) -> ExitCode {
+    let Ok(listener) = TcpListener::bind(&rt, (Ipv4Addr::LOCALHOST, port)) else {
+        return closed(&rt, Fault::Network);
+    };
+    // Whoever connects from here on is answered. That it can't be told is no fault of the host's.
+    let _ = eprintln!(&rt; "listening on 127.0.0.1:{port}");
+    match serve_net(rt, &listener, &serving) {
+        Ok(()) => ExitCode::SUCCESS,
+        Err(fault) => closed(&rt, fault),
+    }
+}
+
+/// Ends as a host that can't go on.
+fn closed(rt: &impl Eprint, fault: Fault) -> ExitCode
+    ensures { exit_status result ≡ (fault_told fault).0 }
+{
+    let (status, text) = fault_of(fault);
+    failed(rt, status, text)
 }
 
 /// Ends as a session ended.

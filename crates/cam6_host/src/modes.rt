@@ -1,6 +1,7 @@
 //! What the words of the command line ask for.
 
 use cam6_planes::Side;
+use cam6_server::Serving;
 use std::marker::Model;
 use thiserror::Error;
 
@@ -17,6 +18,12 @@ pub enum Options {
         sharing: Sharing,
         /// The largest side that each user's machine may have.
         limit: Side,
+    },
+    /// Serve users over connections to a port of this machine.
+    Serve {
+        serving: Serving,
+        /// 1 at least.
+        port: u16,
     },
 }
 

@@ -1,6 +1,8 @@
 //! The program over streams of its own: what it writes to each, and the status it ends with.
 
 use crate::{ended, run};
+use cam6_planes::Side;
+use cam6_server::Serving;
 use cam6_session::End;
 use std::alloc::{Allocator, Global};
 use std::cell::RefCell;
@@ -192,6 +194,14 @@ fn streams_of<'a>(
     }
 }
 
+/// In place of a network: 9 for what the words below ask for, and 1 for anything else.
+fn asked(serving: Serving, port: u16) -> ExitCode {
+    if serving == Serving::new(3, 2, 16, Side::S256, 0) && port == 80 {
+        return ExitCode::from(9);
+    }
+    ExitCode::FAILURE
+}
+
 /// A run over these words and lines: its status, its output and its errors.
 fn run_over(
     alloc: Global,
@@ -200,7 +210,10 @@ fn run_over(
     fault: Fault,
 ) -> (ExitCode, Vec<u8>, Vec<u8>) {
     let streams = streams_of(alloc, words, lines, fault);
-    let status = run(&streams);
+    let status = run(
+        &streams,
+        &|serving: Serving, port: u16| asked(serving, port),
+    );
     (
         status,
         streams.output.into_inner(),
@@ -286,14 +299,13 @@ fn turns_that_are_up_have_their_status(rt: HostRuntime) {
 }
 
 // Help goes to standard output with status 0, and refused words to standard error with 2. Their
-// texts are clap's. Neither reads the input.
+// texts are clap's. Neither reads the input. Nor does `serve`, which ends as its closure does.
 #[test]
 fn words_have_their_status(rt: HostRuntime) {
     for (word, status) in [
         (b"--help".as_slice(), 0),
         (b"help", 0),
         (b"fly", 2),
-        (b"serve", 2),
         (b"--side", 2),
     ] {
         let got = run_with(rt.alloc(), &[b"cam6", word], Fault::None);
@@ -301,4 +313,8 @@ fn words_have_their_status(rt: HostRuntime) {
         assert_eq!(rt; got.1.is_empty(), status != 0, "{word:?}");
         assert_eq!(rt; got.2.is_empty(), status == 0, "{word:?}");
     }
+    let words = [b"cam6".as_slice(), b"serve", b"--users=3", b"--port=80"];
+    let got = run_with(rt.alloc(), &words, Fault::Read);
+    assert_eq!(rt; got.0, ExitCode::from(9));
+    assert!(rt; got.1.is_empty() && got.2.is_empty());
 }

@@ -1,8 +1,9 @@
 //! The exit statuses of the program.
 ghost use Rattle.std.specs.Prelude.{◌≡◌, option_map};
-ghost use Rattle.cam6_host.specs.Statuses.{failure, refusal};
+ghost use Rattle.cam6_host.specs.Statuses.{failure, fault as fault_told, refusal};
 
 use crate::modes::Refused;
+use cam6_server::Fault;
 use cam6_session::End;
 
 /// Words that are refused.
@@ -16,6 +17,8 @@ pub const NO_MEMORY: u8 = 5;
 
 pub const TURN_BOUND_REACHED: u8 = 6;
 
+pub const NETWORK_FAILED: u8 = 7;
+
 /// The status of a session that failed, with its line for standard error.
 pub fn failure_of(end: End) -> Option<(u8, &'static str)>
     ensures { option_map (λ f. (f.0, f.1.now)) result ≡ failure end }
@@ -26,6 +29,16 @@ pub fn failure_of(end: End) -> Option<(u8, &'static str)>
         End::WriteFault => Some((WRITE_FAILED, "cam6: write failed\n")),
         End::NoMemory { .. } => Some((NO_MEMORY, "cam6: no memory\n")),
         End::TurnBound => Some((TURN_BOUND_REACHED, "cam6: turn bound reached\n")),
+    }
+}
+
+/// The status of a host that can't go on, with its line for standard error.
+pub fn fault_of(fault: Fault) -> (u8, &'static str)
+    ensures { (result.0, result.1.now) ≡ fault_told fault }
+{
+    match fault {
+        Fault::NoMemory => (NO_MEMORY, "cam6: no memory\n"),
+        Fault::Network => (NETWORK_FAILED, "cam6: network failed\n"),
     }
 }
 

@@ -6,13 +6,20 @@ ghost use Rattle.clap.specs.Words.{subcommand_of, subcommand_rows_of};
 ghost use Rattle.cam6_host.specs.CommandLine.{AreSides, HasMode, IsOfKind, IsProgram, Refuses};
 ghost use Rattle.cam6_host.specs.CommandLine.{TextsAt, mode_of, number_at as number_told};
 ghost use Rattle.cam6_host.specs.CommandLine.{number_option as option_of_numbers};
-ghost use Rattle.cam6_host.specs.CommandLine.{replay as replay_of, side_at};
+ghost use Rattle.cam6_host.specs.CommandLine.{replay as replay_of, serve as serve_of, served_at};
+ghost use Rattle.cam6_host.specs.CommandLine.{shared_at, side_at};
 ghost use Rattle.cam6_host.specs.CommandLine.{side_option as option_of_sides, side_said};
+ghost use Rattle.cam6_host.specs.CommandLine.{users_option as option_of_users};
+ghost use Rattle.cam6_host.specs.CommandLine.{boards_option as option_of_boards};
+ghost use Rattle.cam6_host.specs.CommandLine.{cache_option as option_of_tables};
+ghost use Rattle.cam6_host.specs.CommandLine.{port_option as option_of_ports};
+ghost use Rattle.cam6_host.specs.CommandLine.{connections_option as option_of_connections};
 
 use crate::modes::{Options, Refused, Sharing};
 use cam6_cache::MAX_CAPACITY;
 use cam6_core::{MAX_BOARDS, MAX_USERS};
 use cam6_planes::Side;
+use cam6_server::Serving;
 use clap::builder::ValueParser;
 use clap::error::ErrorKind;
 use clap::{Arg, ArgMatches, Command};
@@ -20,6 +27,19 @@ use std::alloc::{AllocError, Global};
 
 /// The sides as words.
 static SIDES: [&str; 3] = ["128", "256", "512"];
+
+/// The last port.
+const MAX_PORT: u64 = 65_535;
+
+/// What is said on a connection, with a session to try.
+const SEATS_TEXT: &str = "\
+The first line of a connection to `serve` asks for the machine of a user, who are numbered from 1:
+  {\"seat\":1}
+It is answered by {\"ok\":\"seat\"}, or by {\"fault\":80} where the user has a connection, and by
+{\"fault\":81} where there is no such user. Each line behind it is a command, as of `alone`, and is
+answered by a line. A session to try, with one command, which lists the rules that there are:
+  cam6 serve &
+  printf '{\"seat\":1}\\n{\"do\":\"rules\"}\\n' | nc -N 127.0.0.1 6006";
 
 /// Reads the words, of which the first is the program's name.
 pub fn options(alloc: Global, words: &[String]) -> Result<Options, Refused>
@@ -50,16 +70,44 @@ fn mode_given(matches: &ArgMatches<'_>) -> Options
         };
     }
     if let Some(replay) = matches.subcommand_matches("replay") {
-        return Options::Replay {
-            sharing: Sharing {
-                users: number_given(replay, "users", MAX_USERS),
-                boards: number_given(replay, "boards", MAX_BOARDS),
-                cache: number_given(replay, "cache", MAX_CAPACITY),
-            },
-            limit: side_given(replay),
-        };
+        return replay_given(replay);
+    }
+    if let Some(serve) = matches.subcommand_matches("serve") {
+        return serve_given(serve);
     }
     Options::Alone { limit: Side::S256 }
+}
+
+/// What the options of `replay` ask for.
+fn replay_given(matches: &ArgMatches<'_>) -> Options
+    requires { IsSome (shared_at (rows_of (found_of matches.now))) }
+    ensures { HasMode result (shared_at (rows_of (found_of matches.now))) }
+{
+    Options::Replay {
+        sharing: Sharing {
+            users: number_given(matches, "users", 1, MAX_USERS as u64) as usize,
+            boards: number_given(matches, "boards", 1, MAX_BOARDS as u64) as usize,
+            cache: number_given(matches, "cache", 1, MAX_CAPACITY as u64) as usize,
+        },
+        limit: side_given(matches),
+    }
+}
+
+/// What the options of `serve` ask for.
+fn serve_given(matches: &ArgMatches<'_>) -> Options
+    requires { IsSome (served_at (rows_of (found_of matches.now))) }
+    ensures { HasMode result (served_at (rows_of (found_of matches.now))) }
+{
+    Options::Serve {
+        serving: Serving::new(
+            number_given(matches, "users", 1, MAX_USERS as u64) as usize,
+            number_given(matches, "boards", 1, MAX_BOARDS as u64) as u8,
+            number_given(matches, "cache", 1, MAX_CAPACITY as u64) as usize,
+            side_given(matches),
+            number_given(matches, "connections", 0, u64::MAX),
+        ),
+        port: number_given(matches, "port", 1, MAX_PORT) as u16,
+    }
 }
 
 /// The largest side that a machine may have.
@@ -76,16 +124,17 @@ fn side_given(matches: &ArgMatches<'_>) -> Side
     side
 }
 
-/// The number at an option, 1 to a most one.
-fn number_given(matches: &ArgMatches<'_>, name: &str, most: usize) -> usize
-    requires { IsSome (number_told name.now most (rows_of (found_of matches.now))) }
-    ensures number { number_told name.now most (rows_of (found_of matches.now)) ≡ Some result }
-    ensures within { (0 < result) × (result ≤ most) }
+/// The number at an option, a least to a most one.
+fn number_given(matches: &ArgMatches<'_>, name: &str, least: u64, most: u64) -> u64
+    requires { IsSome (number_told name.now least most (rows_of (found_of matches.now))) }
+    ensures number { number_told name.now least most (rows_of (found_of matches.now))
+        ≡ Some result }
+    ensures within { (least ≤ result) × (result ≤ most) }
 {
     let Some(word) = matches.get_str(name) else {
         unreachable!()
     };
-    let Ok(number) = word.parse::<usize>() else {
+    let Ok(number) = word.parse::<u64>() else {
         unreachable!()
     };
     number
@@ -112,8 +161,10 @@ pub fn program<'a>(alloc: Global) -> Result<Command<'a>, AllocError>
         .arg(side_option(alloc))?;
     Command::new(alloc, "cam6")
         .about("A CAM-6 cellular automata machine; without words, as `alone`")
+        .after_help(SEATS_TEXT)
         .subcommand(alone)?
-        .subcommand(replay(alloc)?)
+        .subcommand(replay(alloc)?)?
+        .subcommand(serve(alloc)?)
 }
 
 /// `replay`.
@@ -123,20 +174,86 @@ fn replay<'a>(alloc: Global) -> Result<Command<'a>, AllocError>
 {
     Command::new(alloc, "replay")
         .about("Does the events of lines on standard input: users who share boards and tables")
-        .arg(number_option(alloc, "users", MAX_USERS, "4").help("Users, each with a machine"))?
-        .arg(number_option(alloc, "boards", MAX_BOARDS, "2").help("Boards"))?
-        .arg(number_option(alloc, "cache", MAX_CAPACITY, "16").help("Tables that are kept"))?
+        .arg(users_option(alloc))?
+        .arg(boards_option(alloc))?
+        .arg(cache_option(alloc))?
         .arg(side_option(alloc))
 }
 
-/// An option that is a number, 1 to a most one.
-fn number_option<'a>(alloc: Global, name: &'a str, most: usize, default: &'a str) -> Arg<'a>
-    ensures rule { rule_of result ≡ option_of_numbers name.now most default.now }
+/// `serve`.
+fn serve<'a>(alloc: Global) -> Result<Command<'a>, AllocError>
+    ensures { IfOk result (λ command. (sides : TextsAt) × AreSides sides
+        × (app_of command ≡ serve_of sides)) }
+{
+    Command::new(alloc, "serve")
+        .about(
+            "Answers command lines over connections to 127.0.0.1: users who share boards and tables",
+        )
+        .after_help(SEATS_TEXT)
+        .arg(port_option(alloc))?
+        .arg(users_option(alloc))?
+        .arg(boards_option(alloc))?
+        .arg(cache_option(alloc))?
+        .arg(connections_option(alloc))?
+        .arg(side_option(alloc))
+}
+
+/// `--users`.
+fn users_option<'a>(alloc: Global) -> Arg<'a>
+    ensures rule { rule_of result ≡ option_of_users }
+    ensures global { result.global ≡ false }
+{
+    number_option(alloc, "users", 1, MAX_USERS as u64, "4").help("Users, each with a machine")
+}
+
+/// `--boards`.
+fn boards_option<'a>(alloc: Global) -> Arg<'a>
+    ensures rule { rule_of result ≡ option_of_boards }
+    ensures global { result.global ≡ false }
+{
+    number_option(alloc, "boards", 1, MAX_BOARDS as u64, "2").help("Boards")
+}
+
+/// `--cache`.
+fn cache_option<'a>(alloc: Global) -> Arg<'a>
+    ensures rule { rule_of result ≡ option_of_tables }
+    ensures global { result.global ≡ false }
+{
+    number_option(alloc, "cache", 1, MAX_CAPACITY as u64, "16").help("Tables that are kept")
+}
+
+/// `--port`.
+fn port_option<'a>(alloc: Global) -> Arg<'a>
+    ensures rule { rule_of result ≡ option_of_ports }
+    ensures global { result.global ≡ false }
+{
+    number_option(alloc, "port", 1, MAX_PORT, "6006").help("The port, of 127.0.0.1")
+}
+
+/// `--connections`.
+fn connections_option<'a>(alloc: Global) -> Arg<'a>
+    ensures rule { rule_of result ≡ option_of_connections }
+    ensures global { result.global ≡ false }
+{
+    number_option(alloc, "connections", 0, u64::MAX, "0").help(
+        "Connections that are served before the program ends; 0 for no end",
+    )
+}
+
+/// An option that is a number, a least to a most one.
+fn number_option<'a>(
+    alloc: Global,
+    name: &'a str,
+    least: u64,
+    most: u64,
+    default: &'a str,
+) -> Arg<'a>
+    ensures rule { rule_of result ≡ option_of_numbers name.now least most default.now }
     ensures global { result.global ≡ false }
 {
     Arg::new(alloc, name)
         .long(name)
-        .value_parser(ValueParser::Unsigned(1, most as u64))
+        .value_parser(ValueParser::Unsigned(least, most))
         .default_value(default)
 }
 

@@ -1,9 +1,10 @@
 //! The words of the command line, and the status of each end.
 
 use crate::modes::Options;
-use crate::statuses::{failure_of, refusal_of};
+use crate::statuses::{failure_of, fault_of, refusal_of};
 use crate::words::{options, program};
 use cam6_planes::Side;
+use cam6_server::{Fault, Serving};
 use cam6_session::End;
 use std::alloc::Global;
 use std::test::Fail;
@@ -31,7 +32,7 @@ fn numbers_of(options: &Options) -> Option<(usize, usize, usize, Side)> {
         Options::Replay { sharing, limit } => {
             Some((sharing.users, sharing.boards, sharing.cache, *limit))
         }
-        Options::Alone { .. } => None,
+        Options::Alone { .. } | Options::Serve { .. } => None,
     }
 }
 
@@ -84,6 +85,41 @@ fn words_have_numbers(rt: HostRuntime) -> Result<(), Fail> {
     Ok(())
 }
 
+// Of `serve`: the users, boards, tables, side, connections and port that are said, or else their
+// defaults.
+#[test]
+fn words_have_a_port(rt: HostRuntime) -> Result<(), Fail> {
+    let alloc = rt.alloc();
+    let usual = Serving::new(4, 2, 16, Side::S256, 0);
+    for (line, serving, port) in [
+        ("cam6 serve", usual, 6006),
+        ("cam6 serve --port 1", usual, 1),
+        ("cam6 serve --port=65535", usual, 65535),
+        (
+            "cam6 serve --connections 18446744073709551615",
+            Serving::new(4, 2, 16, Side::S256, u64::MAX),
+            6006,
+        ),
+        (
+            "cam6 serve --side 512 --connections 7 --cache=64 --port 80 --boards 8 --users 32",
+            Serving::new(32, 8, 64, Side::S512, 7),
+            80,
+        ),
+        (
+            "cam6 serve --users 1 --boards 3 --cache 1 --side=128",
+            Serving::new(1, 3, 1, Side::S128, 0),
+            6006,
+        ),
+    ] {
+        let read = options(alloc, words_of(alloc, line)?.as_slice());
+        assert!(rt;
+            matches!(&read, Ok(got) if *got == Options::Serve { serving, port }),
+            "{line}"
+        );
+    }
+    Ok(())
+}
+
 // The status of words that are refused: 0 for help, which is no refusal, and 2 for all others.
 #[test]
 fn words_are_refused(rt: HostRuntime) -> Result<(), Fail> {
@@ -93,9 +129,9 @@ fn words_are_refused(rt: HostRuntime) -> Result<(), Fail> {
         ("cam6 -h", 0),
         ("cam6 alone --help", 0),
         ("cam6 replay --help", 0),
+        ("cam6 serve --help", 0),
         ("cam6 help", 0),
         ("cam6 --version", 2),
-        ("cam6 serve", 2),
         ("cam6 --side 256", 2),
         ("cam6 --users 4", 2),
         ("cam6 alone --side 200", 2),
@@ -107,6 +143,8 @@ fn words_are_refused(rt: HostRuntime) -> Result<(), Fail> {
         ("cam6 alone --users 2", 2),
         ("cam6 alone --boards 2", 2),
         ("cam6 alone --cache 2", 2),
+        ("cam6 alone --port 1", 2),
+        ("cam6 alone --connections 2", 2),
         ("cam6 alone alone", 2),
         ("cam6 alone replay", 2),
         ("cam6 replay --users 0", 2),
@@ -121,7 +159,18 @@ fn words_are_refused(rt: HostRuntime) -> Result<(), Fail> {
         ("cam6 replay --cache x", 2),
         ("cam6 replay --side 1024", 2),
         ("cam6 replay --port 1", 2),
+        ("cam6 replay --connections 2", 2),
         ("cam6 replay 4", 2),
+        ("cam6 serve --port 0", 2),
+        ("cam6 serve --port 65536", 2),
+        ("cam6 serve --connections -1", 2),
+        ("cam6 serve --connections 18446744073709551616", 2),
+        ("cam6 serve --users 33", 2),
+        ("cam6 serve --boards 9", 2),
+        ("cam6 serve --cache 65", 2),
+        ("cam6 serve --side 100", 2),
+        ("cam6 serve alone", 2),
+        ("cam6 alone serve", 2),
         ("cam6 Replay", 2),
         ("cam6 Alone", 2),
         ("cam6 fly", 2),
@@ -153,5 +202,11 @@ fn statuses_of_ends(rt: HostRuntime) {
         (End::TurnBound, Some((6, "cam6: turn bound reached\n"))),
     ] {
         assert!(rt; failure_of(end) == want, "{end:?}");
+    }
+    for (fault, want) in [
+        (Fault::NoMemory, (5, "cam6: no memory\n")),
+        (Fault::Network, (7, "cam6: network failed\n")),
+    ] {
+        assert!(rt; fault_of(fault) == want, "{fault:?}");
     }
 }

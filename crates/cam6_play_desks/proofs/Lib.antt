@@ -2,5 +2,3 @@
 
 -- What a board holds at its seat, before and behind each call.
 pub mod Serving
--- Seats that hold nothing, one after another.
-pub mod Seats

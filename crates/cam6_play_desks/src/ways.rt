@@ -1,9 +1,9 @@
 //! The way in which lines of users and boards are played.
-ghost use Rattle.std.specs.Prelude.{◌<◌, ◌≤◌, IfOk};
+ghost use Rattle.std.specs.Prelude.{◌<◌, ◌≤◌};
 ghost use Rattle.cam6_handoff.specs.Limits.{max_users, max_boards};
 
 use crate::players::answered;
-use cam6_examples::{Played, Sent, Unplayable, Way, limit_of};
+use cam6_examples::{Played, Sent, Unplayable, Way, limit_of, size_of};
 use cam6_handoff::{MAX_BOARDS, MAX_USERS};
 use cam6_planes::Side;
 use std::alloc::Global;
@@ -41,17 +41,5 @@ impl Played for DeskWay {
     fn played(&self, alloc: Global, sent: &[Sent]) -> io::Result<Vec<Vec<u8>>> {
         let answers = answered(alloc, self.users, self.boards as u8, self.limit, sent)?;
         Ok(vec![in alloc; answers]?)
-    }
-}
-
-/// A number from 1 to the most that there can be.
-fn size_of(text: &str, most: usize) -> Result<usize, Unplayable>
-    ensures { IfOk result (λ size. (0 < size) × (size ≤ most)) }
-{
-    let size = text.parse().map_err(|_| Unplayable::Unread)?;
-    if (1..=most).contains(&size) {
-        Ok(size)
-    } else {
-        Err(Unplayable::Unread)
     }
 }

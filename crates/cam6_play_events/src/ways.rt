@@ -6,7 +6,7 @@ ghost use Rattle.cam6_core.specs.Limits.{max_users, max_boards};
 use crate::players::Told;
 use cam6_cache::MAX_CAPACITY;
 use cam6_core::{Core, MAX_BOARDS, MAX_USERS};
-use cam6_examples::{Played, Sent, Unplayable, Way, no_memory};
+use cam6_examples::{Played, Sent, Unplayable, Way, no_memory, size_of};
 use cam6_planes::{NoMemory, Side};
 use std::alloc::Global;
 use std::io;
@@ -58,18 +58,6 @@ impl EventWay {
     fn core(&self, alloc: Global) -> Result<Core, NoMemory> {
         let limits = self.limits.as_slice();
         Core::new(alloc, limits.len(), self.boards, self.cache, limits)
-    }
-}
-
-/// A number from 1 to the most that there can be.
-fn size_of(text: &str, most: usize) -> Result<usize, Unplayable>
-    ensures { IfOk result (λ size. (0 < size) × (size ≤ most)) }
-{
-    let size = text.parse().map_err(|_| Unplayable::Unread)?;
-    if (1..=most).contains(&size) {
-        Ok(size)
-    } else {
-        Err(Unplayable::Unread)
     }
 }
 

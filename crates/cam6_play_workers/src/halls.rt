@@ -1,5 +1,5 @@
 //! All users and workers of a part.
-ghost use Rattle.cam6_play_workers.specs.Seats.{AreIdle};
+ghost use Rattle.cam6_handoff.specs.Holding.{AreIdle};
 
 use crate::answers::Answer;
 use crate::gates::{GateWay, Watch};

@@ -7,7 +7,7 @@ use crate::gates::GateWay;
 use crate::houses::Handle;
 use crate::players::answered;
 use cam6_cache::MAX_CAPACITY;
-use cam6_examples::{Sent, Unplayable, Way};
+use cam6_examples::{Sent, Unplayable, Way, size_of};
 use cam6_handoff::{MAX_BOARDS, MAX_USERS};
 use cam6_planes::Side;
 use cam6_pool::Turn;
@@ -197,16 +197,4 @@ fn board_of(words: &mut Words<'_>) -> Result<BoardWay, Unplayable> {
         });
     }
     Ok(BoardWay::Soft)
-}
-
-/// A number from 1 to the most that there can be.
-fn size_of(text: &str, most: usize) -> Result<usize, Unplayable>
-    ensures { IfOk result (λ size. (0 < size) × (size ≤ most)) }
-{
-    let size = text.parse().map_err(|_| Unplayable::Unread)?;
-    if (1..=most).contains(&size) {
-        Ok(size)
-    } else {
-        Err(Unplayable::Unread)
-    }
 }

@@ -1,7 +1,7 @@
 -- In the order of reading: the lines of a text, what is kept of a line, reading one, the bytes that
--- turns take, writing; ways of answering lines, answering one, how serving ends, and what the
--- machine answers; a session alone and its main theorem; what a core answers, and what a replay
--- writes; and the laws.
+-- turns take, writing; ways of answering lines, answering one, how serving ends, what the machine
+-- answers, and the machine at which a desk stands; a session alone and its main theorem; what a core
+-- answers, and what a replay writes; and the laws.
 pub mod Lines
 pub mod Held
 pub mod Reading
@@ -11,6 +11,7 @@ pub mod Answering
 pub mod Responding
 pub mod Sessions
 pub mod Answers
+pub mod Desks
 pub mod Alone
 pub mod Headline
 pub mod Events

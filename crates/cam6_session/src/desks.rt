@@ -1,8 +1,10 @@
 //! Who answers commands.
 
 use cam6_commands::{Command, Reply};
+use cam6_handoff::Desk;
 use cam6_machine::Machine;
 use cam6_planes::NoMemory;
+use std::sync::Wait;
 
 /// Something that stands at a machine, and answers commands as that machine does.
 pub trait Ask {
@@ -47,5 +49,41 @@ impl Ask for Machine {
         ensures memory { may_want_memory (machine_of self.old) command ≡ false → IsOk result }
     {
         self.reply_to(command)
+    }
+}
+
+/// A user's desk, with a handle by which what is asked is waited for.
+pub struct AtDesk<R> {
+    /// The handle.
+    pub rt: R,
+    /// The desk.
+    pub desk: Desk,
+}
+
+impl<R: Wait> Ask for AtDesk<R> {
+    ghost use Rattle.std.specs.Prelude.{◌≡◌, IfOk, IsOk, OnOk, OnErr};
+    ghost use Rattle.cam6_model.specs.Alone.{reply, after};
+    ghost use Rattle.cam6_handoff.specs.Standing.{IsResting};
+    ghost use Rattle.cam6_handoff.specs.Desks.{WantsNone};
+    ghost use Rattle.cam6_session.specs.Desks.{machine_at};
+
+    ghost stands_at = { λ d. machine_at d.desk };
+
+    // A desk may be asked while it doesn't wait, and no longer waits when it has answered.
+    ghost is_ready = { λ d. IsResting d.desk };
+
+    /// Does the command and replies, or finds no memory for it and stays where it stood. The steps
+    /// of a command are waited for, whichever boards do them.
+    fn ask(&mut self, command: Command) -> Result<Reply, NoMemory>
+        requires { IsResting self.old.desk }
+        ensures reply { IfOk result (λ r. r ≡ reply (machine_at self.old.desk) command) }
+        ensures machine { OnOk result (machine_at self.new.desk
+            ≡ after (machine_at self.old.desk) command) }
+        ensures err { OnErr result (machine_at self.new.desk ≡ machine_at self.old.desk) }
+        ensures ready { IsResting self.new.desk }
+        // Memory is wanted as by a machine alone.
+        ensures memory { WantsNone self.old.desk command → IsOk result }
+    {
+        self.desk.ask(&self.rt, command)
     }
 }

@@ -2,8 +2,7 @@
 ghost use Rattle.std.specs.Prelude.{◌≡◌};
 ghost use Rattle.cam6_board.specs.Held.{empty};
 ghost use Rattle.cam6_board.specs.Soft.{load_in};
-ghost use Rattle.cam6_handoff.specs.Holding.{IsIdle};
-ghost use Rattle.cam6_time_workers.specs.Seats.{AreIdle};
+ghost use Rattle.cam6_handoff.specs.Holding.{AreIdle, IsIdle};
 
 use crate::asking::not_so;
 use cam6_board::SoftBoard;

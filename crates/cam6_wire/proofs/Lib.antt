@@ -34,6 +34,8 @@ pub mod ShowingEvents
 pub mod Telling
 -- A line whose value shows an event says it.
 pub mod TellingEvents
+-- A line says the seat of a user exactly where its value shows it.
+pub mod SeatLines
 -- The compact text of a value of whole numbers, whose keys are in order, is read back as the value.
 pub mod ReadBack
 -- The text of what a band leaves, and what it is read as.

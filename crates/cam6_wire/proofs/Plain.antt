@@ -13,7 +13,8 @@ use Rattle.cam6_wire.specs.Replies.{reply_data, reply_bytes, fault_bytes, fault_
 use Rattle.cam6_wire.specs.Faults.{fault_number}
 use Rattle.cam6_wire.specs.OneLine.{HasNoLf}
 use Rattle.cam6_wire.specs.Outcomes.{outcome_data, outcome_bytes}
-use Rattle.cam6_wire.specs.Laws.{ReplyIsLine, FaultIsLine, OutcomeIsLine}
+use Rattle.cam6_wire.specs.Seats.{seating_data, seating_bytes}
+use Rattle.cam6_wire.specs.Laws.{ReplyIsLine, FaultIsLine, OutcomeIsLine, SeatingIsLine}
 
 -- no byte is that of a control character
 abbrev IsPlain : List ℕ → Type 0
@@ -158,3 +159,8 @@ pub outcome_is_line : OutcomeIsLine
 unfolding outcome_bytes
 outcome_is_line outcome =
     one_line (compact_text (outcome_data outcome)) (plain_text (outcome_data outcome))
+
+pub seating_is_line : SeatingIsLine
+unfolding seating_bytes
+seating_is_line seating =
+    one_line (compact_text (seating_data seating)) (plain_text (seating_data seating))

@@ -1,5 +1,5 @@
--- The laws that tie what a line says to the values that commands and events are shown by, that the
--- text of a rule is UTF-8, and that answers are lines.
+-- The laws that tie what a line says to the values that commands, events and seats are shown by,
+-- that the text of a rule is UTF-8, and that answers are lines.
 use Rattle.std.specs.Prelude.{◌≡◌, ◌≤◌, ℕ, List, length, Some, Ok}
 use Rattle.std.specs.Str.{IsUtf8}
 use Rattle.serde_json.specs.Data.{Data}
@@ -11,12 +11,14 @@ use Rattle.cam6_commands.specs.declared.events.Event.TheVariants.{Ask}
 use Rattle.cam6_commands.specs.declared.outcomes.Outcome.{Outcome}
 use Rattle.cam6_commands.specs.declared.replies.Reply.{Reply}
 use Rattle.cam6_wire.specs.declared.faults.LineFault.{LineFault}
+use Rattle.cam6_wire.specs.declared.seats.Seating.{Seating}
 use Rattle.cam6_wire.specs.Limits.{limit_of}
 use Rattle.cam6_wire.specs.Commands.{command, value_of}
 use Rattle.cam6_wire.specs.Events.{event}
 use Rattle.cam6_wire.specs.Outcomes.{outcome_bytes}
 use Rattle.cam6_wire.specs.Replies.{reply_bytes, fault_bytes}
 use Rattle.cam6_wire.specs.OneLine.{HasNoLf}
+use Rattle.cam6_wire.specs.Seats.{seat, ShowsSeat, seating_bytes}
 use Rattle.cam6_wire.specs.Shown.{Shows}
 use Rattle.cam6_wire.specs.ShownEvents.{ShowsEvent}
 
@@ -56,6 +58,18 @@ AskedTextIsUtf8 =
     (line name text : List ℕ) (user : ℕ) (wiring : Wiring) →
     event line ≡ Ok (Ask user (Rule name wiring text)) → IsUtf8 text
 
+-- a line whose value shows the seat of a user says it
+abbrev pub ShownSeatIsSaid : Type 0
+ShownSeatIsSaid =
+    (line : List ℕ) (d : Data) (user : ℕ) → length line ≤ limit_of line →
+    value_of line ≡ Some d → ShowsSeat d user → seat line ≡ Ok user
+
+-- a line says no other seat
+abbrev pub SaidSeatIsShown : Type 0
+SaidSeatIsShown =
+    (line : List ℕ) (user : ℕ) → seat line ≡ Ok user →
+    (length line ≤ limit_of line) × ((d : Data) × (value_of line ≡ Some d) × ShowsSeat d user)
+
 -- the text of a reply is one line, whatever stands in it
 abbrev pub ReplyIsLine : Type 0
 ReplyIsLine = (reply : Reply) → HasNoLf (reply_bytes reply)
@@ -67,3 +81,7 @@ FaultIsLine = (fault : LineFault) → HasNoLf (fault_bytes fault)
 -- and that of what comes of an event
 abbrev pub OutcomeIsLine : Type 0
 OutcomeIsLine = (outcome : Outcome) → HasNoLf (outcome_bytes outcome)
+
+-- and that of the answer to a first line
+abbrev pub SeatingIsLine : Type 0
+SeatingIsLine = (seating : Seating) → HasNoLf (seating_bytes seating)

@@ -1,6 +1,6 @@
 -- In the order of reading: faults, the limit of a line, what stands at a key, wirings, entries,
--- commands, events, replies, outcomes; then texts of one line, the values by which commands and
--- events are shown, and the laws.
+-- commands, events, replies, outcomes, and the first line of a connection with its answers; then
+-- texts of one line, the values by which commands and events are shown, and the laws.
 pub mod Faults
 pub mod Limits
 pub mod Fields
@@ -10,6 +10,7 @@ pub mod Commands
 pub mod Events
 pub mod Replies
 pub mod Outcomes
+pub mod Seats
 pub mod OneLine
 pub mod Shown
 pub mod ShownEvents

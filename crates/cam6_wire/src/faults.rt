@@ -1,10 +1,10 @@
-//! Why a line is no command, and why it is no event.
+//! Why a line is no command, why it is no event, and why it asks for no seat.
 ghost use Rattle.std.specs.Prelude.{◌≡◌};
 ghost use Rattle.cam6_wire.specs.Faults.{fault_number};
 
 use std::alloc::{AllocError, AllocFailed};
 
-/// Why a line isn't read as a command, or as an event.
+/// Why a line isn't read as a command, as an event, or as a first line that asks for a seat.
 #[derive(Clone, Copy, Debug, PartialEq, Eq)]
 pub enum LineFault {
     /// Memory was asked for and refused.
@@ -13,7 +13,7 @@ pub enum LineFault {
     TooLong,
     /// The line is no JSON value.
     NoJson,
-    /// The line is a JSON value that is no command, or no event.
+    /// The line is a JSON value that is no command, no event, or asks for no seat.
     NoCommand,
 }
 

@@ -1,9 +1,10 @@
-//! Laws that tie what a line says to the values that commands and events are shown by, that the
-//! text of a rule is UTF-8, and that answers are lines. Each is the contract of a function that
+//! Laws that tie what a line says to the values that commands, events and seats are shown by, that
+//! the text of a rule is UTF-8, and that answers are lines. Each is the contract of a function that
 //! does nothing.
 ghost use Rattle.cam6_wire.specs.Laws.{ShownIsSaid, SaidIsShown, TextIsUtf8};
 ghost use Rattle.cam6_wire.specs.Laws.{ShownEventIsSaid, SaidEventIsShown, AskedTextIsUtf8};
-ghost use Rattle.cam6_wire.specs.Laws.{ReplyIsLine, FaultIsLine, OutcomeIsLine};
+ghost use Rattle.cam6_wire.specs.Laws.{ShownSeatIsSaid, SaidSeatIsShown};
+ghost use Rattle.cam6_wire.specs.Laws.{ReplyIsLine, FaultIsLine, OutcomeIsLine, SeatingIsLine};
 
 /// A line whose value shows a command says it.
 pub fn a_shown_command_is_said()
@@ -35,6 +36,16 @@ pub fn an_asked_rules_text_is_utf8()
     ensures law { AskedTextIsUtf8 }
 {}
 
+/// A line whose value shows the seat of a user says it.
+pub fn a_shown_seat_is_said()
+    ensures law { ShownSeatIsSaid }
+{}
+
+/// A line that says the seat of a user has a value that shows it: its key, and no other.
+pub fn a_said_seat_is_shown()
+    ensures law { SaidSeatIsShown }
+{}
+
 /// The text of a reply is one line, whatever stands in it.
 pub fn a_reply_is_one_line()
     ensures law { ReplyIsLine }
@@ -48,4 +59,9 @@ pub fn a_fault_is_one_line()
 /// The text of what comes of an event is one line.
 pub fn an_outcome_is_one_line()
     ensures law { OutcomeIsLine }
+{}
+
+/// The text of the answer to a first line is one line.
+pub fn a_seating_is_one_line()
+    ensures law { SeatingIsLine }
 {}

@@ -1,4 +1,5 @@
-//! The wire: command lines and event lines as JSON, and replies and outcomes as JSON texts.
+//! The wire: command lines, event lines and the first lines of connections as JSON, and replies,
+//! outcomes and answers as JSON texts.
 //!
 //! Contract: `read_command` answers exactly the command that a line says, or fault 1, 2 or 3
 //! (`specs/Commands.antt`), by `serde_json`'s own reading; memory is wanted neither for an empty
@@ -6,20 +7,24 @@
 //! wants memory for a rule, a name and entries alone, never for a value that shows no command. The
 //! text of a rule that either answers is UTF-8. `reply_text` is exactly the compact JSON text of a
 //! reply (`specs/Replies.antt`), which reads back as the reply's value; `fault_text` is that of a
-//! line's fault, `fault_line` the same with its LF, and neither takes memory. `read_event` answers what a line says of users and boards in
-//! the same way (`specs/Events.antt`), a command within an ask as `command_shown` has it; and
-//! `outcome_text` is the compact JSON text of what comes of an event (`specs/Outcomes.antt`).
+//! line's fault, `fault_line` the same with its LF, and neither takes memory. `read_event` answers
+//! what a line says of users and boards in the same way (`specs/Events.antt`), a command within an
+//! ask as `command_shown` has it; and `outcome_text` is the compact JSON text of what comes of an
+//! event (`specs/Outcomes.antt`). `read_seat` answers the user whose machine a connection's first
+//! line asks for, again in the same way, and `seating_line` is what is answered to it, with its LF
+//! (`specs/Seats.antt`).
 //!
-//! The laws: a line says a command, or an event, exactly where it has at most 16,384 bytes and its
-//! JSON value shows it, with its keys and no others; the text of a rule that a line defines is
-//! UTF-8; the text of a reply, of an outcome and of a line's fault is one line.
+//! The laws: a line says a command, an event, or a seat, exactly where it has at most 16,384 bytes
+//! and its JSON value shows it, with its keys and no others; the text of a rule that a line defines
+//! is UTF-8; the text of a reply, of an outcome, of a line's fault and of the answer to a first line
+//! is one line.
 //!
 //! Stands on: `cam6_planes`, `cam6_wiring`, `cam6_forth`, `cam6_table`, `cam6_block`,
 //! `cam6_commands`;
 //! `serde_json` with its grammar in `json`, and `hex`.
 //!
 //! Read next: `faults`, `commands` and `replies`; what they read, `fields`, `wirings` and
-//! `entries`; `events` and `outcomes`; then `laws`.
+//! `entries`; `events`, `outcomes` and `seats`; then `laws`.
 #![tactic(auto)]
 
 mod commands;
@@ -30,6 +35,7 @@ mod fields;
 pub mod laws;
 mod outcomes;
 mod replies;
+mod seats;
 mod wirings;
 
 pub use commands::{LINE_LIMIT, command_shown, read_command};
@@ -37,3 +43,4 @@ pub use events::{event_shown, read_event};
 pub use faults::LineFault;
 pub use outcomes::outcome_text;
 pub use replies::{fault_line, fault_text, reply_text};
+pub use seats::{Seating, read_seat, seating_line};

@@ -1,6 +1,6 @@
 use Rattle.std.proofs.Common.{sym, subst}
-use Rattle.cam6_play_workers.specs.Seats.{AreIdle}
-use Rattle.cam6_play_workers.proofs.Idle.{first_idle, rest_idle}
+use Rattle.cam6_handoff.specs.Holding.{AreIdle}
+use Rattle.cam6_handoff.proofs.Idle.{first_idle, rest_idle}
 use Rattle.cam6_play_workers.proofs.halls.workers_at.Goals as goal
 
 pub loop-seat-init : goal.loop-seat-init

@@ -1,4 +1,4 @@
-use Rattle.cam6_play_workers.specs.Seats.{AreIdle}
+use Rattle.cam6_handoff.specs.Holding.{AreIdle}
 use Rattle.cam6_play_workers.proofs.halls.workers_at.Given as goal
 
 -- the seats that are left

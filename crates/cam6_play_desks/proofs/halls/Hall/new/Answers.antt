@@ -1,5 +1,6 @@
 use Rattle.std.proofs.Common.{sym, subst}
-use Rattle.cam6_play_desks.proofs.Seats.{AreIdle, first_idle, rest_idle}
+use Rattle.cam6_handoff.specs.Holding.{AreIdle}
+use Rattle.cam6_handoff.proofs.Idle.{first_idle, rest_idle}
 use Rattle.cam6_play_desks.proofs.halls.Hall.new.Goals as goal
 
 pub loop-seat-init : goal.loop-seat-init

@@ -1,4 +1,4 @@
-use Rattle.cam6_play_desks.proofs.Seats.{AreIdle}
+use Rattle.cam6_handoff.specs.Holding.{AreIdle}
 use Rattle.cam6_play_desks.proofs.halls.Hall.new.Given as goal
 
 -- the seats that are left

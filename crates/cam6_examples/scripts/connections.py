@@ -1,0 +1,423 @@
+"""Serves connections by the program, well-behaved ones and others, and looks at what comes back.
+
+usage: connections.py PROGRAM
+
+In all that is tried a user goes on beside it, one line after another, and each of his replies must be the one
+that `cam6 alone` gives to the same lines. Says what passed, a line each, and what failed. The last line is
+'N passed, M failed'.
+"""
+
+import resource
+import signal
+import socket
+import struct
+import subprocess
+import sys
+import threading
+import time
+
+program = sys.argv[1]
+passed, failed = 0, 0
+
+# A reply that doesn't come within so many seconds doesn't come at all.
+PATIENCE = 60
+
+PARITY = (
+    '{"do":"rule","name":"P","half":"A","hood":"N/VONN","minor":"&/CENTERS",'
+    '"text":": P CENTER NORTH XOR SOUTH XOR WEST XOR EAST XOR >PLN0 ;"}'
+)
+CYCLE = '{"do":"cycle","entries":[{"a":"P","b":"-","grid":"EVEN","phase":0}]}'
+
+
+# What makes a machine blank again that has had these alone.
+AFRESH = [
+    '{"do":"cycle","entries":[{"a":"-","b":"-","grid":"EVEN","phase":0}]}', '{"do":"drop","name":"P"}',
+    '{"do":"side","side":256}']
+
+
+def cell(row):
+    return '{"do":"set","plane":0,"row":%d,"bits":"8%s"}' % (row, "0" * 63)
+
+
+def run(steps):
+    return '{"do":"run","n":%d}' % steps
+
+
+def row(number):
+    return '{"do":"row","plane":0,"row":%d}' % number
+
+
+def check(what, is_so, told=""):
+    global passed, failed
+    if is_so:
+        passed += 1
+        print("passed", what)
+    else:
+        failed += 1
+        print("failed", what, told)
+    sys.stdout.flush()
+
+
+def alone(lines):
+    """What the machine alone replies."""
+    text = "".join(line + "\n" for line in lines)
+    said = subprocess.run([program], input=text.encode(), stdout=subprocess.PIPE, check=True)
+    return said.stdout.decode().splitlines()
+
+
+def free_port():
+    with socket.socket() as s:
+        s.bind(("127.0.0.1", 0))
+        return s.getsockname()[1]
+
+
+class Peer:
+    """A connection."""
+
+    def __init__(self, port, seat=None):
+        self.socket = socket.create_connection(("127.0.0.1", port), timeout=PATIENCE)
+        self.socket.setsockopt(socket.IPPROTO_TCP, socket.TCP_NODELAY, 1)
+        self.file = self.socket.makefile("rb")
+        self.said = self.ask('{"seat":%d}' % seat) if seat is not None else None
+
+    def send(self, text):
+        self.socket.sendall(text.encode() if isinstance(text, str) else text)
+
+    def read(self):
+        """The next line, or None where the connection has ended."""
+        line = self.file.readline()
+        return line.decode().rstrip("\n") if line.endswith(b"\n") else None
+
+    def ask(self, line):
+        self.send(line + "\n")
+        return self.read()
+
+    def close(self):
+        self.file.close()
+        self.socket.close()
+
+    def reset(self):
+        """Closes without a farewell."""
+        self.socket.setsockopt(socket.SOL_SOCKET, socket.SO_LINGER, struct.pack("ii", 1, 0))
+        self.close()
+
+
+def afresh(peer):
+    """Makes its machine blank."""
+    for line in AFRESH:
+        peer.ask(line)
+
+
+class Host:
+    """The program, serving."""
+
+    def __init__(self, *words):
+        self.port = free_port()
+        self.process = subprocess.Popen(
+            [program, "serve", "--port", str(self.port), *words],
+            stdin=subprocess.DEVNULL, stdout=subprocess.PIPE, stderr=subprocess.PIPE)
+        self.first = self.process.stderr.readline().decode()
+
+    def status(self):
+        """The exit status, and what was said, where it ends by itself."""
+        try:
+            out, err = self.process.communicate(timeout=PATIENCE)
+        except subprocess.TimeoutExpired:
+            self.process.kill()
+            self.process.communicate()
+            return None
+        return self.process.returncode, out.decode(), err.decode()
+
+    def kill(self):
+        self.process.kill()
+        self.process.communicate()
+
+    def of_process(self, name):
+        """A number that the system tells of the process."""
+        with open("/proc/%d/status" % self.process.pid) as lines:
+            for line in lines:
+                if line.startswith(name + ":"):
+                    return int(line.split()[1])
+        return 0
+
+
+LINES = [PARITY, CYCLE] + [
+    line for y in range(0, 40)
+    for line in (cell(y), run(1 + y % 3), row(y), row(255 - y), '{"do":"count","mask":2}', "{}")]
+REPLIES = alone(LINES)
+
+
+class Steady(threading.Thread):
+    """A user who goes on, one line after another, beside whatever happens; at least for one round."""
+
+    def __init__(self, port, user):
+        super().__init__()
+        self.port, self.user = port, user
+        self.enough = threading.Event()
+        self.rounds, self.wrong = 0, None
+        self.start()
+
+    def run(self):
+        try:
+            peer = Peer(self.port, self.user)
+            if peer.said != '{"ok":"seat"}':
+                self.wrong = peer.said
+                return
+            while not self.wrong and not (self.rounds and self.enough.is_set()):
+                afresh(peer)
+                for line, want in zip(LINES, REPLIES):
+                    got = peer.ask(line)
+                    if got != want and not self.wrong:
+                        self.wrong = "%s: %s" % (line, got)
+                self.rounds += 1
+            peer.close()
+        except OSError as error:
+            self.wrong = str(error)
+
+    def is_well(self):
+        self.enough.set()
+        self.join()
+        return self.wrong is None and self.rounds > 0
+
+
+def seat_when_free(port, user):
+    """A connection of the user's, once he has none any more."""
+    for _ in range(PATIENCE * 50):
+        peer = Peer(port, user)
+        if peer.said == '{"ok":"seat"}':
+            return peer
+        if peer.said != '{"fault":80}':
+            return None
+        peer.close()
+        time.sleep(0.02)
+    return None
+
+
+def two_connections():
+    host = Host("--connections", "2")
+    check("it says where it listens", host.first == "listening on 127.0.0.1:%d\n" % host.port, host.first)
+    one, two = Peer(host.port, 1), Peer(host.port, 2)
+    said = [one.ask(PARITY), two.ask('{"do":"rules"}'), one.ask('{"do":"rules"}')]
+    check("two users have machines of their own",
+          said == ['{"ok":"rule"}', '{"names":[],"ok":"rules"}', '{"names":["P"],"ok":"rules"}'], said)
+    check("a host with two connections goes on", host.process.poll() is None)
+    one.close()
+    two.close()
+    status = host.status()
+    check("a run with two connections ends with status 0", status == (0, "", ""), status)
+
+
+def no_network():
+    with socket.socket() as taken:
+        taken.bind(("127.0.0.1", 0))
+        taken.listen()
+        port = taken.getsockname()[1]
+        said = subprocess.run([program, "serve", "--port", str(port)], capture_output=True, timeout=PATIENCE)
+    check("a port that is taken ends it with status 7",
+          (said.returncode, said.stdout, said.stderr) == (7, b"", b"cam6: network failed\n"), said)
+
+
+def words_refused():
+    for words in (["--port", "0"], ["--port", "65536"], ["--users", "33"], ["--boards", "9"],
+                  ["--cache", "65"], ["--side", "100"], ["--connections", "-1"]):
+        said = subprocess.run([program, "serve", *words], capture_output=True, timeout=PATIENCE)
+        check("refused with status 2: %s" % " ".join(words),
+              said.returncode == 2 and said.stdout == b"" and said.stderr != b"", said)
+
+
+def closes_within_lines(port):
+    for how in (Peer.close, Peer.reset):
+        peer = Peer(port)
+        peer.send('{"sea')
+        how(peer)
+        peer = Peer(port, 1)
+        check("the seat is free", peer.said == '{"ok":"seat"}', peer.said)
+        peer.send('{"do":"ru')
+        how(peer)
+        peer = seat_when_free(port, 1)
+        check("a peer that closes within a line leaves its seat", peer is not None)
+        peer.send('{"do":"rules"}\n{"do":"ru')
+        peer.socket.shutdown(socket.SHUT_WR)
+        said = [peer.read(), peer.read(), peer.read()]
+        check("a line without its end is the last one", said == ['{"names":[],"ok":"rules"}', '{"fault":2}', None], said)
+        peer.close()
+        again = seat_when_free(port, 1)
+        again.close()
+
+
+def closes_within_a_run(port):
+    lines = [PARITY, CYCLE, cell(7)]
+    for how in (Peer.close, Peer.reset):
+        peer = seat_when_free(port, 1)
+        afresh(peer)
+        said = [peer.ask(line) for line in lines]
+        check("a run is asked for", said == ['{"ok":"rule"}', '{"ok":"cycle"}', '{"ok":"set"}'], said)
+        peer.send(run(20001) + "\n")
+        how(peer)
+        other = Peer(port, 1)
+        check("its user is seated until the run is done", other.said == '{"fault":80}', other.said)
+        check("and the connection is closed", other.read() is None)
+        other.close()
+        peer = seat_when_free(port, 1)
+        want = alone(lines + [run(20001), row(6), row(7)])[-2:]
+        said = [peer.ask(row(6)), peer.ask(row(7))]
+        check("the run is done all the same", said == want, said)
+        peer.close()
+
+
+def never_reads(port):
+    peer = seat_when_free(port, 3)
+    peer.socket.settimeout(0.5)
+    sent = 0
+    try:
+        for _ in range(2000):
+            peer.send('{"do":"plane","plane":0}\n')
+            sent += 1
+            time.sleep(0.0005)
+    except OSError:
+        pass
+    other = Peer(port, 3)
+    check("a peer that never reads keeps its seat", other.said == '{"fault":80}', other.said)
+    other.close()
+    time.sleep(1)
+    peer.reset()
+    peer = seat_when_free(port, 3)
+    check("and leaves it when it closes", peer is not None, sent)
+    peer.close()
+
+
+def a_byte_a_second(port):
+    peer = Peer(port)
+    for byte in '{"seat":4}\n{"do":"rules"}\n':
+        peer.send(byte)
+        time.sleep(1)
+    said = [peer.read(), peer.read()]
+    check("a peer that sends a byte a second is served", said == ['{"ok":"seat"}', '{"names":[],"ok":"rules"}'], said)
+    peer.close()
+
+
+def no_lines(port):
+    peer = Peer(port)
+    peer.send(bytes(range(128, 256)) + b"\n")
+    said = [peer.read(), peer.read()]
+    check("bytes that are no text are no JSON", said == ['{"fault":2}', None], said)
+    peer.close()
+    peer = Peer(port)
+    peer.send('{"seat":1}' + " " * 1000000 + "\n")
+    said = [peer.read(), peer.read()]
+    check("a first line of a million bytes is too long", said == ['{"fault":1}', None], said)
+    peer.close()
+    peer = Peer(port)
+    peer.socket.shutdown(socket.SHUT_WR)
+    check("a connection without a line gets no answer", peer.read() is None)
+    peer.close()
+
+
+def peers_at_once():
+    host = Host("--connections", "64")
+    peers = [Peer(host.port) for _ in range(64)]
+    for i, peer in enumerate(peers):
+        peer.send('{"seat":%d}\n' % (1 + i % 4))
+    said = [peer.read() for peer in peers]
+    seated = [peer for peer, line in zip(peers, said) if line == '{"ok":"seat"}']
+    users = sorted(1 + i % 4 for i, line in enumerate(said) if line == '{"ok":"seat"}')
+    check("of 64 peers four have the seats of four users", users == [1, 2, 3, 4], said)
+    check("and sixty are told that they are taken", said.count('{"fault":80}') == 60, said)
+    names = []
+    for number, peer in enumerate(seated):
+        peer.ask(PARITY.replace('"P"', '"P%d"' % number).replace(": P ", ": P%d " % number))
+    for number, peer in enumerate(seated):
+        names.append(peer.ask('{"do":"rules"}'))
+    check("each with a machine of his own",
+          names == ['{"names":["P%d"],"ok":"rules"}' % number for number in range(4)], names)
+    for peer in peers:
+        peer.close()
+    status = host.status()
+    check("64 connections end it with status 0", status == (0, "", ""), status)
+
+
+def many_lines_at_once(port):
+    peer = seat_when_free(port, 1)
+    afresh(peer)
+    lines = [PARITY, CYCLE]
+    for y in range(100):
+        lines += [cell(y), row(y), run(1), '{"do":"plane","plane":0}', '{"do":"fly"}']
+    sender = threading.Thread(target=peer.send, args=("".join(line + "\n" for line in lines),))
+    sender.start()
+    want = alone(lines)
+    said = [peer.read() for _ in lines]
+    sender.join()
+    check("lines that come at once are answered one after another", said == want)
+    peer.close()
+
+
+def without_growth(port, host):
+    for i in range(300):
+        Peer(port, 9).close()
+    memory, threads = host.of_process("VmRSS"), host.of_process("Threads")
+    for i in range(3000):
+        peer = Peer(port, 9 if i % 2 else 1)
+        peer.close()
+    grown = host.of_process("VmRSS") - memory
+    more = host.of_process("Threads") - threads
+    check("3,000 connections hold no more memory than 300", grown < 2000, "%d kB more" % grown)
+    check("nor threads", more < 20, "%d threads more" % more)
+
+
+def without_threads(port, host):
+    """The host's memory is bounded where it is: there is room for the stacks of threads that were joined, and for no
+    other."""
+    limits = resource.prlimit(host.process.pid, resource.RLIMIT_AS)
+    bound = host.of_process("VmSize") * 1024 + 1000000
+    resource.prlimit(host.process.pid, resource.RLIMIT_AS, (bound, limits[1]))
+    peers = [Peer(port) for _ in range(30)]
+    said = []
+    for peer in peers:
+        try:
+            said.append(peer.ask('{"seat":9}'))
+        except OSError:
+            said.append(None)
+        peer.close()
+    resource.prlimit(host.process.pid, resource.RLIMIT_AS, limits)
+    check("connections without a thread are closed without an answer",
+          said.count(None) > 0 and set(said) <= {None, '{"fault":81}'}, said)
+    peer = seat_when_free(port, 4)
+    check("and others are served behind them", peer is not None)
+    peer.close()
+
+
+def beside(port, user, what, *others):
+    """Does it while the user goes on."""
+    steady = Steady(port, user)
+    try:
+        what(port, *others)
+    except (OSError, AttributeError) as error:
+        check(what.__name__, False, repr(error))
+    check("another user's replies are his machine's: %s" % what.__name__.replace("_", " "),
+          steady.is_well(), steady.wrong)
+
+
+def main():
+    two_connections()
+    no_network()
+    words_refused()
+    peers_at_once()
+    host = Host("--users", "5", "--connections", "0")
+    slow = threading.Thread(target=a_byte_a_second, args=(host.port,))
+    slow.start()
+    for what in (closes_within_lines, closes_within_a_run, never_reads, no_lines, many_lines_at_once):
+        beside(host.port, 2, what)
+        seat_when_free(host.port, 2).close()
+    slow.join()
+    for what in (without_threads, without_growth):
+        beside(host.port, 2, what, host)
+        seat_when_free(host.port, 2).close()
+    check("a host without an end goes on", host.process.poll() is None)
+    host.kill()
+    print("%d passed, %d failed" % (passed, failed))
+    return 0 if failed == 0 and passed > 30 else 1
+
+
+if __name__ == "__main__":
+    signal.alarm(600)
+    sys.exit(main())

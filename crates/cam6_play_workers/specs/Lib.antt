@@ -1,2 +1,0 @@
--- Seats that hold nothing.
-pub mod Seats

@@ -1,0 +1,84 @@
+-- What is written to a connection for what is read of it.
+use Rattle.std.specs.Prelude.{◌≡◌, ◌≢◌, ◌⊎◌, ℕ, List, [], ◌∷◌, ◌++◌, Option, Some, IfSome}
+use Rattle.std.specs.Prelude.{Result, Ok, Err}
+use Rattle.cam6_model.specs.Machine.{Machine}
+use Rattle.cam6_session.specs.Answers.{by_machine}
+use Rattle.cam6_session.specs.Sessions.{AnswersReader}
+use Rattle.cam6_wire.specs.Commands.{IsSaid}
+use Rattle.cam6_wire.specs.OneLine.{HasNoLf}
+use Rattle.cam6_wire.specs.Replies.{fault_bytes}
+use Rattle.cam6_wire.specs.Seats.{seat, seating_bytes}
+use Rattle.cam6_wire.specs.declared.faults.LineFault.{LineFault}
+use Rattle.cam6_wire.specs.declared.seats.Seating.{Seating}
+use Rattle.cam6_wire.specs.declared.seats.Seating.TheVariants.{Seated}
+use Rattle.cam6_server.specs.declared.connections.Visit.{Visit}
+use Rattle.cam6_server.specs.declared.connections.Visit.TheVariants.{Silent, Refused, Unheard, Served}
+
+-- the first line of these bytes, up to its LF or to their end, and what is unread behind it
+abbrev pub IsFirst : List ℕ → List ℕ → List ℕ → Type 0
+IsFirst all line unread =
+    HasNoLf line
+    × ((all ≡ line ++ 10 ∷ unread) ⊎ ((line ≢ []) × (all ≡ line) × (unread ≡ [])))
+
+-- what a first line is refused by, with its LF: its fault, or that its user's seat isn't to be had
+abbrev pub IsRefusal : List ℕ → List ℕ → Type 0
+IsRefusal line answer =
+    ((fault : LineFault) × (seat line ≡ Err fault) × (answer ≡ fault_bytes fault ++ 10 ∷ []))
+    ⊎ ((user : ℕ) × (seating : Seating) × (seat line ≡ Ok user) × (seating ≢ Seated)
+    × (answer ≡ seating_bytes seating ++ 10 ∷ []))
+
+-- the line that tells that the seat is had
+abbrev pub seated_line : List ℕ
+seated_line = seating_bytes Seated ++ 10 ∷ []
+
+-- these bytes were written, or a front of them
+abbrev pub WritesFrontOf : List ℕ → List ℕ → Option (List ℕ) → Type 0
+WritesFrontOf answer out new =
+    (front rest : List ℕ) × (answer ≡ front ++ rest) × (new ≡ Some (out ++ front))
+
+-- the same of a writer that tells its bytes
+abbrev pub AnswersOnly : List ℕ → Option (List ℕ) → Option (List ℕ) → Type 0
+AnswersOnly answer old new = IfSome old (λ out. WritesFrontOf answer out new)
+
+-- what the first line of a reader's bytes says, and those behind it are unread
+abbrev pub FirstSays : Result ℕ LineFault → Option (List ℕ) → Option (List ℕ) → Type 0
+FirstSays said read remaining =
+    IfSome read (λ all. (line unread : List ℕ) × IsFirst all line unread
+    × (remaining ≡ Some unread) × IsSaid said (seat line))
+
+-- the seat is told to be had, and the lines that are read then are answered as a machine answers
+-- them that gets all commands among them; or what tells it can't be written whole
+abbrev pub Sits : Visit → List ℕ → Option (List ℕ) → List ℕ → Option (List ℕ) → Type 0
+Sits Silent unread remaining out new = ⊥
+Sits Refused unread remaining out new = ⊥
+Sits Unheard unread remaining out new = WritesFrontOf seated_line out new
+Sits (Served end) unread remaining out new =
+    (m n : Machine)
+    × AnswersReader by_machine end (Some unread) remaining (Some (out ++ seated_line)) new m n
+
+abbrev pub SitsDown : Visit → Option (List ℕ) → Option (List ℕ) → Option (List ℕ)
+    → Option (List ℕ) → Type 0
+SitsDown visit read remaining old new =
+    IfSome read (λ unread. IfSome old (λ out. Sits visit unread remaining out new))
+
+-- the first line asks for a seat, which is had
+abbrev pub IsSeated : Visit → List ℕ → Option (List ℕ) → List ℕ → Option (List ℕ) → Type 0
+IsSeated visit all remaining out new =
+    (line unread : List ℕ) × (user : ℕ) × IsFirst all line unread × (seat line ≡ Ok user)
+    × Sits visit unread remaining out new
+
+-- by how it went: nothing was written; or what the first line is refused by, or a front of it; or
+-- the seat is had
+abbrev pub Went : Visit → List ℕ → Option (List ℕ) → List ℕ → Option (List ℕ) → Type 0
+Went Silent all remaining out new = new ≡ Some out
+Went Refused all remaining out new =
+    (line unread answer : List ℕ) × IsFirst all line unread × IsRefusal line answer
+    × WritesFrontOf answer out new
+Went Unheard all remaining out new = IsSeated Unheard all remaining out new
+Went (Served end) all remaining out new = IsSeated (Served end) all remaining out new
+
+-- the same of a reader and a writer that tell their bytes, those before and those after
+abbrev pub Converses : Visit → Option (List ℕ) → Option (List ℕ) → Option (List ℕ)
+    → Option (List ℕ) → Type 0
+Converses visit read remaining old new =
+    IfSome read (λ all. IfSome old (λ out. Went visit all remaining out new))

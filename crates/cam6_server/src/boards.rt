@@ -1,0 +1,46 @@
+//! Boards at their seats, each to be served in a thread of its own.
+ghost use Rattle.std.specs.Prelude.{◌≡◌};
+ghost use Rattle.cam6_board.specs.Held.{empty};
+ghost use Rattle.cam6_board.specs.Soft.{load_in};
+ghost use Rattle.cam6_handoff.specs.Holding.{AreIdle, IsIdle};
+
+use crate::halls::{Hall, Handle};
+use cam6_board::SoftBoard;
+use cam6_handoff::BoardSeat;
+use cam6_planes::NoMemory;
+use cam6_pool::serve_board;
+use std::alloc::Global;
+
+/// An empty board, at a seat that holds nothing.
+#[derive(Drop)]
+pub struct IdleBoard {
+    seat: BoardSeat,
+    board: SoftBoard,
+    ghost idle: { IsIdle seat },
+    ghost unloaded: { load_in board ≡ empty },
+}
+
+impl IdleBoard {
+    fn new(alloc: Global, seat: BoardSeat) -> Result<IdleBoard, NoMemory>
+        requires { IsIdle seat }
+    {
+        let board = SoftBoard::new(alloc)?;
+        Ok(IdleBoard { seat, board })
+    }
+
+    /// Serves users until the hall's gate ends it. The board never fails, so it ends in no other way.
+    pub fn serve<R: Handle>(self, hall: &Hall<R>) {
+        serve_board(&hall.rt, self.seat, self.board, &hall.cache, &hall.gate);
+    }
+}
+
+/// A board that never fails, at each of these seats.
+pub fn boards_at(alloc: Global, seats: Vec<BoardSeat>) -> Result<Vec<IdleBoard>, NoMemory>
+    requires { AreIdle seats.items }
+{
+    let mut boards = Vec::with_capacity(alloc, seats.len())?;
+    for seat in seats {
+        boards.push(IdleBoard::new(alloc, seat)?)?;
+    }
+    Ok(boards)
+}

@@ -1,0 +1,135 @@
+//! What is said on a connection: its first line asks for a seat, and then there is a session.
+ghost use Rattle.std.specs.Prelude.{◌≡◌, IfSome, List, ℕ};
+ghost use Rattle.cam6_session.specs.Held.{Holds};
+ghost use Rattle.cam6_wire.specs.Commands.{IsSaid};
+ghost use Rattle.cam6_wire.specs.Seats.{seat};
+ghost use Rattle.cam6_server.specs.Connections.{AnswersOnly, Converses, FirstSays, SitsDown};
+
+use crate::desks::HostDesk;
+use crate::free_desks::FreeDesk;
+use crate::halls::{Hall, Handle};
+use crate::streams::Release;
+use cam6_session::{Ask, End, Line, LineBuf, next_line, send, serve};
+use cam6_wire::{LineFault, Seating, fault_line, read_seat, seating_line};
+use std::alloc::Global;
+use std::io::{BufRead, Write};
+
+/// How often a session looks at its reader at most, and how often is looked for a first line.
+const TURNS: u64 = 1_099_511_627_776;
+
+/// How a connection went.
+#[derive(Clone, Copy, Debug, PartialEq, Eq)]
+pub enum Visit {
+    /// There was no first line, or no memory for it. Nothing was written.
+    Silent,
+    /// Its first line was refused; the answer was written, or a front of it.
+    Refused,
+    /// Its user had his seat, but what told it could not be written whole.
+    Unheard,
+    /// Its user had his machine, and the session ended so.
+    Served(End),
+}
+
+/// Answers the first line, and where it asks for a seat that nobody has the lines behind it too, as
+/// the user's machine does. The user has his seat until then, and it is free when this returns.
+/// Answers that are held back are let go before steps are waited for, and before the seat is free.
+pub fn converse<H: Handle, R: BufRead, W: Write, O: Release>(
+    hall: &Hall<H>,
+    reader: &mut R,
+    writer: &mut W,
+    outbox: &O,
+) -> Visit
+    ensures { Converses result (R.remaining reader.old) (R.remaining reader.new)
+        (W.contents writer.old) (W.contents writer.new) }
+{
+    let user = match first_line(hall.rt.alloc(), reader) {
+        None | Some(Err(LineFault::NoMemory)) => return Visit::Silent,
+        Some(Err(fault)) => return refuse(writer, fault_line(fault)),
+        Some(Ok(user)) => user,
+    };
+    let taken = hall.places.lock(&hall.rt).take(user);
+    match taken {
+        Ok(desk) => seated(hall, reader, writer, outbox, user, desk),
+        Err(seating) => refuse(writer, seating_line(seating)),
+    }
+}
+
+/// What the first line says, if there is one.
+fn first_line<R: BufRead>(alloc: Global, reader: &mut R) -> Option<Result<u64, LineFault>>
+    ensures { IfSome result (λ said.
+        FirstSays said (R.remaining reader.old) (R.remaining reader.new)) }
+{
+    let mut line = LineBuf::new(alloc).ok()?;
+    let mut turns = TURNS;
+    match next_line(reader, &mut line, &mut turns) {
+        Line::Ended | Line::Last => Some(said(alloc, &line)),
+        Line::EndOfInput | Line::ReadFault | Line::TurnBound => None,
+    }
+}
+
+/// What a line says of a seat.
+fn said(alloc: Global, line: &LineBuf) -> Result<u64, LineFault>
+    ensures { (l : List ℕ) → Holds line.now l → IsSaid result (seat l) }
+{
+    let Some(bytes) = line.bytes() else {
+        return Err(LineFault::TooLong);
+    };
+    read_seat(alloc, bytes)
+}
+
+/// Answers a first line that is refused. Where that can't be written there is nobody to be told.
+fn refuse<W: Write>(writer: &mut W, answer: &str) -> Visit
+    ensures visit { result ≡ Visit.Refused }
+    ensures written { AnswersOnly answer.now (W.contents writer.old) (W.contents writer.new) }
+{
+    let _ = send(writer, answer.as_bytes());
+    Visit::Refused
+}
+
+/// A session at the user's desk, which is free again behind it.
+fn seated<H: Handle, R: BufRead, W: Write, O: Release>(
+    hall: &Hall<H>,
+    reader: &mut R,
+    writer: &mut W,
+    outbox: &O,
+    user: u64,
+    free: FreeDesk,
+) -> Visit
+    ensures { SitsDown result (R.remaining reader.old) (R.remaining reader.new)
+        (W.contents writer.old) (W.contents writer.new) }
+{
+    let mut desk = HostDesk {
+        gate: &hall.gate,
+        outbox,
+        desk: free.sit(),
+    };
+    let visit = sit_down(hall.rt.alloc(), reader, writer, &mut desk);
+    outbox.release();
+    let HostDesk {
+        gate: _,
+        outbox: _,
+        desk,
+    } = desk;
+    hall.places
+        .lock(&hall.rt)
+        .give_back(user, FreeDesk::new(desk));
+    visit
+}
+
+/// Tells that the seat is had, and answers the lines behind the first one.
+fn sit_down<R: BufRead, W: Write, D: Ask>(
+    alloc: Global,
+    reader: &mut R,
+    writer: &mut W,
+    desk: &mut D,
+) -> Visit
+    requires { D.is_ready desk.old }
+    ensures ready { D.is_ready desk.new }
+    ensures sits { SitsDown result (R.remaining reader.old) (R.remaining reader.new)
+        (W.contents writer.old) (W.contents writer.new) }
+{
+    match send(writer, seating_line(Seating::Seated).as_bytes()) {
+        Ok(()) => Visit::Served(serve(alloc, reader, writer, desk, TURNS)),
+        Err(_) => Visit::Unheard,
+    }
+}

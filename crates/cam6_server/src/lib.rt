@@ -1,0 +1,40 @@
+//! A host on the network: users with a machine each, over a connection each, whose steps are done by
+//! boards in threads of their own.
+//!
+//! Contract: what is written on a connection for what is read of it (`converse`,
+//! `specs/Connections.antt`): nothing, where there is no first line; or the text of what its first
+//! line is refused by; or `{"ok":"seat"}`, and then what a machine answers to the lines behind it, as
+//! `serve` of `cam6_session` answers them. A desk at which nobody sits doesn't wait (`FreeDesk`), so
+//! none is put back whose reply wasn't collected. A user's desk is taken from his place, or nothing is
+//! changed, as somebody has it or there is no such user; what is given back is at his place
+//! (`specs/Places.antt`). All of this if it returns: it may wait for its peer, for a board, and for a
+//! lock. That boards are stopped and threads joined, and how many connections are accepted, no clause
+//! says.
+//!
+//! So, of four users: a connection whose first line is `{"seat":1}` is answered `{"ok":"seat"}`, and
+//! from then on as `cam6_session` answers a machine's lines. A second one with that line is answered
+//! `{"fault":80}`, one with `{"seat":9}` `{"fault":81}`, and both are closed.
+//!
+//! Stands on: `cam6_session`, what is done for a line, and `cam6_wire`, the first line and its
+//! answers; `cam6_pool`, the workers and their gate; `cam6_handoff`, desks and seats; `cam6_board`,
+//! `cam6_cache`, `cam6_commands` and `cam6_planes`; `thiserror`.
+//!
+//! Read next: `serving`, how much a host has; `hosts`, all of it; `halls`, what its threads share;
+//! `boards`; `sessions`, a thread for each connection; `connections`, what is said there;
+//! `free_desks`, `places` and `desks`; `streams`, the bytes.
+#![tactic(auto)]
+
+mod boards;
+mod connections;
+mod desks;
+mod free_desks;
+mod halls;
+mod hosts;
+mod places;
+mod serving;
+mod sessions;
+mod streams;
+
+pub use halls::Handle;
+pub use hosts::serve_net;
+pub use serving::{Fault, Serving};

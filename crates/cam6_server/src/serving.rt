@@ -1,0 +1,98 @@
+//! How much a host has, and why it can't go on.
+ghost use Rattle.std.specs.Prelude.{◌≡◌, ◌<◌, ◌≤◌};
+ghost use Rattle.cam6_cache.specs.Limits.{max_capacity};
+ghost use Rattle.cam6_handoff.specs.Limits.{max_users, max_boards};
+
+use cam6_planes::{NoMemory, Side};
+use std::marker::Model;
+use thiserror::Error;
+
+/// Users, boards, and tables that are cached, of each one at least and no more than a host can have;
+/// the largest side that a machine may have; and connections, or 0 for connections without end.
+#[derive(Clone, Copy, Debug, PartialEq, Eq)]
+pub struct Serving {
+    pub(crate) users: usize,
+    pub(crate) boards: u8,
+    pub(crate) cache: usize,
+    pub(crate) limit: Side,
+    pub(crate) connections: u64,
+}
+
+impl Model for Serving {
+    ghost use Rattle.cam6_server.specs.Serving.{Served, IsWithin};
+
+    ghost Value = { Served };
+
+    ghost view = { λ s. record {
+      users = s.users;
+      boards = s.boards;
+      cache = s.cache;
+      limit = s.limit;
+      connections = s.connections;
+    } };
+
+    ghost inverse = { λ s. record {
+      users = s.users;
+      boards = s.boards;
+      cache = s.cache;
+      limit = s.limit;
+      connections = s.connections;
+    } };
+
+    ghost invariant = { λ s. IsWithin (record {
+      users = s.users;
+      boards = s.boards;
+      cache = s.cache;
+      limit = s.limit;
+      connections = s.connections;
+    }) };
+}
+
+impl Serving {
+    /// So many users, boards and tables, with machines up to this side, and so many connections, or 0
+    /// for connections without end.
+    pub fn new(users: usize, boards: u8, cache: usize, limit: Side, connections: u64) -> Serving
+        requires a_user { 0 < users }
+        requires users { users ≤ max_users }
+        requires a_board { 0 < boards }
+        requires boards { boards ≤ max_boards }
+        requires a_table { 0 < cache }
+        requires tables { cache ≤ max_capacity }
+        ensures { result ≡ record {
+          users = users;
+          boards = boards;
+          cache = cache;
+          limit = limit;
+          connections = connections;
+        } }
+    {
+        Serving {
+            users,
+            boards,
+            cache,
+            limit,
+            connections,
+        }
+    }
+}
+
+/// Why a host can't go on.
+#[derive(Clone, Copy, Debug, PartialEq, Eq, Error)]
+pub enum Fault {
+    /// Memory was asked for and refused, or a thread for a board.
+    #[error("cam6: no memory")]
+    NoMemory,
+    /// The network failed.
+    #[error("cam6: network failed")]
+    Network,
+}
+
+impl From<NoMemory> for Fault {
+    ghost use Rattle.cam6_server.specs.declared.serving.Fault.TheVariants.{NoMemory};
+
+    ghost from_gives = { λ _ fault. fault ≡ NoMemory };
+
+    fn from(_refused: NoMemory) -> Fault {
+        Fault::NoMemory
+    }
+}

@@ -1,0 +1,13 @@
+-- The machine at which a desk stands.
+use Rattle.cam6_planes.specs.declared.sides.Side.TheVariants.{S256}
+use Rattle.cam6_model.specs.Machine.{Machine, blank}
+use Rattle.cam6_machine.specs.Stored.{machine_of}
+use Rattle.cam6_handoff.specs.Rule.{asked_machine}
+use Rattle.cam6_handoff.specs.Standing.{Stance, standing, waiting, nowhere}
+
+-- that which it has; of a desk that waits the machine that it had when it was asked; a desk never
+-- stands nowhere, for which any machine does
+abbrev pub machine_at : Stance → Machine
+machine_at (standing s) = machine_of s
+machine_at (waiting asked) = asked_machine asked
+machine_at nowhere = blank S256

@@ -1,0 +1,58 @@
+//! The first line of a connection, and its answers.
+ghost use Rattle.std.specs.Prelude.{◌≡◌, ◌<◌, ◌≤◌, ◌++◌, [], ◌∷◌, length, Err};
+ghost use Rattle.serde_json.specs.View.{view};
+ghost use Rattle.cam6_wire.specs.declared.faults.LineFault.TheVariants.{NoMemory};
+ghost use Rattle.cam6_wire.specs.Commands.{IsSaid};
+ghost use Rattle.cam6_wire.specs.Limits.{limit_of};
+ghost use Rattle.cam6_wire.specs.Seats.{seat, seat_in, seating_bytes};
+
+use crate::commands::line_value;
+use crate::faults::LineFault;
+use crate::fields::{has_size, number_at};
+use serde_json::Value;
+use std::alloc::Global;
+
+/// What is answered to a first line that asks for a user's machine.
+#[derive(Clone, Copy, Debug, PartialEq, Eq)]
+pub enum Seating {
+    /// The connection is the user's from here on.
+    Seated,
+    /// The user has a connection.
+    Taken,
+    /// There is no such user.
+    NoUser,
+}
+
+/// The user whose machine a first line asks for, counted from 1, whether or not there is such a
+/// user.
+pub fn read_seat(alloc: Global, line: &[u8]) -> Result<u64, LineFault>
+    ensures said { IsSaid result (seat line.now) }
+    // No memory is wanted for an empty line, nor for one that is too long.
+    ensures memory { result ≡ Err NoMemory →
+        (0 < length line.now) × (length line.now ≤ limit_of line.now) }
+{
+    let value = line_value(alloc, line)?;
+    seat_shown(&value).ok_or(LineFault::NoCommand)
+}
+
+/// The user of an object whose only key is `seat`.
+#[tactic(auto, unfolding(crate::specs::Seats::seat_in))]
+fn seat_shown(value: &Value) -> Option<u64>
+    ensures { result ≡ seat_in (view value.now) }
+{
+    if !has_size(value, 1) {
+        return None;
+    }
+    number_at(value, "seat")
+}
+
+/// The line that answers a first line, with its LF.
+pub fn seating_line(seating: Seating) -> &'static str
+    ensures { result.now ≡ seating_bytes seating ++ 10 ∷ [] }
+{
+    match seating {
+        Seating::Seated => "{\"ok\":\"seat\"}\n",
+        Seating::Taken => "{\"fault\":80}\n",
+        Seating::NoUser => "{\"fault\":81}\n",
+    }
+}
