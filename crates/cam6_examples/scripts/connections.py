@@ -7,6 +7,7 @@ that `cam6 alone` gives to the same lines. Says what passed, a line each, and wh
 'N passed, M failed'.
 """
 
+import os
 import resource
 import signal
 import socket
@@ -111,10 +112,10 @@ def afresh(peer):
 class Host:
     """The program, serving."""
 
-    def __init__(self, *words):
-        self.port = free_port()
+    def __init__(self, *words, port=None):
+        self.port = free_port() if port is None else port
         self.process = subprocess.Popen(
-            [program, "serve", "--port", str(self.port), *words],
+            [program, "serve", *(["--port", str(self.port)] if port is None else []), *words],
             stdin=subprocess.DEVNULL, stdout=subprocess.PIPE, stderr=subprocess.PIPE)
         self.first = self.process.stderr.readline().decode()
 
@@ -148,36 +149,43 @@ REPLIES = alone(LINES)
 
 
 class Steady(threading.Thread):
-    """A user who goes on, one line after another, beside whatever happens; at least for one round."""
+    """A user who goes on, one line after another, beside whatever happens; at least for two rounds, of which the first
+    is done when it has begun."""
 
     def __init__(self, port, user):
         super().__init__()
         self.port, self.user = port, user
-        self.enough = threading.Event()
+        self.begun, self.enough = threading.Event(), threading.Event()
         self.rounds, self.wrong = 0, None
         self.start()
+        self.begun.wait()
 
     def run(self):
         try:
-            peer = Peer(self.port, self.user)
-            if peer.said != '{"ok":"seat"}':
-                self.wrong = peer.said
-                return
-            while not self.wrong and not (self.rounds and self.enough.is_set()):
-                afresh(peer)
-                for line, want in zip(LINES, REPLIES):
-                    got = peer.ask(line)
-                    if got != want and not self.wrong:
-                        self.wrong = "%s: %s" % (line, got)
-                self.rounds += 1
-            peer.close()
+            self.go_on()
         except OSError as error:
-            self.wrong = str(error)
+            self.wrong = repr(error)
+        self.begun.set()
+
+    def go_on(self):
+        peer = Peer(self.port, self.user)
+        if peer.said != '{"ok":"seat"}':
+            self.wrong = peer.said
+            return
+        while not self.wrong and not (self.rounds > 1 and self.enough.is_set()):
+            afresh(peer)
+            for line, want in zip(LINES, REPLIES):
+                got = peer.ask(line)
+                if got != want and not self.wrong:
+                    self.wrong = "%s: %s" % (line, got)
+            self.rounds += 1
+            self.begun.set()
+        peer.close()
 
     def is_well(self):
         self.enough.set()
         self.join()
-        return self.wrong is None and self.rounds > 0
+        return self.wrong is None and self.rounds > 1
 
 
 def seat_when_free(port, user):
@@ -219,10 +227,38 @@ def no_network():
 
 def words_refused():
     for words in (["--port", "0"], ["--port", "65536"], ["--users", "33"], ["--boards", "9"],
-                  ["--cache", "65"], ["--side", "100"], ["--connections", "-1"]):
+                  ["--cache", "65"], ["--side", "100"], ["--connections", "-1"],
+                  ["--connections", "18446744073709551616"], ["alone"]):
         said = subprocess.run([program, "serve", *words], capture_output=True, timeout=PATIENCE)
         check("refused with status 2: %s" % " ".join(words),
               said.returncode == 2 and said.stdout == b"" and said.stderr != b"", said)
+
+
+def has(host, users, side):
+    """Whether so many users have a seat there, and none behind them, and this is the largest side."""
+    last = Peer(host.port, users)
+    sides = [last.ask('{"do":"side","side":%d}' % n) for n in (128, 256, 512)]
+    said = [last.said, Peer(host.port, users + 1).said, *sides]
+    last.close()
+    return said == ['{"ok":"seat"}', '{"fault":81}'] + [
+        '{"ok":"side"}' if n <= side else '{"fault":67}' for n in (128, 256, 512)]
+
+
+def words_taken():
+    for words, users, side in (
+            ([], 4, 256), (["--connections", "18446744073709551615"], 4, 256),
+            (["--side", "512", "--connections", "7", "--cache=64", "--boards", "8", "--users", "32"], 32, 512),
+            (["--users", "1", "--boards", "3", "--cache", "1", "--side=128"], 1, 128)):
+        host = Host(*words)
+        check("taken: %s" % " ".join(words), host.first.startswith("listening on") and has(host, users, side))
+        host.kill()
+    with socket.socket() as usual:
+        usual.setsockopt(socket.SOL_SOCKET, socket.SO_REUSEADDR, 1)
+        is_free = usual.connect_ex(("127.0.0.1", 6006)) != 0
+    if is_free:
+        host = Host(port=6006)
+        check("the usual port", host.first == "listening on 127.0.0.1:6006\n", host.first)
+        host.kill()
 
 
 def closes_within_lines(port):
@@ -365,10 +401,10 @@ def without_growth(port, host):
 
 
 def without_threads(port, host):
-    """The host's memory is bounded where it is: there is room for the stacks of threads that were joined, and for no
-    other."""
+    """The host's memory is bounded a little above where it is: there is room for what a session takes and for the stacks
+    of threads that were joined, and for no other."""
     limits = resource.prlimit(host.process.pid, resource.RLIMIT_AS)
-    bound = host.of_process("VmSize") * 1024 + 1000000
+    bound = host.of_process("VmSize") * 1024 + 4000000
     resource.prlimit(host.process.pid, resource.RLIMIT_AS, (bound, limits[1]))
     peers = [Peer(port) for _ in range(30)]
     said = []
@@ -383,6 +419,29 @@ def without_threads(port, host):
           said.count(None) > 0 and set(said) <= {None, '{"fault":81}'}, said)
     peer = seat_when_free(port, 4)
     check("and others are served behind them", peer is not None)
+    peer.close()
+
+
+def without_descriptors(port, host):
+    """The host may open no file more than it has, and a few. Who isn't accepted yet waits for his answer."""
+    process = host.process.pid
+    limits = resource.prlimit(process, resource.RLIMIT_NOFILE)
+    highest = max(int(number) for number in os.listdir("/proc/%d/fd" % process))
+    resource.prlimit(process, resource.RLIMIT_NOFILE, (highest + 5, limits[1]))
+    silent = [Peer(port) for _ in range(20)]
+    time.sleep(0.5)
+    asks = Peer(port)
+    asks.send('{"seat":9}\n')
+    time.sleep(0.5)
+    check("a host without descriptors goes on", host.process.poll() is None)
+    check("and has no more than it may", len(os.listdir("/proc/%d/fd" % process)) <= highest + 5)
+    for peer in silent:
+        peer.close()
+    check("who waits is answered once others have gone", asks.read() == '{"fault":81}')
+    asks.close()
+    resource.prlimit(process, resource.RLIMIT_NOFILE, limits)
+    peer = seat_when_free(port, 4)
+    check("and others are served", peer is not None)
     peer.close()
 
 
@@ -401,6 +460,7 @@ def main():
     two_connections()
     no_network()
     words_refused()
+    words_taken()
     peers_at_once()
     host = Host("--users", "5", "--connections", "0")
     slow = threading.Thread(target=a_byte_a_second, args=(host.port,))
@@ -409,7 +469,7 @@ def main():
         beside(host.port, 2, what)
         seat_when_free(host.port, 2).close()
     slow.join()
-    for what in (without_threads, without_growth):
+    for what in (without_threads, without_descriptors, without_growth):
         beside(host.port, 2, what, host)
         seat_when_free(host.port, 2).close()
     check("a host without an end goes on", host.process.poll() is None)

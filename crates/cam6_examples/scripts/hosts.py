@@ -164,6 +164,9 @@ class Machine:
     def do_row(self, plane, row):
         return {"bits": self.torus.digits(plane, row)} if self.has_row(plane, row) else 65
 
+    def do_plane(self, plane):
+        return {"rows": [self.torus.digits(plane, y) for y in range(self.torus.side)]} if plane < 4 else 65
+
     def do_rule(self, name, half, hood, minor, text):
         if not is_rule_name(name):
             return 65

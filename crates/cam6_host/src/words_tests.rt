@@ -4,7 +4,7 @@ use crate::modes::Options;
 use crate::statuses::{failure_of, fault_of, refusal_of};
 use crate::words::{options, program};
 use cam6_planes::Side;
-use cam6_server::{Fault, Serving};
+use cam6_server::Fault;
 use cam6_session::End;
 use std::alloc::Global;
 use std::test::Fail;
@@ -81,41 +81,6 @@ fn words_have_numbers(rt: HostRuntime) -> Result<(), Fail> {
             Err(_) => None,
         };
         assert!(rt; got == Some(want), "{line}");
-    }
-    Ok(())
-}
-
-// Of `serve`: the users, boards, tables, side, connections and port that are said, or else their
-// defaults.
-#[test]
-fn words_have_a_port(rt: HostRuntime) -> Result<(), Fail> {
-    let alloc = rt.alloc();
-    let usual = Serving::new(4, 2, 16, Side::S256, 0);
-    for (line, serving, port) in [
-        ("cam6 serve", usual, 6006),
-        ("cam6 serve --port 1", usual, 1),
-        ("cam6 serve --port=65535", usual, 65535),
-        (
-            "cam6 serve --connections 18446744073709551615",
-            Serving::new(4, 2, 16, Side::S256, u64::MAX),
-            6006,
-        ),
-        (
-            "cam6 serve --side 512 --connections 7 --cache=64 --port 80 --boards 8 --users 32",
-            Serving::new(32, 8, 64, Side::S512, 7),
-            80,
-        ),
-        (
-            "cam6 serve --users 1 --boards 3 --cache 1 --side=128",
-            Serving::new(1, 3, 1, Side::S128, 0),
-            6006,
-        ),
-    ] {
-        let read = options(alloc, words_of(alloc, line)?.as_slice());
-        assert!(rt;
-            matches!(&read, Ok(got) if *got == Options::Serve { serving, port }),
-            "{line}"
-        );
     }
     Ok(())
 }

@@ -1,116 +1,52 @@
-//! Loads two tables from a cache, and prints which were kept, for runs in which an allocation is
-//! refused: `./scarce` at the top of the repository refuses two of a put, each by itself.
+//! Does what takes memory, for runs in which a request for memory is refused: `./scarce` at the top of
+//! the repository refuses each request in turn. Whatever finds no memory is taken up again.
 //!
-//! The program makes no claim of its own beyond being safe. With ample memory it prints `all kept`.
+//! The program makes no claim of its own beyond being safe. Without words it loads two tables from a
+//! cache, and prints which were kept; with ample memory that is `all kept`. With the word `session` it
+//! answers the lines of standard input as a machine does, one after another: where there is no memory
+//! for a line it prints `again`, and begins with that line once more, or `done` in place of the reply,
+//! where the command was done. With the words `events USERS BOARDS TABLES` it reads all lines of
+//! standard input as events and does them as one list, and prints what came of them: before that
+//! `unread`, where there was no memory for reading them, and `refused`, where there was none for the
+//! list; and begins once more. What is wanted before any line ends it as a failure without an answer.
 //!
-//! Stands on: `cam6_cache` and what it stands on.
+//! Stands on: `cam6_cache` and what it stands on; `cam6_machine` and `cam6_core`, with `cam6_wire` and
+//! `cam6_session`, how lines are read and answered; `cam6_examples`, for sizes in words.
+//!
+//! Read next: `loads`, `sessions` and `lists`.
 #![tactic(auto)]
 
-ghost use Rattle.std.specs.Prelude.{◌<◌, ◌≤◌, length, IfSome};
-ghost use Rattle.cam6_table.specs.RuleTexts.{IsCodeFor};
-ghost use Rattle.cam6_cache.specs.Limits.{max_text};
+mod lists;
+mod loads;
+mod sessions;
 
-use cam6_cache::{Key, TableCache};
-use cam6_planes::NoMemory;
-use cam6_table::{Code, ENTRIES, Table, compile};
-use cam6_wiring::{Half, Hood, Minor, Wiring};
-use std::alloc::Global;
+use cam6_examples::no_memory;
 use std::io;
-
-const WIRING: Wiring = Wiring {
-    half: Half::A,
-    hood: Hood::VonNeumann,
-    minor: Minor::Centers,
-};
-
-/// Its entries are the two lowest bits of their addresses.
-const KEEPS: &str = ": R CENTER >PLN0 ;";
-
-/// Its entries are the second bits of their addresses, and 0 in the lower plane.
-const CLEARS: &str = ": R 0 >PLN0 ;";
+use std::io::Read;
 
 fn main(rt: HostRuntime) -> io::Result<()> {
-    let told = told(rt.alloc()).unwrap_or("no memory");
-    println!(rt; "{told}")
-}
-
-/// What came of a load: the table was kept, or it is a new one; or it isn't the rule's.
-#[derive(Clone, Copy)]
-enum Loaded {
-    Hit,
-    Miss,
-    Wrong,
-}
-
-/// What came of five loads from a cache of two: each rule twice, and the first one again.
-fn told(alloc: Global) -> Result<&'static str, NoMemory> {
-    let mut cache = TableCache::new(alloc, 2)?;
-    let mut key = Key::scratch(alloc)?;
-    let mut table = Table::blank(alloc)?;
-    let keeps = code_for(alloc, WIRING, KEEPS).ok_or(NoMemory)?;
-    let clears = code_for(alloc, WIRING, CLEARS).ok_or(NoMemory)?;
-    let loads = [
-        load(&mut cache, &mut key, KEEPS, &keeps, 1, &mut table),
-        load(&mut cache, &mut key, KEEPS, &keeps, 1, &mut table),
-        load(&mut cache, &mut key, CLEARS, &clears, 2, &mut table),
-        load(&mut cache, &mut key, CLEARS, &clears, 2, &mut table),
-        load(&mut cache, &mut key, KEEPS, &keeps, 1, &mut table),
-    ];
-    Ok(match loads {
-        [
-            Loaded::Miss,
-            Loaded::Hit,
-            Loaded::Miss,
-            Loaded::Hit,
-            Loaded::Hit,
-        ] => "all kept",
-        [
-            Loaded::Miss,
-            Loaded::Miss,
-            Loaded::Miss,
-            Loaded::Hit,
-            Loaded::Hit,
-        ] => { "the first kept when it was asked for again" }
-        [
-            Loaded::Miss,
-            Loaded::Hit,
-            Loaded::Miss,
-            Loaded::Miss,
-            Loaded::Hit,
-        ] => { "the second kept when it was asked for again" }
-        _ => "wrong",
-    })
-}
-
-/// Loads the table of a text, and compares it: at each address stands the multiple of `unit` below
-/// the address modulo 4.
-fn load(
-    cache: &mut TableCache,
-    key: &mut Key,
-    text: &str,
-    code: &Code,
-    unit: u16,
-    table: &mut Table,
-) -> Loaded
-    requires text { length text.now ≤ max_text }
-    requires code { IsCodeFor WIRING text.now code.now }
-    requires unit { 0 < unit }
-{
-    key.set(WIRING.half, WIRING.hood, WIRING.minor, text, false);
-    let is_hit = cache.load(key, code, table);
-    for address in 0..ENTRIES {
-        let low = address % 4;
-        if u16::from(table.at(address)) != low - low % unit {
-            return Loaded::Wrong;
+    let alloc = rt.alloc();
+    let words = std::env::args(&rt)?
+        .skip(1)
+        .collect::<Vec<String>>(alloc)?;
+    match words.as_slice() {
+        [] => {
+            let told = loads::told(alloc).unwrap_or("no memory");
+            println!(rt; "{told}")
         }
+        [word] if word.as_str() == "session" => {
+            let mut lines = Vec::new(alloc);
+            rt.reader().read_to_end(&mut lines)?;
+            sessions::answer_all(alloc, lines.as_slice(), &mut io::writer(&rt))
+        }
+        [word, users, boards, tables] if word.as_str() == "events" => {
+            let text = io::read_to_string(alloc, rt.reader())?;
+            let sizes = lists::Sizes::read(users.as_str(), boards.as_str(), tables.as_str());
+            match sizes {
+                Ok(sizes) => lists::do_all(&rt, &sizes, text.as_str()),
+                Err(_) => Err(no_memory()),
+            }
+        }
+        _ => println!(rt; "no such words"),
     }
-    if is_hit { Loaded::Hit } else { Loaded::Miss }
-}
-
-/// The code of a text, if it is a rule that stops nowhere.
-fn code_for(alloc: Global, wiring: Wiring, text: &str) -> Option<Code>
-    ensures { IfSome result (λ code. IsCodeFor wiring text.now code) }
-{
-    let mut trial = Table::blank(alloc).ok()?;
-    compile(alloc, wiring, text, &mut trial).ok()
 }

@@ -1,9 +1,13 @@
 -- What is written to a connection for what is read of it.
 use Rattle.std.specs.Prelude.{◌≡◌, ◌≢◌, ◌⊎◌, ℕ, List, [], ◌∷◌, ◌++◌, Option, Some, IfSome}
-use Rattle.std.specs.Prelude.{Result, Ok, Err}
+use Rattle.std.specs.Prelude.{Result, Ok, Err, true, false}
 use Rattle.cam6_model.specs.Machine.{Machine}
 use Rattle.cam6_session.specs.Answers.{by_machine}
+use Rattle.cam6_session.specs.Responding.{TakesMemory}
 use Rattle.cam6_session.specs.Sessions.{AnswersReader}
+use Rattle.cam6_session.specs.declared.sessions.End.{End}
+use Rattle.cam6_session.specs.declared.sessions.End.TheVariants.{EndOfInput, ReadFault, TurnBound}
+use Rattle.cam6_session.specs.declared.sessions.End.TheVariants.{WriteFault, NoMemory}
 use Rattle.cam6_wire.specs.Commands.{IsSaid}
 use Rattle.cam6_wire.specs.OneLine.{HasNoLf}
 use Rattle.cam6_wire.specs.Replies.{fault_bytes}
@@ -46,31 +50,67 @@ FirstSays said read remaining =
     IfSome read (λ all. (line unread : List ℕ) × IsFirst all line unread
     × (remaining ≡ Some unread) × IsSaid said (seat line))
 
+-- a part of a line was read, and its LF wasn't
+abbrev pub IsCutShort : List ℕ → Option (List ℕ) → Type 0
+IsCutShort all remaining =
+    (part unread : List ℕ) × HasNoLf part × (all ≡ part ++ unread) × (remaining ≡ Some unread)
+
+-- why no first line is answered: the input has none; a read failed within it, or the turns ran out;
+-- or no memory was found, for reading it at all, or for it
+abbrev pub IsSilent : End → List ℕ → Option (List ℕ) → Type 0
+IsSilent EndOfInput all remaining = all ≡ []
+IsSilent ReadFault all remaining = IsCutShort all remaining
+IsSilent TurnBound all remaining = IsCutShort all remaining
+IsSilent WriteFault all remaining = ⊥
+IsSilent (NoMemory true) all remaining = ⊥
+IsSilent (NoMemory false) all remaining =
+    (remaining ≡ Some all)
+    ⊎ ((line unread : List ℕ) × IsFirst all line unread × (remaining ≡ Some unread)
+    × TakesMemory line)
+
+-- the same of a reader that tells its bytes
+abbrev pub StaysSilent : End → Option (List ℕ) → Option (List ℕ) → Type 0
+StaysSilent end read remaining = IfSome read (λ all. IsSilent end all remaining)
+
+-- what the first line says, or why none is answered
+abbrev pub ReadsFirst : Result (Result ℕ LineFault) End → Option (List ℕ) → Option (List ℕ)
+    → Type 0
+ReadsFirst (Ok said) read remaining = FirstSays said read remaining
+ReadsFirst (Err end) read remaining = StaysSilent end read remaining
+
 -- the seat is told to be had, and the lines that are read then are answered as a machine answers
--- them that gets all commands among them; or what tells it can't be written whole
-abbrev pub Sits : Visit → List ℕ → Option (List ℕ) → List ℕ → Option (List ℕ) → Type 0
-Sits Silent unread remaining out new = ⊥
-Sits Refused unread remaining out new = ⊥
-Sits Unheard unread remaining out new = WritesFrontOf seated_line out new
-Sits (Served end) unread remaining out new =
-    (m n : Machine)
-    × AnswersReader by_machine end (Some unread) remaining (Some (out ++ seated_line)) new m n
+-- them that stands at m before and at n behind them; or what tells it can't be written whole, and
+-- the machine is what it was
+abbrev pub Sits : Visit → List ℕ → Option (List ℕ) → List ℕ → Option (List ℕ) → Machine → Machine
+    → Type 0
+Sits (Silent end) unread remaining out new m n = ⊥
+Sits Refused unread remaining out new m n = ⊥
+Sits Unheard unread remaining out new m n = WritesFrontOf seated_line out new × (n ≡ m)
+Sits (Served end) unread remaining out new m n =
+    AnswersReader by_machine end (Some unread) remaining (Some (out ++ seated_line)) new m n
 
 abbrev pub SitsDown : Visit → Option (List ℕ) → Option (List ℕ) → Option (List ℕ)
-    → Option (List ℕ) → Type 0
-SitsDown visit read remaining old new =
-    IfSome read (λ unread. IfSome old (λ out. Sits visit unread remaining out new))
+    → Option (List ℕ) → Machine → Machine → Type 0
+SitsDown visit read remaining old new m n =
+    IfSome read (λ unread. IfSome old (λ out. Sits visit unread remaining out new m n))
 
--- the first line asks for a seat, which is had
+-- the same, where the machine stands in the end at something that nobody else is told
+abbrev pub SitsDownAt : Machine → Visit → Option (List ℕ) → Option (List ℕ) → Option (List ℕ)
+    → Option (List ℕ) → Type 0
+SitsDownAt m visit read remaining old new =
+    (n : Machine) × SitsDown visit read remaining old new m n
+
+-- the first line asks for a seat, which is had; where the user's machine stands then is known to
+-- nobody but him
 abbrev pub IsSeated : Visit → List ℕ → Option (List ℕ) → List ℕ → Option (List ℕ) → Type 0
 IsSeated visit all remaining out new =
     (line unread : List ℕ) × (user : ℕ) × IsFirst all line unread × (seat line ≡ Ok user)
-    × Sits visit unread remaining out new
+    × ((m n : Machine) × Sits visit unread remaining out new m n)
 
 -- by how it went: nothing was written; or what the first line is refused by, or a front of it; or
 -- the seat is had
 abbrev pub Went : Visit → List ℕ → Option (List ℕ) → List ℕ → Option (List ℕ) → Type 0
-Went Silent all remaining out new = new ≡ Some out
+Went (Silent end) all remaining out new = (new ≡ Some out) × IsSilent end all remaining
 Went Refused all remaining out new =
     (line unread answer : List ℕ) × IsFirst all line unread × IsRefusal line answer
     × WritesFrontOf answer out new

@@ -1,9 +1,12 @@
 //! What is said on a connection: its first line asks for a seat, and then there is a session.
-ghost use Rattle.std.specs.Prelude.{◌≡◌, IfSome, List, ℕ};
+ghost use Rattle.std.specs.Prelude.{◌≡◌, ◌≢◌, List, ℕ, Ok, Err};
+ghost use Rattle.cam6_session.specs.Desks.{machine_at};
 ghost use Rattle.cam6_session.specs.Held.{Holds};
+ghost use Rattle.cam6_session.specs.Responding.{TakesMemory};
 ghost use Rattle.cam6_wire.specs.Commands.{IsSaid};
 ghost use Rattle.cam6_wire.specs.Seats.{seat};
-ghost use Rattle.cam6_server.specs.Connections.{AnswersOnly, Converses, FirstSays, SitsDown};
+ghost use Rattle.cam6_server.specs.Connections.{AnswersOnly, Converses, ReadsFirst};
+ghost use Rattle.cam6_server.specs.Connections.{SitsDown, SitsDownAt};
 
 use crate::desks::HostDesk;
 use crate::free_desks::FreeDesk;
@@ -20,8 +23,8 @@ const TURNS: u64 = 1_099_511_627_776;
 /// How a connection went.
 #[derive(Clone, Copy, Debug, PartialEq, Eq)]
 pub enum Visit {
-    /// There was no first line, or no memory for it. Nothing was written.
-    Silent,
+    /// No first line was answered, for this reason. Nothing was written.
+    Silent(End),
     /// Its first line was refused; the answer was written, or a front of it.
     Refused,
     /// Its user had his seat, but what told it could not be written whole.
@@ -43,9 +46,9 @@ pub fn converse<H: Handle, R: BufRead, W: Write, O: Release>(
         (W.contents writer.old) (W.contents writer.new) }
 {
     let user = match first_line(hall.rt.alloc(), reader) {
-        None | Some(Err(LineFault::NoMemory)) => return Visit::Silent,
-        Some(Err(fault)) => return refuse(writer, fault_line(fault)),
-        Some(Ok(user)) => user,
+        Ok(Ok(user)) => user,
+        Ok(Err(fault)) => return refuse(writer, fault_line(fault)),
+        Err(end) => return Visit::Silent(end),
     };
     let taken = hall.places.lock(&hall.rt).take(user);
     match taken {
@@ -54,22 +57,31 @@ pub fn converse<H: Handle, R: BufRead, W: Write, O: Release>(
     }
 }
 
-/// What the first line says, if there is one.
-fn first_line<R: BufRead>(alloc: Global, reader: &mut R) -> Option<Result<u64, LineFault>>
-    ensures { IfSome result (λ said.
-        FirstSays said (R.remaining reader.old) (R.remaining reader.new)) }
+/// What the first line says, or why there is nothing to be answered.
+fn first_line<R: BufRead>(alloc: Global, reader: &mut R) -> Result<Result<u64, LineFault>, End>
+    ensures read { ReadsFirst result (R.remaining reader.old) (R.remaining reader.new) }
+    ensures memory { result ≢ Ok (Err LineFault.NoMemory) }
 {
-    let mut line = LineBuf::new(alloc).ok()?;
+    let Ok(mut line) = LineBuf::new(alloc) else {
+        return Err(End::NoMemory { done: false });
+    };
     let mut turns = TURNS;
     match next_line(reader, &mut line, &mut turns) {
-        Line::Ended | Line::Last => Some(said(alloc, &line)),
-        Line::EndOfInput | Line::ReadFault | Line::TurnBound => None,
+        Line::Ended | Line::Last => match said(alloc, &line) {
+            Err(LineFault::NoMemory) => Err(End::NoMemory { done: false }),
+            said => Ok(said),
+        },
+        Line::EndOfInput => Err(End::EndOfInput),
+        Line::ReadFault => Err(End::ReadFault),
+        Line::TurnBound => Err(End::TurnBound),
     }
 }
 
 /// What a line says of a seat.
 fn said(alloc: Global, line: &LineBuf) -> Result<u64, LineFault>
-    ensures { (l : List ℕ) → Holds line.now l → IsSaid result (seat l) }
+    ensures said { (l : List ℕ) → Holds line.now l → IsSaid result (seat l) }
+    ensures memory { result ≡ Err LineFault.NoMemory →
+        (l : List ℕ) → Holds line.now l → TakesMemory l }
 {
     let Some(bytes) = line.bytes() else {
         return Err(LineFault::TooLong);
@@ -87,6 +99,7 @@ fn refuse<W: Write>(writer: &mut W, answer: &str) -> Visit
 }
 
 /// A session at the user's desk, which is free again behind it.
+/// Where his machine stands then is seen by who takes the desk next.
 fn seated<H: Handle, R: BufRead, W: Write, O: Release>(
     hall: &Hall<H>,
     reader: &mut R,
@@ -95,7 +108,8 @@ fn seated<H: Handle, R: BufRead, W: Write, O: Release>(
     user: u64,
     free: FreeDesk,
 ) -> Visit
-    ensures { SitsDown result (R.remaining reader.old) (R.remaining reader.new)
+    ensures { SitsDownAt (machine_at free.now.desk) result
+        (R.remaining reader.old) (R.remaining reader.new)
         (W.contents writer.old) (W.contents writer.new) }
 {
     let mut desk = HostDesk {
@@ -126,7 +140,8 @@ fn sit_down<R: BufRead, W: Write, D: Ask>(
     requires { D.is_ready desk.old }
     ensures ready { D.is_ready desk.new }
     ensures sits { SitsDown result (R.remaining reader.old) (R.remaining reader.new)
-        (W.contents writer.old) (W.contents writer.new) }
+        (W.contents writer.old) (W.contents writer.new)
+        (D.stands_at desk.old) (D.stands_at desk.new) }
 {
     match send(writer, seating_line(Seating::Seated).as_bytes()) {
         Ok(()) => Visit::Served(serve(alloc, reader, writer, desk, TURNS)),

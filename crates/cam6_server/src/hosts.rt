@@ -11,14 +11,22 @@ use cam6_planes::NoMemory;
 use cam6_pool::SlicingGate;
 use std::net::TcpListener;
 use std::sync::{Arc, Mutex};
-use std::thread::{JoinHandle, spawn};
+use std::thread::{JoinHandle, sleep, spawn};
+use std::time::Duration;
+
+/// Milliseconds between a connection that could not be accepted and the next try.
+const PAUSE: u64 = 20;
+
+/// How often in a row accepting may fail while nobody is served.
+const TRIES: u32 = 50;
 
 /// Serves the connections of a listener. There is a machine for each user, a thread for each board,
 /// and one for each connection. After as many connections as are served no other is accepted, and once
 /// their sessions are over the boards end too.
 ///
-/// Where a connection can't be accepted, no other is either; those that are there go on to their
-/// ends before that is told.
+/// Where a connection can't be accepted, as the system has no descriptor left, it is tried again while
+/// there are sessions, since the end of one may help. Where nobody is served and it goes on failing
+/// for a second, that is told.
 pub fn serve_net<R: Handle + Send + Sync + 'static>(
     rt: R,
     listener: &TcpListener,
@@ -71,7 +79,8 @@ fn employ<R: Handle + Send + Sync + 'static>(
 }
 
 /// Accepts so many connections, or, where none is said, connections without end, and waits until
-/// their sessions are over.
+/// their sessions are over. What can't be accepted is tried again while there are sessions, and so
+/// often where there is none.
 fn accept<R: Handle + Send + Sync + 'static>(
     hall: &Arc<Hall<R>>,
     listener: &TcpListener,
@@ -79,18 +88,22 @@ fn accept<R: Handle + Send + Sync + 'static>(
 ) -> Result<(), Fault> {
     let mut sessions = Sessions::new(hall.rt.alloc());
     let mut accepted: u64 = 0;
-    let mut served = Ok(());
+    let mut tries = TRIES;
     for stream in listener.incoming() {
-        let Ok(stream) = stream else {
-            served = Err(Fault::Network);
-            break;
-        };
-        sessions.start(hall, stream);
-        accepted = accepted.wrapping_add(1);
-        if accepted == connections {
-            break;
+        if let Ok(stream) = stream {
+            tries = TRIES;
+            sessions.start(hall, stream);
+            accepted = accepted.wrapping_add(1);
+            if accepted == connections {
+                break;
+            }
+        } else if tries == 0 && sessions.are_over(&hall.rt) {
+            return Err(Fault::Network);
+        } else {
+            tries = tries.saturating_sub(1);
+            sleep(&hall.rt, Duration::from_millis(PAUSE));
         }
     }
     sessions.join(&hall.rt);
-    served
+    Ok(())
 }

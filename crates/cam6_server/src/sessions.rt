@@ -56,6 +56,12 @@ impl Sessions {
         }
     }
 
+    /// Whether none goes on. The threads of those that are over are joined.
+    pub fn are_over<R: Threads>(&mut self, rt: &R) -> bool {
+        self.join_over(rt);
+        self.sessions.is_empty()
+    }
+
     /// Joins the threads of connections that are over.
     fn join_over<R: Threads>(&mut self, rt: &R) {
         let mut index = 0;

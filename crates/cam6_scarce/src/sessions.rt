@@ -1,0 +1,72 @@
+//! Lines that a machine answers, taken up again where there was no memory for one.
+
+use cam6_examples::no_memory;
+use cam6_machine::Machine;
+use cam6_planes::Side;
+use cam6_session::{End, serve};
+use std::alloc::Global;
+use std::io;
+use std::io::{ErrorKind, Write};
+
+/// How often a session looks at its lines at most.
+const TURNS: u64 = 1_099_511_627_776;
+
+/// How often lines are taken up at most.
+const TIMES: u32 = 10;
+
+/// A writer, with the number of lines that it took.
+#[derive(Drop)]
+struct Counting<'a, W> {
+    writer: &'a mut W,
+    lines: usize,
+}
+
+impl<W: Write> Write for Counting<'_, W> {
+    fn write(&mut self, bytes: &[u8]) -> io::Result<usize> {
+        let taken = self.writer.write(bytes)?;
+        for byte in &bytes[..taken] {
+            if *byte == b'\n' {
+                self.lines = self.lines.saturating_add(1);
+            }
+        }
+        Ok(taken)
+    }
+
+    fn flush(&mut self) -> io::Result<()> {
+        self.writer.flush()
+    }
+}
+
+/// Answers lines as a blank machine does. Where there is no memory for one it is told to be done, or
+/// is answered again.
+pub fn answer_all<W: Write>(alloc: Global, lines: &[u8], writer: &mut W) -> io::Result<()> {
+    let mut machine = Machine::new(alloc, Side::S256).map_err(|_| no_memory())?;
+    let mut writer = Counting { writer, lines: 0 };
+    let mut rest = lines;
+    for _ in 0..TIMES {
+        writer.lines = 0;
+        let mut reader = rest;
+        match serve(alloc, &mut reader, &mut writer, &mut machine, TURNS) {
+            End::EndOfInput => return Ok(()),
+            End::NoMemory { done } => {
+                rest = behind(rest, writer.lines.saturating_add(usize::from(done)));
+                let told = if done { "done\n" } else { "again\n" };
+                writer.writer.write_all(told.as_bytes())?;
+            }
+            End::ReadFault | End::WriteFault | End::TurnBound => break,
+        }
+    }
+    Err(io::Error::from(ErrorKind::Other))
+}
+
+/// The lines behind so many.
+fn behind(lines: &[u8], number: usize) -> &[u8] {
+    let mut rest = lines;
+    for _ in 0..number {
+        match rest.iter().position(|byte| *byte == b'\n') {
+            Some(at) => rest = &rest[at + 1..],
+            None => return &[],
+        }
+    }
+    rest
+}
