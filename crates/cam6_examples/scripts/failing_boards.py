@@ -1,6 +1,6 @@
 #!/usr/bin/env python3
-"""Writes failures_after_each_band.example and preempted_after_each_band.example of cam6_play_events/data: three steps of a
-ball, on and back, whose board fails behind each number of bands, or which are taken off their board behind each band.
+"""Writes failures_after_each_band.example and preempted_after_each_band.example of cam6_play_events/data: three steps
+of a ball, on and back, whose board fails behind each number of bands, or which are taken off it behind each band.
 
 Shares nothing with the program: the outcomes are those of the model in `hosts`.
 """
@@ -62,8 +62,8 @@ class Ball(ToldEvents):
 def failures():
     told = Ball(
         "failures_after_each_band",
-        "A board fails behind each number of the 48 bands of three steps: all of them are left then, and the board takes",
-        "nothing until it is repaired. So it is with three steps back; those end where the ball began.",
+        "A board fails behind each number of the 48 bands of three steps: all of them are left then, and the board "
+        "takes nothing until it is repaired. So it is with three steps back; those end where the ball began.",
     )
     told.begin("The board that failed does it all, once it is repaired.")
     for number in range(BANDS):
@@ -96,8 +96,9 @@ def failures():
 def preempts():
     told = Ball(
         "preempted_after_each_band",
-        "Three steps that are taken off their board behind each band but the last: 48 leases, on two boards in turn. Behind",
-        "the last band the board holds nothing more. So it is with three steps back; those end where the ball began.",
+        "Three steps that are taken off their board behind each band but the last: 48 leases, on two boards in turn. "
+        "Behind the last band the board holds nothing more. So it is with three steps back; those end where the ball "
+        "began.",
     )
     told.begin(None)
     for way in WAYS:

@@ -1,6 +1,6 @@
 #!/usr/bin/env python3
-"""Writes numbers_in_events.example, keys_in_events.example and hostile_events.example of cam6_play_events/data: events in
-every spelling, and lines that are none. Each part ends with all users at rest, and with looks at their machines.
+"""Writes numbers_in_events.example, keys_in_events.example and hostile_events.example of cam6_play_events/data: events
+in every spelling, and lines that are none. Each part ends with all users at rest, and with looks at their machines.
 
 Shares nothing with the program: what each spelling says stands in `spellings`, by hand, and outcomes are those of the
 model in `hosts`. Bytes that are no UTF-8 are left out, as the player of events can't send them.
@@ -102,8 +102,8 @@ PLACES = [
 def numbers():
     told = Events(
         "numbers_in_events",
-        "Each spelling of a number in the place of each number of each event, and in a command: what is read up to 64 bits,",
-        "and judged by the host; then JSON that is no such number, and texts that are no JSON.",
+        "Each spelling of a number in the place of each number of each event, and in a command: what is read up to 64 "
+        "bits, and judged by the host; then JSON that is no such number, and texts that are no JSON.",
     )
     for title, template, before in PLACES:
         told.begin(title, *before)
@@ -138,8 +138,8 @@ UNREAD = {"event": "fly", "command": {"do": "fly"}}
 def keys():
     told = Events(
         "keys_in_events",
-        "The keys of each event: in all orders, twice, of which the last one counts, and then lines without one of them, with",
-        "one too many, and with one that is spelled otherwise.",
+        "The keys of each event: in all orders, twice, of which the last one counts, and then lines without one of "
+        "them, with one too many, and with one that is spelled otherwise.",
     )
     for event, before in EVENTS:
         told.begin(f"Of `{event['event']}`.", *before)
@@ -195,8 +195,8 @@ def otherwise(pairs):
 def hostile():
     told = Events(
         "hostile_events",
-        "Events with escapes, letters of several bytes, blanks, nested values and as many bytes as a line may have, and lines",
-        "with such things that are no events.",
+        "Events with escapes, letters of several bytes, blanks, nested values and as many bytes as a line may have, "
+        "and lines with such things that are no events.",
     )
     texts(told)
     blanks(told)
@@ -219,7 +219,8 @@ def texts(told):
         '{"event":"ask","user":1,"command":{"do":"rules@"}}',
     ):  # fmt: skip
         placed(told, template, lambda text: NO_COMMAND)
-    placed(told, '{"event":"ask","user":1,"command":{"do":"drop","name":"@"}}', lambda text: ask({"do": "drop", "name": text}))
+    template = '{"event":"ask","user":1,"command":{"do":"drop","name":"@"}}'
+    placed(told, template, lambda text: ask({"do": "drop", "name": text}))
     told.look()
 
 
@@ -227,7 +228,8 @@ TOKENS = ["{", '"event"', ":", '"band"', ",", '"board"', ":", "0", "}"]
 
 
 def blanks(told):
-    told.begin("Blanks, tabs and CR between any two words and at both ends; other bytes there, and lines cut off.", RUN, lease())
+    title = "Blanks, tabs and CR between any two words and at both ends; other bytes there, and lines cut off."
+    told.begin(title, RUN, lease())
     band = compact(BAND)
     for at in range(len(TOKENS) + 1):
         for blank in WHITE:
@@ -244,19 +246,22 @@ def blanks(told):
         band.replace("0", "0 0"), band.replace("0", "0x"), band.replace("0", ""), band.replace('"', "'"),
     ]:  # fmt: skip
         told.tell(line, NO_JSON)
-    for line in [f"[{band}]", compact(band), "0", "{}", "[]", '""', "null", compact(RULES), '{"seat":1}', '{"ok":"band"}']:
+    others = [compact(RULES), '{"seat":1}', '{"ok":"band"}']
+    for line in [f"[{band}]", compact(band), "0", "{}", "[]", '""', "null", *others]:
         told.tell(line, NO_COMMAND)
     told.tell(band, BAND)
     told.look()
 
 
 def nested(told):
-    told.begin(f"Values that are nested {MOST_NESTED} deep, and deeper; a command is one deeper than it is alone.", ask(RULES, 2))
+    title = f"Values that are nested {MOST_NESTED} deep, and deeper; a command is one deeper than it is alone."
+    told.begin(title, ask(RULES, 2))
     for build in (arrays, objects, both):
         for front, rear, within in [
             ("", "", 0), ('{"event":"evict","x":', "}", 1), ('{"event":', "}", 1), ('{"event":"band","board":', "}", 1),
             ('{"event":"collect","user":', "}", 1), ('{"event":"ask","user":1,"command":', "}", 1),
-            ('{"event":"ask","user":1,"command":{"do":', "}}", 2), ('{"event":"ask","user":1,"command":{"do":"run","n":', "}}", 2),
+            ('{"event":"ask","user":1,"command":{"do":', "}}", 2),
+            ('{"event":"ask","user":1,"command":{"do":"run","n":', "}}", 2),
             ('{"event":"ask","user":1,"command":{"do":"cycle","entries":[', "]}}", 3),
         ]:  # fmt: skip
             line = front + build(MOST_NESTED - within) + rear
@@ -275,7 +280,8 @@ def nested(told):
 def longest(told):
     for event, before in [*EVENTS, (ask(CYCLE), []), (ask(KEPT), [])]:
         line = compact(event)
-        told.begin(f"Of `{event['event']}`: with blanks to {LINE_LIMIT:,} bytes and one more, with CR, in escapes.", *before)
+        title = f"Of `{event['event']}`: with blanks to {LINE_LIMIT:,} bytes and one more, with CR, in escapes."
+        told.begin(title, *before)
         told.tell(padded(line, LINE_LIMIT + 1), TOO_LONG)
         told.tell(padded(line, LINE_LIMIT), event)
         told.tell(" " * (LINE_LIMIT + 1 - len(line)) + line, TOO_LONG)
@@ -289,7 +295,8 @@ def longest(told):
         for front, unit, rear, meaning in [
             ('"', "x", '"', NO_COMMAND), ("", "1", "", NO_JSON), ("[1", ",1", "]", NO_COMMAND), ("", "\0", "", NO_JSON),
             ('{"event":"', "x", '"}', NO_COMMAND), ('{"event":"band","board":', "1", "}", NO_JSON),
-            ('{"event":"band","board":0', " ", "}", BAND), ('{"event":"', "x", '","event":"evict"}', {"event": "evict"}),
+            ('{"event":"band","board":0', " ", "}", BAND),
+            ('{"event":"', "x", '","event":"evict"}', {"event": "evict"}),
         ]:  # fmt: skip
             told.tell(filled(size, front, unit, rear), TOO_LONG if is_long else meaning)
     told.tell(100_000 * "x", TOO_LONG)

@@ -1,13 +1,14 @@
 #!/usr/bin/env python3
 """Writes numbers_in_lines.example, texts_in_lines.example, keys_in_lines.example, blanks_in_lines.example,
-nested_lines.example and longest_lines.example of cam6_play_sessions/data: commands in every spelling, and lines that are
-none. Each session ends with looks at the machine, which no refused line has changed.
+nested_lines.example and longest_lines.example of cam6_play_sessions/data: commands in every spelling, and lines that
+are none. Each session ends with looks at the machine, which no refused line has changed.
 
 Shares nothing with the program: what each spelling says stands in `spellings`, by hand, and replies are those of the
 machine alone in `hosts`.
 """
 
 import json
+from functools import partial
 
 from events import BALLS, BLOCKS, rule_line
 from spellings import (
@@ -113,8 +114,9 @@ PLACES = {
 def numbers():
     told = Lines(
         "numbers_in_lines",
-        "Each spelling of a number in the place of each number of each command: what is read up to 64 bits, and judged by the",
-        "machine; then JSON that is no such number, and texts that are no JSON. Machines without a cycle are asked for runs.",
+        "Each spelling of a number in the place of each number of each command: what is read up to 64 bits, and judged "
+        "by the machine; then JSON that is no such number, and texts that are no JSON. Machines without a cycle are "
+        "asked for runs.",
         BITS=BITS,
     )
     for word, templates in PLACES.items():
@@ -137,36 +139,34 @@ def plain(template, number):
 # Texts.
 
 NO_STRINGS = [*NO_ESCAPES, *LONE_HALVES, *CONTROLS, *NO_UNICODE, "\\"]
+CYCLED = '{"do":"cycle","entries":[{"b":"-","grid":"EVEN","phase":0,"a":"'
+
+
+def before(command, last):
+    """The line of a command up to the first letter of this text, which comes last."""
+    return object_of([*without(list(command.items()), last), (last, "")])[:-2]
 
 
 def texts():
     told = Lines(
         "texts_in_lines",
-        "Each escape, and letters of one to four bytes, in the place of each text of a line; escapes that there aren't, halves",
-        "of pairs alone, control characters as they are, and bytes that are no UTF-8, which are no JSON.",
+        "Each escape, and letters of one to four bytes, in the place of each text of a line; escapes that there "
+        "aren't, halves of pairs alone, control characters as they are, and bytes that are no UTF-8, which are no "
+        "JSON.",
         NAMED=before(KEPT, "name"), COMMENTED=before(KEPT, "text") + ": R ( ", TOKEN=before(KEPT, "text") + ": R ",
-        BITS=BITS[1:], CYCLED='{"do":"cycle","entries":[{"b":"-","grid":"EVEN","phase":0,"a":"',
+        BITS=BITS[1:], CYCLED=CYCLED,
     )  # fmt: skip
     words(told)
-    told.begin("In the name of a rule, which is one of 33 to 126 but the two that JSON escapes; of one dropped, and in a cycle.")
+    told.begin("In the name of a rule, of the bytes 33 to 126 but those that JSON escapes; in a drop, and in a cycle.")
     placed(told, before(KEPT, "name") + '@"}', lambda text: KEPT | {"name": text})
     placed(told, '{"do":"drop","name":"x@"}', lambda text: {"do": "drop", "name": "x" + text})
     entry = CYCLE["entries"][0]
-    placed(told, before_entry() + 'x@"}]}', lambda text: {"do": "cycle", "entries": [entry | {"a": "x" + text}]})
+    placed(told, CYCLED + 'x@"}]}', lambda text: {"do": "cycle", "entries": [entry | {"a": "x" + text}]})
     told.tell(r'{"do":"drop","name":"\u0042"}', {"do": "drop", "name": "B"})
     told.look()
     texts_of_rules(told)
     settings(told)
     told.write()
-
-
-def before(command, last):
-    """The line of a command up to the quote of this text, which comes last."""
-    return object_of([*without(list(command.items()), last), (last, "")])[:-2]
-
-
-def before_entry():
-    return '{"do":"cycle","entries":[{"b":"-","grid":"EVEN","phase":0,"a":"'
 
 
 def placed(told, template, meaning):
@@ -219,11 +219,10 @@ def texts_of_rules(told):
 def settings(told):
     told.begin("In bits, in settings of a rule and of a cycle, which are as they are spelled.")
     first = {"do": "set", "plane": 1, "row": 7}
-    digits = "0123456789abcdefABCDEF"
+    template = object_of([*first.items(), ("bits", "@" + BITS[1:])])
     for spelling, text in [*TEXTS.items(), (r"\u0066", "f"), (r"\u0030", "0"), (r"\u0047", "G")]:
-        command = first | {"bits": text + BITS[1:]}
-        told.tell(object_of([*first.items(), ("bits", "@" + BITS[1:])]).replace("@", spelling),
-                  command if text in digits else NO_COMMAND)  # fmt: skip
+        is_digit = text in "0123456789abcdefABCDEF"
+        told.tell(template.replace("@", spelling), first | {"bits": text + BITS[1:]} if is_digit else NO_COMMAND)
     for template, said in [
         (r'{"half":"%s","do":"rule","name":"T","hood":"N/MARG","minor":"&/PHASES","text":": R ;"}', r"\u0041"),
         (r'{"hood":"%s","do":"rule","name":"T","half":"A","minor":"&/PHASES","text":": R ;"}', r"N\/MARG"),
@@ -232,13 +231,18 @@ def settings(told):
         (r'{"minor":"%s","do":"rule","name":"T","half":"A","hood":"N/MARG","text":": R ;"}', r"\u0026/\u0050HASES"),
         (r'{"do":"cycle","entries":[{"grid":"%s","a":"B","b":"\u002D","phase":0},%s]}', r"\u0045VEN"),
     ]:
-        second = compact(CYCLE["entries"][1])
-        filled = (lambda text, template=template: template.replace("%s", text, 1).replace("%s", second))
-        told.tell(filled(said), CYCLE if "cycle" in template else KEPT)
-        told.refused(filled("@"), [said + end for end in (r"\u0000", r"\n", r"\u0020", " ", "\u00e9", said)], NO_COMMAND)
-        told.refused(filled("@"), [said + end for end in (r"\ud800", r"\x", "\0", text_of(b"\xff"))], NO_JSON)
+        filled_in = partial(with_setting, template)
+        told.tell(filled_in(said), CYCLE if "cycle" in template else KEPT)
+        ends = (r"\u0000", r"\n", r"\u0020", " ", "\u00e9", said)
+        told.refused(filled_in("@"), [said + end for end in ends], NO_COMMAND)
+        told.refused(filled_in("@"), [said + end for end in (r"\ud800", r"\x", "\0", text_of(b"\xff"))], NO_JSON)
     told.do(STEP)
     told.look()
+
+
+def with_setting(template, text):
+    """A line with a setting, and with the last entry of the cycle where it is one."""
+    return template.replace("%s", text, 1).replace("%s", compact(CYCLE["entries"][1]))
 
 
 # Keys.
@@ -246,14 +250,14 @@ def settings(told):
 OTHERS = {"plane": 4, "row": 256, "n": 65536, "mask": 65536, "side": 100, "entries": [], "colours": [16] * 16,
           "name": "", "text": ": R FOO ;"}  # fmt: skip
 UNREAD = {"do": "fly", "bits": "00", "half": "C", "hood": "MARG", "minor": "&/CENTRES", "grid": "BOTH"}
-KEYS = ["do", "plane", "row", "bits", "name", "half", "hood", "minor", "text", "entries", "n", "colours", "mask", "side"]
+KEYS = list(dict.fromkeys(key for command in COMMANDS for key in command))
 
 
 def keys():
     told = Lines(
         "keys_in_lines",
-        "The keys of each command: in other orders, twice, of which the last one counts, and then lines without one of them,",
-        "with one too many, and with one that is spelled otherwise.",
+        "The keys of each command: in other orders, twice, of which the last one counts, and then lines without one of "
+        "them, with one too many, and with one that is spelled otherwise.",
         BITS=BITS, **{command["do"].upper(): object_of(command.items()) for command in COMMANDS if len(command) > 3},
     )  # fmt: skip
     for command in COMMANDS:
@@ -326,6 +330,8 @@ def keys_of_entries(told):
     for keys_of_entry in [*orders(pairs), *twice_in_entries(pairs)]:
         told.tell(with_entry(keys_of_entry, rear), CYCLE)
     told.do(STEP)
+    for key, value in [("a", "x"), ("b", "B"), ("phase", 4)]:
+        told.tell(with_entry([*pairs, (key, value)], rear), {"do": "cycle", "entries": [first | {key: value}, last]})
     for key, value in pairs:
         told.tell(with_entry(without(pairs, key), rear), NO_COMMAND)
         told.tell(with_entry([*pairs, (key, UNREAD.get(key))], rear), NO_COMMAND)
@@ -358,8 +364,8 @@ TOKENS = ["{", '"do"', ":", '"count"', ",", '"mask"', ":", "65535", "}"]
 def blanks():
     told = Lines(
         "blanks_in_lines",
-        "Blanks, tabs and CR between the words of a line, also behind its end, are free; nothing else is, and no line of blanks",
-        "alone is JSON. Lines with a mark of byte order, in other encodings, cut off, and two in one.",
+        "Blanks, tabs and CR between the words of a line, also behind its end, are free; nothing else is, and no line "
+        "of blanks alone is JSON. Lines with a mark of byte order, in other encodings, cut off, and two in one.",
     )
     told.begin("Between any two words, and at both ends.")
     for at in range(len(TOKENS) + 1):
@@ -383,8 +389,8 @@ def blanks():
         "\ufeff" + count, "\ufeff\ufeff" + count, " \ufeff" + count, count + "\ufeff", "\0" + count, count + "\0",
         text_of(b"\xfe\xff") + count, text_of(count.encode("utf-16-le")), text_of(count.encode("utf-16-be")),
         text_of(count.encode("utf-32-le")), text_of(b"\xff") + count, count + text_of(b"\xff"), count + count,
-        f"{count} {count}", f"{count},{count}", f"{count}\r{count}", f"[{count}", f"{count}]", f"({count})", f"{count};",
-        f"{count}}}", f"{{{count}", f"{{{count}}}", count.replace('"', "'"), count.replace('"', ""),
+        f"{count} {count}", f"{count},{count}", f"{count}\r{count}", f"[{count}", f"{count}]", f"({count})",
+        f"{count};", f"{count}}}", f"{{{count}", f"{{{count}}}", count.replace('"', "'"), count.replace('"', ""),
         count.replace('"', "\u201d"), count.replace(":", "="), count.replace(",", ";"), count.replace(",", ",,"),
         count.replace("}", ",}"), count.replace("{", "{,"), count.replace(":", "::"), count.replace('"do":', ""),
         "// " + count, count + " // ", "/* */" + count,
@@ -392,7 +398,8 @@ def blanks():
         told.tell(line, NO_JSON)
     for end in range(len(count)):
         told.tell(count[:end], NO_JSON)
-    for line in [f"[{count}]", compact(count), "0", '""', "[]", "{}", "[[]]", "null", "true", "false", '"\\u0000"', "-0"]:
+    others = ["0", "-0", '""', r'"\u0000"', "[]", "[[]]", "{}", "null", "true", "false"]
+    for line in [f"[{count}]", compact(count), *others]:
         told.tell(line, NO_COMMAND)
     told.tell(count, COUNT)
     told.look()
@@ -452,8 +459,9 @@ def deeper(line):
 def nested():
     told = Lines(
         "nested_lines",
-        f"Values that are nested {MOST_NESTED} deep are JSON, and those that are nested deeper aren't: arrays, objects, and both",
-        "in turn, each alone in its input, and then in the places of commands. Brackets in a text, or side by side, don't nest.",
+        f"Values that are nested {MOST_NESTED} deep are JSON, and those that are nested deeper aren't: arrays, "
+        "objects, and both in turn, each alone in its input, and then in the places of commands. Brackets in a text, "
+        "or side by side, don't nest.",
     )
     for build in (arrays, objects, both):
         for depth, fault in [(MOST_NESTED, NO_COMMAND), (MOST_NESTED + 1, NO_JSON)]:
@@ -465,6 +473,7 @@ def nested():
     for line, meaning in deep.items():
         told.tell(line, meaning)
         told.tell(deeper(line), NO_JSON)
+    told.look()
     told.begin("Not closed, closed too often or by the other bracket; side by side; in a text.")
     for line in [
         "[", "]", "{", "}", "[}", "{]", '{"x":]', "[[]", "[]]", '{"x":{}', '{"x":{}}}', 127 * "[", 128 * "[", 127 * "]",
@@ -487,8 +496,8 @@ def nested():
 def longest():
     told = Lines(
         "longest_lines",
-        "Lines of 16,384 bytes, the most that a line may have, and of one byte more, which are passed over, whatever they say;",
-        "the next line is answered as ever. Bytes are counted, CR and blanks among them, and LF isn't.",
+        "Lines of 16,384 bytes, the most that a line may have, and of one byte more, which are passed over, whatever "
+        "they say; the next line is answered as ever. Bytes are counted, CR and blanks among them, and LF isn't.",
         BITS=BITS,
     )
     for title, pad in [

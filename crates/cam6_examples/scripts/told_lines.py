@@ -6,6 +6,7 @@ of the machine alone in `hosts`. A text may have bytes that are no UTF-8, which 
 
 import re
 from os.path import dirname, join
+from textwrap import wrap
 
 import hosts
 from undoing import compact, short
@@ -39,12 +40,12 @@ def shown(text):
 
 
 class Told:
-    """An example of a player, of which the first lines are comments."""
+    """An example of a player: first what it shows and where its answers come from, and texts that have names."""
 
     def __init__(self, player, name, *comments, **named):
         self.path = join(CRATES, player, "data", f"{name}.example")
         self.named = named
-        self.lines = [f"# {comment}" for comment in comments]
+        self.lines = [f"# {line}" for comment in comments for line in wrap(comment, 117)]
         for word, text in named.items():
             self.say(f"let {word} {shown(text)}")
 
