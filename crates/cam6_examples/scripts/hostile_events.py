@@ -12,7 +12,7 @@ from events import BALLS, BLOCKS, rule_line
 from hostile_lines import CYCLE, KEPT, all_escaped, arrays, both, deeper, filled, objects
 from spellings import (
     CONTROLS, LINE_LIMIT, LONE_HALVES, MOST_NESTED, NO_COMMAND, NO_ESCAPES, NO_JSON, NO_JSON_NUMBERS, NO_NUMBERS,
-    NO_UNICODE, NOT_WHITE, NUMBERS, TEXTS, TOO_LONG, WHITE, object_of, orders, other_words, padded, renamed, without,
+    NOT_WHITE, NUMBERS, TEXTS, TOO_LONG, WHITE, object_of, orders, other_words, padded, renamed, without,
 )  # fmt: skip
 from told_events import ToldEvents
 from undoing import compact
@@ -23,7 +23,10 @@ RULE = rule_line("B", "A", *BLOCKS, BALLS)
 RULES = {"do": "rules"}
 COLLECT = {"event": "collect", "user": 1}
 BAND = {"event": "band", "board": 0}
-NOT_UTF_8 = {*NO_UNICODE, NO_JSON_NUMBERS[-1], NOT_WHITE[-1]}
+
+
+def is_utf_8(text):
+    return not any("\ud800" <= letter <= "\udfff" for letter in text)
 
 
 def ask(command, user=1):
@@ -81,7 +84,7 @@ class Events(ToldEvents):
     def refused(self, template, spellings, fault):
         """Lines with spellings in the place of @, all of this fault."""
         for spelling in spellings:
-            if spelling not in NOT_UTF_8:
+            if is_utf_8(spelling):
                 self.tell(template.replace("@", spelling), fault)
 
 
@@ -235,9 +238,7 @@ def blanks(told):
         for blank in WHITE:
             told.tell("".join([*TOKENS[:at], blank, *TOKENS[at:]]), BAND)
     for at in range(len(TOKENS) + 1):
-        for blank in NOT_WHITE:
-            if blank not in NOT_UTF_8:
-                told.tell("".join([*TOKENS[:at], blank, *TOKENS[at:]]), NO_JSON)
+        told.refused("".join([*TOKENS[:at], "@", *TOKENS[at:]]), NOT_WHITE, NO_JSON)
     for end in range(len(band)):
         told.tell(band[:end], NO_JSON)
     for line in [

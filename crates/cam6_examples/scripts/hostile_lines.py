@@ -373,8 +373,7 @@ def blanks():
             told.tell("".join([*TOKENS[:at], blank, *TOKENS[at:]]), COUNT)
     told.tell("\t\r ".join(["", *TOKENS, ""]), COUNT)
     for at in range(len(TOKENS) + 1):
-        for blank in NOT_WHITE:
-            told.tell("".join([*TOKENS[:at], blank, *TOKENS[at:]]), NO_JSON)
+        told.refused("".join([*TOKENS[:at], "@", *TOKENS[at:]]), NOT_WHITE, NO_JSON)
     told.look()
     told.begin("CR before the LF of each command.")
     for command in COMMANDS:
