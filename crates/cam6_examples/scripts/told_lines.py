@@ -1,0 +1,110 @@
+"""Lines and what comes of them, as an example of cam6_play_sessions says them.
+
+Shares nothing with the program. What a line says is told with it, by a plain command or by its fault; replies are those
+of the machine alone in `hosts`. A text may have bytes that are no UTF-8, which stand in it as `text_of` has them.
+"""
+
+import re
+from os.path import dirname, join
+from textwrap import wrap
+
+import hosts
+from undoing import compact, short
+
+CRATES = join(dirname(__file__), "..", "..")
+# A letter, or a text that begins with a bracket or the like, nine times at least; and bytes that aren't seen, or aren't
+# those of ASCII.
+REPEATED_OR_UNSEEN = re.compile(r"(.|[][{}(,\\ ][ -~]{1,19}?)\1{8,}|[^ -~]+", re.DOTALL)
+
+
+def text_of(data):
+    return data.decode("utf-8", "surrogateescape")
+
+
+def bytes_of(text):
+    return text.encode("utf-8", "surrogateescape")
+
+
+def marked(found):
+    """What was found, as an example may say it."""
+    text, unit = found[0], found[1] or found[0]
+    times = f"{len(text) // len(unit)}*" if found[1] else ""
+    said = unit if " " <= unit[0] <= "~" else f"x {bytes_of(unit).hex(' ').upper()}"
+    return f"«{times}{said}»"
+
+
+def shown(text):
+    """A text as an example says it; blanks at its ends stand in marks."""
+    text = REPEATED_OR_UNSEEN.sub(marked, text)
+    return re.sub("^ +| +$", lambda blanks: f"«{len(blanks[0])}* »", text)
+
+
+class Told:
+    """An example of a player: first what it shows and where its answers come from, and texts that have names."""
+
+    def __init__(self, player, name, *comments, **named):
+        self.path = join(CRATES, player, "data", f"{name}.example")
+        self.named = named
+        self.lines = [f"# {line}" for comment in comments for line in wrap(comment, 117)]
+        for word, text in named.items():
+            self.say(f"let {word} {shown(text)}")
+
+    def say(self, text):
+        self.lines.append(text)
+
+    def shown(self, text):
+        """A text as this example says it, by the texts that have names in it."""
+        text = shown(text)
+        for word, named in self.named.items():
+            text = text.replace(shown(named), f"«{word}»")
+        return text
+
+    def line(self, text, answer):
+        self.say(f"> {self.shown(text)} => {self.shown(compact(answer))}")
+
+    def tell(self, text, meaning):
+        """A line that says so, or has this fault."""
+        self.line(text, {"fault": meaning} if isinstance(meaning, int) else self.answer(meaning))
+
+    def write(self):
+        with open(self.path, "w", encoding="utf-8", newline="\n") as file:
+            file.write("\n".join(self.lines) + "\n")
+
+
+class Machine(hosts.Machine):
+    """A machine that shows its planes too."""
+
+    def do_plane(self, plane):
+        return {"rows": [self.torus.digits(plane, y) for y in range(self.torus.side)]} if plane < 4 else 65
+
+
+class ToldLines(Told):
+    """Sessions of an example, in each of which a blank machine is told lines."""
+
+    def session(self, title=None):
+        self.machine = Machine(256)
+        if title:
+            self.say(f"\n# {title}")
+        self.say("as session")
+
+    def answer(self, meaning):
+        return self.machine.do(meaning)
+
+    def line(self, text, answer):
+        """A line with its answer; a plane by those of its rows that have cells."""
+        if "rows" not in answer:
+            return super().line(text, answer)
+        self.say(f"> {self.shown(text)}\n< plane")
+        for y, digits in enumerate(answer["rows"]):
+            if digits.strip("0"):
+                self.say(f"= {y} {short(digits)}")
+
+    def tell_last(self, text, meaning):
+        """A line without an LF behind it."""
+        answer = {"fault": meaning} if isinstance(meaning, int) else self.answer(meaning)
+        self.say(f">> {self.shown(text)}\n< {self.shown(compact(answer))}")
+
+    def do(self, *commands):
+        """Commands, plainly spelled."""
+        for command in commands:
+            self.tell(compact(command), command)
