@@ -39,7 +39,13 @@ impl Sizes {
 
     fn core(&self, alloc: Global) -> Result<Core, NoMemory> {
         let limits = vec![in alloc; Side::S256; self.users]?;
-        Core::new(alloc, self.users, self.boards, self.tables, limits.as_slice())
+        Core::new(
+            alloc,
+            self.users,
+            self.boards,
+            self.tables,
+            limits.as_slice(),
+        )
     }
 }
 

@@ -26,9 +26,7 @@ use std::io::Read;
 
 fn main(rt: HostRuntime) -> io::Result<()> {
     let alloc = rt.alloc();
-    let words = std::env::args(&rt)?
-        .skip(1)
-        .collect::<Vec<String>>(alloc)?;
+    let words = std::env::args(&rt)?.skip(1).collect::<Vec<String>>(alloc)?;
     match words.as_slice() {
         [] => {
             let told = loads::told(alloc).unwrap_or("no memory");

@@ -72,6 +72,11 @@ IsSilent (NoMemory false) all remaining =
 abbrev pub StaysSilent : End → Option (List ℕ) → Option (List ℕ) → Type 0
 StaysSilent end read remaining = IfSome read (λ all. IsSilent end all remaining)
 
+-- what a line says, unless there is no memory for that
+abbrev pub Tells : Result (Result ℕ LineFault) End → List ℕ → Type 0
+Tells (Ok said) line = IsSaid said (seat line)
+Tells (Err end) line = (end ≡ NoMemory false) × TakesMemory line
+
 -- what the first line says, or why none is answered
 abbrev pub ReadsFirst : Result (Result ℕ LineFault) End → Option (List ℕ) → Option (List ℕ)
     → Type 0

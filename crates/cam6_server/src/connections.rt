@@ -6,7 +6,7 @@ ghost use Rattle.cam6_session.specs.Responding.{TakesMemory};
 ghost use Rattle.cam6_wire.specs.Commands.{IsSaid};
 ghost use Rattle.cam6_wire.specs.Seats.{seat};
 ghost use Rattle.cam6_server.specs.Connections.{AnswersOnly, Converses, ReadsFirst};
-ghost use Rattle.cam6_server.specs.Connections.{SitsDown, SitsDownAt};
+ghost use Rattle.cam6_server.specs.Connections.{SitsDown, SitsDownAt, Tells};
 
 use crate::desks::HostDesk;
 use crate::free_desks::FreeDesk;
@@ -67,13 +67,21 @@ fn first_line<R: BufRead>(alloc: Global, reader: &mut R) -> Result<Result<u64, L
     };
     let mut turns = TURNS;
     match next_line(reader, &mut line, &mut turns) {
-        Line::Ended | Line::Last => match said(alloc, &line) {
-            Err(LineFault::NoMemory) => Err(End::NoMemory { done: false }),
-            said => Ok(said),
-        },
+        Line::Ended | Line::Last => answerable(alloc, &line),
         Line::EndOfInput => Err(End::EndOfInput),
         Line::ReadFault => Err(End::ReadFault),
         Line::TurnBound => Err(End::TurnBound),
+    }
+}
+
+/// What a line says of a seat, unless there is no memory for that.
+fn answerable(alloc: Global, line: &LineBuf) -> Result<Result<u64, LineFault>, End>
+    ensures said { (l : List ℕ) → Holds line.now l → Tells result l }
+    ensures memory { result ≢ Ok (Err LineFault.NoMemory) }
+{
+    match said(alloc, line) {
+        Err(LineFault::NoMemory) => Err(End::NoMemory { done: false }),
+        said => Ok(said),
     }
 }
 
@@ -108,7 +116,7 @@ fn seated<H: Handle, R: BufRead, W: Write, O: Release>(
     user: u64,
     free: FreeDesk,
 ) -> Visit
-    ensures { SitsDownAt (machine_at free.now.desk) result
+    ensures { SitsDownAt (machine_at free.desk) result
         (R.remaining reader.old) (R.remaining reader.new)
         (W.contents writer.old) (W.contents writer.new) }
 {
