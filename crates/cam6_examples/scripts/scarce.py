@@ -76,6 +76,12 @@ class Refusal:
         self.file = os.path.join(self.folder.name, "refused")
         self.words = {"LD_PRELOAD": REFUSING, "REFUSED": str(number), "REFUSED_AT": self.file}
 
+    def __enter__(self):
+        return self
+
+    def __exit__(self, *_):
+        self.folder.cleanup()
+
     def was_met(self):
         return os.path.exists(self.file)
 
@@ -89,10 +95,6 @@ class Ran:
                                 env=os.environ | refusal.words, timeout=PATIENCE)
             self.was_met = refusal.was_met()
         self.status, self.out, self.err = it.returncode, it.stdout, it.stderr
-
-
-Refusal.__enter__ = lambda self: self
-Refusal.__exit__ = lambda self, *_: self.folder.cleanup()
 
 
 class Part:
@@ -152,14 +154,14 @@ def of_cam6(words, text, wants):
     return once
 
 
-def of_words(words, status, is_told):
-    """Runs cam6 on words for which it tells something and ends."""
+def of_words(words, status):
+    """Runs cam6 on words for which it tells something and ends, by the same text whether or not a request is refused."""
     def once(number):
-        ran = Ran(number, CAM6, words, "")
+        ran, ample = Ran(number, CAM6, words, ""), Ran(0, CAM6, words, "")
         told = "status %d, %r, %r" % (ran.status, ran.err, ran.out)
         if (ran.status, ran.err, ran.out) == (5, "cam6: no memory\n", ""):
             return ran.was_met, "as no memory", told
-        is_well = ran.status == status and is_told(ran)
+        is_well = ran.status == status and (ran.out, ran.err) == (ample.out, ample.err) and ran.out + ran.err
         return ran.was_met, ("unseen" if ran.was_met else "nothing") if is_well else None, told
     return once
 
@@ -321,7 +323,7 @@ class Served:
             self.port = free.getsockname()[1]
         self.process = subprocess.Popen(
             [CAM6, "serve", "--port", str(self.port), "--users", "1", "--boards", "1", "--cache", "1"],
-            stdin=subprocess.DEVNULL, stdout=subprocess.PIPE, stderr=subprocess.PIPE, text=True,
+            stdin=subprocess.DEVNULL, stdout=subprocess.DEVNULL, stderr=subprocess.PIPE, text=True,
             env=os.environ | self.refusal.words)
         self.first = self.process.stderr.readline()
         self.ended = 0
@@ -373,9 +375,10 @@ class Served:
     def end(self):
         is_there = self.process.poll() is None
         self.process.kill()
-        _, err = self.process.communicate()
+        err = self.first + self.process.stderr.read()
+        self.process.wait()
         self.refusal.folder.cleanup()
-        return is_there, self.first + err
+        return is_there, err
 
 
 def served_went(got, again, commands):
@@ -414,8 +417,8 @@ def of_server(commands):
 
 PARTS = {
     "two tables and a cache": of_loads(),
-    "cam6 with words for help": of_words(["--help"], 0, lambda ran: ran.out and not ran.err),
-    "cam6 with words that it refuses": of_words([str(i) for i in range(40)], 2, lambda ran: ran.err and not ran.out),
+    "cam6 with words for help": of_words(["--help"], 0),
+    "cam6 with words that it refuses": of_words([str(i) for i in range(40)], 2),
     "cam6 alone, the first session": of_cam6(["alone"], lines(FIRST), lambda number: [replies(FIRST)]),
     "the first session, taken up again": of_session(FIRST),
     "each command, taken up again": of_session(EACH),
