@@ -156,6 +156,15 @@ class Machine(hosts.Machine):
         self.due = way, n, self.position
         self.position = (self.position + (n if way == "after" else -n)) % len(self.entries)
 
+    def is_long(self, most):
+        """Whether so many cells are fewer than those of the steps that were put off."""
+        return self.due is not None and self.due[1] * self.torus.side**2 > most
+
+    def forget(self):
+        """Takes back the steps that were put off."""
+        _, _, self.position = self.due
+        self.due = None
+
     def settle(self):
         """Does the steps that were put off."""
         if self.due:
@@ -203,16 +212,18 @@ class Machine(hosts.Machine):
 class Alone:
     """The machine of one user, line by line."""
 
-    is_said = staticmethod(is_command)
-
     def __init__(self, limit):
         self.machine = Machine(limit)
 
-    def answer(self, line):
-        said = read_line(line, self.is_said)
+    def answer(self, line, most=None):
+        """The reply to a line; or None, if it has steps of more cells than the most, and nothing is done."""
+        said = read_line(line, is_command)
         if isinstance(said, int):
             return plain({"fault": said})
         reply = self.machine.do(said)
+        if most and self.machine.is_long(most):
+            self.machine.forget()
+            return None
         self.machine.settle()
         return plain(reply)
 
@@ -246,11 +257,10 @@ class Host(hosts.Host):
 class Replay:
     """A host, line by line."""
 
-    is_said = staticmethod(is_event)
-
     def __init__(self, limits, boards, capacity):
         self.host = Host(limits, boards, capacity)
 
     def answer(self, line):
-        said = read_line(line, self.is_said)
+        """What comes of a line."""
+        said = read_line(line, is_event)
         return plain({"fault": said} if isinstance(said, int) else self.host.apply(said))
