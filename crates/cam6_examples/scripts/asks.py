@@ -1,5 +1,5 @@
-"""Commands by chance for a machine: rules of all kinds and broken ones, cycles of them, pictures, steps both ways, looks at all
-that can be shown, and commands that are refused.
+"""Commands by chance for a machine: rules of all kinds and broken ones, cycles of them, pictures, steps both ways,
+looks at all that can be shown, and commands that are refused.
 """
 
 from hosts import SIDES
@@ -12,8 +12,8 @@ NO_RULE_NAMES = ["", "-", "x" * 25, "a b", 'a"b', "a\\b", "é", "a\x7f", "\x00",
 NUMBERS = [0, 1, 3, 4, 15, 16, 127, 128, 255, 256, 511, 512, 65535, 65536, 2**63, 2**64 - 1]
 # How often what is asked for.
 WEIGHTS = {
-    "picture": 10,
-    "steps": 24,
+    "picture": 12,
+    "steps": 34,
     "shown": 14,
     "other_cycle": 5,
     "rules_and_cycle": 8,
@@ -40,7 +40,7 @@ class Asker:
             self.wishes.append({"do": "side", "side": 512 if machine.limit == 512 and random.random() < 0.3 else 128})
         if random.random() < 0.2:
             self.wishes.append({"do": random.choice(["run", "back"]), "n": 0})
-        self.wishes += [self.ask_rules_and_cycle, self.ask_picture, self.ask_picture]
+        self.wishes += [self.ask_rules_and_cycle, self.ask_picture, self.ask_picture, self.ask_picture]
 
     def command(self):
         """The next command: of those that the user has in mind, or another."""
@@ -112,11 +112,12 @@ class Asker:
         return names | {"grid": self.random.choice(["EVEN", "ODD"]), "phase": self.random.randrange(4)}
 
     def ask_other_cycle(self):
-        """A cycle of rules that are there; mostly of such as can be undone, if there are any."""
-        rules = self.machine.rules
-        some = {name: rule for name, rule in rules.items() if self.random.random() < 0.3 or not rule.cause()}
-        halves = {half: [name for name, rule in some.items() if rule.half == half] for half in "AB"}
-        return {"do": "cycle", "entries": [self.entry(halves) for _ in range(self.random.choice([1, 1, 2, 2, 3, 4, 16]))]}
+        """A cycle of rules that are there: of any, or of such as can be undone."""
+        rules, is_undone = self.machine.rules, self.random.random() < 0.5
+        some = {name: rule.half for name, rule in rules.items() if not is_undone or not rule.cause()}
+        halves = {half: [name for name in some if some[name] == half] for half in "AB"}
+        number = self.random.choice([1, 1, 2, 2, 3, 4, 16])
+        return {"do": "cycle", "entries": [self.entry(halves) for _ in range(number)]}
 
     def ask_broken_rule(self):
         name = self.random.choice([*self.machine.rules, *RULE_NAMES, *RULE_NAMES])

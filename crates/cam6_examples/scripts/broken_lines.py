@@ -5,17 +5,21 @@ What a changed line says, if anything, isn't known here: that is told by `lines`
 
 from lines import LINE_LIMIT, plain
 
-NUMBERS = "0 1 2 3 4 15 16 17 127 128 255 256 65535 65536 18446744073709551615 18446744073709551616 -0 -1 0.0 1.0 1.5 1e2 1E0"
-NUMBERS += " 1e+1 1e-1 0e0 -1e999 1e999 1e308 1e309 1e-999 0e999 01 00 -01 +1 1. .5 1e 1e+ - 0x1 1_0 NaN Infinity -Infinity 1/2 1,0"
-NUMBERS += " 9223372036854775807 9223372036854775808 -9223372036854775808 -9223372036854775809 0.1e1 10e-1 1.0e0 2E00 ١ ４"
-NUMBERS = [*NUMBERS.split(), "9" * 30, "1" + "0" * 400, "0." + "0" * 400 + "1", "1" + "0" * 400 + "e-400", "1e00000000000000001"]
-VALUES = ["null", "true", "false", "[]", "{}", '""', '"0"', '"1"', "[0]", '{"n":1}', "nul", "True", "tru", "nulls", "'0'", ""]
+NUMBERS = "0 1 2 3 4 15 16 17 127 128 255 256 65535 65536 18446744073709551615 18446744073709551616 -0 -1 0.0 1.0 1.5"
+NUMBERS += " 1e2 1E0 1e+1 1e-1 0e0 -1e999 1e999 1e308 1e309 1e-999 0e999 01 00 -01 +1 1. .5 1e 1e+ - 0x1 1_0 NaN"
+NUMBERS += " Infinity -Infinity 1/2 1,0 9223372036854775807 9223372036854775808 -9223372036854775808"
+NUMBERS += " -9223372036854775809 0.1e1 10e-1 1.0e0 2E00 ١ ４ 1e00000000000000001"
+LARGE, SMALL = "1" + "0" * 400, "0." + "0" * 400 + "1"
+NUMBERS = [*NUMBERS.split(), "9" * 30, LARGE, SMALL, LARGE + "e-400", SMALL + "e+400"]
+VALUES = ["null", "true", "false", "[]", "{}", '""', '"0"', '"1"', "[0]", '{"n":1}', "nul", "True", "tru"]
+VALUES += ["nulls", "'0'", ""]
 KEYS = ["do", "n", "plane", "row", "event", "user", "board", "command", "x", "", "do ", "Do", "entries", "name", "bits"]
 # In strings: escapes that are none, halves of surrogates, and bytes that are no UTF-8.
 PIECES = [
-    *(rb"\x", rb"\u12", rb"\u123g", rb"\ud800", rb"\udc00", rb"\ud800\u0041", rb"\uD83D\uDE00", rb"\ud800\ud800", rb"\u0000"),
-    *(b"\\", b"\x00", b"\x1f", b"\x7f", b"\t", b"\xff", b"\x80", b"\xc0\x80", b"\xe2\x82", b"\xed\xa0\x80", b"\xf4\x90\x80\x80"),
-    *(b"\xc3\xa9", b"\xf0\x9f\x98\x80", rb"\/", rb"\n", rb"\"", b"\xef\xbb\xbf", b"\xc2\xa0", b"'", b'"', b" ", rb"\U0041", rb"\e"),
+    *(rb"\x", rb"\u12", rb"\u123g", rb"\ud800", rb"\udc00", rb"\ud800\u0041", rb"\uD83D\uDE00", rb"\ud800\ud800"),
+    *(b"\\", b"\x00", b"\x1f", b"\x7f", b"\t", b"\xff", b"\x80", b"\xc0\x80", b"\xe2\x82", b"\xed\xa0\x80"),
+    *(b"\xf4\x90\x80\x80", b"\xc3\xa9", b"\xf0\x9f\x98\x80", rb"\/", rb"\n", rb"\"", b"\xef\xbb\xbf", b"\xc2\xa0"),
+    *(rb"\u0000", b"'", b'"', b" ", rb"\U0041", rb"\e"),
 ]
 BYTES = b'"\\{}[],: 019.-+eEtnu\x00\t\r\x0b\x0c\x1f\x7f\x80\xc3\xff/'
 SPACES = [b""] * 6 + [b" ", b"  ", b"\t", b"\r", b" \t "]
@@ -40,7 +44,8 @@ class Speller:
         if isinstance(value, Raw):
             text = bytes(value)
         elif isinstance(value, dict):
-            text = self.joined(b"{", [self.text(key) + self.space() + b":" + self.spelled(value[key]) for key in self.keys(value)], b"}")
+            members = [self.text(key) + self.space() + b":" + self.spelled(value[key]) for key in self.keys(value)]
+            text = self.joined(b"{", members, b"}")
         elif isinstance(value, list):
             text = self.joined(b"[", [self.spelled(item) for item in value], b"]")
         else:
@@ -57,19 +62,19 @@ class Speller:
         return b'"' + b"".join(self.letter(letter) for letter in text) + b'"'
 
     def letter(self, letter):
-        units = letter.encode("utf-16-be")
         if self.random.random() < self.escapes:
-            hexadecimal = self.random.choice(["%04x", "%04X"])
-            return b"".join(b"\\u" + (hexadecimal % int.from_bytes(units[i : i + 2], "big")).encode() for i in range(0, len(units), 2))
+            digits = letter.encode("utf-16-be").hex()
+            units = [digits[i : i + 4] for i in range(0, len(digits), 4)]
+            return "".join("\\u" + self.random.choice([unit, unit.upper()]) for unit in units).encode()
         return b"\\/" if letter == "/" and self.random.random() < 0.1 else plain(letter)[1:-1]
 
 
 def places(value):
     """All places in a value: of each the list or object, and the index or key."""
-    inner = list(value.items()) if isinstance(value, dict) else list(enumerate(value)) if isinstance(value, list) else []
-    for key, item in inner:
+    keys = value if isinstance(value, dict) else range(len(value)) if isinstance(value, list) else []
+    for key in keys:
         yield value, key
-        yield from places(item)
+        yield from places(value[key])
 
 
 def copied(value):
@@ -84,9 +89,11 @@ class Breaker:
     def __init__(self, random):
         self.random = random
         # Ways to change what a line says, its spelling, and its bytes.
-        self.saying = [self.other_value, self.other_value, self.key_away, self.key_more, self.key_renamed, self.nested, self.other_text]
+        self.saying = [self.number, self.number, self.other_value, self.key_away, self.key_more, self.key_renamed]
+        self.saying += [self.nested, self.other_text]
         self.writing = [self.spelled] * 4 + [self.twice, self.in_a_string]
-        self.bytes = [self.byte, self.byte, self.byte_away, self.cut, self.doubled, self.padded, self.around, self.split, self.coded]
+        self.bytes = [self.byte, self.byte, self.byte_away, self.cut, self.doubled, self.padded, self.around]
+        self.bytes += [self.split, self.coded]
 
     def line(self, value):
         """The bytes of a line that says this value, or of one like it; an LF among them makes two lines."""
@@ -112,6 +119,12 @@ class Breaker:
     def other_value(self, value):
         inner, key = self.place(value)
         inner[key] = self.any_value()
+
+    def number(self, value):
+        """Another number in the place of one, if there is any."""
+        numbers = [(inner, key) for inner, key in places(value) if isinstance(inner[key], int)]
+        inner, key = self.random.choice(numbers or list(places(value)))
+        inner[key] = Raw(self.random.choice(NUMBERS).encode())
 
     def key_away(self, value):
         inner, key = self.place(value)
@@ -183,7 +196,7 @@ class Breaker:
 
     def padded(self, line):
         """A line with space up to the largest length, or about it."""
-        length = self.random.choice([LINE_LIMIT - 1, LINE_LIMIT, LINE_LIMIT, LINE_LIMIT + 1, LINE_LIMIT + 1, 3 * LINE_LIMIT])
+        length = LINE_LIMIT + self.random.choice([-1, 0, 0, 1, 1, 2, LINE_LIMIT, 2 * LINE_LIMIT])
         space = self.random.choice([b" ", b" ", b"\t", b"x"]) * max(0, length - len(line))
         return self.random.choice([line + space, space + line, line[:1] + space + line[1:]])
 
@@ -198,5 +211,5 @@ class Breaker:
 
     def coded(self, line):
         """In another code; or nothing, or no line at all."""
-        text = line.decode(errors="replace")
-        return self.random.choice([text.encode("utf-16-le"), text.encode("utf-16"), text.encode("utf-8-sig"), b"", b" ", b"\r", b"\x00"])
+        codes = [line.decode(errors="replace").encode(code) for code in ("utf-16-le", "utf-16", "utf-8-sig")]
+        return self.random.choice([*codes, b"", b" ", b"\r", b"\x00"])

@@ -1,8 +1,8 @@
-"""Worked examples, played through the machine and the host of `machines` instead of the program: what comes back must be what
-the file says. So the files judge the judge of `fuzz`.
+"""Worked examples, played through the machine and the host of `machines` instead of the program: what comes back must
+be what the file says. So the files judge what `fuzz` is judged by.
 
-Shares nothing with the program. It reads files as docs/GALLERY.md tells, and knows the ways `session`, `readings`, `texts`
-and `events`.
+Shares nothing with the program. It reads files as docs/GALLERY.md tells, and knows the ways `session`, `readings`,
+`texts`, `tables` and `events`; parts of other ways it passes over.
 """
 
 import re
@@ -171,6 +171,17 @@ def event_answer(replay, line):
     return b"unread" if re.match(rb"(bands|reply)( |$)", line) else replay.answer(line)
 
 
+def table_answer(text, half, hood, minor):
+    """The entries at all addresses, 64 a line, or where the rule stops."""
+    rule = rule_of(half, hood, minor, text.decode())
+    if isinstance(rule, dict):
+        return plain(rule)
+    places = [rule.lines.index(name) for name in rule.names]
+    said = (rule.said[tuple(address >> place & 1 for place in places)] for address in range(4096))
+    entries = "".join(str(lower + 2 * upper) for lower, upper in said)
+    return "\n".join(entries[i : i + 64] for i in range(0, 4096, 64)).encode()
+
+
 def answers(part):
     """What comes back of a part's lines, or None where its way isn't known."""
     word, *rest = part.way.split()
@@ -181,25 +192,16 @@ def answers(part):
     if word == "texts":
         return [text_answer(line, *rest) for line, _ in part.sent]
     if word == "tables":
-        return tables_answers(part.sent, rest)
+        return [table_answer(line, *rest) for line, _ in part.sent]
     if word == "events":
         return event_answers(part.way, part.sent)
     return None
 
 
-def tables_answers(sent, wiring):
-    """The entries at all addresses, 64 a line, or where the rule stops."""
-    return [table_answer(line.decode(), wiring) for line, _ in sent]
-
-
-def table_answer(text, wiring):
-    rule = rule_of(*wiring, text)
-    if isinstance(rule, dict):
-        return plain(rule)
-    places = [rule.lines.index(name) for name in rule.names]
-    said = (rule.said[tuple(address >> place & 1 for place in places)] for address in range(4096))
-    entries = "".join(str(lower + 2 * upper) for lower, upper in said)
-    return "\n".join(entries[i : i + 64] for i in range(0, 4096, 64)).encode()
+def first_difference(came, wanted):
+    """Where two lists differ first."""
+    pairs = enumerate(zip(came, wanted))
+    return next((i for i, (one, other) in pairs if one != other), min(len(came), len(wanted)))
 
 
 def play(path):
@@ -212,7 +214,7 @@ def play(path):
         wanted = part.wanted[:-1].split(b"\n")
         came = b"\n".join(came).split(b"\n")
         if came != wanted:
-            line = next((i for i, pair in enumerate(zip(came, wanted)) if pair[0] != pair[1]), min(len(came), len(wanted)))
+            line = first_difference(came, wanted)
             told = [lines[line][:200] if line < len(lines) else b"nothing" for lines in (came, wanted)]
             return f"failed {basename(path)}: part {number}, line {line + 1}: {told[0]} and not {told[1]}"
         compared += len(came)

@@ -6,17 +6,16 @@ usage: fuzz.py play PROGRAM SEED..    plays the four kinds of each seed, and say
        fuzz.py wanted KIND SEED       prints what must come back
        fuzz.py examples FILE..        plays worked examples through the plain machine instead of the program
 
-A `session` is of commands to the machine of one user: all that there are, with rules of all words, cycles, steps, looks,
-and each fault. A `replay` is of events by chance at a host of some users and boards, which ask for such commands; in
-the end all are brought to rest, and show their machines. In a `broken_session` and a `broken_replay` many lines are changed, in
-their bytes, in their spelling or in what they say.
+A `session` is of commands to the machine of one user: all that there are, with rules of all words, cycles, steps,
+looks, and each fault. A `replay` is of events by chance at a host of some users and boards, who ask for such commands;
+in the end all are brought to rest, and show their machines. In a `broken_session` and a `broken_replay` many lines are
+changed, in their bytes, in their spelling or in what they say.
 
-Shares nothing with the program: what comes back is what `machines` says, which reads lines and texts by itself, evaluates words at
-each cell, and looks for the state that an undone block was. A line is left out where it would take too long, or exact
-arithmetic, to say what comes of it.
+Shares nothing with the program: what comes back is what `machines` says, which reads lines and texts by itself,
+evaluates words at each cell, and looks for the state that an undone block was. A line is left out where it would take
+too long, or exact arithmetic, to say what comes of it.
 """
 
-import json
 import re
 import subprocess
 import sys
@@ -27,13 +26,16 @@ from tempfile import TemporaryFile
 import example_files
 from asks import NUMBERS, Asker
 from broken_lines import Breaker
+from example_files import first_difference
 from events import plane_masks
-from hosts import DEAD, IDLE
+from hosts import DEAD, IDLE, REFUSALS
 from lines import Unclear, lines_of, plain
 from machines import Alone, Replay
 
-# How many cells the steps of a line may have, how often a line is broken where some are, and how many bands are done at the end.
-MOST_CELLS, BROKEN, MOST_BANDS = 170_000, 0.4, 200
+# How many cells the steps of a line may have, and how many bands of a command are done at the end.
+MOST_CELLS, MOST_BANDS = 170_000, 200
+# How often a line is broken.
+BROKEN = 0.4
 
 
 class Play:
@@ -67,6 +69,14 @@ class Play:
             self.lines.append(line)
             self.wanted.append(answer)
 
+    def looks(self, asker):
+        """What shows a machine: counts, rows, a whole plane of the least side, colours, rules and the position."""
+        looks = [{"do": "count", "mask": mask} for mask in plane_masks()]
+        looks += [{"do": "row", "plane": plane, "row": asker.row()} for plane in range(4)]
+        looks += [{"do": "colours", "row": asker.row()}, {"do": "rules"}, {"do": "run", "n": 0}]
+        plane = [{"do": "plane", "plane": self.random.randrange(4)}]
+        return looks + (plane if asker.machine.torus.side == 128 else [])
+
     def text(self):
         return b"\n".join(self.lines) + (b"\n" if self.has_end else b"")
 
@@ -89,10 +99,8 @@ class Session(Play):
         self.say(self.asker.command())
 
     def end(self):
-        for mask in plane_masks():
-            self.say({"do": "count", "mask": mask})
-        for plane in range(4):
-            self.say({"do": "row", "plane": plane, "row": self.asker.row()})
+        for look in self.looks(self.asker):
+            self.say(look)
         if self.random.random() < 0.3:
             self.send(plain({"do": "rules"})[: self.random.randrange(14)])
 
@@ -101,7 +109,8 @@ class Schedule(Play):
     """Events at a host of users and boards."""
 
     def begin(self):
-        limit, users = self.random.choice([128, 128, 128, 256, 512]), self.random.choice([1, 2, 2, 3, 3, 4, 5, 8, 32])
+        limit = self.random.choice([128, 128, 128, 256, 512])
+        users = self.random.choice([1, 2, 2, 3, 3, 4, 5, 8, 32])
         boards, cache = self.random.choice([1, 1, 2, 2, 3, 4, 8]), self.random.choice([1, 2, 3, 4, 6, 16, 64])
         sizes = {"users": users, "boards": boards, "cache": cache, "side": limit}
         self.words = ["replay"] + [word for size, number in sizes.items() for word in (f"--{size}", str(number))]
@@ -151,9 +160,9 @@ class Schedule(Play):
         users, boards = list(self.host.users), list(self.host.boards)
         user = self.random.choice([*users] * 5 + [0, len(users) + 1, self.random.choice(NUMBERS)])
         board = self.random.choice([*boards] * 5 + [len(boards), self.random.choice(NUMBERS)])
-        word = self.random.choice(["ask", "ask", "lease", "lease", "lease", "band", "preempt", "fail", "repair", "collect"])
+        word = self.random.choice([*REFUSALS, "ask", "lease", "lease"])
         named = {"user": user} if word in ("ask", "lease", "collect") else {}
-        named |= {"board": board} if word not in ("ask", "collect") else {}
+        named |= {"board": board} if word not in ("ask", "collect", "evict") else {}
         named |= {"command": {"do": "run", "n": self.random.choice([0, 1, 2, 65536])}} if word == "ask" else {}
         self.event(word, **named)
 
@@ -214,9 +223,7 @@ class Schedule(Play):
             self.preempt(board)
 
     def show(self, user):
-        looks = [{"do": "count", "mask": mask} for mask in plane_masks()]
-        looks += [{"do": "row", "plane": plane, "row": self.askers[user].row()} for plane in range(4)]
-        for look in looks + [{"do": "run", "n": 0}]:
+        for look in self.looks(self.askers[user]):
             self.event("ask", user=user, command=look)
             self.collect(user)
 
@@ -246,11 +253,12 @@ def short(line):
 def difference(program, kind, seed, play, text, status):
     """The first line that comes back otherwise, and how to see it again."""
     came, wanted = lines_of(text), play.wanted
-    first = next((i for i, pair in enumerate(zip(came, wanted)) if pair[0] != pair[1]), min(len(came), len(wanted)))
+    first = first_difference(came, wanted)
     told = [short(lines[first]) if first < len(lines) else "nothing" for lines in (play.lines, came, wanted)]
     sent = f"python3 crates/cam6_examples/scripts/fuzz.py sent {kind} {seed}"
+    whole = f"{len(came)} lines came back, and the status is {status}"
     return [
-        f"failed {kind}, seed {seed}: line {first + 1} of {len(play.lines)}; {len(came)} came back, and the status is {status}",
+        f"failed {kind}, seed {seed}: line {first + 1} of {len(play.lines)}; {whole}",
         f"  sent   {told[0]}",
         f"  came   {told[1]}",
         f"  wanted {told[2]}",

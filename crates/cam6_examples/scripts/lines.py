@@ -1,8 +1,8 @@
 """Lines: what one of bytes says as JSON, and which command or event it is; or its fault.
 
 Shares nothing with the program. The reader of JSON is as strict as serde_json is: a text is UTF-8 without a byte order
-mark, no control character stands by itself in a string, a surrogate has its other one, lists and objects are 127 deep at
-most, and a number that is too large for a float is none. Of a key that is repeated the last one counts.
+mark, no control character stands by itself in a string, a surrogate has its other half, lists and objects are 127 deep
+at most, and a number that is too large for a float is none. Of a key that is repeated the last one counts.
 """
 
 import json

@@ -1,9 +1,9 @@
 """A machine, and a host that many users share, for whatever lines may say: rules of any text, and planes of any cells.
 
-Shares nothing with the program. What a command does beside, and what an event does, is said by `hosts`; here a rule is
-read by `texts`, and a torus is four planes of rows. A step looks row by row at what the cells see under each name of the
-rule, by what `wirings` says of one cell, and asks the rule's words at each cell; what they say of the same sight is kept. A step
-undone looks for the state that each block was.
+Shares nothing with the program. What else a command does, and what an event does, is said by `hosts`; here a rule is
+read by `texts`, and a torus is four planes of rows. A step looks, row by row, at what the cells see under each name of
+the rule, and asks the rule's words at each cell; what they said to the same sight is kept. A step undone looks for the
+state that each block was.
 """
 
 from functools import cache
@@ -21,8 +21,8 @@ CENTRES = {"CENTER", "CENTER'"}
 
 
 class Rule(undoing.Rule):
-    """A rule's words at a cell. What it sees is a list of bits, by the names of the rule in the order of their address lines.
-    The words are tried at all addresses, from the least on; lines whose names the rule hasn't can be left out."""
+    """A rule's words at a cell. What it sees is a list of bits, by the names of the rule in the order of their address
+    lines. The words are tried at all addresses, from the least on; lines of names that the rule hasn't are left out."""
 
     def __init__(self, half, hood, minor, text):
         self.half, self.hood, self.minor = half, hood, minor

@@ -10,7 +10,8 @@ from undoing import HPP, TM, TRON, TURNING
 
 TWOS = ["+", "*", "AND", "OR", "XOR", "=", "<", ">"]
 # Names that can be defined, though they look like other words.
-NAMES = ["R", "S", "T", "8SUM", "if", "dup", "x)", "()", ":)", ";;", "0==", "-1", "+1", "PLN0", ">PLN9", "N/VONN", "{}", "é", "١"]
+NAMES = ["R", "S", "T", "8SUM", "if", "dup", "x)", "()", ":)", ";;", "0==", "-1", "+1", "PLN0", ">PLN9", "N/VONN", "{}"]
+NAMES += ["é", "١"]
 COMMENTS = ["( )", "( a )", "( : R ; )", "( ( IF ) ", "( a b)", "( {\n} ;)", "(  x\t)", "( 70000 FOO :)"]
 SPACES = [" "] * 30 + ["  ", "\t", "\n", "\r\n", "\r", " \n\t"]
 BLOCK_TEXTS = [
@@ -35,12 +36,13 @@ def for_half(text, half):
 
 
 class Writer:
-    """Writes a text by chance for a half under a wiring, of a few of the neighbours, so that it is soon tried at all addresses."""
+    """Writes a text by chance for a half under a wiring. It looks at few neighbours, so that it is soon tried at all
+    addresses."""
 
     def __init__(self, random, half, hood, minor):
         self.random, self.half = random, half
         names = wirings.names(hood, minor)
-        self.seen = random.sample(names, min(len(names), random.choice([1, 2, 3, 3, 4, 5])))
+        self.seen = random.sample(names, min(len(names), random.choice([1, 2, 3, 3, 4, 5, 9])))
         # Of the definitions so far: those that leave a value, those that change one, and those of two.
         self.values, self.ones, self.twos = [], ["0="], list(TWOS)
         self.names = random.sample(NAMES, len(NAMES))
@@ -93,13 +95,13 @@ class Writer:
             lambda a, b, c: [*a, *b, "IF", self.random.choice(self.ones), "THEN"],
             lambda a, b, c: [*a, *b, "1", "AND", *c, "AND", "0=", "{", self.random.choice(self.ones), "0=", "}"],
             lambda a, b, c: self.chosen(),
-            lambda a, b, c: [*a, "1", "AND", *b, "1", "AND", "-"] if self.random.random() < 0.1 else [*a, "1", "AND", "1", "SWAP", "-"],
+            lambda a, b, c: [*(["1"] if self.random.random() < 0.9 else b), *a, "1", "AND", "-"],
         ]
         return self.random.choice(forms)(*(self.value(depth - 1) for _ in range(3)))
 
     def chosen(self):
         """One of some values, by how many of some neighbours are set; now and then there is one too few."""
-        seen = [self.random.choice(self.seen) for _ in range(self.random.randrange(1, 4))]
+        seen = [self.random.choice(self.seen) for _ in range(self.random.choice([1, 2, 3, 3, 8]))]
         words = [self.leaf() for _ in range(len(seen) + (self.random.random() > 0.05))]
         return [seen[0], *(token for name in seen[1:] for token in (name, "+")), "{", *words, "}"]
 
@@ -123,8 +125,8 @@ class Writer:
 
 
 def block_text(random, half, hood, minor):
-    """A rule of blocks that can be undone: the planes change places and turn, or one of them is changed by what the other one
-    shows."""
+    """A rule of blocks that can be undone: the planes change places and turn, or one of them is changed by what the
+    other one shows."""
     if random.random() < 0.3:
         text = random.choice(BLOCK_TEXTS)
         names = wirings.names(hood, minor)
@@ -168,7 +170,8 @@ def whole_text(random, half, hood, minor):
 
 
 ALL_TOKENS = [*sorted(RESERVED), *STACK_WORDS, *[":", ";", "(", ")", "{", "}", "IF", "ELSE", "THEN"] * 3, *NAMES]
-ALL_TOKENS += ["65535", "65536", "99999999999999999999", "0" * 30 + "7", "FOO", "R", "1\v2", "\u00a0", "a\u2028b", "\x00"]
+ALL_TOKENS += ["65535", "65536", "99999999999999999999", "0" * 30 + "7", "FOO", "R", "1\v2", "\u00a0"]
+ALL_TOKENS += ["a\u2028b", "\x00"]
 
 
 def changed(random, tokens):

@@ -88,7 +88,7 @@ def seen_by(items):
 
 
 class Reader:
-    """Reads a text for a half under a wiring, up to its first fault. `at` is the number of the token that was read last."""
+    """Reads a text for a half under a wiring, up to its first fault. `at` is the number of the last token so far."""
 
     def __init__(self, text, half, hood, minor):
         self.half, self.neighbours = half, names(hood, minor)
