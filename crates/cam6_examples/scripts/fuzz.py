@@ -36,6 +36,8 @@ from machines import Alone, Replay
 MOST_CELLS, MOST_BANDS = 170_000, 200
 # How often a line is broken.
 BROKEN = 0.4
+# A program that takes so many seconds for a play doesn't end at all.
+PATIENCE = 120
 
 
 class Play:
@@ -240,9 +242,9 @@ def ran(program, words, text):
     with TemporaryFile() as sent, TemporaryFile() as written:
         sent.write(text)
         sent.seek(0)
-        status = subprocess.run([program, *words], stdin=sent, stdout=written, check=False).returncode
+        done = subprocess.run([program, *words], stdin=sent, stdout=written, timeout=PATIENCE, check=False)
         written.seek(0)
-        return written.read(), status
+        return written.read(), done.returncode
 
 
 def short(line):
@@ -282,7 +284,7 @@ def play_all(program, seed):
             print("\n".join(difference(program, kind, seed, play, text, status)))
 
 
-def main(word, *words):
+def main(word="", *words):
     if word == "play":
         for seed in words[1:]:
             play_all(words[0], seed)
