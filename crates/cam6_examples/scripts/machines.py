@@ -6,6 +6,7 @@ the rule, and asks the rule's words at each cell; what they said to the same sig
 state that each block was.
 """
 
+from collections import Counter
 from functools import cache
 from itertools import product
 
@@ -206,7 +207,10 @@ class Machine(hosts.Machine):
     def do_count(self, mask):
         if mask > 65535:
             return 65
-        return {"count": sum(mask >> state & 1 for y in range(self.torus.side) for state in self.torus.states(y))}
+        found = Counter()
+        for y in range(self.torus.side):
+            found.update(self.torus.states(y))
+        return {"count": sum(cells for state, cells in found.items() if mask >> state & 1)}
 
 
 class Alone:
