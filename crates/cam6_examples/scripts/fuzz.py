@@ -4,6 +4,7 @@
 usage: fuzz.py play PROGRAM SEED..    plays the four kinds of each seed, and says how it went
        fuzz.py sent KIND SEED         prints the lines that are sent
        fuzz.py wanted KIND SEED       prints what must come back
+       fuzz.py least PROGRAM KIND SEED    prints few of the lines, of which the program answers the last one otherwise
        fuzz.py examples FILE..        plays worked examples through the plain machine instead of the program
 
 A `session` is of commands to the machine of one user: all that there are, with rules of all words, cycles, steps,
@@ -20,6 +21,7 @@ import re
 import subprocess
 import sys
 from collections import Counter
+from functools import partial
 from random import Random
 from tempfile import TemporaryFile
 
@@ -36,6 +38,7 @@ from machines import Alone, Replay
 MOST_CELLS, MOST_BANDS = 170_000, 200
 # How often a line is broken.
 BROKEN = 0.4
+LINE_FAULTS = [plain({"fault": number}) for number in (1, 2, 3)]
 # A program that takes so many seconds for a play doesn't end at all.
 PATIENCE = 120
 
@@ -48,19 +51,21 @@ class Play:
         self.breaker = Breaker(self.random) if kind.startswith("broken") else None
         self.lines, self.wanted = [], []
         self.begin()
-        count = self.random.randrange(60, 200)
-        while len(self.lines) < count:
+        for _ in range(self.random.randrange(100, 200)):
             self.next_line()
         self.breaker = None
         self.end()
         self.has_end = self.random.random() < 0.7 or not self.lines[-1]
 
     def say(self, value):
-        """Sends the line that says a value, or another one."""
-        is_broken = self.breaker and self.random.random() < BROKEN
-        line = self.breaker.line(value) if is_broken else plain(value)
-        for part in line.split(b"\n"):
-            self.send(part)
+        """Sends the line that says a value; before it, or instead of it, a broken one."""
+        if self.breaker and self.random.random() < BROKEN:
+            count = len(self.lines)
+            for line in self.breaker.line(value).split(b"\n"):
+                self.send(line)
+            if any(answer not in LINE_FAULTS for answer in self.wanted[count:]):
+                return
+        self.send(plain(value))
 
     def send(self, line):
         try:
@@ -72,12 +77,12 @@ class Play:
             self.wanted.append(answer)
 
     def looks(self, asker):
-        """What shows a machine: counts, rows, a whole plane of the least side, colours, rules and the position."""
+        """What shows a machine: counts, rows, planes, colours, rules and the position."""
         looks = [{"do": "count", "mask": mask} for mask in plane_masks()]
         looks += [{"do": "row", "plane": plane, "row": asker.row()} for plane in range(4)]
-        looks += [{"do": "colours", "row": asker.row()}, {"do": "rules"}, {"do": "run", "n": 0}]
-        plane = [{"do": "plane", "plane": self.random.randrange(4)}]
-        return looks + (plane if asker.machine.torus.side == 128 else [])
+        planes = self.random.sample(range(4), 4 if asker.machine.torus.side == 128 else 2)
+        looks += [{"do": "plane", "plane": plane} for plane in planes]
+        return looks + [{"do": "colours", "row": asker.row()}, {"do": "rules"}, {"do": "run", "n": 0}]
 
     def text(self):
         return b"\n".join(self.lines) + (b"\n" if self.has_end else b"")
@@ -91,7 +96,8 @@ class Session(Play):
         self.words = ["alone", "--side", str(limit)]
         if limit == 256 and self.random.random() < 0.7:
             self.words = self.random.choice([[], ["alone"]])
-        self.alone = Alone(limit)
+        self.new = partial(Alone, limit)
+        self.alone = self.new()
         self.asker = Asker(self.alone.machine, self.random)
 
     def answer(self, line):
@@ -116,9 +122,10 @@ class Schedule(Play):
         boards, cache = self.random.choice([1, 1, 2, 2, 3, 4, 8]), self.random.choice([1, 2, 3, 4, 6, 16, 64])
         sizes = {"users": users, "boards": boards, "cache": cache, "side": limit}
         self.words = ["replay"] + [word for size, number in sizes.items() for word in (f"--{size}", str(number))]
-        self.replay = Replay([limit] * users, boards, cache)
+        self.new = partial(Replay, [limit] * users, boards, cache)
+        self.replay = self.new()
         self.host = self.replay.host
-        self.askers = {number: Asker(user.machine, self.random, 40_000) for number, user in self.host.users.items()}
+        self.askers = {number: Asker(user.machine, self.random) for number, user in self.host.users.items()}
 
     def answer(self, line):
         return self.replay.answer(line)
@@ -175,13 +182,14 @@ class Schedule(Play):
         choices += [(3, self.collect, (user,)) for user in self.users("finished")]
         choices += [(2, self.lease, (user, board)) for user in self.users("queued") for board in self.boards(IDLE)]
         for board in self.boards(*self.users("out")):
-            choices += [(3, self.some_bands, (board,)), (1, self.preempt, (board,)), (0.5, self.fail, (board,))]
+            lost = 1.5 if self.user_on(board).left < self.user_on(board).home else 0.3
+            choices += [(4, self.some_bands, (board,)), (lost, self.preempt, (board,)), (lost, self.fail, (board,))]
             choices.append((0.4, self.lease, (self.random.choice(list(self.host.users)), board)))
         choices += [(1.5, self.repair, (board,)) for board in self.boards(DEAD)]
         choices += [(0.1, self.fail, (board,)) for board in self.boards(IDLE)]
         weights = [weight for weight, _, _ in choices]
         choices.append((0, self.any_event, ()))
-        _, do, named = self.random.choices(choices, [*weights, 0.2 * sum(weights)])[0]
+        _, do, named = self.random.choices(choices, [*weights, 0.1 * sum(weights)])[0]
         do(*named)
 
     def collect(self, user):
@@ -265,7 +273,30 @@ def difference(program, kind, seed, play, text, status):
         f"  came   {told[1]}",
         f"  wanted {told[2]}",
         f"  again  {sent} | {' '.join([program, *play.words])} | sed -n {first + 1}p",
+        f"  least  python3 crates/cam6_examples/scripts/fuzz.py least {program} {kind} {seed}",
     ]
+
+
+def differs(program, play, lines):
+    """Where the program answers lines otherwise first, if it does."""
+    new = play.new()
+    wanted = [new.answer(line) for line in lines]
+    came = lines_of(ran(program, play.words, b"".join(line + b"\n" for line in lines))[0])
+    return first_difference(came, wanted) if came != wanted else None
+
+
+def least(program, play):
+    """Lines that are left where as many are left out as can be, so that the last one is answered otherwise still."""
+    first = differs(program, play, play.lines)
+    lines = play.lines[: first + 1] if first is not None else []
+    size = len(lines) // 2
+    while size > 0:
+        for i in reversed(range(0, len(lines) - 1, size)):
+            fewer = lines[:i] + lines[min(i + size, len(lines) - 1) :]
+            if (first := differs(program, play, fewer)) is not None:
+                lines = fewer[: first + 1]
+        size //= 2
+    return lines
 
 
 def numbers(lines):
@@ -293,6 +324,8 @@ def main(word="", *words):
             print(example_files.play(path), flush=True)
     elif word == "sent":
         sys.stdout.buffer.write(play_of(*words).text())
+    elif word == "least":
+        sys.stdout.buffer.write(b"".join(line + b"\n" for line in least(words[0], play_of(*words[1:]))))
     elif word == "wanted":
         sys.stdout.buffer.write(b"".join(line + b"\n" for line in play_of(*words).wanted))
     else:

@@ -45,6 +45,9 @@ class Rule(undoing.Rule):
     def entry(self, state, phase, place):
         return self.said[tuple(self.bit(name, state, phase, place) for name in self.names)]
 
+    def map(self, phase):
+        return super().map(phase if any("PHASE" in name for name in self.names) else 0)
+
     @cache
     def cause(self):
         return super().cause()
@@ -135,9 +138,9 @@ class Torus:
     def put(self, plane, y, digits):
         self.planes[plane][y] = bytes(map(int, f"{int(digits, 16):0{self.side}b}"))
 
-    def states(self, y):
-        """The states of a row's cells."""
-        return [a + 2 * b + 4 * c + 8 * d for a, b, c, d in zip(*(plane[y] for plane in self.planes))]
+    def cells(self, y):
+        """The cells of a row, each by its bits in the four planes."""
+        return zip(*(plane[y] for plane in self.planes))
 
 
 class Machine(hosts.Machine):
@@ -202,15 +205,15 @@ class Machine(hosts.Machine):
     def do_colours(self, row):
         if not self.has_row(0, row):
             return 65
-        return {"colours": "".join(f"{self.colours[state]:x}" for state in self.torus.states(row))}
+        states = [sum(bit << plane for plane, bit in enumerate(cell)) for cell in self.torus.cells(row)]
+        return {"colours": "".join(f"{self.colours[state]:x}" for state in states)}
 
     def do_count(self, mask):
         if mask > 65535:
             return 65
-        found = Counter()
-        for y in range(self.torus.side):
-            found.update(self.torus.states(y))
-        return {"count": sum(cells for state, cells in found.items() if mask >> state & 1)}
+        found = Counter(cell for y in range(self.torus.side) for cell in self.torus.cells(y))
+        states = {cell: sum(bit << plane for plane, bit in enumerate(cell)) for cell in found}
+        return {"count": sum(number for cell, number in found.items() if mask >> states[cell] & 1)}
 
 
 class Alone:

@@ -43,6 +43,7 @@ class Writer:
         self.random, self.half = random, half
         names = wirings.names(hood, minor)
         self.seen = random.sample(names, min(len(names), random.choice([1, 2, 3, 3, 4, 5, 9])))
+        self.seen += [name for name in wirings.MINORS[minor].split() if name not in self.seen and random.random() < 0.4]
         # Of the definitions so far: those that leave a value, those that change one, and those of two.
         self.values, self.ones, self.twos = [], ["0="], list(TWOS)
         self.names = random.sample(NAMES, len(NAMES))
