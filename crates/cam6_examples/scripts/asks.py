@@ -108,7 +108,7 @@ class Asker:
         is_undone = self.random.random() < 0.5
         wiring, text_of = (self.block_wiring, block_text) if is_undone else (self.wiring, whole_text)
         rules = [self.rule(name, text_of, *wiring(half)) for name, half in zip(names, halves)]
-        words = ("run", "back") if is_undone else ("run",)
+        words = ("run", "back") if is_undone else ("run", "run", "run", "back")
         steps = [lambda: self.ask_steps(words), self.random.choice([self.ask_plane, self.ask_plane, self.ask_shown])]
         pictures = [self.ask_picture] * self.random.randrange(2, 6)
         self.wishes = [*rules, lambda: self.cycle_of(names), *pictures, *steps, *steps, self.ask_picture, *steps]
