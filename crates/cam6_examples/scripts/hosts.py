@@ -121,9 +121,16 @@ class Machine:
     """A user's machine. Each command's answer is what its reply tells besides its word, or the number of its fault."""
 
     def __init__(self, limit):
-        self.limit, self.torus = limit, Torus(min(256, limit))
+        self.limit, self.torus = limit, self.blank(min(256, limit))
         self.rules, self.entries, self.position = {}, [], 0
         self.colours = list(range(16))
+
+    def blank(self, side):
+        return Torus(side)
+
+    def rule(self, half, hood, minor, text):
+        """The rule of a text, or what is answered where it is none."""
+        return NO_RULES.get(text) or rule_of(half, hood, minor, text)
 
     def do(self, command):
         """The reply to a command, which is done."""
@@ -174,9 +181,10 @@ class Machine:
             return 61
         if name not in self.rules and len(self.rules) == 16:
             return 62
-        if text in NO_RULES:
-            return NO_RULES[text]
-        self.rules[name] = rule_of(half, hood, minor, text)
+        rule = self.rule(half, hood, minor, text)
+        if isinstance(rule, dict):
+            return rule
+        self.rules[name] = rule
         return {}
 
     def do_drop(self, name):
@@ -213,14 +221,21 @@ class Machine:
                 own[half] = getattr(self.torus, way)(rule, entry["grid"], entry["phase"])
         self.torus.cells = own["A"] | own["B"]
 
+    def go(self, way, n):
+        """So many steps by the entries after the position, or undone by those before it."""
+        for _ in range(n):
+            if way == "before":
+                self.position = (self.position - 1) % len(self.entries)
+            self.entry(way)
+            if way == "after":
+                self.position = (self.position + 1) % len(self.entries)
+
     def do_run(self, n):
         if n > 65535:
             return 65
         if not self.entries:
             return 63
-        for _ in range(n):
-            self.entry("after")
-            self.position = (self.position + 1) % len(self.entries)
+        self.go("after", n)
         return {"position": self.position}
 
     def do_back(self, n):
@@ -231,9 +246,7 @@ class Machine:
         for i, half, name in self.uses():
             if cause := self.rules[name].cause():
                 return {"entry": i, "fault": 64, "half": half} | cause
-        for _ in range(n):
-            self.position = (self.position - 1) % len(self.entries)
-            self.entry("before")
+        self.go("before", n)
         return {"position": self.position}
 
     def do_side(self, side):
@@ -241,7 +254,7 @@ class Machine:
             return 65
         if side > self.limit:
             return 67
-        self.torus, self.position = Torus(side), 0
+        self.torus, self.position = self.blank(side), 0
         return {}
 
     def do_map(self, colours):

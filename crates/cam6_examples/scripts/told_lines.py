@@ -8,7 +8,7 @@ import re
 from os.path import dirname, join
 from textwrap import wrap
 
-import hosts
+from hosts import Machine
 from undoing import compact, short
 
 CRATES = join(dirname(__file__), "..", "..")
@@ -69,13 +69,6 @@ class Told:
     def write(self):
         with open(self.path, "w", encoding="utf-8", newline="\n") as file:
             file.write("\n".join(self.lines) + "\n")
-
-
-class Machine(hosts.Machine):
-    """A machine that shows its planes too."""
-
-    def do_plane(self, plane):
-        return {"rows": [self.torus.digits(plane, y) for y in range(self.torus.side)]} if plane < 4 else 65
 
 
 class ToldLines(Told):

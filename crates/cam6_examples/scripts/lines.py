@@ -1,0 +1,269 @@
+"""Lines: what one of bytes says as JSON, and which command or event it is; or its fault.
+
+Shares nothing with the program. The reader of JSON is as strict as serde_json is: a text is UTF-8 without a byte order
+mark, no control character stands by itself in a string, a surrogate has its other half, lists and objects are 127 deep
+at most, and a number that is too large for a float is none. Of a key that is repeated the last one counts.
+"""
+
+import json
+import re
+
+from wirings import HOODS, MINORS
+
+LINE_LIMIT, MOST_NESTED = 16384, 127
+LARGEST_NUMBER = 2**64 - 1
+# The first digits of the least number that is too large for a float, which is so many digits long.
+TOO_LARGE, TOO_LONG = 17976931348623158, 309
+DIGITS = "0123456789abcdefABCDEF"
+
+
+class NoJson(Exception):
+    """The bytes are no JSON value."""
+
+
+class Unclear(Exception):
+    """It takes exact arithmetic to say whether a number is too large: no line of ours has one."""
+
+
+class OtherNumber:
+    """A number that is none of 0 to 2**64 - 1 in digits alone."""
+
+
+class Reader:
+    def __init__(self, line):
+        self.line, self.at, self.depth = line, 0, 0
+
+    def found(self, pattern):
+        """What stands here, if it is of this pattern; it is passed."""
+        if found := re.compile(pattern).match(self.line, self.at):
+            self.at = found.end()
+        return found
+
+    def need(self, pattern):
+        found = self.found(pattern)
+        if not found:
+            raise NoJson
+        return found[0]
+
+    def space(self):
+        self.found(rb"[ \t\n\r]*")
+
+    def whole(self):
+        """The value that is the whole line."""
+        value = self.value()
+        self.space()
+        if self.at < len(self.line):
+            raise NoJson
+        return value
+
+    def value(self):
+        self.space()
+        for word, value in (rb"null", None), (rb"true", True), (rb"false", False):
+            if self.found(word):
+                return value
+        first = self.line[self.at : self.at + 1]
+        if first == b'"':
+            return self.text()
+        if first in (b"[", b"{"):
+            self.depth += 1
+            if self.depth > MOST_NESTED:
+                raise NoJson
+            value = self.items() if first == b"[" else self.members()
+            self.depth -= 1
+            return value
+        return self.number()
+
+    def items(self):
+        self.need(rb"\[")
+        items = []
+        self.space()
+        if self.found(rb"\]"):
+            return items
+        while True:
+            items.append(self.value())
+            self.space()
+            if self.need(rb"[],]") == b"]":
+                return items
+
+    def members(self):
+        self.need(rb"\{")
+        members = {}
+        self.space()
+        if self.found(rb"\}"):
+            return members
+        while True:
+            self.space()
+            key = self.text()
+            self.space()
+            self.need(rb":")
+            members[key] = self.value()
+            self.space()
+            if self.need(rb"[},]") == b"}":
+                return members
+
+    def text(self):
+        self.need(rb'"')
+        text = b""
+        while not self.found(rb'"'):
+            text += self.found(rb'[^"\\\x00-\x1f]*')[0]
+            if self.found(rb"\\"):
+                text += self.escaped().encode()
+            elif self.line[self.at : self.at + 1] != b'"':
+                raise NoJson
+        try:
+            return text.decode()
+        except UnicodeDecodeError:
+            raise NoJson from None
+
+    def escaped(self):
+        letter = self.need(rb'["\\/bfnrtu]').decode()
+        if letter != "u":
+            return {"b": "\b", "f": "\f", "n": "\n", "r": "\r", "t": "\t"}.get(letter, letter)
+        unit = self.unit()
+        if 0xD800 <= unit < 0xDC00:
+            self.need(rb"\\u")
+            low = self.unit()
+            if not 0xDC00 <= low < 0xE000:
+                raise NoJson
+            return chr(0x10000 + (unit - 0xD800 << 10) + low - 0xDC00)
+        if 0xDC00 <= unit < 0xE000:
+            raise NoJson
+        return chr(unit)
+
+    def unit(self):
+        return int(self.need(rb"[0-9a-fA-F]{4}"), 16)
+
+    def number(self):
+        found = self.found(rb"(-?)(0|[1-9][0-9]*)(\.([0-9]+))?([eE]([+-]?[0-9]+))?")
+        if not found:
+            raise NoJson
+        minus, whole, point, part, power, exponent = found.groups()
+        if not minus and not point and not power and len(whole) <= 20 and int(whole) <= LARGEST_NUMBER:
+            return int(whole)
+        if is_too_large(whole + (part or b""), len(whole), exponent or b"0"):
+            raise NoJson
+        return OtherNumber()
+
+
+def is_too_large(digits, whole, exponent):
+    """Whether the digits, of which so many stand before the point, are too large for a float with this exponent."""
+    first, power = digits.lstrip(b"0"), exponent.lstrip(b"+-").lstrip(b"0") or b"0"
+    if not first or len(power) > 9:
+        return bool(first) and not exponent.startswith(b"-")
+    ten = -int(power) if exponent.startswith(b"-") else int(power)
+    length = whole - (len(digits) - len(first)) + ten
+    if length != TOO_LONG:
+        return length > TOO_LONG
+    beyond = int(first[:17].ljust(17, b"0")) - TOO_LARGE
+    if abs(beyond) < 1000:
+        raise Unclear
+    return beyond > 0
+
+
+def is_number(value):
+    return type(value) is int
+
+
+def is_text(value):
+    return isinstance(value, str)
+
+
+def is_bits(value):
+    return is_text(value) and len(value) in (32, 64, 128) and all(digit in DIGITS for digit in value)
+
+
+def one_of(*words):
+    return lambda value: is_text(value) and value in words
+
+
+def is_object(value, **shapes):
+    """Whether the value is an object with exactly these keys, each of its shape."""
+    return (
+        isinstance(value, dict)
+        and set(value) == set(shapes)
+        and all(is_shape(value[key]) for key, is_shape in shapes.items())
+    )
+
+
+def is_entry(value):
+    return is_object(value, a=is_text, b=is_text, grid=one_of("EVEN", "ODD"), phase=is_number)
+
+
+def is_list_of(is_shape):
+    return lambda value: isinstance(value, list) and all(map(is_shape, value))
+
+
+def is_map(value):
+    return is_list_of(is_number)(value) and len(value) == 16
+
+
+COMMANDS = {
+    "set": {"plane": is_number, "row": is_number, "bits": is_bits},
+    "clear": {"plane": is_number},
+    "row": {"plane": is_number, "row": is_number},
+    "plane": {"plane": is_number},
+    "rule": {
+        "name": is_text,
+        "half": one_of("A", "B"),
+        "hood": one_of(*HOODS),
+        "minor": one_of(*MINORS),
+        "text": is_text,
+    },
+    "drop": {"name": is_text},
+    "rules": {},
+    "cycle": {"entries": is_list_of(is_entry)},
+    "run": {"n": is_number},
+    "back": {"n": is_number},
+    "map": {"colours": is_map},
+    "colours": {"row": is_number},
+    "count": {"mask": is_number},
+    "side": {"side": is_number},
+}
+
+
+def is_one_of(value, key, table):
+    """Whether the value is an object whose key has a word of the table, and the keys of the word."""
+    word = value.get(key) if isinstance(value, dict) else None
+    return is_text(word) and word in table and is_object(value, **{key: is_text}, **table[word])
+
+
+def is_command(value):
+    return is_one_of(value, "do", COMMANDS)
+
+
+EVENTS = {
+    "ask": {"user": is_number, "command": is_command},
+    "lease": {"user": is_number, "board": is_number},
+    "band": {"board": is_number},
+    "preempt": {"board": is_number},
+    "fail": {"board": is_number},
+    "repair": {"board": is_number},
+    "evict": {},
+    "collect": {"user": is_number},
+}
+
+
+def is_event(value):
+    return is_one_of(value, "event", EVENTS)
+
+
+def read_line(line, is_said):
+    """What a line says, a command or an event; or the number of its fault."""
+    if len(line) > LINE_LIMIT:
+        return 1
+    try:
+        value = Reader(line).whole()
+    except NoJson:
+        return 2
+    return value if is_said(value) else 3
+
+
+def lines_of(text):
+    """The lines of bytes, of which the last may lack its LF."""
+    lines = text.split(b"\n")
+    return lines if lines[-1] else lines[:-1]
+
+
+def plain(value):
+    """The compact text of a value, its keys in byte order."""
+    return json.dumps(value, separators=(",", ":"), sort_keys=True, ensure_ascii=False).encode()
