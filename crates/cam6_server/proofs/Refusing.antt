@@ -1,6 +1,6 @@
 -- What a first line is refused by.
 use Rattle.std.proofs.Common.{◌≡◌, ◌≢◌, ℕ, List, [], ◌∷◌, ◌++◌, Option, Some, None, IfSome}
-use Rattle.std.proofs.Common.{Result, Ok, Err, inl, inr, refl, sym, subst}
+use Rattle.std.proofs.Common.{Result, Ok, Err, inl, inr, refl, subst}
 use Rattle.cam6_wire.specs.Commands.{IsFaultOf}
 use Rattle.cam6_wire.specs.Replies.{fault_bytes}
 use Rattle.cam6_wire.specs.Seats.{seating_bytes}
@@ -10,10 +10,11 @@ use Rattle.cam6_wire.specs.declared.faults.LineFault.TheVariants.{NoCommand}
 use Rattle.cam6_wire.specs.declared.seats.Seating.{Seating}
 use Rattle.cam6_wire.specs.declared.seats.Seating.TheVariants.{Seated, Taken, NoUser}
 use Rattle.cam6_server.specs.Connections.{AnswersOnly, Converses, FirstSays, IsFirst, IsRefusal}
+use Rattle.cam6_server.specs.Connections.{IsRefused, Went}
 use Rattle.cam6_server.specs.Places.{Takes}
 use Rattle.cam6_server.specs.declared.free_desks.FreeDesk.{FreeDesk}
 use Rattle.cam6_server.specs.declared.connections.Visit.{Visit}
-use Rattle.cam6_server.specs.declared.connections.Visit.TheVariants.{Refused}
+use Rattle.cam6_server.specs.declared.connections.Visit.TheVariants.{Silent, Refused, Unheard, Served}
 
 fault_is : (fault : LineFault) (said : Result ℕ LineFault) → fault ≢ NoMemory →
     IsFaultOf fault said → said ≡ Err fault
@@ -47,19 +48,26 @@ by_seating user seating None remaining refused says = tt
 by_seating user seating (Some all) remaining refused (line, unread, first, left, said) =
     (line, unread, first, inr (user, seating, said, refused, refl))
 
-went : (answer : List ℕ) (read remaining old new : Option (List ℕ)) →
-    IsRefusedBy answer read → AnswersOnly answer old new →
-    Converses Refused read remaining old new
-went answer None remaining old new is written = tt
-went answer (Some all) remaining None new is written = tt
-went answer (Some all) remaining (Some out) new (line, unread, first, refusal) written =
-    (line, unread, answer, first, refusal, written)
+-- the same as by how it went
+told : (visit : Visit) (all : List ℕ) (remaining : Option (List ℕ)) (out : List ℕ)
+    (new : Option (List ℕ)) → IsRefused visit all out new → Went visit all remaining out new
+told (Silent end) all remaining out new (line, unread, answer, first, refusal, none) = absurd none
+told Refused all remaining out new refused = refused
+told Unheard all remaining out new refused = inl refused
+told (Served end) all remaining out new (line, unread, answer, first, refusal, none) = absurd none
 
--- what is refused, and told so
-pub refused : (visit : Visit) (text answer : List ℕ) (read remaining old new : Option (List ℕ)) →
-    visit ≡ Refused → text ≡ answer → IsRefusedBy answer read → AnswersOnly text old new →
+went : (visit : Visit) (answer : List ℕ) (read remaining old new : Option (List ℕ)) →
+    IsRefusedBy answer read → AnswersOnly visit answer old new →
     Converses visit read remaining old new
-refused visit text answer read remaining old new is same by written =
-    subst (λ (v : Visit). Converses v read remaining old new) (sym is)
-    (went answer read remaining old new by
-    (subst (λ (bytes : List ℕ). AnswersOnly bytes old new) same written))
+went visit answer None remaining old new is written = tt
+went visit answer (Some all) remaining None new is written = tt
+went visit answer (Some all) remaining (Some out) new (line, unread, first, refusal) written =
+    told visit all remaining out new (line, unread, answer, first, refusal, written)
+
+-- what is refused, and answered so
+pub refused : (visit : Visit) (text answer : List ℕ) (read remaining old new : Option (List ℕ)) →
+    text ≡ answer → IsRefusedBy answer read → AnswersOnly visit text old new →
+    Converses visit read remaining old new
+refused visit text answer read remaining old new same by written =
+    went visit answer read remaining old new by
+    (subst (λ (bytes : List ℕ). AnswersOnly visit bytes old new) same written)

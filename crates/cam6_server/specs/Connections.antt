@@ -40,9 +40,22 @@ abbrev pub WritesFrontOf : List ℕ → List ℕ → Option (List ℕ) → Type 
 WritesFrontOf answer out new =
     (front rest : List ℕ) × (answer ≡ front ++ rest) × (new ≡ Some (out ++ front))
 
+-- a refusal was written; or a front of it, as it can't be written whole
+abbrev pub Refuses : Visit → List ℕ → List ℕ → Option (List ℕ) → Type 0
+Refuses (Silent end) answer out new = ⊥
+Refuses Refused answer out new = new ≡ Some (out ++ answer)
+Refuses Unheard answer out new = WritesFrontOf answer out new
+Refuses (Served end) answer out new = ⊥
+
 -- the same of a writer that tells its bytes
-abbrev pub AnswersOnly : List ℕ → Option (List ℕ) → Option (List ℕ) → Type 0
-AnswersOnly answer old new = IfSome old (λ out. WritesFrontOf answer out new)
+abbrev pub AnswersOnly : Visit → List ℕ → Option (List ℕ) → Option (List ℕ) → Type 0
+AnswersOnly visit answer old new = IfSome old (λ out. Refuses visit answer out new)
+
+-- the first line is refused
+abbrev pub IsRefused : Visit → List ℕ → List ℕ → Option (List ℕ) → Type 0
+IsRefused visit all out new =
+    (line unread answer : List ℕ) × IsFirst all line unread × IsRefusal line answer
+    × Refuses visit answer out new
 
 -- what the first line of a reader's bytes says, and those behind it are unread
 abbrev pub FirstSays : Result ℕ LineFault → Option (List ℕ) → Option (List ℕ) → Type 0
@@ -112,14 +125,13 @@ IsSeated visit all remaining out new =
     (line unread : List ℕ) × (user : ℕ) × IsFirst all line unread × (seat line ≡ Ok user)
     × ((m n : Machine) × Sits visit unread remaining out new m n)
 
--- by how it went: nothing was written; or what the first line is refused by, or a front of it; or
--- the seat is had
+-- by how it went: nothing was written; or what the first line is refused by; or a front of that, or
+-- of what tells that the seat is had; or the seat is had
 abbrev pub Went : Visit → List ℕ → Option (List ℕ) → List ℕ → Option (List ℕ) → Type 0
 Went (Silent end) all remaining out new = (new ≡ Some out) × IsSilent end all remaining
-Went Refused all remaining out new =
-    (line unread answer : List ℕ) × IsFirst all line unread × IsRefusal line answer
-    × WritesFrontOf answer out new
-Went Unheard all remaining out new = IsSeated Unheard all remaining out new
+Went Refused all remaining out new = IsRefused Refused all out new
+Went Unheard all remaining out new =
+    IsRefused Unheard all out new ⊎ IsSeated Unheard all remaining out new
 Went (Served end) all remaining out new = IsSeated (Served end) all remaining out new
 
 -- the same of a reader and a writer that tell their bytes, those before and those after

@@ -25,9 +25,10 @@ const TURNS: u64 = 1_099_511_627_776;
 pub enum Visit {
     /// No first line was answered, for this reason. Nothing was written.
     Silent(End),
-    /// Its first line was refused; the answer was written, or a front of it.
+    /// Its first line was refused, and answered so.
     Refused,
-    /// Its user had his seat, but what told it could not be written whole.
+    /// What answers its first line, as one that is refused or as one whose user has his seat, could not
+    /// be written whole.
     Unheard,
     /// Its user had his machine, and the session ended so.
     Served(End),
@@ -97,13 +98,14 @@ fn said(alloc: Global, line: &LineBuf) -> Result<u64, LineFault>
     read_seat(alloc, bytes)
 }
 
-/// Answers a first line that is refused. Where that can't be written there is nobody to be told.
+/// Answers a first line that is refused.
 fn refuse<W: Write>(writer: &mut W, answer: &str) -> Visit
-    ensures visit { result ≡ Visit.Refused }
-    ensures written { AnswersOnly answer.now (W.contents writer.old) (W.contents writer.new) }
+    ensures { AnswersOnly result answer.now (W.contents writer.old) (W.contents writer.new) }
 {
-    let _ = send(writer, answer.as_bytes());
-    Visit::Refused
+    match send(writer, answer.as_bytes()) {
+        Ok(()) => Visit::Refused,
+        Err(_) => Visit::Unheard,
+    }
 }
 
 /// A session at the user's desk, which is free again behind it.

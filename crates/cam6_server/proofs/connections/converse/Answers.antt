@@ -8,19 +8,19 @@ pub returns-in-Ok-Err : goal.returns-in-Ok-Err
 returns-in-Ok-Err g c =
     let read = g.R.Read.remaining c.args.reader.now in
     let remaining = g.R.Read.remaining c.first_line.new.reader in
-    refused _ _ _ read remaining _ _ c.refuse.ensures.visit c.fault_line.ensures
+    refused _ _ _ read remaining _ _ c.fault_line.ensures
     (by_fault c.in-Ok-Err.fault read remaining (search rules)
     (subst (λ (said : Result ℕ LineFault). FirstSays said read remaining) c.in-Ok-Err.field-0-is
     c.in-Ok-Err.ensures.read))
-    c.refuse.ensures.written
+    c.refuse.ensures
 
 pub returns-in-Err-taken : goal.returns-in-Err-taken
 returns-in-Err-taken g c =
     let read = g.R.Read.remaining c.args.reader.now in
     let remaining = g.R.Read.remaining c.first_line.new.reader in
-    refused _ _ _ read remaining _ _ c.refuse-in-Err-taken.ensures.visit c.seating_line.ensures
+    refused _ _ _ read remaining _ _ c.seating_line.ensures
     (by_seating c.in-Ok-Ok.user c.in-Err-taken.seating read remaining
     (not_seated _ _ c.in-Ok-Ok.user c.in-Err-taken.seating c.in-Err-taken.ensures)
     (subst (λ (said : Result ℕ LineFault). FirstSays said read remaining) c.in-Ok-Ok.field-0-is
     c.in-Ok-Ok.ensures.read))
-    c.refuse-in-Err-taken.ensures.written
+    c.refuse-in-Err-taken.ensures
