@@ -5,7 +5,7 @@ use Rattle.cam6_block.specs.Refusals as block
 use Rattle.cam6_commands.specs.declared.faults.Fault.{Fault}
 use Rattle.cam6_commands.specs.declared.faults.Fault.TheVariants.{NoRule, RuleInUse, TooManyRules}
 use Rattle.cam6_commands.specs.declared.faults.Fault.TheVariants.{NoCycle, OutOfRange, WrongHalf}
-use Rattle.cam6_commands.specs.declared.faults.Fault.TheVariants.{AboveLimit}
+use Rattle.cam6_commands.specs.declared.faults.Fault.TheVariants.{AboveLimit, NoMachine}
 use Rattle.cam6_commands.specs.declared.refusals.Refusal.{Refusal}
 use Rattle.cam6_commands.specs.declared.refusals.Refusal.TheVariants as refusal
 use Rattle.cam6_commands.specs.declared.refused.Refused.{Refused}
@@ -20,8 +20,9 @@ fault_number NoCycle = 63
 fault_number OutOfRange = 65
 fault_number WrongHalf = 66
 fault_number AboveLimit = 67
+fault_number NoMachine = 68
 
--- 20 to 28 of a text, 40 to 43 of a rule that stops, 64 of one that can't be undone, and 60 to 67
+-- 20 to 28 of a text, 40 to 43 of a rule that stops, 64 of one that can't be undone, and 60 to 68
 -- but for 64 of all else
 abbrev pub refusal_number : Refusal → ℕ
 refusal_number (refusal.Fault fault) = fault_number fault

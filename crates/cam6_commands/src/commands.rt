@@ -1,5 +1,6 @@
 //! What a user asks of his machine.
 
+use crate::saved::SavedMachine;
 use crate::texts::Text;
 use cam6_planes::Bits;
 use cam6_wiring::{Grid, Wiring};
@@ -66,6 +67,12 @@ pub enum Command {
     /// Asks how many cells have a state whose bit is set in the mask.
     Count {
         mask: u64,
+    },
+    /// Asks for the whole machine.
+    Save,
+    /// Takes on a machine that was saved, whole but for its limit.
+    Load {
+        machine: SavedMachine,
     },
 }
 

@@ -19,6 +19,8 @@ pub enum Fault {
     WrongHalf,
     /// The side is above the machine's limit.
     AboveLimit,
+    /// What is to be loaded was saved of no machine.
+    NoMachine,
 }
 
 impl Fault {
@@ -34,6 +36,7 @@ impl Fault {
             Fault::OutOfRange => 65,
             Fault::WrongHalf => 66,
             Fault::AboveLimit => 67,
+            Fault::NoMachine => 68,
         }
     }
 }

@@ -2,6 +2,7 @@
 
 use crate::refusals::Refusal;
 use crate::rows::{PlaneRows, RowColours, RowText};
+use crate::saved::SavedMachine;
 use crate::texts::Names;
 
 /// A reply: what was done, or why nothing was.
@@ -31,4 +32,7 @@ pub enum Done {
     Plane { rows: PlaneRows },
     Colours { colours: RowColours },
     Count { count: u32 },
+    /// The whole machine but its limit.
+    Save { machine: SavedMachine },
+    Load,
 }

@@ -8,6 +8,8 @@ pub mod WordByWord
 pub mod Bytes
 -- A row of bytes in hexadecimal digits.
 pub mod HexText
+-- A row's bytes show it, and no others do.
+pub mod RowBytes
 -- The digits of a row are ASCII.
 pub mod AsciiTexts
 -- Digits that were made of a row are read as its bits.

@@ -1,4 +1,4 @@
--- A row's hexadecimal digits: those that are made of it, and the bytes that digits say.
+-- A row's hexadecimal digits and its bytes: those that are made of it, and the bytes that digits say.
 use Rattle.std.specs.Prelude.{ℕ, ◌+◌, ◌*◌, ◌/◌, Bool, List, map, codes, slice_index, length}
 use Rattle.std.specs.Prelude.{Option, option_and_then}
 use Rattle.std.specs.List.{range_with_len}
@@ -20,6 +20,14 @@ digit_at row k = slice_index (codes "0123456789abcdef") (four_columns row (4 * k
 -- a row's text of n digits, from column 0 on
 unfoldable pub row_text : ℕ → (ℕ → Bool) → List ℕ
 row_text n row = map (digit_at row) (range_with_len 0 n)
+
+-- the eight columns from x on as a number, the first of them the highest bit
+abbrev pub eight_columns : (ℕ → Bool) → ℕ → ℕ
+eight_columns row x = 16 * four_columns row x + four_columns row (x + 4)
+
+-- a row's n bytes, from column 0 on
+unfoldable pub row_bytes : ℕ → (ℕ → Bool) → List ℕ
+row_bytes n row = map (λ k. eight_columns row (8 * k)) (range_with_len 0 n)
 
 -- the bytes of hexadecimal digits, of either case, as many as a row of one of the sides has
 abbrev pub bits_of_digits : List ℕ → Option (List ℕ)

@@ -1,9 +1,9 @@
-//! A row's hexadecimal digits, made and read: four columns to a digit, from column 0 on.
-ghost use Rattle.std.specs.Prelude.{◌≡◌, ◌<◌, ◌≤◌, ◌+◌, ◌-◌, ◌*◌, ◌%◌, ◌==◌, ℕ, length};
+//! A row's hexadecimal digits and its bytes, made and read: four columns to a digit, from column 0 on.
+ghost use Rattle.std.specs.Prelude.{◌≡◌, ◌<◌, ◌≤◌, ◌+◌, ◌-◌, ◌*◌, ◌/◌, ◌%◌, ◌==◌, ℕ, length};
 ghost use Rattle.std.specs.Int.{bit_at};
 ghost use Rattle.cam6_planes.specs.Row.{word_column, column_bit, byte_column};
-ghost use Rattle.cam6_planes.specs.Digits.{row_text, bits_of_digits};
-ghost use Rattle.cam6_planes.specs.Side.{side_of};
+ghost use Rattle.cam6_planes.specs.Digits.{row_text, row_bytes, bits_of_digits};
+ghost use Rattle.cam6_planes.specs.Side.{side_number, side_of};
 ghost use Rattle.cam6_planes.specs.declared.row.TheConstants.{BYTES, DIGITS};
 
 use crate::row::{BYTES, DIGITS, Row};
@@ -65,6 +65,16 @@ pub(crate) fn write_hex(row: &Row, text: &mut [u8])
 {
     let bytes = bytes_of_row(row);
     hex::encode_to_slice(&bytes[..text.len() / 2], text).unwrap();
+}
+
+/// The bits of the row, as many as a row of this side has.
+pub(crate) fn bits_of_row(row: &Row, side: Side) -> Bits
+    ensures { result ≡ row_bytes (side_number side / 8) (column_bit row.now) }
+{
+    Bits {
+        side,
+        bytes: bytes_of_row(row),
+    }
 }
 
 /// The bytes of the row, of which the first has columns 0 to 7.

@@ -1,7 +1,23 @@
-//! The law of a row's digits. It is the contract of a function that does nothing.
-ghost use Rattle.cam6_planes.specs.Laws.{DigitsAreReadBack};
+//! The laws of a row's digits and of its bytes. Each is the contract of a function that does nothing.
+ghost use Rattle.cam6_planes.specs.Laws.{DigitsAreReadBack, BytesShowTheRow, NoOthersShowIt};
+ghost use Rattle.cam6_planes.specs.Laws.{BytesHaveItsDigits};
 
 /// The digits that are made of a row are read back as the bits of which they were made.
 pub fn digits_are_read_back()
     ensures law { DigitsAreReadBack }
+{}
+
+/// The bytes that are made of a row show it, column by column.
+pub fn a_rows_bytes_show_it()
+    ensures law { BytesShowTheRow }
+{}
+
+/// Bytes that show a row are those that are made of it.
+pub fn no_other_bytes_show_a_row()
+    ensures law { NoOthersShowIt }
+{}
+
+/// The digits of a row's bytes are the row's digits.
+pub fn a_rows_bytes_have_its_digits()
+    ensures law { BytesHaveItsDigits }
 {}

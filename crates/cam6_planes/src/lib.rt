@@ -2,14 +2,15 @@
 //! packed 64 columns to a word.
 //!
 //! Contract: every function by `cells` (`specs/Cells.antt`), the truth value at each plane, column
-//! and row of a torus. `blank` sets none; `bit`, `row_words` and `row_hex` show what is there;
+//! and row of a torus. `blank` sets none; `bit`, `row_words`, `row_hex` and `row_bits` show what is there;
 //! `set_row_words` and `put_row` change one row of one plane and nothing else; `copy_from` makes
 //! the planes equal, side and all; `set_side` blanks them at another side, within the limit that
 //! `blank` took memory for; `west` and `east` move a row by one column. `row` lends a row of all
 //! four planes. `bits_of_digits` gives the bits of hexadecimal digits, of either case, that are as
 //! many as a row of one of the sides has, and none of others (`specs/Digits.antt`).
 //!
-//! The law: the digits that `row_hex` writes of a row are read back as its bits.
+//! The laws: the digits that `row_hex` writes of a row are read back as its bits; the bytes that
+//! `row_bits` makes of a row show it, no others do, and their digits are the row's.
 //!
 //! Stands on: `hex`, for a row's digits. Column 0 is the highest bit of a row's first word, of its
 //! first byte and of its first hexadecimal digit.

@@ -3,13 +3,13 @@ ghost use Rattle.std.specs.Prelude.{◌≡◌, ◌<◌, ◌≤◌, ◌*◌, ◌/
 ghost use Rattle.std.specs.Prelude.{[], IfOk, length, take, drop, false, replicate};
 ghost use Rattle.std.specs.Str.{IsAscii};
 ghost use Rattle.cam6_planes.specs.Row.{column_bit, byte_column};
-ghost use Rattle.cam6_planes.specs.Digits.{row_text};
+ghost use Rattle.cam6_planes.specs.Digits.{row_text, row_bytes};
 ghost use Rattle.cam6_planes.specs.Side.{side_number};
 ghost use Rattle.cam6_planes.specs.Stored.{width};
 ghost use Rattle.cam6_planes.specs.declared.row.TheConstants.{WORDS};
 ghost use Rattle.cam6_planes.specs.Cells.{cells, no_cells, with_row, without_plane, IsRow};
 
-use crate::digits::write_hex;
+use crate::digits::{Bits, bits_of_row, write_hex};
 use crate::memory::NoMemory;
 use crate::row::{CellRow, DIGITS, Row, WORDS, is_set, row_of_bytes};
 use crate::sides::Side;
@@ -133,6 +133,15 @@ impl Planes {
         let row = self.row_words(p, y);
         write_hex(&row, &mut text[..digits]);
         digits
+    }
+
+    /// The bits of row `y` of plane `p`.
+    pub fn row_bits(&self, p: usize, y: usize) -> Bits
+        requires plane { p < 4 }
+        requires row { y < width self.now }
+        ensures { result ≡ row_bytes (width self.now / 8) (λ x. cells self.now p x y) }
+    {
+        bits_of_row(&self.row_words(p, y), self.side)
     }
 
     /// Writes row `y` of plane `p` from words; those past the side don't count.
