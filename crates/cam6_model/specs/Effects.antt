@@ -10,13 +10,15 @@ use Rattle.cam6_planes.specs.Cells.{Cells, no_cells, with_row, without_plane}
 use Rattle.cam6_view.specs.States.{row_colours, count_of}
 use Rattle.cam6_model.specs.Rules.{Rule}
 use Rattle.cam6_model.specs.Machine.{Machine, steps, unsteps}
+use Rattle.cam6_model.specs.Saved.{saved_of, restored}
 use Rattle.cam6_commands.specs.declared.commands.Command.{Command}
 use Rattle.cam6_commands.specs.declared.commands.Command.TheVariants.{Set, Rule as SetRule}
 use Rattle.cam6_commands.specs.declared.commands.Command.TheVariants.{Cycle, Run, Back, Row}
 use Rattle.cam6_commands.specs.declared.commands.Command.TheVariants.{Plane, Side as SetSide, Map}
-use Rattle.cam6_commands.specs.declared.commands.Command.TheVariants.{Colours, Count}
+use Rattle.cam6_commands.specs.declared.commands.Command.TheVariants.{Colours, Count, Save, Load}
 use Rattle.cam6_commands.specs.declared.commands.Command.TheVariants.{Clear, Rules}
 use Rattle.cam6_commands.specs.declared.commands.Command.TheVariants.{Drop as DropRule}
+use Rattle.cam6_commands.specs.declared.saved.SavedMachine.{SavedMachine}
 use Rattle.cam6_commands.specs.declared.replies.Done.{Done}
 use Rattle.cam6_commands.specs.declared.replies.Done.TheVariants as done
 
@@ -43,6 +45,11 @@ abbrev pub with_side : Option Side → Machine → Machine
 with_side None m = m
 with_side (Some side) m = record m { side = side; planes = no_cells; position = 0 }
 
+-- what was saved is taken on, whole, and the limit stays
+abbrev pub with_saved : Option Side → SavedMachine → Machine → Machine
+with_saved None saved m = m
+with_saved (Some side) saved m = restored side m.limit saved
+
 -- what is told of a command that is not refused
 abbrev pub accepted : Machine → Command → Done
 accepted m (Set plane row bits) = done.Set
@@ -62,6 +69,8 @@ accepted m (Map colours) = done.Map
 accepted m (Colours row) =
     done.Colours (row_colours (side_number m.side) m.colours m.planes row)
 accepted m (Count mask) = done.Count (count_of (side_number m.side) m.planes mask)
+accepted m Save = done.Save (saved_of m)
+accepted m (Load saved) = done.Load
 
 -- the machine after it
 abbrev pub effect : Machine → Command → Machine
@@ -81,3 +90,5 @@ effect m (SetSide n) = with_side (side_of n) m
 effect m (Map colours) = record m { colours = colours }
 effect m (Colours row) = m
 effect m (Count mask) = m
+effect m Save = m
+effect m (Load saved) = with_saved (side_of saved.side) saved m

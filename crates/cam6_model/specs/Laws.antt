@@ -1,8 +1,9 @@
 -- What follows of steps, and what a machine always is.
 use Rattle.std.specs.Prelude.{◌≡◌, ◌≢◌, ◌↔◌, ℕ, ◌+◌, ◌<◌, ◌%◌, true, List, length, Option, Some, None}
-use Rattle.std.specs.Prelude.{IsOk, ⊤}
+use Rattle.std.specs.Prelude.{IsOk, ⊤, ◌≤◌, [], slice_index, slice_index_or}
 use Rattle.std.specs.List.{AllByRecursion}
 use Rattle.cam6_planes.specs.declared.sides.Side.{Side}
+use Rattle.cam6_planes.specs.Side.{side_number}
 use Rattle.cam6_planes.specs.Cells.{Cells, torus}
 use Rattle.cam6_wiring.specs.Name.{plane_of}
 use Rattle.cam6_wiring.specs.Seen.{Sees}
@@ -23,10 +24,12 @@ use Rattle.cam6_model.specs.Moves.{moved, planes_moved, position_moved}
 use Rattle.cam6_model.specs.Refusals.{refusal, words_refusal}
 use Rattle.cam6_model.specs.Always.{IsMachine}
 use Rattle.cam6_commands.specs.RuleTexts.{HasText}
-use Rattle.cam6_model.specs.Alone.{after}
+use Rattle.cam6_model.specs.Saved.{saved_of}
+use Rattle.cam6_model.specs.Alone.{after, replies}
 use Rattle.cam6_commands.specs.declared.commands.Command.{Command}
-use Rattle.cam6_commands.specs.declared.commands.Command.TheVariants.{Run, Back}
+use Rattle.cam6_commands.specs.declared.commands.Command.TheVariants.{Run, Back, Load}
 use Rattle.cam6_commands.specs.declared.commands.NamedEntry.{NamedEntry}
+use Rattle.cam6_commands.specs.declared.saved.SavedMachine.{SavedMachine}
 
 -- by the tables of its rules, an entry steps any planes of a torus as by its rules' words
 abbrev pub TrueTablesStep : Type 0
@@ -68,7 +71,7 @@ BlankIsMachine = (limit : Side) → IsMachine (blank limit)
 abbrev pub LimitStays : Type 0
 LimitStays = (m : Machine) (c : Command) → (after m c).limit ≡ m.limit
 
--- and so is a machine after any command, of which a rule's text is UTF-8
+-- and so is a machine after any command, of which the texts of rules are UTF-8
 abbrev pub StaysMachine : Type 0
 StaysMachine =
     (m : Machine) (c : Command) → IsMachine m → HasText c → IsMachine (after m c)
@@ -131,3 +134,36 @@ abbrev pub BackNeedsReversibleRules : Type 0
 BackNeedsReversibleRules =
     (m : Machine) (n : ℕ) →
     (refusal m (Back n) ≡ None) ↔ ((refusal m (Run n) ≡ None) × IsReversibleCycle m)
+
+-- what was saved of a machine is loaded by every machine within whose limit its side is, which then
+-- is the machine that was saved, but for its limit
+abbrev pub LoadGivesBack : Type 0
+LoadGivesBack =
+    (m n : Machine) → IsMachine m → side_number m.side ≤ side_number n.limit →
+    (refusal n (Load (saved_of m)) ≡ None)
+    × (after n (Load (saved_of m)) ≡ record m { limit = n.limit })
+
+-- each number of the rows of planes is that of a byte
+abbrev pub AreBytes : List (List (List ℕ)) → Type 0
+AreBytes planes =
+    (p y i : ℕ) → slice_index (slice_index_or (slice_index_or planes p []) y []) i < 256
+
+-- nothing else is loaded: what isn't refused was saved of the machine that there is then
+abbrev pub LoadTakesSaved : Type 0
+LoadTakesSaved =
+    (n : Machine) (saved : SavedMachine) → AreBytes saved.planes → HasText (Load saved) →
+    refusal n (Load saved) ≡ None →
+    IsMachine (after n (Load saved)) × (saved ≡ saved_of (after n (Load saved)))
+
+-- two machines of which the same is saved differ in their limits alone
+abbrev pub SavedOfOne : Type 0
+SavedOfOne =
+    (m n : Machine) → IsMachine m → IsMachine n → saved_of m ≡ saved_of n →
+    n ≡ record m { limit = n.limit }
+
+-- a machine that was saved, loaded under the same limit, answers whatever commands come as the one
+-- that was saved
+abbrev pub LoadedAnswersAlike : Type 0
+LoadedAnswersAlike =
+    (m n : Machine) (commands : List Command) → IsMachine m → m.limit ≡ n.limit →
+    replies (after n (Load (saved_of m))) commands ≡ replies m commands

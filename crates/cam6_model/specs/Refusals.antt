@@ -1,6 +1,7 @@
 -- When a command is refused, and why.
-use Rattle.std.specs.Prelude.{ℕ, suc, ◌*◌, Bool, false, ◌&&◌, ◌||◌, ◌==◌, List, [], ◌∷◌, length}
-use Rattle.std.specs.Prelude.{nat_le, nat_lt, Option, Some, None, Result, Ok, Err, if◌then◌else◌}
+use Rattle.std.specs.Prelude.{ℕ, suc, ◌*◌, ◌/◌, Bool, true, false, ◌&&◌, ◌||◌, ◌==◌, List, [], ◌∷◌}
+use Rattle.std.specs.Prelude.{◌++◌, length, nat_le, nat_lt, Option, Some, None, is_none, Result, Ok}
+use Rattle.std.specs.Prelude.{Err, if◌then◌else◌}
 use Rattle.std.specs.List.{list_all, list_any}
 use Rattle.std.specs.Str.{bytes_eq}
 use Rattle.cam6_wiring.specs.Name.{is_same_half}
@@ -31,13 +32,14 @@ use Rattle.cam6_commands.specs.declared.commands.Command.{Command}
 use Rattle.cam6_commands.specs.declared.commands.Command.TheVariants.{Set, Rule as SetRule}
 use Rattle.cam6_commands.specs.declared.commands.Command.TheVariants.{Cycle, Run, Back, Row}
 use Rattle.cam6_commands.specs.declared.commands.Command.TheVariants.{Plane, Side as SetSide, Map}
-use Rattle.cam6_commands.specs.declared.commands.Command.TheVariants.{Colours, Count}
+use Rattle.cam6_commands.specs.declared.commands.Command.TheVariants.{Colours, Count, Save, Load}
 use Rattle.cam6_commands.specs.declared.commands.Command.TheVariants.{Clear, Rules}
 use Rattle.cam6_commands.specs.declared.commands.Command.TheVariants.{Drop as DropRule}
 use Rattle.cam6_commands.specs.declared.faults.Fault.{Fault}
 use Rattle.cam6_commands.specs.declared.faults.Fault.TheVariants.{NoRule, RuleInUse, TooManyRules}
 use Rattle.cam6_commands.specs.declared.faults.Fault.TheVariants.{NoCycle, OutOfRange, WrongHalf}
-use Rattle.cam6_commands.specs.declared.faults.Fault.TheVariants.{AboveLimit}
+use Rattle.cam6_commands.specs.declared.faults.Fault.TheVariants.{AboveLimit, NoMachine}
+use Rattle.cam6_commands.specs.declared.saved.SavedMachine.{SavedMachine}
 use Rattle.cam6_commands.specs.declared.refusals.Refusal.{Refusal}
 use Rattle.cam6_commands.specs.declared.refusals.Refusal.TheVariants as refused
 
@@ -199,6 +201,56 @@ abbrev pub back_refusal : List Rule → List NamedEntry → ℕ → Option Refus
 back_refusal rules cycle n =
     or_then (fault_refusal (run_refusal cycle n)) (first_cause rules 0 cycle)
 
+-- a row of a side has a bit for each column, and a plane has as many rows
+abbrev pub is_row : ℕ → List ℕ → Bool
+is_row s row = length row == s / 8
+
+abbrev pub are_rows : ℕ → List (List ℕ) → Bool
+are_rows s rows = (length rows == s) && list_all (is_row s) rows
+
+-- four planes of a side
+abbrev pub are_planes : ℕ → List (List (List ℕ)) → Bool
+are_planes s planes = (length planes == 4) && list_all (are_rows s) planes
+
+-- a rule that may be defined behind these, under a name that none of them has
+abbrev pub is_rule_after : List Rule → Rule → Bool
+is_rule_after before rule =
+    is_none (rule_named rule.name before)
+    && is_none (definition_refusal before [] rule.name rule.wiring rule.text)
+
+-- rules that may be defined so, one after another
+abbrev pub are_rules_after : List Rule → List Rule → Bool
+are_rules_after before [] = true
+are_rules_after before (rule ∷ rules) =
+    is_rule_after before rule && are_rules_after (before ++ rule ∷ []) rules
+
+-- no entries, where no cycle is set, or those of a cycle
+abbrev pub are_entries : List Rule → List NamedEntry → Bool
+are_entries rules [] = true
+are_entries rules (entry ∷ entries) = is_none (cycle_refusal rules (entry ∷ entries))
+
+-- a position in a cycle, or 0 without one
+abbrev pub is_position : List NamedEntry → ℕ → Bool
+is_position [] position = position == 0
+is_position (entry ∷ cycle) position = nat_lt position (length (entry ∷ cycle))
+
+-- what is saved of a machine of this side: planes of the side, a colour for each state, rules that
+-- may be defined one after another, and then entries of a cycle with a position in it
+abbrev pub is_saved : Side → SavedMachine → Bool
+is_saved side saved =
+    are_planes (side_number side) saved.planes && is_none (map_refusal saved.colours)
+    && are_rules_after [] saved.rules && are_entries saved.rules saved.cycle
+    && is_position saved.cycle saved.position
+
+-- a machine that is loaded is one of one of the three sides, and then its side isn't above the limit
+abbrev pub loaded_refusal : Side → Option Side → SavedMachine → Option Fault
+loaded_refusal limit None saved = Some NoMachine
+loaded_refusal limit (Some side) saved =
+    if is_saved side saved then within_refusal limit (Some side) else Some NoMachine
+
+abbrev pub load_refusal : Side → SavedMachine → Option Fault
+load_refusal limit saved = loaded_refusal limit (side_of saved.side) saved
+
 -- why a machine refuses a command, if it does
 abbrev pub refusal : Machine → Command → Option Refusal
 refusal m (Set plane row bits) = fault_refusal (set_refusal m.side plane row bits)
@@ -215,3 +267,5 @@ refusal m (SetSide n) = fault_refusal (side_refusal m.limit n)
 refusal m (Map colours) = fault_refusal (map_refusal colours)
 refusal m (Colours row) = fault_refusal (row_refusal m.side row)
 refusal m (Count mask) = fault_refusal (mask_refusal mask)
+refusal m Save = None
+refusal m (Load saved) = fault_refusal (load_refusal m.limit saved)

@@ -2,12 +2,11 @@
 use Rattle.std.specs.Prelude.{ℕ, List, [], ◌∷◌, Option, Some, None, if◌then◌else◌}
 use Rattle.std.specs.Str.{bytes_eq}
 use Rattle.cam6_wiring.specs.declared.wirings.Wiring.{Wiring}
+use Rattle.cam6_commands.specs.declared.saved.NamedRule.{NamedRule}
 
 -- a rule: its name, what it is written for, and its text
-pub record Rule : Type 0 where
-  pub name : List ℕ
-  pub wiring : Wiring
-  pub text : List ℕ
+abbrev pub Rule : Type 0
+Rule = NamedRule
 
 -- the rule with this name
 abbrev pub rule_named : List ℕ → List Rule → Option Rule

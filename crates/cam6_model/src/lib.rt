@@ -25,7 +25,9 @@
 //! them together, the position goes round the cycle, and a half without a rule keeps its planes;
 //! what a machine always is (`specs/Always.antt`), which the blank one is, and stays whatever it is
 //! commanded in UTF-8; no command changes its limit; and the rules that its cycle names run,
-//! whatever is seen.
+//! whatever is seen. What is saved of a machine (`specs/Saved.antt`) is all of it but its limit: it
+//! is loaded, by a machine within whose limit its side is, as that machine and no other, and nothing
+//! else is loaded.
 //!
 //! Stands on: `cam6_planes`, `cam6_wiring`, `cam6_forth`, `cam6_table`, `cam6_block`, `cam6_cycle`,
 //! `cam6_band`, `cam6_view` and `cam6_commands`; of `cam6_band` and `cam6_view` on definitions alone.
