@@ -6,7 +6,9 @@
 //! they have. `cycle_of` is refused as the model says, or gives the entries with the numbers of
 //! their rules (`specs/Numbers.antt`). `Tables::fill` fills a table for each use of a rule, the true
 //! one for a way along the cycle, unless the tables are filled for it already; or it says which rule
-//! can't be undone (`specs/Filled.antt`). Memory is wanted where a rule is kept, names are listed or
+//! can't be undone (`specs/Filled.antt`). Rules that were saved are defined one after another, by
+//! `Rules::of`, or none of them is; `Rules::saved` and `Rules::saved_entries` give them and a cycle's
+//! entries as they are saved. Memory is wanted where a rule is kept, rules or entries are listed or
 //! tables are made, and nowhere else.
 //!
 //! So, of no rules: `define` of R, `: R NORTH >PLN0 ;`, keeps it at the number 0, and a cycle of the
@@ -22,7 +24,7 @@
 //! `indexmap`.
 //!
 //! Read next: `compiled`, a rule as it is kept; `rules`; `tables`; then how it is done: `named`,
-//! `refusals`, `cycles` and `filling`; and `laws`.
+//! `refusals`, `cycles`, `saving` and `filling`; and `laws`.
 #![tactic(auto)]
 
 mod compiled;
@@ -32,6 +34,7 @@ pub mod laws;
 mod named;
 mod refusals;
 mod rules;
+mod saving;
 mod tables;
 
 pub use compiled::CompiledRule;

@@ -8,10 +8,11 @@ ghost use Rattle.std.specs.Str.{IsUtf8};
 
 use crate::compiled::{CompiledRule, tried_rule};
 use crate::cycles::{closed_cycle, entries_of, numbered_cycle};
-use crate::named::{names_of, put, remove};
+use crate::named::{names_of, put, remove, wiring_of};
 use crate::refusals::{accept_cycle, accept_drop, accept_rule};
+use crate::saving::{saved_entries, saved_rules};
 use crate::tables::Tables;
-use cam6_commands::{Fault, NamedEntries, Refusal, Text};
+use cam6_commands::{Fault, NamedEntries, NamedRule, NamedRules, Refusal, Text};
 use cam6_cycle::{Cycle, Entry};
 use cam6_planes::NoMemory;
 use cam6_table::NotCompiled;
@@ -41,9 +42,6 @@ impl From<NoMemory> for NotDefined {
 
 /// At most sixteen rules with names of their own, in the order in which the names came first, each
 /// kept as it was defined. Contracts see them as the rules of the model, and hold the code of none.
-///
-/// Others can be built rule by rule beside them, with a cycle of no entries, and take their place
-/// when they are whole.
 #[derive(Drop)]
 pub struct Rules {
     alloc: Global,
@@ -68,7 +66,9 @@ impl Rules {
     ghost use Rattle.cam6_model.specs.Refusals.{definition_refusal, drop_refusal, cycle_refusal};
     ghost use Rattle.cam6_model.specs.Always.{AreRules};
     ghost use Rattle.cam6_rules.specs.Compiled.{IsKeptAs};
-    ghost use Rattle.cam6_rules.specs.Defining.{IsDefinedUnless};
+    ghost use Rattle.std.specs.Prelude.{is_some};
+    ghost use Rattle.cam6_model.specs.Rules.{rule_named};
+    ghost use Rattle.cam6_rules.specs.Defining.{IsDefinedUnless, IsAdded, AreDefined};
     ghost use Rattle.cam6_model.specs.Memory.{keeps_definition};
     ghost use Rattle.cam6_rules.specs.Filled.{StoredTables, AreTrue};
     ghost use Rattle.cam6_rules.specs.Numbers.{entries_of, named_entries, AreNumbered};
@@ -81,6 +81,50 @@ impl Rules {
             alloc,
             by_name: IndexMap::new(alloc),
         }
+    }
+
+    /// Rules that were saved, defined one after another, each under a name of its own; none, where
+    /// one of them can't be. Their texts are tried where the tables have room for that.
+    pub fn of(
+        alloc: Global,
+        rules: NamedRules,
+        room: &mut Tables,
+    ) -> Result<Option<Rules>, NoMemory>
+        ensures rules { IfOk result (λ found. AreDefined rules found) }
+        ensures room { room.new ≡ room.old }
+        // No memory is wanted for no rules.
+        ensures memory { rules ≡ [] → IsOk result }
+    {
+        let mut kept = Rules::new(alloc);
+        for rule in rules.into_vec() {
+            if !kept.add(rule, room)? {
+                return Ok(None);
+            }
+        }
+        Ok(Some(kept))
+    }
+
+    /// Defines a rule behind the others, unless one of them has its name or it is refused.
+    fn add(&mut self, rule: NamedRule, room: &mut Tables) -> Result<bool, NoMemory>
+        ensures rules { IfOk result (λ is. IsAdded is self.old self.new rule) }
+        ensures room { room.new ≡ room.old }
+    {
+        let NamedRule { name, wiring, text } = rule;
+        if self.has(&name) {
+            return Ok(false);
+        }
+        match self.define(&[], name, wiring, text, room) {
+            Ok(()) => Ok(true),
+            Err(NotDefined::Refused(_)) => Ok(false),
+            Err(NotDefined::NoMemory) => Err(NoMemory),
+        }
+    }
+
+    /// Whether one of them has the name.
+    fn has(&self, name: &Text) -> bool
+        ensures { result ≡ is_some (rule_named name.now self.now) }
+    {
+        wiring_of(&self.by_name, name).is_some()
     }
 
     /// How many they are. Whoever holds rules learns here what they always are.
@@ -113,6 +157,20 @@ impl Rules {
         ensures none { self.now ≡ [] → IsOk result }
     {
         names_of(self.alloc, &self.by_name)
+    }
+
+    /// The rules as they are saved, in their order.
+    pub fn saved(&self) -> Result<NamedRules, NoMemory>
+        ensures { IfOk result (λ saved. saved ≡ self.now) }
+    {
+        saved_rules(self.alloc, &self.by_name)
+    }
+
+    /// The entries of a cycle as they are saved, with the names of their rules.
+    pub fn saved_entries(&self, cycle: &[Entry]) -> Result<NamedEntries, NoMemory>
+        ensures { IfOk result (λ saved. saved ≡ named_entries self.now cycle.now) }
+    {
+        saved_entries(self.alloc, &self.by_name, cycle)
     }
 
     /// Keeps a rule under a name, instead of the one that has it, unless it is refused: a rule that
