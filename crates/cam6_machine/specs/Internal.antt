@@ -1,4 +1,5 @@
--- What no public contract says: both ways along a cycle, where a machine's planes are, and a machine
--- by all that it stores.
+-- What no public contract says: both ways along a cycle, where a machine's planes are, a machine by
+-- all that it stores, and one that was saved on its way back.
 pub mod Ways
 pub mod Images
+pub mod Loading

@@ -1,16 +1,19 @@
 //! The image that a machine holds.
-ghost use Rattle.std.specs.Prelude.{◌≡◌, ◌<◌, ◌≤◌, ◌*◌, length, None};
-ghost use Rattle.cam6_planes.specs.Cells.{cells, no_cells, with_row, without_plane};
+ghost use Rattle.std.specs.Prelude.{◌≡◌, ◌<◌, ◌≤◌, ◌*◌, length, true, None};
+ghost use Rattle.cam6_planes.specs.Cells.{cells, torus, no_cells, with_row, without_plane};
 ghost use Rattle.cam6_planes.specs.Row.{byte_column};
 ghost use Rattle.cam6_planes.specs.Side.{side_number};
 ghost use Rattle.cam6_planes.specs.Stored.{AreAlike};
 ghost use Rattle.cam6_model.specs.Alone.{command_of};
 ghost use Rattle.cam6_model.specs.Moves.{moved};
-ghost use Rattle.cam6_model.specs.Refusals.{refusal};
+ghost use Rattle.cam6_model.specs.Refusals.{refusal, are_planes};
+ghost use Rattle.cam6_model.specs.Saved.{saved_bit};
 ghost use Rattle.cam6_machine.specs.Stored.{machine_over};
 
 use crate::kept::Kept;
+use crate::loading::put_planes;
 use cam6_band::AtRest;
+use cam6_commands::BitRows;
 use cam6_cycle::Direction;
 use cam6_planes::{Planes, Side};
 use std::marker::Model;
@@ -100,6 +103,20 @@ impl Held {
             unreachable!()
         };
         image.planes_mut().set_side(side);
+    }
+
+    /// Takes on a side, and the rows of four planes of it.
+    pub(crate) fn put_planes(&mut self, side: Side, rows: &[BitRows; 4])
+        requires within { side_number side ≤ side_number self.old.limit }
+        requires rows { are_planes (side_number side) rows.now ≡ true }
+        ensures cells { cells self.new ≡ torus (side_number side) (saved_bit rows.now) }
+        ensures side { self.new.side ≡ side }
+        ensures limit { self.new.limit ≡ self.old.limit }
+    {
+        let Some(image) = &mut self.image else {
+            unreachable!()
+        };
+        put_planes(image.planes_mut(), side, rows);
     }
 
     /// Goes so many steps one way along the cycle that is kept.

@@ -1,24 +1,33 @@
 //! What a machine keeps beside its planes, and what commands do to it.
-ghost use Rattle.std.specs.Prelude.{◌≡◌, ◌≤◌, ℕ, length, false, None, IsOk, IfOk, OnErr};
+ghost use Rattle.std.specs.Prelude.{◌≡◌, ◌≤◌, ℕ, [], length, false, None, IsOk, IfOk, OnErr};
+ghost use Rattle.std.specs.Result.{result_err};
 ghost use Rattle.std.specs.List.{AllByRecursion};
 ghost use Rattle.cam6_model.specs.Always.{IsPosition};
 ghost use Rattle.std.specs.Option.{option_copied};
+ghost use Rattle.cam6_planes.specs.Cells.{cells, torus};
+ghost use Rattle.cam6_planes.specs.Side.{side_number};
 ghost use Rattle.cam6_planes.specs.Stored.{Stored, AreAlike};
 ghost use Rattle.cam6_commands.specs.Limits.{max_colour};
 ghost use Rattle.cam6_model.specs.Alone.{reply, after, work_of, command_of};
 ghost use Rattle.cam6_model.specs.Memory.{keeps_text, has_rows};
 ghost use Rattle.cam6_model.specs.Moves.{moved};
-ghost use Rattle.cam6_model.specs.Refusals.{refusal};
+ghost use Rattle.cam6_model.specs.Refusals.{refusal, load_refusal};
+ghost use Rattle.cam6_model.specs.Saved.{saved_of, saved_bit};
+ghost use Rattle.cam6_machine.specs.Internal.Loading.{AreLoaded};
 ghost use Rattle.cam6_rules.specs.Numbers.{entries_of, named_entries};
 
 use crate::answers::work_or_reply;
+use crate::loading::tried_machine;
 use crate::refusals::{accept_colours, accept_run};
 use crate::replies::Now;
 use crate::runs::go_along;
+use crate::saving::{saved_colours, saved_planes};
 use cam6_band::AtRest;
-use cam6_commands::{Command, Done, NamedEntries, Names, Refusal, Reply, Text};
+use cam6_commands::{
+    BitRows, Command, Done, Fault, NamedEntries, Names, Refusal, Reply, SavedMachine, Text,
+};
 use cam6_cycle::{Cycle, Direction};
-use cam6_planes::{NoMemory, Side};
+use cam6_planes::{NoMemory, Planes, Side};
 use cam6_rules::{NotDefined, Rules, Tables, entries_of};
 use cam6_wiring::Wiring;
 use std::alloc::Global;
@@ -250,6 +259,55 @@ impl Kept {
         match self.tables.fill(&self.rules, cycle, Direction::Backward) {
             Ok(()) => work_or_reply(steps, Direction::Backward, self.position),
             Err(refusal) => Now::Reply(Reply::Refused(refusal)),
+        }
+    }
+
+    /// What is saved of the machine that has these planes.
+    pub(crate) fn saved(&self, planes: &Planes) -> Result<SavedMachine, NoMemory>
+        ensures { IfOk result (λ saved. saved ≡ saved_of (machine_over planes.now self.now)) }
+    {
+        let cycle = self.rules.saved_entries(entries_of(&self.cycle))?;
+        let rules = self.rules.saved()?;
+        Ok(SavedMachine {
+            colours: saved_colours(&self.colours),
+            cycle,
+            planes: saved_planes(self.alloc, planes)?,
+            position: self.position as u64,
+            rules,
+            side: planes.side().number() as u64,
+        })
+    }
+
+    /// Takes on what was saved of a machine beside its planes, and hands its side and its planes
+    /// out; or says why it is refused.
+    pub(crate) fn load(
+        &mut self,
+        saved: SavedMachine,
+    ) -> Result<Result<(Side, [BitRows; 4]), Fault>, NoMemory>
+        ensures refusal { IfOk result (λ found.
+            result_err found ≡ load_refusal self.old.limit saved) }
+        ensures planes { IfOk result (λ found. IfOk found (λ taken.
+            AreLoaded self.old.limit saved taken.0 taken.1)) }
+        // Over whatever planes that are the machine's.
+        ensures machine { (before planes : Stored) → IfOk result (λ found. IfOk found (λ taken.
+            planes.side ≡ taken.0 →
+            cells planes ≡ torus (side_number taken.0) (saved_bit taken.1) →
+            machine_over planes self.new ≡ after (machine_over before self.old) (Command.Load saved))) }
+        ensures limit { self.new.limit ≡ self.old.limit }
+        ensures refused { IfOk result (λ found. OnErr found (self.new ≡ self.old)) }
+        ensures err { OnErr result (self.new ≡ self.old) }
+        ensures memory { saved.rules ≡ [] → IsOk result }
+    {
+        match tried_machine(self.alloc, self.limit, saved, &mut self.tables)? {
+            Ok(found) => {
+                self.rules = found.rules;
+                self.cycle = found.cycle;
+                self.position = found.position;
+                self.colours = found.colours;
+                self.tables.spoil();
+                Ok(Ok((found.side, found.planes)))
+            }
+            Err(fault) => Ok(Err(fault)),
         }
     }
 

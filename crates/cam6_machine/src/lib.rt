@@ -21,6 +21,10 @@
 //! one command to the next: they are filled when they are first wanted, and anew where another cycle
 //! is set or steps go the other way. `Machine::limit` tells of any machine what it always is.
 //!
+//! `Save` replies with all of a machine but its limit, and `Load` takes such a whole machine on,
+//! after its rules are compiled as `Rule` compiles them: what is refused, and what finds no memory,
+//! changes nothing.
+//!
 //! A machine comes apart (`Machine::part`) into what it keeps beside its planes, its image and a
 //! spare one, and `Kept::join` makes a machine of such parts, at whatever position of the cycle; the
 //! law: that is the machine that was parted, but for the cells and the position.
@@ -29,7 +33,8 @@
 //! `cam6_view`, `cam6_cycle`, `cam6_commands`, `cam6_model` and `cam6_rules`.
 //!
 //! Read next: `replies`, what is said at once; `refusals`, when a number of a command is refused;
-//! `kept`, what a machine keeps beside its planes and what commands do to it; `steps`, one step, and
+//! `kept`, what a machine keeps beside its planes and what commands do to it; `saving` and
+//! `loading`, a machine as it is saved and on its way back; `steps`, one step, and
 //! `runs`, steps along a cycle, forward and backward; `images`; then `machines` and `alone`; and
 //! `laws`.
 #![tactic(auto)]
@@ -39,17 +44,20 @@ mod answers;
 mod images;
 mod kept;
 pub mod laws;
+mod loading;
 mod machines;
 mod refusals;
 mod replies;
 mod rows;
 mod runs;
+mod saving;
 mod steps;
 
 pub use alone::replies_alone;
 pub use cam6_commands::{
-    Command, Done, Fault, MAX_COLOUR, MAX_MASK, MAX_NAME, MAX_RULES, MAX_STEPS, NamedEntries,
-    NamedEntry, Names, PlaneRows, Refusal, Reply, RowColours, RowText, Text,
+    BitRows, Command, Done, Fault, MAX_COLOUR, MAX_MASK, MAX_NAME, MAX_RULES, MAX_STEPS,
+    NamedEntries, NamedEntry, NamedRule, NamedRules, Names, PlaneRows, Refusal, Reply, RowColours,
+    RowText, SavedMachine, Text,
 };
 pub use cam6_cycle::Direction;
 pub use kept::Kept;

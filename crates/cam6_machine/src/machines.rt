@@ -11,7 +11,9 @@ use crate::refusals::{accept_row, accept_set, accept_side};
 use crate::replies::Now;
 use crate::rows::{plane_rows, row_colours};
 use cam6_band::{AtRest, Spare};
-use cam6_commands::{Command, Done, Mask, PlaneNumber, Refusal, Reply, RowNumber, RowText};
+use cam6_commands::{
+    Command, Done, Mask, PlaneNumber, Refusal, Reply, RowNumber, RowText, SavedMachine,
+};
 use cam6_cycle::Direction;
 use cam6_planes::{Bits, NoMemory, Planes, Side};
 use cam6_view::count;
@@ -92,7 +94,8 @@ impl Machine {
             machine_of self.new ≡ machine_then now (machine_of self.old) command) }
         ensures ready { IfOk result (λ now. CanWork now (machine_of self.new)) }
         ensures err { OnErr result (self.new ≡ self.old) }
-        // Memory is wanted where a text is kept, or the reply has rows.
+        // Memory is wanted where a text is kept, or the reply has rows. The rules of a machine that is
+        // loaded are kept before it is known whether it is refused.
         ensures memory { may_want_memory (machine_of self.old) command ≡ false → IsOk result }
     {
         match command {
@@ -112,6 +115,8 @@ impl Machine {
             Command::Map { colours } => Ok(Now::Reply(self.kept.set_colours(&colours))),
             Command::Colours { row } => Ok(Now::Reply(self.show_colours(row))),
             Command::Count { mask } => Ok(Now::Reply(self.count_cells(mask))),
+            Command::Save => Ok(Now::Reply(self.save()?)),
+            Command::Load { machine } => Ok(Now::Reply(self.load(machine)?)),
         }
     }
 
@@ -212,6 +217,31 @@ impl Machine {
                 Reply::Done(Done::Count { count })
             }
             Err(fault) => Reply::Refused(Refusal::Fault(fault)),
+        }
+    }
+
+    fn save(&self) -> Result<Reply, NoMemory>
+        ensures reply { IfOk result (λ r. r ≡ reply (machine_of self.now) Command.Save) }
+        ensures machine { machine_of self.now ≡ after (machine_of self.now) Command.Save }
+    {
+        let machine = self.kept.saved(self.image.planes())?;
+        Ok(Reply::Done(Done::Save { machine }))
+    }
+
+    fn load(&mut self, saved: SavedMachine) -> Result<Reply, NoMemory>
+        ensures reply { IfOk result (λ r. r ≡ reply (machine_of self.old) (Command.Load saved)) }
+        ensures machine { IfOk result (λ r.
+            machine_of self.new ≡ after (machine_of self.old) (Command.Load saved)) }
+        ensures err { OnErr result (self.new ≡ self.old) }
+        ensures memory { keeps_text (machine_of self.old) (Command.Load saved) ≡ false
+            → IsOk result }
+    {
+        match self.kept.load(saved)? {
+            Ok((side, planes)) => {
+                self.image.put_planes(side, &planes);
+                Ok(Reply::Done(Done::Load))
+            }
+            Err(fault) => Ok(Reply::Refused(Refusal::Fault(fault))),
         }
     }
 

@@ -1,0 +1,45 @@
+//! What is saved of a machine, part by part.
+ghost use Rattle.std.specs.Prelude.{◌≡◌, ◌<◌, IfOk};
+ghost use Rattle.cam6_planes.specs.Cells.{cells};
+ghost use Rattle.cam6_planes.specs.Stored.{width};
+ghost use Rattle.cam6_model.specs.Saved.{plane_bytes, four_planes};
+
+use cam6_commands::BitRows;
+use cam6_planes::{NoMemory, Planes};
+use std::alloc::Global;
+
+/// The bits of all rows of all four planes.
+pub(crate) fn saved_planes(alloc: Global, planes: &Planes) -> Result<[BitRows; 4], NoMemory>
+    ensures { IfOk result (λ saved. saved ≡ four_planes (width planes.now) (cells planes.now)) }
+{
+    Ok([
+        plane_bits(alloc, planes, 0)?,
+        plane_bits(alloc, planes, 1)?,
+        plane_bits(alloc, planes, 2)?,
+        plane_bits(alloc, planes, 3)?,
+    ])
+}
+
+/// The bits of each row of plane `p`.
+fn plane_bits(alloc: Global, planes: &Planes, p: usize) -> Result<BitRows, NoMemory>
+    requires { p < 4 }
+    ensures { IfOk result (λ rows. rows ≡ plane_bytes (width planes.now) (cells planes.now) p) }
+{
+    let side = planes.side().number();
+    let mut rows = Vec::with_capacity(alloc, side)?;
+    for y in 0..side {
+        rows.push(planes.row_bits(p, y))?;
+    }
+    Ok(BitRows::new(rows))
+}
+
+/// The colours as numbers of a command.
+pub(crate) fn saved_colours(colours: &[u8; 16]) -> [u64; 16]
+    ensures { result ≡ colours.now }
+{
+    let mut saved = [0; 16];
+    for state in 0..16 {
+        saved[state] = u64::from(colours[state]);
+    }
+    saved
+}
