@@ -1,21 +1,28 @@
 -- What a machine keeps beside its planes stays what is always kept.
-use Rattle.std.proofs.Common.{◌≡◌, ◌≤◌, ◌<◌, ℕ, List, [], ◌∷◌, length, None, subst, sym, refl, lit≤, arith}
+use Rattle.std.proofs.Common.{◌≡◌, ◌≤◌, ◌<◌, ℕ, List, [], ◌∷◌, length, Some, None, subst, sym}
+use Rattle.std.proofs.Common.{refl, ap, ◌∙◌, lit≤, arith}
+use Rattle.std.specs.List.{AllByRecursion}
 use Rattle.std.proofs.lemmas.List.{length-map}
-use Rattle.cam6_planes.specs.Side.{side_number}
+use Rattle.cam6_planes.specs.Side.{side_number, side_of}
 use Rattle.cam6_planes.specs.Stored.{Stored}
 use Rattle.cam6_planes.specs.declared.sides.Side.{Side}
 use Rattle.cam6_planes.specs.declared.sides.Side.TheVariants.{S128, S256, S512}
 use Rattle.cam6_planes.specs.Cells.{stored_bit}
 use Rattle.cam6_planes.proofs.CellsAt.{torus_again}
 use Rattle.cam6_commands.specs.RuleTexts.{HasText}
+use Rattle.cam6_commands.specs.Limits.{max_colour}
 use Rattle.cam6_commands.specs.declared.commands.Command.{Command}
+use Rattle.cam6_commands.specs.declared.commands.Command.TheVariants.{Load}
+use Rattle.cam6_commands.specs.declared.saved.SavedMachine.{SavedMachine}
 use Rattle.cam6_commands.specs.declared.commands.NamedEntry.{NamedEntry}
 use Rattle.cam6_cycle.specs.declared.tables.Direction.{Direction}
 use Rattle.cam6_cycle.specs.declared.tables.Direction.TheVariants.{Forward, Backward}
 use Rattle.cam6_model.specs.Machine.{Machine}
-use Rattle.cam6_model.specs.Refusals.{refusal}
+use Rattle.cam6_model.specs.Refusals.{refusal, fault_refusal, load_refusal}
+use Rattle.cam6_model.specs.Saved.{restored}
+use Rattle.cam6_model.specs.Effects.{with_saved}
 use Rattle.cam6_model.specs.Alone.{after, command_of}
-use Rattle.cam6_model.specs.Always.{IsMachine, IsPosition}
+use Rattle.cam6_model.specs.Always.{AreRules, IsEntry, IsMachine, IsPosition}
 use Rattle.cam6_rules.specs.Numbers.{AreNumbered, named_entry, named_entries}
 use Rattle.cam6_model.specs.Rules.{Rule}
 use Rattle.cam6_model.specs.Refusals.{some_cycle}
@@ -25,6 +32,7 @@ use Rattle.cam6_machine.specs.Stored.{StoredKept, machine_over, nothing_kept, Is
 use Rattle.cam6_machine.specs.Laws.{KeptIsMachine}
 use Rattle.cam6_model.proofs.ReversibleCycles.{back_runs}
 use Rattle.cam6_model.proofs.Staying.{stays_machine, blank_is_machine, run_begins, first_none}
+use Rattle.cam6_model.proofs.Refusing.{after-accepted}
 use Rattle.cam6_model.proofs.StepsOfATorus.{side_some}
 
 -- over planes within the limit it is a machine
@@ -71,6 +79,37 @@ stays_kept old new c is text made numbered =
     (subst IsMachine (sym made)
     (stays_machine (machine_over some_planes old) c
     (kept_is_machine old some_planes is (least_side old.limit)) text)) numbered
+
+-- what is kept of a machine that was loaded
+pub loaded_is_kept : (old new : StoredKept) (saved : SavedMachine) (side : Side) → IsKept old →
+    HasText (Load saved) → load_refusal old.limit saved ≡ None → side_of saved.side ≡ Some side →
+    new.rules ≡ saved.rules → named_entries new.rules new.cycle ≡ saved.cycle →
+    new.position ≡ saved.position → new.colours ≡ saved.colours →
+    AreNumbered new.rules new.cycle → IsKept new
+loaded_is_kept old new saved side is text accepted found rules cycle position colours numbered =
+    let m = machine_over some_planes old in
+    let same : after m (Load saved) ≡ restored side old.limit saved =
+    after-accepted m (Load saved) (ap fault_refusal accepted) ∙
+    ap (λ o. with_saved o saved m) found in
+    let made : IsMachine (restored side old.limit saved) =
+    subst IsMachine same
+    (stays_machine m (Load saved) (kept_is_machine old some_planes is (least_side old.limit)) text) in
+    record {
+      rules = subst AreRules (sym rules) made.rules;
+      numbered = numbered;
+      short = omega (
+        arith,
+        made.short,
+        ap length cycle,
+        length-map new.cycle (named_entry new.rules),
+      );
+      entries = subst (AllByRecursion (IsEntry new.rules)) (sym cycle)
+          (subst (λ l. AllByRecursion (IsEntry l) saved.cycle) (sym rules) made.entries);
+      position = subst (λ l. IsPosition l new.position) (sym cycle)
+          (subst (IsPosition saved.cycle) (sym position) made.position);
+      coloured = ap length colours ∙ made.coloured;
+      colours = subst (AllByRecursion (λ colour. colour ≤ max_colour)) (sym colours) made.colours;
+    }
 
 -- a blank machine keeps nothing
 pub nothing_is_kept : (limit : Side) → IsKept (nothing_kept limit)

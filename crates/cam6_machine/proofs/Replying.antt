@@ -1,24 +1,26 @@
 -- The machine after a command, by what is stored then.
-use Rattle.std.proofs.Common.{◌≡◌, ◌∙◌, ℕ, List, None, sym, ap}
+use Rattle.std.proofs.Common.{◌≡◌, ◌∙◌, ℕ, List, Some, None, sym, ap}
 use Rattle.cam6_planes.specs.Row.{byte_column}
-use Rattle.cam6_planes.specs.Side.{side_number}
+use Rattle.cam6_planes.specs.Side.{side_number, side_of}
 use Rattle.cam6_planes.specs.Stored.{Stored, AreAlike}
 use Rattle.cam6_planes.specs.declared.sides.Side.{Side}
-use Rattle.cam6_planes.specs.Cells.{Cells, cells, with_row, without_plane}
+use Rattle.cam6_planes.specs.Cells.{Cells, cells, torus, with_row, without_plane}
 use Rattle.cam6_wiring.specs.declared.wirings.Wiring.{Wiring}
 use Rattle.cam6_model.specs.Rules as rule
 use Rattle.cam6_model.specs.Machine.{Machine}
 use Rattle.cam6_model.specs.Refusals.{set_refusal, cycle_refusal, definition_refusal}
-use Rattle.cam6_model.specs.Refusals.{fault_refusal, refusal, drop_refusal}
+use Rattle.cam6_model.specs.Refusals.{fault_refusal, refusal, drop_refusal, load_refusal}
+use Rattle.cam6_model.specs.Saved.{restored, saved_bit}
+use Rattle.cam6_commands.specs.declared.saved.SavedMachine.{SavedMachine}
 use Rattle.cam6_commands.specs.Checks.{plane_refusal}
-use Rattle.cam6_model.specs.Effects.{with_rule, without_rule}
+use Rattle.cam6_model.specs.Effects.{with_rule, without_rule, with_saved}
 use Rattle.cam6_model.specs.Alone.{reply, after, command_of}
 use Rattle.cam6_rules.specs.Numbers.{named_entries}
 use Rattle.cam6_machine.specs.Internal.Images.{stored_as}
 use Rattle.cam6_model.specs.Moves.{moved}
 use Rattle.cam6_machine.specs.Internal.Ways.{reply_at}
 use Rattle.cam6_commands.specs.declared.commands.Command.TheVariants.{Set, Rule, Cycle, Run, Back}
-use Rattle.cam6_commands.specs.declared.commands.Command.TheVariants.{Clear, Drop}
+use Rattle.cam6_commands.specs.declared.commands.Command.TheVariants.{Clear, Drop, Load}
 use Rattle.cam6_cycle.specs.declared.tables.Direction.{Direction}
 use Rattle.cam6_cycle.specs.declared.tables.Direction.TheVariants.{Forward, Backward}
 use Rattle.cam6_commands.specs.declared.commands.NamedEntry.{NamedEntry}
@@ -85,6 +87,29 @@ module _ (planes : Stored) (limit : Side) (rules : List rule.Rule) (cycle : List
       let m = before in
       ap {B = Machine} (λ l. record m { cycle = l; position = 0 }) named ∙
       sym (after-accepted m (Cycle entries) (ap fault_refusal accepted))
+
+  -- after a machine was loaded
+  pub after-load : (saved : SavedMachine) (side : Side) (new : Stored) (other : List rule.Rule)
+      (entries : List Entry) (place : ℕ) (map : List ℕ) →
+      load_refusal limit saved ≡ None → side_of saved.side ≡ Some side → new.side ≡ side →
+      cells new ≡ torus (side_number side) (saved_bit saved.planes) →
+      other ≡ saved.rules → named_entries other entries ≡ saved.cycle → place ≡ saved.position →
+      map ≡ saved.colours →
+      stored_as new limit other entries place map ≡ after before (Load saved)
+  after-load saved side new other entries place map accepted found same_side same_cells same_rules
+      same_cycle same_position same_colours =
+      let f = torus (side_number side) (saved_bit saved.planes) in
+      let m = stored_as new limit other entries place map in
+      ap {B = Machine} (λ s. record m { side = s }) same_side ∙
+      ap {B = Machine} (λ (g : Cells). record m { side = side; planes = g }) same_cells ∙
+      ap {B = Machine} (λ l. record m { side = side; planes = f; rules = l }) same_rules ∙
+      ap {B = Machine} (λ l. record m { side = side; planes = f; rules = saved.rules; cycle = l })
+      same_cycle ∙
+      ap {B = Machine} (λ n. record (restored side limit saved) { position = n; colours = map })
+      same_position ∙
+      ap {B = Machine} (λ l. record (restored side limit saved) { colours = l }) same_colours ∙
+      sym (ap (λ o. with_saved o saved before) found) ∙
+      sym (after-accepted before (Load saved) (ap fault_refusal accepted))
 
   -- the machine after steps that were done
   pub after-moves : (new : Stored) (last n : ℕ) (direction : Direction) →
