@@ -31,8 +31,9 @@ use Rattle.cam6_rules.specs.Filled.{way_refusal}
 use Rattle.cam6_machine.specs.Stored.{StoredKept, machine_over, nothing_kept, IsKept}
 use Rattle.cam6_machine.specs.Laws.{KeptIsMachine}
 use Rattle.cam6_model.proofs.ReversibleCycles.{back_runs}
-use Rattle.cam6_model.proofs.Staying.{stays_machine, blank_is_machine, run_begins, first_none}
 use Rattle.cam6_model.proofs.Refusing.{after-accepted}
+use Rattle.cam6_model.proofs.Commanded.{stays_machine}
+use Rattle.cam6_model.proofs.Staying.{blank_is_machine, run_begins, first_none}
 use Rattle.cam6_model.proofs.StepsOfATorus.{side_some}
 
 -- over planes within the limit it is a machine

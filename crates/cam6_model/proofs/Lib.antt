@@ -10,8 +10,14 @@ pub mod DroppedNames
 pub mod Refusing
 -- What follows of steps on.
 pub mod StepLaws
--- A machine stays a machine, whatever it is commanded, and its rules run.
+-- What isn't refused leaves a machine; the blank one is one; and a machine's rules run.
 pub mod Staying
+-- Rules that are defined one after another, each under a new name, behind those that are there.
+pub mod LoadedRules
+-- What is found of a saved machine, part by part: it is one, or a load is refused.
+pub mod SavedParts
+-- A machine stays a machine, whatever it is commanded, and its limit stays.
+pub mod Commanded
 -- What a step makes of planes, or a step undone, is a torus.
 pub mod StepsOfATorus
 -- A machine that may go back has a cycle of which every rule can be undone.

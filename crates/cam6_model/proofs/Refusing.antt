@@ -9,6 +9,7 @@ use Rattle.cam6_commands.specs.declared.commands.Command.{Command}
 use Rattle.cam6_commands.specs.declared.commands.Command.TheVariants.{Set, Rule, Cycle, Run, Back}
 use Rattle.cam6_commands.specs.declared.commands.Command.TheVariants.{Row, Plane, Side, Clear, Drop}
 use Rattle.cam6_commands.specs.declared.commands.Command.TheVariants.{Rules, Map, Colours, Count}
+use Rattle.cam6_commands.specs.declared.commands.Command.TheVariants.{Save, Load}
 use Rattle.cam6_cycle.specs.declared.tables.Direction.{Direction}
 use Rattle.cam6_cycle.specs.declared.tables.Direction.TheVariants.{Forward, Backward}
 use Rattle.cam6_commands.specs.declared.refusals.Refusal.{Refusal}
@@ -50,6 +51,8 @@ command_is m Rules n direction e = cc e
 command_is m (Map colours) n direction e = cc e
 command_is m (Colours row) n direction e = cc e
 command_is m (Count mask) n direction e = cc e
+command_is m Save n direction e = cc e
+command_is m (Load saved) n direction e = cc e
 command_is m (Cycle entries) n direction e = cc e
 command_is m (Row plane row) n direction e = cc e
 command_is m (Plane plane) n direction e = cc e

@@ -1,7 +1,7 @@
--- A machine stays a machine, whatever it is commanded, and its rules run.
+-- What isn't refused leaves a machine; the blank one is one; and a machine's rules run.
 use Rattle.std.proofs.Common.{◌≡◌, ◌≤◌, ◌<◌, ◌+◌, ◌%◌, ℕ, Bool, true, false, ◌&&◌, ◌||◌, List, []}
 use Rattle.std.proofs.Common.{◌∷◌, ◌==◌, length, Option, Some, None, cond, refl, sym, ap, ◌∙◌}
-use Rattle.std.proofs.Common.{subst, if◌then◌else◌, arith, lit≤, nat_lt, nat_le, IsOk, ◌⊎◌, inl}
+use Rattle.std.proofs.Common.{subst, arith, lit≤, nat_lt, nat_le, IsOk, ◌⊎◌, inl}
 use Rattle.std.proofs.Common.{inr, Result, Ok, Err}
 use Rattle.std.proofs.Math.Path.{fun_ext}
 use Rattle.std.specs.List.{AllByRecursion, list_any, list_all}
@@ -10,12 +10,10 @@ use Rattle.std.proofs.lemmas.Bool.{leb-true, leb-false, ltb-true, eqb-true}
 use Rattle.std.proofs.lemmas.Map.Made.{IsDistinct-from_AllPairs}
 use Rattle.std.proofs.lemmas.Slice.Eq.{bytes_eq-Decides}
 use Rattle.std.proofs.Math.Nat.{mod-lt}
-use Rattle.cam6_planes.specs.Side.{side_number, side_of}
+use Rattle.cam6_planes.specs.Side.{side_number}
 use Rattle.cam6_planes.specs.declared.sides.Side.{Side}
 use Rattle.cam6_planes.specs.declared.sides.Side.TheVariants.{S128, S256, S512}
 use Rattle.cam6_planes.specs.Cells.{Cells, torus, no_cells}
-use Rattle.cam6_planes.specs.Row.{byte_column}
-use Rattle.cam6_planes.proofs.CellsAt.{torus_again}
 use Rattle.cam6_block.proofs.Causes.{cause_is_found}
 use Rattle.cam6_cycle.specs.declared.tables.Direction.{Direction}
 use Rattle.cam6_cycle.specs.declared.tables.Direction.TheVariants.{Forward, Backward}
@@ -43,27 +41,22 @@ use Rattle.cam6_model.specs.Steps.{words_mean}
 use Rattle.cam6_model.specs.Machine.{Machine, own_colours, first_side, steps}
 use Rattle.cam6_model.specs.Moves.{moved, CanMove}
 use Rattle.cam6_model.specs.Refusals as refuse
-use Rattle.cam6_model.specs.Effects.{effect, with_rule, without_rule, with_side}
-use Rattle.cam6_model.specs.Alone.{if_refused, after, command_of}
+use Rattle.cam6_model.specs.Effects.{with_rule, without_rule}
+use Rattle.cam6_model.specs.Alone.{command_of}
 use Rattle.cam6_model.specs.Always.{HaveOwnNames, AreRules, IsNamed, IsEntry, IsPosition, IsMachine}
-use Rattle.cam6_commands.specs.RuleTexts.{HasText}
-use Rattle.cam6_model.specs.Laws.{BlankIsMachine, StaysMachine, LimitStays, IsRuled, RulesRun}
-use Rattle.cam6_commands.specs.declared.commands.Command.{Command}
-use Rattle.cam6_commands.specs.declared.commands.Command.TheVariants as command
+use Rattle.cam6_model.specs.Laws.{BlankIsMachine, IsRuled, RulesRun}
 use Rattle.cam6_commands.specs.declared.commands.NamedEntry.{NamedEntry}
 use Rattle.cam6_commands.specs.declared.faults.Fault.{Fault}
 use Rattle.cam6_commands.specs.declared.faults.Fault.TheVariants.{WrongHalf, OutOfRange}
 use Rattle.cam6_commands.specs.declared.faults.Fault.TheVariants.{TooManyRules, RuleInUse}
-use Rattle.cam6_commands.specs.declared.faults.Fault.TheVariants.{AboveLimit, NoCycle}
-use Rattle.cam6_commands.specs.declared.refusals.Refusal.{Refusal}
-use Rattle.cam6_model.proofs.Refusing.{after-refused, after-accepted}
+use Rattle.cam6_commands.specs.declared.faults.Fault.TheVariants.{NoCycle}
 use Rattle.cam6_model.proofs.KeptNames.{length_at_most, length_same, all_with, own_with}
 use Rattle.cam6_model.proofs.KeptNames.{other_named}
 use Rattle.cam6_model.proofs.DroppedNames.{length_without, all_without, own_without}
 use Rattle.cam6_model.proofs.DroppedNames.{entries_without}
 use Rattle.cam6_model.proofs.Names.{same_bytes}
-use Rattle.cam6_model.proofs.StepsOfATorus.{AreWhole, side_some, steps_whole}
-use Rattle.cam6_model.proofs.StepsBack.{only_these_back, unsteps_is}
+use Rattle.cam6_model.proofs.StepsOfATorus.{AreWhole, steps_whole}
+use Rattle.cam6_model.proofs.StepsBack.{unsteps_is}
 use Rattle.cam6_model.proofs.ReversibleCycles.{back_runs, reversible}
 use Rattle.cam6_model.proofs.StepLaws.{only_planes_and_position, position_goes_round}
 
@@ -72,7 +65,7 @@ none_own =
     IsDistinct-from_AllPairs bytes_eq-Decides []
     (λ i j d before within. absurd (omega (arith, within)))
 
-no_fault : (o : Option Fault) → refuse.fault_refusal o ≡ None → o ≡ None
+pub no_fault : (o : Option Fault) → refuse.fault_refusal o ≡ None → o ≡ None
 no_fault None e = refl
 no_fault (Some fault) e = cc e
 
@@ -81,11 +74,11 @@ pub first_none : {A : Type 0} (first next : Option A) → refuse.or_then first n
 first_none None next e = (refl, e)
 first_none (Some first) next e = cc e
 
-allowed : (b : Bool) (fault : Fault) → unless b fault ≡ None → b ≡ true
+pub allowed : (b : Bool) (fault : Fault) → unless b fault ≡ None → b ≡ true
 allowed true fault e = refl
 allowed false fault e = cc e
 
-both : (a b : Bool) → (a && b) ≡ true → (a ≡ true) × (b ≡ true)
+pub both : (a b : Bool) → (a && b) ≡ true → (a ≡ true) × (b ≡ true)
 both true b e = (refl, e)
 both false b e = cc e
 
@@ -109,7 +102,7 @@ moved_is m planes position is whole at = record {
 }
 
 -- a run that is accepted has a cycle
-some_cycle : (cycle : List NamedEntry) (n : ℕ) →
+pub some_cycle : (cycle : List NamedEntry) (n : ℕ) →
     refuse.fault_refusal (refuse.run_refusal cycle n) ≡ None → 0 < length cycle
 some_cycle [] n none =
     let later = first_none _ (refuse.some_cycle []) (no_fault _ none) in cc (later.1)
@@ -222,7 +215,7 @@ accepted_cycle rules entries none = by_test (refuse.is_named_cycle entries) refl
         both (nat_le 1 (length entries)) (nat_le (length entries) max_entries) bounds in
         (leb-true (length entries) max_entries few, cycle_entries rules entries none phases)
 
-from_0 : (cycle : List NamedEntry) → IsPosition cycle 0
+pub from_0 : (cycle : List NamedEntry) → IsPosition cycle 0
 from_0 [] = refl
 from_0 (entry ∷ cycle) = omega arith
 
@@ -382,7 +375,7 @@ rules_defined new rules cycle are none words text = by_name (is_rule_name new.na
         rules_with new rules are named few words text
 
 -- a rule that isn't refused is put under its name
-rule_is : (m : Machine) (new : Rule) → IsMachine m →
+pub rule_is : (m : Machine) (new : Rule) → IsMachine m →
     refuse.rule_refusal m.rules m.cycle new.name ≡ None →
     refuse.words_refusal new.wiring new.text ≡ None → IsUtf8 new.text →
     IsMachine (record m { rules = with_rule new m.rules })
@@ -407,7 +400,7 @@ small (colour ∷ colours) are =
     (leb-true colour max_colour here, small colours later)
 
 -- colours that aren't refused
-allowed_colours : (colours : List ℕ) → refuse.map_refusal colours ≡ None →
+pub allowed_colours : (colours : List ℕ) → refuse.map_refusal colours ≡ None →
     (length colours ≡ cell_states) × AllByRecursion (λ colour. colour ≤ max_colour) colours
 allowed_colours colours none =
     let (sixteen, are) =
@@ -416,7 +409,7 @@ allowed_colours colours none =
     (eqb-true (length colours) cell_states sixteen, small colours are)
 
 -- a rule that isn't refused is dropped
-dropped_is : (m : Machine) (name : List ℕ) → IsMachine m →
+pub dropped_is : (m : Machine) (name : List ℕ) → IsMachine m →
     refuse.drop_refusal m.rules m.cycle name ≡ None →
     IsMachine (record m { rules = without_rule name m.rules })
 dropped_is m name is none = record {
@@ -442,112 +435,12 @@ dropped_is m name is none = record {
     by_rule (Some rule) none = by_use (refuse.is_used m.cycle name) refl none
 
 -- no cell is set on whatever torus
-none_whole : (s : ℕ) → torus s no_cells ≡ no_cells
+pub none_whole : (s : ℕ) → torus s no_cells ≡ no_cells
 none_whole s = fun_ext (λ p. fun_ext (λ x. fun_ext (λ y. never (nat_lt p 4))))
   where
     never : (b : Bool) → (b && false) ≡ false
     never true = refl
     never false = refl
-
--- what a command that isn't refused makes of a machine
-effect_is : (m : Machine) (c : Command) → IsMachine m → HasText c → refuse.refusal m c ≡ None →
-    IsMachine (effect m c)
-effect_is m (command.Set plane row bits) is text none =
-    let s = side_number m.side in
-    moved_is m (effect m (command.Set plane row bits)).planes m.position is
-    (torus_again s (λ q u v. if (q == plane) && (v == row) then byte_column bits u
-    else m.planes q u v) (side_some m.side)) is.position
-effect_is m (command.Rule name wiring text) is utf8 none =
-    let new : Rule = record { name = name; wiring = wiring; text = text } in
-    let (number, words) = first_none _ (refuse.words_refusal wiring text) none in
-    rule_is m new is (no_fault _ number) words utf8
-effect_is m (command.Clear plane) is text none =
-    let s = side_number m.side in
-    moved_is m (effect m (command.Clear plane)).planes m.position is
-    (torus_again s (λ q x y. if q == plane then false else m.planes q x y) (side_some m.side))
-    is.position
-effect_is m (command.Drop name) is text none = dropped_is m name is (no_fault _ none)
-effect_is m command.Rules is text none = is
-effect_is m (command.Map colours) is text none =
-    let (coloured, small) = allowed_colours colours (no_fault _ none) in
-    record {
-      within = is.within;
-      planes = is.planes;
-      rules = is.rules;
-      short = is.short;
-      entries = is.entries;
-      position = is.position;
-      coloured = coloured;
-      colours = small;
-    }
-effect_is m (command.Colours row) is text none = is
-effect_is m (command.Count mask) is text none = is
-effect_is m (command.Cycle entries) is text none =
-    let (short, are) = accepted_cycle m.rules entries (no_fault _ none) in
-    record {
-      within = is.within;
-      planes = is.planes;
-      rules = is.rules;
-      short = short;
-      entries = are;
-      position = from_0 entries;
-      coloured = is.coloured;
-      colours = is.colours;
-    }
-effect_is m (command.Run n) is text none = steps_is m n is (some_cycle m.cycle n none)
-effect_is m (command.Back n) is text none = unsteps_is m n is
-effect_is m (command.Row plane row) is text none = is
-effect_is m (command.Plane plane) is text none = is
-effect_is m (command.Side n) is text none = by_side (side_of n) (no_fault _ none)
-  where
-    by_side : (asked : Option Side) → refuse.within_refusal m.limit asked ≡ None →
-        IsMachine (with_side asked m)
-    by_side None none = cc none
-    by_side (Some side) none = record {
-      within = leb-true _ _ (allowed _ AboveLimit none);
-      planes = none_whole (side_number side);
-      rules = is.rules;
-      short = is.short;
-      entries = is.entries;
-      position = from_0 m.cycle;
-      coloured = is.coloured;
-      colours = is.colours;
-    }
-
-pub stays_machine : StaysMachine
-stays_machine m c is text = by_refusal (refuse.refusal m c) refl
-  where
-    by_refusal : (o : Option Refusal) → refuse.refusal m c ≡ o → IsMachine (after m c)
-    by_refusal None none = subst IsMachine (sym (after-accepted m c none)) (effect_is m c is text none)
-    by_refusal (Some r) refused = subst IsMachine (sym (after-refused m c r refused)) is
-
--- what a command that isn't refused leaves of the limit
-effect_limit : (m : Machine) (c : Command) → (effect m c).limit ≡ m.limit
-effect_limit m (command.Set plane row bits) = refl
-effect_limit m (command.Rule name wiring text) = refl
-effect_limit m (command.Clear plane) = refl
-effect_limit m (command.Drop name) = refl
-effect_limit m command.Rules = refl
-effect_limit m (command.Map colours) = refl
-effect_limit m (command.Colours row) = refl
-effect_limit m (command.Count mask) = refl
-effect_limit m (command.Cycle entries) = refl
-effect_limit m (command.Run n) = ap (λ (k : Machine). k.limit) (only_planes_and_position m n)
-effect_limit m (command.Back n) = ap (λ (k : Machine). k.limit) (only_these_back m n)
-effect_limit m (command.Row plane row) = refl
-effect_limit m (command.Plane plane) = refl
-effect_limit m (command.Side n) = by_side (side_of n)
-  where
-    by_side : (asked : Option Side) → (with_side asked m).limit ≡ m.limit
-    by_side None = refl
-    by_side (Some side) = refl
-
-pub limit_stays : LimitStays
-limit_stays m c = by_refusal (refuse.refusal m c)
-  where
-    by_refusal : (o : Option Refusal) → (if_refused o (λ r. m) (effect m c)).limit ≡ m.limit
-    by_refusal None = effect_limit m c
-    by_refusal (Some r) = refl
 
 pub first_within : (limit : Side) → side_number (first_side limit) ≤ side_number limit
 first_within S128 = lit≤ tt
