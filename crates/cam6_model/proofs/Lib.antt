@@ -48,3 +48,7 @@ pub mod RoundAndBack
 pub mod BackUndoes
 -- For which commands memory may be wanted: a text is kept, or the reply has rows.
 pub mod WantOfMemory
+-- Planes whose rows are written one after another.
+pub mod RowsPut
+-- The bytes of a plane's rows, row by row, and the cells that they show.
+pub mod SavedPlanes
