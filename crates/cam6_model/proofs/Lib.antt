@@ -52,3 +52,7 @@ pub mod WantOfMemory
 pub mod RowsPut
 -- The bytes of a plane's rows, row by row, and the cells that they show.
 pub mod SavedPlanes
+-- What is saved of a machine has the parts of one.
+pub mod FoundParts
+-- A machine is what is loaded of what was saved of it, and nothing else is loaded.
+pub mod SavedLaws
