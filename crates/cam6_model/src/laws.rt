@@ -5,7 +5,7 @@ ghost use Rattle.cam6_model.specs.Laws.{OnlyPlanesAndPosition, PositionGoesRound
 ghost use Rattle.cam6_model.specs.Laws.{StaysMachine, RulesRun, LimitStays, StepChangesBlocks};
 ghost use Rattle.cam6_model.specs.Laws.{InvertedTablesUndo, UndoingUndoes, DoingRedoes};
 ghost use Rattle.cam6_model.specs.Laws.{BackGivesTheMachineBack, BackNeedsReversibleRules};
-ghost use Rattle.cam6_model.specs.Laws.{LoadGivesBack};
+ghost use Rattle.cam6_model.specs.Laws.{LoadGivesBack, LoadTakesSaved};
 
 /// By the tables of an entry's rules, a step makes of planes what the rules' words make of them.
 pub fn true_tables_step_as_words_do()
@@ -89,4 +89,9 @@ pub fn a_back_needs_rules_that_can_be_undone()
 /// the one that was saved from then on, but for its limit.
 pub fn a_load_gives_the_saved_machine_back()
     ensures law { LoadGivesBack }
+{}
+
+/// What isn't refused by a load was saved of the machine that there is after it.
+pub fn a_load_takes_nothing_else()
+    ensures law { LoadTakesSaved }
 {}
