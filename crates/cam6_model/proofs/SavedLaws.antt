@@ -137,3 +137,17 @@ load_takes_saved n saved bytes texts none = by_side (side_of saved.side) refl (n
         IsMachine (after n (Load saved)) × (saved ≡ saved_of (after n (Load saved)))
     by_side None is none = cc none
     by_side (Some side) is none = by_test side (refuse.is_saved side saved) is refl none
+
+-- sides of one number are one
+one_side : (first second : Side) → side_number first ≡ side_number second → first ≡ second
+one_side first second same =
+    same_Some first second
+    (sym (side_of_number first) ∙ ap side_of same ∙ side_of_number second)
+
+pub saved_of_one : SavedOfOne
+saved_of_one m n is other same =
+    let side = one_side m.side n.side (ap (λ (saved : SavedMachine). saved.side) same) in
+    sym (restored_is n n.limit other)
+    ∙ ap (restored n.side n.limit) (sym same)
+    ∙ ap (λ s. restored s n.limit (saved_of m)) (sym side)
+    ∙ restored_is m n.limit is

@@ -5,7 +5,7 @@ ghost use Rattle.cam6_model.specs.Laws.{OnlyPlanesAndPosition, PositionGoesRound
 ghost use Rattle.cam6_model.specs.Laws.{StaysMachine, RulesRun, LimitStays, StepChangesBlocks};
 ghost use Rattle.cam6_model.specs.Laws.{InvertedTablesUndo, UndoingUndoes, DoingRedoes};
 ghost use Rattle.cam6_model.specs.Laws.{BackGivesTheMachineBack, BackNeedsReversibleRules};
-ghost use Rattle.cam6_model.specs.Laws.{LoadGivesBack, LoadTakesSaved};
+ghost use Rattle.cam6_model.specs.Laws.{LoadGivesBack, LoadTakesSaved, SavedOfOne};
 
 /// By the tables of an entry's rules, a step makes of planes what the rules' words make of them.
 pub fn true_tables_step_as_words_do()
@@ -94,4 +94,9 @@ pub fn a_load_gives_the_saved_machine_back()
 /// What isn't refused by a load was saved of the machine that there is after it.
 pub fn a_load_takes_nothing_else()
     ensures law { LoadTakesSaved }
+{}
+
+/// Machines of which the same is saved differ in their limits alone.
+pub fn what_is_saved_is_of_one_machine()
+    ensures law { SavedOfOne }
 {}
