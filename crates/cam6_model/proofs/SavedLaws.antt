@@ -151,3 +151,11 @@ saved_of_one m n is other same =
     ∙ ap (restored n.side n.limit) (sym same)
     ∙ ap (λ s. restored s n.limit (saved_of m)) (sym side)
     ∙ restored_is m n.limit is
+
+pub loaded_answers_alike : LoadedAnswersAlike
+loaded_answers_alike m n commands is limit =
+    let within : side_number m.side ≤ side_number n.limit =
+    subst (λ l. side_number m.side ≤ side_number l) limit is.within in
+    ap (λ k. replies k commands)
+    ((load_gives_back m n is within).1
+    ∙ ap {B = Machine} (λ l. record m { limit = l }) (sym limit))

@@ -6,6 +6,7 @@ ghost use Rattle.cam6_model.specs.Laws.{StaysMachine, RulesRun, LimitStays, Step
 ghost use Rattle.cam6_model.specs.Laws.{InvertedTablesUndo, UndoingUndoes, DoingRedoes};
 ghost use Rattle.cam6_model.specs.Laws.{BackGivesTheMachineBack, BackNeedsReversibleRules};
 ghost use Rattle.cam6_model.specs.Laws.{LoadGivesBack, LoadTakesSaved, SavedOfOne};
+ghost use Rattle.cam6_model.specs.Laws.{LoadedAnswersAlike};
 
 /// By the tables of an entry's rules, a step makes of planes what the rules' words make of them.
 pub fn true_tables_step_as_words_do()
@@ -99,4 +100,10 @@ pub fn a_load_takes_nothing_else()
 /// Machines of which the same is saved differ in their limits alone.
 pub fn what_is_saved_is_of_one_machine()
     ensures law { SavedOfOne }
+{}
+
+/// A machine that was saved and loaded under the same limit answers whatever commands come as the
+/// one that was saved.
+pub fn a_loaded_machine_answers_alike()
+    ensures law { LoadedAnswersAlike }
 {}
