@@ -48,3 +48,11 @@ pub mod RoundAndBack
 pub mod BackUndoes
 -- For which commands memory may be wanted: a text is kept, or the reply has rows.
 pub mod WantOfMemory
+-- Planes whose rows are written one after another.
+pub mod RowsPut
+-- The bytes of a plane's rows, row by row, and the cells that they show.
+pub mod SavedPlanes
+-- What is saved of a machine has the parts of one.
+pub mod FoundParts
+-- A machine is what is loaded of what was saved of it, and nothing else is loaded.
+pub mod SavedLaws

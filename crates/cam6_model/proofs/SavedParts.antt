@@ -10,14 +10,19 @@ use Rattle.cam6_planes.specs.declared.sides.Side.{Side}
 use Rattle.cam6_planes.proofs.CellsAt.{torus_again}
 use Rattle.cam6_cycle.specs.Limits.{max_entries}
 use Rattle.cam6_commands.specs.Checks.{unless}
+use Rattle.cam6_commands.specs.declared.commands.Command.TheVariants.{Load}
 use Rattle.cam6_commands.specs.declared.commands.NamedEntry.{NamedEntry}
 use Rattle.cam6_commands.specs.declared.faults.Fault.{Fault}
 use Rattle.cam6_commands.specs.declared.faults.Fault.TheVariants.{AboveLimit, NoMachine}
 use Rattle.cam6_commands.specs.declared.saved.SavedMachine.{SavedMachine}
 use Rattle.cam6_model.specs.Rules.{Rule}
+use Rattle.cam6_model.specs.Machine.{Machine}
 use Rattle.cam6_model.specs.Saved.{saved_bit, restored}
 use Rattle.cam6_model.specs.Refusals as refuse
+use Rattle.cam6_model.specs.Effects.{with_saved}
+use Rattle.cam6_model.specs.Alone.{after}
 use Rattle.cam6_model.specs.Always.{IsEntry, IsPosition, IsMachine}
+use Rattle.cam6_model.proofs.Refusing.{after-accepted}
 use Rattle.cam6_model.proofs.StepsOfATorus.{side_some}
 use Rattle.cam6_model.proofs.Staying.{accepted_cycle, allowed_colours}
 use Rattle.cam6_model.proofs.LoadedRules.{is_nothing, rules_are}
@@ -106,6 +111,14 @@ accepted_is limit side saved is are within =
     ∙ ap (λ b. cond b (refuse.within_refusal limit (Some side)) (Some NoMachine))
     (saved_of_parts side saved are)
     ∙ ap (λ b. unless b AboveLimit) (le-leb (side_number side) (side_number limit) within)
+
+-- and then it is what there is, but for the limit
+pub after_load : (m : Machine) (saved : SavedMachine) (side : Side) →
+    side_of saved.side ≡ Some side → refuse.load_refusal m.limit saved ≡ None →
+    after m (Load saved) ≡ restored side m.limit saved
+after_load m saved side is none =
+    after-accepted m (Load saved) (ap refuse.fault_refusal none)
+    ∙ ap (λ o. with_saved o saved m) is
 
 -- one that is found whole, of a side above the limit
 pub above_limit : (limit side : Side) (saved : SavedMachine) → side_of saved.side ≡ Some side →

@@ -5,6 +5,8 @@ ghost use Rattle.cam6_model.specs.Laws.{OnlyPlanesAndPosition, PositionGoesRound
 ghost use Rattle.cam6_model.specs.Laws.{StaysMachine, RulesRun, LimitStays, StepChangesBlocks};
 ghost use Rattle.cam6_model.specs.Laws.{InvertedTablesUndo, UndoingUndoes, DoingRedoes};
 ghost use Rattle.cam6_model.specs.Laws.{BackGivesTheMachineBack, BackNeedsReversibleRules};
+ghost use Rattle.cam6_model.specs.Laws.{LoadGivesBack, LoadTakesSaved, SavedOfOne};
+ghost use Rattle.cam6_model.specs.Laws.{LoadedAnswersAlike};
 
 /// By the tables of an entry's rules, a step makes of planes what the rules' words make of them.
 pub fn true_tables_step_as_words_do()
@@ -82,4 +84,26 @@ pub fn a_back_that_is_accepted_undoes_a_run()
 /// cycle can be undone.
 pub fn a_back_needs_rules_that_can_be_undone()
     ensures law { BackNeedsReversibleRules }
+{}
+
+/// What was saved of a machine is loaded by every machine within whose limit its side is, which is
+/// the one that was saved from then on, but for its limit.
+pub fn a_load_gives_the_saved_machine_back()
+    ensures law { LoadGivesBack }
+{}
+
+/// What isn't refused by a load was saved of the machine that there is after it.
+pub fn a_load_takes_nothing_else()
+    ensures law { LoadTakesSaved }
+{}
+
+/// Machines of which the same is saved differ in their limits alone.
+pub fn what_is_saved_is_of_one_machine()
+    ensures law { SavedOfOne }
+{}
+
+/// A machine that was saved and loaded under the same limit answers whatever commands come as the
+/// one that was saved.
+pub fn a_loaded_machine_answers_alike()
+    ensures law { LoadedAnswersAlike }
 {}
