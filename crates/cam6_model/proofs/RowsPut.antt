@@ -1,8 +1,8 @@
 -- Planes whose rows are written one after another.
 use Rattle.std.proofs.Common.{◌≡◌, ℕ, zero, suc, ◌+◌, ◌*◌, ◌/◌, ◌∷◌, ◌<◌, Bool, true, false}
 use Rattle.std.proofs.Common.{◌&&◌, List, []}
-use Rattle.std.proofs.Common.{get_or, length, refl, sym, ap, ◌∙◌, arith, if◌then◌else◌, ◌==◌, nat_lt}
-use Rattle.std.proofs.Common.{cond}
+use Rattle.std.proofs.Common.{get_or, length, refl, sym, ap, ◌∙◌, arith, if◌then◌else◌, ◌==◌}
+use Rattle.std.proofs.Common.{cond, nat_lt}
 use Rattle.std.specs.List.{list_all}
 use Rattle.std.proofs.lemmas.Bool.{lt-ltb, eqb-true, and_parts}
 use Rattle.std.proofs.lemmas.Bool.Decides.{Decides-eqb}

@@ -1,6 +1,6 @@
 -- What is found of a saved machine, part by part: it is one, or a load is refused.
 use Rattle.std.proofs.Common.{◌≡◌, ◌≤◌, ◌<◌, ℕ, Bool, true, false, ◌&&◌, List, [], ◌∷◌, length}
-use Rattle.std.proofs.Common.{Some, None, is_none, cond, ap, ◌∙◌, arith, nat_le}
+use Rattle.std.proofs.Common.{Some, None, is_none, cond, refl, ap, ◌∙◌, arith, nat_le}
 use Rattle.std.specs.List.{AllByRecursion}
 use Rattle.std.specs.Str.{IsUtf8}
 use Rattle.std.proofs.lemmas.Bool.{eqb-true, ltb-true, le-leb, leb-true, and_parts, and_from}
@@ -40,6 +40,17 @@ found_entries rules [] is = (omega arith, tt)
 found_entries rules (entry ∷ entries) is =
     accepted_cycle rules (entry ∷ entries)
     (is_nothing (refuse.cycle_refusal rules (entry ∷ entries)) is)
+
+-- entries that are accepted as a cycle, and some that are refused
+pub entries_accepted : (rules : List Rule) (entries : List NamedEntry) →
+    refuse.cycle_refusal rules entries ≡ None → refuse.are_entries rules entries ≡ true
+entries_accepted rules [] none = refl
+entries_accepted rules (entry ∷ entries) none = ap is_none none
+
+pub entries_refused : (rules : List Rule) (entry : NamedEntry) (entries : List NamedEntry)
+    (fault : Fault) → refuse.cycle_refusal rules (entry ∷ entries) ≡ Some fault →
+    refuse.are_entries rules (entry ∷ entries) ≡ false
+entries_refused rules entry entries fault refused = ap is_none refused
 
 -- the parts of a saved machine, as they are found
 pub record AreParts (side : Side) (saved : SavedMachine) : Type 0 where
