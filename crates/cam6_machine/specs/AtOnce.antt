@@ -7,7 +7,6 @@ use Rattle.cam6_model.specs.Alone.{reply as reply_to, after, command_of}
 use Rattle.cam6_commands.specs.declared.commands.Command.{Command}
 use Rattle.cam6_machine.specs.declared.replies.Now.{Now}
 use Rattle.cam6_machine.specs.declared.replies.Now.TheVariants as now
-use Rattle.cam6_commands.specs.declared.replies.Reply.{Reply}
 
 -- the steps that are left to do, and their direction, if there are any
 abbrev pub work_in : Now → Option (ℕ × Direction)

@@ -3,7 +3,6 @@ use Rattle.std.specs.Prelude.{◌≡◌, ◌≤◌, ℕ}
 use Rattle.cam6_planes.specs.Stored.{Stored}
 use Rattle.cam6_planes.specs.Side.{side_number}
 use Rattle.cam6_planes.specs.Cells.{cells}
-use Rattle.cam6_model.specs.Machine.{Machine}
 use Rattle.cam6_model.specs.Always.{IsMachine}
 use Rattle.cam6_machine.specs.Stored.{StoredMachine, StoredKept, machine_of, machine_over, IsKept}
 

@@ -13,18 +13,18 @@ ghost use Rattle.cam6_model.specs.Memory.{keeps_text, has_rows};
 ghost use Rattle.cam6_model.specs.Moves.{moved};
 ghost use Rattle.cam6_model.specs.Refusals.{refusal, load_refusal};
 ghost use Rattle.cam6_model.specs.Saved.{saved_of, saved_bit};
-ghost use Rattle.cam6_machine.specs.Internal.Loading.{AreLoaded};
+ghost use Rattle.cam6_machine.specs.Internal.Loading.{ArePlanesOf};
 ghost use Rattle.cam6_rules.specs.Numbers.{entries_of, named_entries};
 
 use crate::answers::work_or_reply;
-use crate::loading::tried_machine;
+use crate::loading::{LoadedPlanes, tried_machine};
 use crate::refusals::{accept_colours, accept_run};
 use crate::replies::Now;
 use crate::runs::go_along;
 use crate::saving::{saved_colours, saved_planes};
 use cam6_band::AtRest;
 use cam6_commands::{
-    BitRows, Command, Done, Fault, NamedEntries, Names, Refusal, Reply, SavedMachine, Text,
+    Command, Done, Fault, NamedEntries, Names, Refusal, Reply, SavedMachine, Text,
 };
 use cam6_cycle::{Cycle, Direction};
 use cam6_planes::{NoMemory, Planes, Side};
@@ -283,15 +283,15 @@ impl Kept {
     pub(crate) fn load(
         &mut self,
         saved: SavedMachine,
-    ) -> Result<Result<(Side, [BitRows; 4]), Fault>, NoMemory>
+    ) -> Result<Result<LoadedPlanes, Fault>, NoMemory>
         ensures refusal { IfOk result (λ found.
             result_err found ≡ load_refusal self.old.limit saved) }
         ensures planes { IfOk result (λ found. IfOk found (λ taken.
-            AreLoaded self.old.limit saved taken.0 taken.1)) }
+            ArePlanesOf self.old.limit saved taken)) }
         // Over whatever planes that are the machine's.
         ensures machine { (before planes : Stored) → IfOk result (λ found. IfOk found (λ taken.
-            planes.side ≡ taken.0 →
-            cells planes ≡ torus (side_number taken.0) (saved_bit taken.1) →
+            planes.side ≡ taken.side →
+            cells planes ≡ torus (side_number taken.side) (saved_bit taken.rows) →
             machine_over planes self.new ≡ after (machine_over before self.old) (Command.Load saved))) }
         ensures limit { self.new.limit ≡ self.old.limit }
         ensures refused { IfOk result (λ found. OnErr found (self.new ≡ self.old)) }
@@ -303,9 +303,10 @@ impl Kept {
                 self.rules = found.rules;
                 self.cycle = found.cycle;
                 self.position = found.position;
-                self.colours = found.colours;
+                let colours = found.colours;
+                self.colours = colours;
                 self.tables.spoil();
-                Ok(Ok((found.side, found.planes)))
+                Ok(Ok(found.planes))
             }
             Err(fault) => Ok(Err(fault)),
         }

@@ -15,11 +15,17 @@ use cam6_planes::{Bits, NoMemory, Planes, Side};
 use cam6_rules::{Rules, Tables};
 use std::alloc::Global;
 
+/// The planes of a machine that was saved, and their side.
+#[derive(Drop)]
+pub(crate) struct LoadedPlanes {
+    pub(crate) side: Side,
+    pub(crate) rows: [BitRows; 4],
+}
+
 /// A machine that was saved, as it is taken on.
 #[derive(Drop)]
 pub(crate) struct Loaded {
-    pub(crate) side: Side,
-    pub(crate) planes: [BitRows; 4],
+    pub(crate) planes: LoadedPlanes,
     pub(crate) rules: Rules,
     pub(crate) cycle: Option<Cycle>,
     pub(crate) position: usize,
@@ -71,8 +77,7 @@ pub(crate) fn tried_machine(
     // Rules are what rules always are.
     let _number = rules.len();
     Ok(Ok(Loaded {
-        side,
-        planes,
+        planes: LoadedPlanes { side, rows: planes },
         rules,
         cycle,
         position: position as usize,

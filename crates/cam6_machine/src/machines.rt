@@ -237,8 +237,8 @@ impl Machine {
             → IsOk result }
     {
         match self.kept.load(saved)? {
-            Ok((side, planes)) => {
-                self.image.put_planes(side, &planes);
+            Ok(planes) => {
+                self.image.put_planes(planes.side, &planes.rows);
                 Ok(Reply::Done(Done::Load))
             }
             Err(fault) => Ok(Reply::Refused(Refusal::Fault(fault))),

@@ -1,5 +1,5 @@
 -- What follows of steps, whichever way they go.
-use Rattle.std.proofs.Common.{◌≡◌, ℕ, zero, suc, ◌+◌, ◌-◌, ◌<◌, ◌%◌, length, Option, Some, None, refl}
+use Rattle.std.proofs.Common.{◌≡◌, ℕ, zero, suc, ◌+◌, ◌-◌, ◌<◌, ◌%◌, length, Option, None}
 use Rattle.std.proofs.Common.{sym, ap, ◌∙◌, arith, Bool}
 use Rattle.std.proofs.Math.Nat.{mod-add-mod, mod-eq_of_lt, mod-lt, add-mod_right, mod_self}
 use Rattle.std.proofs.Math.Nat.{suc-mod, zero-mod}
@@ -8,10 +8,8 @@ use Rattle.cam6_planes.specs.Cells.{Cells}
 use Rattle.cam6_planes.proofs.CellsAt.{torus_at}
 use Rattle.cam6_wiring.specs.Name.{plane_of, on_plane}
 use Rattle.cam6_wiring.specs.declared.names.Half.{Half}
-use Rattle.cam6_wiring.specs.declared.names.Half.TheVariants.{A, B}
 use Rattle.cam6_wiring.specs.declared.names.Level.{Level}
 use Rattle.cam6_cycle.specs.Along.{previous}
-use Rattle.cam6_cycle.specs.declared.tables.Direction.{Direction}
 use Rattle.cam6_cycle.specs.declared.tables.Direction.TheVariants.{Forward, Backward}
 use Rattle.cam6_model.specs.Rules.{Rule}
 use Rattle.cam6_model.specs.Cycles.{EntryRules, rule_for}

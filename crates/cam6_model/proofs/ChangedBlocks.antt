@@ -1,6 +1,5 @@
 -- Planes whose blocks are changed, and what undoes a change of blocks.
 use Rattle.std.proofs.Common.{◌≡◌, ◌<◌, ℕ, ◌%◌, Bool, Option, Some, None, refl, ◌∙◌, ap}
-use Rattle.std.proofs.Common.{arith}
 use Rattle.std.proofs.Math.Nat.{mod-lt}
 use Rattle.cam6_planes.specs.Cells.{Cells, torus}
 use Rattle.cam6_planes.specs.Row.{bit_number}

@@ -24,9 +24,9 @@ use Rattle.cam6_band.specs.ByTables.{HalfEntries, StepTables, bit_by_table, tabl
 use Rattle.cam6_band.specs.ByTables.{step_by}
 use Rattle.cam6_model.specs.Rules.{Rule}
 use Rattle.cam6_model.specs.Cycles.{EntryRules, rule_for, setting_for}
-use Rattle.cam6_model.specs.Steps.{new_bit, new_cell, step}
+use Rattle.cam6_model.specs.Steps.{new_bit, new_cell}
 use Rattle.cam6_model.specs.Undoing.{block_state_at, corner_in_block, changed_cell, blockwise}
-use Rattle.cam6_model.specs.Undoing.{undone_by, unstep}
+use Rattle.cam6_model.specs.Undoing.{undone_by}
 use Rattle.cam6_model.specs.Undoing.{IsReversibleRule, IsReversibleEntry}
 use Rattle.cam6_model.specs.TrueTables.{HasTableFor, AreTablesFor}
 use Rattle.cam6_model.specs.Moves.{planes_moved}

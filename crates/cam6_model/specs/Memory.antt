@@ -9,7 +9,6 @@ use Rattle.cam6_model.specs.Refusals.{rule_refusal}
 use Rattle.cam6_model.specs.Alone.{reply as reply_to}
 use Rattle.cam6_commands.specs.declared.commands.Command.{Command}
 use Rattle.cam6_commands.specs.declared.commands.Command.TheVariants as command
-use Rattle.cam6_commands.specs.declared.replies.Done.{Done}
 use Rattle.cam6_commands.specs.declared.replies.Done.TheVariants as done
 use Rattle.cam6_commands.specs.declared.replies.Reply.{Reply}
 use Rattle.cam6_commands.specs.declared.replies.Reply.TheVariants as reply

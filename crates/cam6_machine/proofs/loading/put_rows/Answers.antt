@@ -1,4 +1,4 @@
-use Rattle.std.proofs.Common.{◌≡◌, ◌∙◌, sym, ap, [], get_or, length, arith, List, ℕ}
+use Rattle.std.proofs.Common.{◌≡◌, ◌∙◌, ap, [], length, arith, List, ℕ}
 use Rattle.std.proofs.lemmas.List.{get_or_default}
 use Rattle.cam6_planes.specs.Row.{byte_column}
 use Rattle.cam6_planes.specs.Side.{side_number}

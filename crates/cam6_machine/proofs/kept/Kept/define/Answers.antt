@@ -1,4 +1,4 @@
-use Rattle.std.proofs.Common.{◌≡◌, ◌∙◌, List, None, ap, sym, subst}
+use Rattle.std.proofs.Common.{◌≡◌, List, None, sym, subst}
 use Rattle.cam6_commands.specs.declared.commands.Command.TheVariants.{Rule}
 use Rattle.cam6_cycle.specs.declared.entries.Entry.{Entry}
 use Rattle.cam6_model.specs.Refusals.{definition_refusal}

@@ -1,4 +1,3 @@
-use Rattle.std.proofs.Common.{sym}
 use Rattle.cam6_commands.specs.declared.commands.Command.TheVariants as command
 use Rattle.cam6_machine.proofs.Answering.{told, works, wants_none}
 use Rattle.cam6_machine.proofs.machines.Machine.now.Goals as goal
