@@ -13,7 +13,8 @@ use Rattle.cam6_commands.specs.declared.replies.Done.TheVariants.{Drop, Rules, M
 use Rattle.cam6_commands.specs.declared.outcomes.Outcome.{Outcome}
 use Rattle.cam6_commands.specs.declared.outcomes.Outcome.TheVariants as outcome
 use Rattle.cam6_block.specs.declared.refusals.NotReversible.TheVariants as cause
-use Rattle.cam6_wire.specs.Replies.{texts, done_data, refusal_data, reply_data}
+use Rattle.cam6_wire.specs.Replies.{done_data, refusal_data, reply_data}
+use Rattle.cam6_wire.specs.Numbers.{texts}
 use Rattle.cam6_wire.specs.Outcomes.{outcome_data}
 
 texts_without_float : (rows : List (List ℕ)) → items_have_float (texts rows) ≡ false

@@ -3,7 +3,7 @@ use Rattle.std.proofs.Common.{◌≡◌, ◌≤◌, ℕ, List, length, codes, So
 use Rattle.std.proofs.lemmas.Option.{IfSome_then}
 use Rattle.serde_json.specs.Data.{Data, object, Members, no_members, member}
 use Rattle.cam6_wire.specs.Fields.{count, number_at}
-use Rattle.cam6_wire.specs.Replies.{natural}
+use Rattle.cam6_wire.specs.Numbers.{natural}
 use Rattle.cam6_wire.specs.Seats.{seat_in, ShowsSeat}
 use Rattle.cam6_wire.specs.Laws.{ShownSeatIsSaid, SaidSeatIsShown}
 use Rattle.cam6_wire.proofs.Ordered.{IsOrdered}

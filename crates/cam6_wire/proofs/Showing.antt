@@ -15,7 +15,7 @@ use Rattle.cam6_commands.specs.declared.commands.Command.TheVariants.{Side as Se
 use Rattle.cam6_commands.specs.declared.commands.Command.TheVariants.{Count}
 use Rattle.cam6_wire.specs.Fields.{count, number_at, text_at, bits_at, colours_at}
 use Rattle.cam6_wire.specs.Fields.{◌>>=◌}
-use Rattle.cam6_wire.specs.Replies.{natural, naturals}
+use Rattle.cam6_wire.specs.Numbers.{natural, naturals}
 use Rattle.cam6_wiring.specs.Texts.{half_text, hood_text, minor_text}
 use Rattle.cam6_wiring.specs.Texts.{half_named, hood_named, minor_named}
 use Rattle.cam6_wire.specs.Wirings.{wiring_in}

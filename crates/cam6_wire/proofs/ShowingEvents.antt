@@ -7,7 +7,7 @@ use Rattle.cam6_commands.specs.declared.events.Event.{Event}
 use Rattle.cam6_commands.specs.declared.events.Event.TheVariants.{Ask, Lease, Band, Preempt, Fail}
 use Rattle.cam6_commands.specs.declared.events.Event.TheVariants.{Repair, Evict, Collect}
 use Rattle.cam6_wire.specs.Fields.{count, number_at, ◌>>=◌}
-use Rattle.cam6_wire.specs.Replies.{natural}
+use Rattle.cam6_wire.specs.Numbers.{natural}
 use Rattle.cam6_wire.specs.Commands.{shown_in, sole_number}
 use Rattle.cam6_wire.specs.Events.{ask_fields, ask_of, lease_fields, lease_of, band_of}
 use Rattle.cam6_wire.specs.Events.{preempt_of, fail_of, repair_of, evict_of, collect_of}

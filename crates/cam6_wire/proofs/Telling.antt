@@ -18,7 +18,7 @@ use Rattle.cam6_commands.specs.declared.commands.Command.TheVariants.{Count}
 use Rattle.cam6_commands.specs.Limits.{cell_states}
 use Rattle.cam6_commands.specs.declared.commands.NamedEntry.{NamedEntry}
 use Rattle.cam6_wire.specs.Fields.{text_at, ◌>>=◌}
-use Rattle.cam6_wire.specs.Replies.{natural, naturals}
+use Rattle.cam6_wire.specs.Numbers.{natural, naturals}
 use Rattle.cam6_wiring.specs.Texts.{half_text, hood_text, minor_text, grid_text}
 use Rattle.cam6_wiring.specs.Texts.{half_named, hood_named, minor_named}
 use Rattle.cam6_wiring.proofs.NamesOfTexts.{half_of_text, hood_of_text, minor_of_text}

@@ -6,7 +6,7 @@ use Rattle.cam6_commands.specs.declared.events.Event.{Event}
 use Rattle.cam6_commands.specs.declared.events.Event.TheVariants.{Ask, Lease, Band, Preempt, Fail}
 use Rattle.cam6_commands.specs.declared.events.Event.TheVariants.{Repair, Evict, Collect}
 use Rattle.cam6_wire.specs.Fields.{text_at, ◌>>=◌}
-use Rattle.cam6_wire.specs.Replies.{natural}
+use Rattle.cam6_wire.specs.Numbers.{natural}
 use Rattle.cam6_wire.specs.Commands.{sole_number}
 use Rattle.cam6_wire.specs.Events.{ask_of, lease_of, band_of, preempt_of, fail_of, repair_of}
 use Rattle.cam6_wire.specs.Events.{evict_of, collect_of, event_by_word, event_in}
