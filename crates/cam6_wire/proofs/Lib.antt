@@ -2,6 +2,8 @@
 
 -- A map's length is the count of its keys.
 pub mod Members
+-- A saved machine's value has no float in it and doesn't nest deep.
+pub mod SavedValues
 -- No reply has a float in it, and no outcome.
 pub mod Floats
 -- No reply nests deep, and no outcome.
@@ -10,8 +12,12 @@ pub mod Flat
 pub mod Steps
 -- Of what is read, each object has its keys in byte order, each once.
 pub mod Ordered
+-- The first bytes of a line, by which its limit goes.
+pub mod Heads
 -- What a line says, by the value that it is: as commands show it, or as events do.
 pub mod Saying
+-- What a line says where its spelling is looked at too.
+pub mod Spelling
 -- An object with as many keys as are found in it has these keys and no others.
 pub mod Exactly
 -- What stands at a key, where something is read there.
@@ -22,6 +28,8 @@ pub mod Worded
 pub mod ColourLists
 -- Colours are as many as the values that they are read of.
 pub mod ColourCount
+-- Four values that are planes, one by one.
+pub mod FourPlanes
 -- The digits of colours are ASCII.
 pub mod ColourDigits
 -- A list that is read as a cycle's entries shows them.
