@@ -60,5 +60,17 @@ pub mod Utf8Tokens
 pub mod Utf8Values
 -- and those of the value that serde_json makes of it.
 pub mod TextsAreUtf8
+-- The compact text of a value of whole numbers is UTF-8 where its strings and keys are.
+pub mod CompactUtf8
+-- The whole numbers of a value that serde_json reads have 64 bits.
+pub mod WordsRead
+-- The value of a machine that can be saved has whole numbers, keys in order, and texts in UTF-8,
+pub mod SavedTexts
+-- and is read as the machine.
+pub mod SavedBack
+-- What is read as a saved machine can be written as one.
+pub mod SavedSayable
+-- A saved machine is loaded by one line alone in each version, and written in one text.
+pub mod LoadLines
 -- The text of a rule is UTF-8 where a line defines it, and where its ask does.
 pub mod RuleTexts

@@ -1,5 +1,5 @@
 -- A line says the seat of a user exactly where its value shows it.
-use Rattle.std.proofs.Common.{◌≡◌, ◌≤◌, ℕ, List, length, codes, Some, IfSome, Ok, refl, ap, ◌∙◌}
+use Rattle.std.proofs.Common.{◌≡◌, ℕ, codes, Some, IfSome, refl, ap, ◌∙◌}
 use Rattle.std.proofs.lemmas.Option.{IfSome_then}
 use Rattle.serde_json.specs.Data.{Data, object, Members, no_members, member}
 use Rattle.cam6_wire.specs.Fields.{count, number_at}

@@ -16,7 +16,7 @@ use Rattle.cam6_wire.proofs.Ordered.{IsOrdered, AreOrdered, HaveOrder, ordered_f
 use Rattle.cam6_wire.proofs.Exactly.{these}
 use Rattle.cam6_wire.proofs.Found.{number_found, text_found, grid_found, of_object}
 
-abbrev made_entry : List ℕ → List ℕ → Grid → ℕ → NamedEntry
+abbrev pub made_entry : List ℕ → List ℕ → Grid → ℕ → NamedEntry
 made_entry a b grid phase =
     record { a = rule_name_in a; b = rule_name_in b; grid = grid; phase = phase }
 

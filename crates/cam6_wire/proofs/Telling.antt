@@ -42,7 +42,7 @@ use Rattle.cam6_wire.proofs.Worded.{by_its_word}
 use Rattle.cam6_wire.proofs.ColourLists.{colours_said}
 
 -- three steps that all give a value
-three_steps : {A B C D : Type 0} (x : Option A) (y : Option B) (z : Option C)
+pub three_steps : {A B C D : Type 0} (x : Option A) (y : Option B) (z : Option C)
     (make : A → B → C → D) (a : A) (b : B) (c : C) → x ≡ Some a → y ≡ Some b → z ≡ Some c →
     (x >>= λ a. y >>= λ b. z >>= λ c. Some (make a b c)) ≡ Some (make a b c)
 three_steps x y z make a b c is_a is_b is_c =
@@ -113,7 +113,7 @@ entry_said entry a b is_a is_b =
     (λ name. Some (record { a = entry.a; b = name; grid = entry.grid; phase = entry.phase }))
     is_b
 
-entries_said : (items : Items) (entries : List NamedEntry) → ShowsEntries items entries →
+pub entries_said : (items : Items) (entries : List NamedEntry) → ShowsEntries items entries →
     entries_in items ≡ Some entries
 entries_said no_items [] show = refl
 entries_said (item d items) [] show = absurd show

@@ -1,8 +1,7 @@
 -- The JSON values that replies and the faults of lines are, and their texts.
 use Rattle.std.specs.Prelude.{ℕ, List, [], ◌∷◌, map, codes, slice_index}
-use Rattle.serde_json.specs.Data.{Data, string, number, unsigned, array, object}
-use Rattle.serde_json.specs.Data.{Items, Members, no_members, member}
-use Rattle.serde_json.specs.View.{items_of}
+use Rattle.serde_json.specs.Data.{Data, string, array, object}
+use Rattle.serde_json.specs.Data.{Members, no_members, member}
 use Rattle.serde_json.specs.Written.{compact_text}
 use Rattle.cam6_wiring.specs.Name.{phase_number}
 use Rattle.cam6_wiring.specs.declared.names.Half.{Half}
