@@ -10,7 +10,7 @@ use Rattle.cam6_commands.specs.Limits.{cell_states}
 use Rattle.cam6_wire.specs.Fields.{number_in, numbers_of, of_states, ◌>>=◌}
 use Rattle.cam6_wire.proofs.Steps.{of_step}
 
-whatever : {A : Type 0} (o : Option A) → IfSome o (λ a. ⊤)
+pub whatever : {A : Type 0} (o : Option A) → IfSome o (λ a. ⊤)
 whatever None = tt
 whatever (Some a) = tt
 

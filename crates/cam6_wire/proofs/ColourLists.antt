@@ -7,7 +7,7 @@ use Rattle.serde_json.specs.Data.{Items, no_items, item}
 use Rattle.serde_json.specs.Find.{get, as_array}
 use Rattle.cam6_commands.specs.Limits.{cell_states}
 use Rattle.cam6_wire.specs.Fields.{number_in, numbers_of, of_states, colours_at, ◌>>=◌}
-use Rattle.cam6_wire.specs.Replies.{natural, naturals}
+use Rattle.cam6_wire.specs.Numbers.{natural, naturals}
 use Rattle.cam6_wire.proofs.Steps.{of_step, of_test}
 use Rattle.cam6_wire.proofs.Found.{number_shown}
 

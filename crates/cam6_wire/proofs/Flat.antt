@@ -11,17 +11,21 @@ use Rattle.cam6_commands.specs.declared.replies.Done.{Done as WhatIsDone}
 use Rattle.cam6_commands.specs.declared.replies.Done.TheVariants.{Set, Rule, Cycle, Side, Run}
 use Rattle.cam6_commands.specs.declared.replies.Done.TheVariants.{Back, Row, Plane, Clear}
 use Rattle.cam6_commands.specs.declared.replies.Done.TheVariants.{Drop, Rules, Map, Colours, Count}
+use Rattle.cam6_commands.specs.declared.replies.Done.TheVariants.{Save, Load}
 use Rattle.cam6_commands.specs.declared.outcomes.Outcome.{Outcome}
 use Rattle.cam6_commands.specs.declared.outcomes.Outcome.TheVariants as outcome
 use Rattle.cam6_block.specs.declared.refusals.NotReversible.TheVariants as cause
-use Rattle.cam6_wire.specs.Replies.{texts, done_data, refusal_data, reply_data}
+use Rattle.cam6_wire.specs.Replies.{done_data, refusal_data, reply_data}
+use Rattle.cam6_wire.specs.Numbers.{texts}
 use Rattle.cam6_wire.specs.Outcomes.{outcome_data}
+use Rattle.cam6_wire.specs.declared.saved.Version.TheVariants.{Second}
+use Rattle.cam6_wire.proofs.SavedValues.{flat_saved}
 
 flat_texts : (rows : List (List ℕ)) → items_depth (texts rows) ≡ 0
 flat_texts [] = refl
 flat_texts (row ∷ rows) = omega (arith, flat_texts rows)
 
-flat_done : (done : WhatIsDone) → depth (done_data done) ≤ 2
+flat_done : (done : WhatIsDone) → depth (done_data done) ≤ 4
 flat_done Set = omega arith
 flat_done Clear = omega arith
 flat_done Rule = omega arith
@@ -36,6 +40,8 @@ flat_done (Run position) = omega arith
 flat_done (Back position) = omega arith
 flat_done (Row bits) = omega arith
 flat_done (Plane rows) = omega (arith, flat_texts rows)
+flat_done (Save machine) = omega (arith, flat_saved Second machine)
+flat_done Load = omega arith
 
 flat_refusal : (refusal : Refusal) → depth (refusal_data refusal) ≤ 2
 flat_refusal (Fault fault) = omega arith
@@ -45,12 +51,12 @@ flat_refusal (NotReversible entry half cause.Hood) = omega arith
 flat_refusal (NotReversible entry half cause.Centres) = omega arith
 flat_refusal (NotReversible entry half (cause.Meeting phase a b)) = omega arith
 
-two_deep : (reply : Reply) → depth (reply_data reply) ≤ 2
-two_deep (Done done) = flat_done done
-two_deep (Refused refusal) = flat_refusal refusal
+four_deep : (reply : Reply) → depth (reply_data reply) ≤ 4
+four_deep (Done done) = flat_done done
+four_deep (Refused refusal) = omega (arith, flat_refusal refusal)
 
 pub flat_reply : (reply : Reply) → depth (reply_data reply) ≤ max_depth
-flat_reply reply = omega (arith, two_deep reply)
+flat_reply reply = omega (arith, four_deep reply)
 
 -- a reply that is collected stands one deeper
 pub flat_outcome : (o : Outcome) → depth (outcome_data o) ≤ max_depth
@@ -64,4 +70,4 @@ flat_outcome (outcome.Failed (Some left)) = omega arith
 flat_outcome (outcome.Failed None) = omega arith
 flat_outcome outcome.Repaired = omega arith
 flat_outcome outcome.Evicted = omega arith
-flat_outcome (outcome.Collected reply) = omega (arith, two_deep reply)
+flat_outcome (outcome.Collected reply) = omega (arith, four_deep reply)

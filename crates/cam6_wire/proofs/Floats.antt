@@ -10,11 +10,15 @@ use Rattle.cam6_commands.specs.declared.replies.Done.{Done as WhatIsDone}
 use Rattle.cam6_commands.specs.declared.replies.Done.TheVariants.{Set, Rule, Cycle, Side, Run}
 use Rattle.cam6_commands.specs.declared.replies.Done.TheVariants.{Back, Row, Plane, Clear}
 use Rattle.cam6_commands.specs.declared.replies.Done.TheVariants.{Drop, Rules, Map, Colours, Count}
+use Rattle.cam6_commands.specs.declared.replies.Done.TheVariants.{Save, Load}
 use Rattle.cam6_commands.specs.declared.outcomes.Outcome.{Outcome}
 use Rattle.cam6_commands.specs.declared.outcomes.Outcome.TheVariants as outcome
 use Rattle.cam6_block.specs.declared.refusals.NotReversible.TheVariants as cause
-use Rattle.cam6_wire.specs.Replies.{texts, done_data, refusal_data, reply_data}
+use Rattle.cam6_wire.specs.Replies.{done_data, refusal_data, reply_data}
+use Rattle.cam6_wire.specs.Numbers.{texts}
 use Rattle.cam6_wire.specs.Outcomes.{outcome_data}
+use Rattle.cam6_wire.specs.declared.saved.Version.TheVariants.{Second}
+use Rattle.cam6_wire.proofs.SavedValues.{saved_without_float}
 
 texts_without_float : (rows : List (List ℕ)) → items_have_float (texts rows) ≡ false
 texts_without_float [] = refl
@@ -35,6 +39,8 @@ done_without_float (Run position) = refl
 done_without_float (Back position) = refl
 done_without_float (Row bits) = refl
 done_without_float (Plane rows) = rw (texts_without_float rows)
+done_without_float (Save machine) = rw (saved_without_float Second machine)
+done_without_float Load = refl
 
 refusal_without_float : (refusal : Refusal) → has_float (refusal_data refusal) ≡ false
 refusal_without_float (Fault fault) = refl

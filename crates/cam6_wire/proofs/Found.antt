@@ -15,7 +15,7 @@ use Rattle.serde_json.specs.Data.{unsigned, negative, float, Members}
 use Rattle.serde_json.specs.Find.{get, as_str}
 use Rattle.cam6_wire.specs.Fields.{count, has_size, number_in, number_at, text_at}
 use Rattle.cam6_wire.specs.Fields.{bits_at, ◌>>=◌}
-use Rattle.cam6_wire.specs.Replies.{natural}
+use Rattle.cam6_wire.specs.Numbers.{natural}
 use Rattle.cam6_wiring.specs.Texts.{half_text, hood_text, minor_text, grid_text}
 use Rattle.cam6_wiring.specs.Texts.{half_named, hood_named, minor_named, grid_named}
 use Rattle.cam6_wiring.proofs.NamesOfTexts.{half_in, hood_in, minor_in, grid_in}

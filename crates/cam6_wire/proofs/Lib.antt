@@ -2,6 +2,8 @@
 
 -- A map's length is the count of its keys.
 pub mod Members
+-- A saved machine's value has no float in it and doesn't nest deep.
+pub mod SavedValues
 -- No reply has a float in it, and no outcome.
 pub mod Floats
 -- No reply nests deep, and no outcome.
@@ -10,8 +12,12 @@ pub mod Flat
 pub mod Steps
 -- Of what is read, each object has its keys in byte order, each once.
 pub mod Ordered
+-- The first bytes of a line, by which its limit goes.
+pub mod Heads
 -- What a line says, by the value that it is: as commands show it, or as events do.
 pub mod Saying
+-- What a line says where its spelling is looked at too.
+pub mod Spelling
 -- An object with as many keys as are found in it has these keys and no others.
 pub mod Exactly
 -- What stands at a key, where something is read there.
@@ -22,6 +28,8 @@ pub mod Worded
 pub mod ColourLists
 -- Colours are as many as the values that they are read of.
 pub mod ColourCount
+-- Four values that are planes, one by one.
+pub mod FourPlanes
 -- The digits of colours are ASCII.
 pub mod ColourDigits
 -- A list that is read as a cycle's entries shows them.
@@ -52,5 +60,17 @@ pub mod Utf8Tokens
 pub mod Utf8Values
 -- and those of the value that serde_json makes of it.
 pub mod TextsAreUtf8
+-- The compact text of a value of whole numbers is UTF-8 where its strings and keys are.
+pub mod CompactUtf8
+-- The whole numbers of a value that serde_json reads have 64 bits.
+pub mod WordsRead
+-- The value of a machine that can be saved has whole numbers, keys in order, and texts in UTF-8,
+pub mod SavedTexts
+-- and is read as the machine.
+pub mod SavedBack
+-- What is read as a saved machine can be written as one.
+pub mod SavedSayable
+-- A saved machine is loaded by one line alone in each version, and written in one text.
+pub mod LoadLines
 -- The text of a rule is UTF-8 where a line defines it, and where its ask does.
 pub mod RuleTexts

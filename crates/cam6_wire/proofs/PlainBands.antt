@@ -5,6 +5,7 @@ use Rattle.std.proofs.Common.{take-append-drop}
 use Rattle.std.specs.Prelude.{slice_index_or}
 use Rattle.std.specs.Cmp.Lexicographic.{same_text}
 use Rattle.std.specs.Str.{bytes_eq, is_utf8, chars}
+use Rattle.cam6_wire.specs.Limits.{begins_load}
 use Rattle.cam6_wire.specs.Commands.{sole_number}
 use Rattle.serde_json.proofs.OnLiterals.{serde_json_on_literals}
 use Rattle.cam6_commands.specs.declared.events.Event.TheVariants.{Band}
@@ -14,7 +15,7 @@ abbrev pub plain_front : List ℕ
 plain_front = codes "{\"event\":\"band\",\"board\":"
 
 says_digit : (k : ℕ) → k < 10 → event (plain_front ++ (48 + k) ∷ 125 ∷ []) ≡ Ok (Band k)
-unfolding serde_json_on_literals is_utf8 chars sole_number band_of
+unfolding serde_json_on_literals is_utf8 chars begins_load sole_number band_of
 says_digit zero small = refl
 says_digit (suc zero) small = refl
 says_digit (suc (suc zero)) small = refl

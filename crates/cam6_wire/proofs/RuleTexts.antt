@@ -33,5 +33,5 @@ said_has_text line name text wiring said =
 pub asked_has_text : AskedTextIsUtf8
 asked_has_text line name text user wiring said =
     let shown = (said_event_is_shown line (Ask user (Rule name wiring text)) said).1 in
-    let held = subst HasTexts shown.2.2 (value_has_texts line shown.0 shown.1) in
+    let held = subst HasTexts shown.2.3 (value_has_texts line shown.0 shown.1) in
     shown_has_text shown.2.0 name text wiring held.1 shown.2.1

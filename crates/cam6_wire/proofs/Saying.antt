@@ -88,3 +88,13 @@ is_shown shown Form forms line a said =
     let ordered = of_value IsOrdered (value_of line) value.0 (value_is_ordered line) value.1 in
     let form = of_value (Form value.0) (shown value.0) a (forms value.0 ordered) value.2 in
     (short.0, (value.0, value.1, form))
+
+-- a line that says something has a byte, and isn't too long
+pub is_within : {A : Type 0} (shown : Data → Option A) (line : List ℕ) (a : A) →
+    said_by shown line ≡ Ok a → (0 < length line) × (length line ≤ limit_of line)
+is_within shown line a said =
+    let short =
+    not_too_long (limit_of line) (length line) (from_value shown line (value_of line)) a _ refl
+    said in
+    let value = has_value shown line (value_of line) a short.1 in
+    (not_empty line value.0 value.1, short.0)

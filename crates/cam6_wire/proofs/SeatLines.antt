@@ -1,9 +1,9 @@
 -- A line says the seat of a user exactly where its value shows it.
-use Rattle.std.proofs.Common.{◌≡◌, ◌≤◌, ℕ, List, length, codes, Some, IfSome, Ok, refl, ap, ◌∙◌}
+use Rattle.std.proofs.Common.{◌≡◌, ℕ, codes, Some, IfSome, refl, ap, ◌∙◌}
 use Rattle.std.proofs.lemmas.Option.{IfSome_then}
 use Rattle.serde_json.specs.Data.{Data, object, Members, no_members, member}
 use Rattle.cam6_wire.specs.Fields.{count, number_at}
-use Rattle.cam6_wire.specs.Replies.{natural}
+use Rattle.cam6_wire.specs.Numbers.{natural}
 use Rattle.cam6_wire.specs.Seats.{seat_in, ShowsSeat}
 use Rattle.cam6_wire.specs.Laws.{ShownSeatIsSaid, SaidSeatIsShown}
 use Rattle.cam6_wire.proofs.Ordered.{IsOrdered}

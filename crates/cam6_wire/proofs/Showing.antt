@@ -1,6 +1,6 @@
 -- A line that says a command has a value that shows it.
-use Rattle.std.proofs.Common.{◌≡◌, ◌<◌, ℕ, List, length, codes, Option, Some, IfSome, Ok}
-use Rattle.std.proofs.Common.{option_map, refl, cond, bytes_eq, Less}
+use Rattle.std.proofs.Common.{◌≡◌, ◌<◌, ℕ, List, length, codes, Option, Some, None, IfSome, Ok}
+use Rattle.std.proofs.Common.{option_map, refl, ap, cond, bytes_eq, Less}
 use Rattle.std.specs.Cmp.Lexicographic.{slice_cmp}
 use Rattle.std.specs.Ordering.{nat_cmp}
 use Rattle.serde_json.specs.Data.{Data, string, array, object, Members, no_members, member}
@@ -12,24 +12,28 @@ use Rattle.cam6_commands.specs.declared.commands.Command.TheVariants.{Set, Rule,
 use Rattle.cam6_commands.specs.declared.commands.Command.TheVariants.{Row, Plane, Clear}
 use Rattle.cam6_commands.specs.declared.commands.Command.TheVariants.{Drop as DropRule, Rules, Map}
 use Rattle.cam6_commands.specs.declared.commands.Command.TheVariants.{Side as SetSide, Colours}
-use Rattle.cam6_commands.specs.declared.commands.Command.TheVariants.{Count}
+use Rattle.cam6_commands.specs.declared.commands.Command.TheVariants.{Count, Save, Load}
+use Rattle.cam6_commands.specs.declared.saved.SavedMachine.{SavedMachine}
 use Rattle.cam6_wire.specs.Fields.{count, number_at, text_at, bits_at, colours_at}
 use Rattle.cam6_wire.specs.Fields.{◌>>=◌}
-use Rattle.cam6_wire.specs.Replies.{natural, naturals}
+use Rattle.cam6_wire.specs.Numbers.{natural, naturals}
 use Rattle.cam6_wiring.specs.Texts.{half_text, hood_text, minor_text}
 use Rattle.cam6_wiring.specs.Texts.{half_named, hood_named, minor_named}
 use Rattle.cam6_wire.specs.Wirings.{wiring_in}
 use Rattle.cam6_wire.specs.Entries.{entries_at}
 use Rattle.cam6_wire.specs.Commands.{set_fields, set_of, clear_of, rule_fields, rule_of, drop_of}
 use Rattle.cam6_wire.specs.Commands.{listing_of, cycle_of, run_of, back_of, row_fields, row_of}
-use Rattle.cam6_wire.specs.Commands.{plane_of, side_of, map_of, colours_of, count_of, by_word}
-use Rattle.cam6_wire.specs.Commands.{sole_number, shown_in, command}
-use Rattle.cam6_wire.specs.Shown.{Shows}
+use Rattle.cam6_wire.specs.Commands.{plane_of, side_of, map_of, colours_of, count_of, save_of}
+use Rattle.cam6_wire.specs.Commands.{by_word, shown_in, load_of, line_by_word, command_in}
+use Rattle.cam6_wire.specs.Commands.{sole_number, command}
+use Rattle.cam6_wire.specs.Loads.{saved_in}
+use Rattle.cam6_wire.specs.Shown.{Shows, CanBeAsked}
 use Rattle.cam6_wire.specs.Laws.{SaidIsShown}
 use Rattle.cam6_wire.proofs.Steps.{of_map, of_two, of_three}
 use Rattle.cam6_wire.proofs.Ordered.{IsOrdered}
 use Rattle.cam6_wire.proofs.Exactly.{these}
-use Rattle.cam6_wire.proofs.Saying.{is_shown, not_empty}
+use Rattle.cam6_wire.proofs.Saying.{is_shown, is_within}
+use Rattle.cam6_wire.proofs.Spelling.{spelled_as_said}
 use Rattle.cam6_wire.proofs.Found.{number_found, text_found, AreDigits, bits_found}
 use Rattle.cam6_wire.proofs.Found.{half_found, hood_found, minor_found, of_object}
 use Rattle.cam6_wire.proofs.ColourLists.{HasColours, colours_found}
@@ -202,6 +206,54 @@ cycle_shown d given =
     of_object 2 (λ x. option_map Cycle (entries_at (codes "entries") x)) (HasDo (codes "cycle"))
     Shows cycle_held d given
 
+save_held : (held : Members) → count held ≡ 1 → HasDo (codes "save") (object held) →
+    IfSome (Some Save) (Shows (object held))
+save_held held same given =
+    these (member (codes "do") (string (codes "save")) no_members) held (tt, tt) same given.0
+    (given.1, tt)
+
+save_shown : (d : Data) → HasDo (codes "save") d → IfSome (save_of d) (Shows d)
+unfolding save_of
+save_shown d given = of_object 1 (λ x. Some Save) (HasDo (codes "save")) Shows save_held d given
+
+-- the machine at the key machine
+abbrev HasMachine : Data → SavedMachine → Type 0
+HasMachine d saved =
+    (machine : Data) × (saved_in machine ≡ Some saved) × (get (codes "machine") d ≡ Some machine)
+
+machine_found : (d : Data) → IfSome (get (codes "machine") d >>= saved_in) (HasMachine d)
+machine_found d = by_value (get (codes "machine") d) refl
+  where
+    by_saved : (machine : Data) (o : Option SavedMachine) →
+        get (codes "machine") d ≡ Some machine → saved_in machine ≡ o → IfSome o (HasMachine d)
+    by_saved machine None at is = tt
+    by_saved machine (Some saved) at is = (machine, is, at)
+
+    by_value : (o : Option Data) → get (codes "machine") d ≡ o →
+        IfSome (o >>= saved_in) (HasMachine d)
+    by_value None at = tt
+    by_value (Some machine) at = by_saved machine (saved_in machine) at refl
+
+load_held : (held : Members) → count held ≡ 2 → HasDo (codes "load") (object held) →
+    IfSome (option_map Load (get (codes "machine") (object held) >>= saved_in))
+    (Shows (object held))
+load_held held same given =
+    of_map (HasMachine (object held)) (Shows (object held)) Load
+    (λ saved has. (
+      has.0,
+      has.1,
+      these
+          (member (codes "do") (string (codes "load")) (member (codes "machine") has.0 no_members))
+          held ((refl, tt), (tt, tt)) same given.0 (given.1, (has.2, tt)),
+    ))
+    (get (codes "machine") (object held) >>= saved_in) (machine_found (object held))
+
+load_shown : (d : Data) → HasDo (codes "load") d → IfSome (load_of d) (Shows d)
+unfolding load_of
+load_shown d given =
+    of_object 2 (λ x. option_map Load (get (codes "machine") x >>= saved_in))
+    (HasDo (codes "load")) Shows load_held d given
+
 by_word_shown : (word : List ℕ) (d : Data) → HasDo word d → IfSome (by_word word d) (Shows d)
 unfolding clear_of run_of back_of plane_of side_of colours_of count_of
 by_word_shown word d has =
@@ -223,7 +275,8 @@ by_word_shown word d has =
     (sole (codes "colours") (codes "row") Colours refl (λ n is. is))
     (one (codes "count") (count_of d) _
     (sole (codes "count") (codes "mask") Count refl (λ n is. is))
-    tt)))))))))))))
+    (one (codes "save") (save_of d) _ (save_shown d)
+    tt))))))))))))))
   where
     one : (its : List ℕ) (x y : Option Command) → (HasDo its d → IfSome x (Shows d)) →
         IfSome y (Shows d) → IfSome (cond (bytes_eq word its) x y) (Shows d)
@@ -238,15 +291,40 @@ by_word_shown word d has =
     sole its key make later holds =
         number_later (codes "do") its key make d (Shows d) later holds
 
-pub command_shown : (d : Data) → IsOrdered d → IfSome (shown_in d) (Shows d)
+command_shown : (d : Data) → IsOrdered d → IfSome (shown_in d) (Shows d)
 command_shown d ordered =
     word_shown by_word (codes "do") d (Shows d) ordered (λ word has. by_word_shown word d has)
 
+-- a value that shows a load is none of the others
+can_be_asked : (d : Data) (c : Command) → shown_in d ≡ Some c → Shows d c → CanBeAsked c
+can_be_asked d (Load saved) is shows =
+    let none : shown_in d ≡ None = ap shown_in shows.2 in
+    let never : ⊥ = cc in absurd never
+can_be_asked d c is shows = tt
+
+-- what an event may ask is shown, and is no load
+pub asked_shown : (d : Data) → IsOrdered d →
+    IfSome (shown_in d) (λ c. Shows d c × CanBeAsked c)
+asked_shown d ordered = by_command (shown_in d) refl (command_shown d ordered)
+  where
+    by_command : (o : Option Command) → shown_in d ≡ o → IfSome o (Shows d) →
+        IfSome o (λ c. Shows d c × CanBeAsked c)
+    by_command None is shows = tt
+    by_command (Some c) is shows = (shows, can_be_asked d c is shows)
+
+line_shown : (d : Data) → IsOrdered d → IfSome (command_in d) (Shows d)
+line_shown d ordered =
+    word_shown line_by_word (codes "do") d (Shows d) ordered
+    (λ word has.
+    of_word (codes "do") word (codes "load") d (Shows d) (load_of d) (by_word word d) has
+    (load_shown d) (by_word_shown word d has))
+
 pub said_is_shown : SaidIsShown
-said_is_shown line c said = is_shown shown_in Shows command_shown line c said
+said_is_shown line c said =
+    let spelled = spelled_as_said line c said in
+    let shown = is_shown command_in Shows line_shown line c spelled.0 in
+    (shown.0, (shown.1.0, shown.1.1, shown.1.2, spelled.1))
 
 -- a line that says a command isn't empty
 pub said_not_empty : (line : List ℕ) (c : Command) → command line ≡ Ok c → 0 < length line
-said_not_empty line c said =
-    let value = (said_is_shown line c said).1 in
-    not_empty line value.0 value.1
+said_not_empty line c said = (is_within command_in line c (spelled_as_said line c said).0).0

@@ -7,12 +7,12 @@ use Rattle.cam6_commands.specs.declared.events.Event.{Event}
 use Rattle.cam6_commands.specs.declared.events.Event.TheVariants.{Ask, Lease, Band, Preempt, Fail}
 use Rattle.cam6_commands.specs.declared.events.Event.TheVariants.{Repair, Evict, Collect}
 use Rattle.cam6_wire.specs.Fields.{count, number_at, ◌>>=◌}
-use Rattle.cam6_wire.specs.Replies.{natural}
+use Rattle.cam6_wire.specs.Numbers.{natural}
 use Rattle.cam6_wire.specs.Commands.{shown_in, sole_number}
 use Rattle.cam6_wire.specs.Events.{ask_fields, ask_of, lease_fields, lease_of, band_of}
 use Rattle.cam6_wire.specs.Events.{preempt_of, fail_of, repair_of, evict_of, collect_of}
 use Rattle.cam6_wire.specs.Events.{event_by_word, event_in, event}
-use Rattle.cam6_wire.specs.Shown.{Shows}
+use Rattle.cam6_wire.specs.Shown.{Shows, CanBeAsked}
 use Rattle.cam6_wire.specs.ShownEvents.{ShowsEvent}
 use Rattle.cam6_wire.specs.Laws.{SaidEventIsShown}
 use Rattle.cam6_wire.proofs.Steps.{of_step, of_two}
@@ -21,7 +21,7 @@ use Rattle.cam6_wire.proofs.Exactly.{these}
 use Rattle.cam6_wire.proofs.Saying.{is_shown, not_empty}
 use Rattle.cam6_wire.proofs.Found.{number_found, of_object}
 use Rattle.cam6_wire.proofs.Worded.{HasWord, of_word, word_shown, number_first, number_later}
-use Rattle.cam6_wire.proofs.Showing.{command_shown}
+use Rattle.cam6_wire.proofs.Showing.{asked_shown}
 
 -- what holds of a value whose word at the key event is known
 abbrev IsEvent : List ℕ → Data → Type 0
@@ -33,10 +33,12 @@ command_held : (user : ℕ) (shown : Data) (held : Members) → count held ≡ 3
     (get (codes "command") (object held) ≡ Some shown) × IsOrdered shown →
     IfSome (shown_in shown >>= λ command. Some (Ask user command)) (ShowsEvent (object held))
 command_held user shown held same given at_user at_command =
-    of_step (Shows shown) (ShowsEvent (object held)) (λ command. Some (Ask user command))
+    of_step (λ command. Shows shown command × CanBeAsked command) (ShowsEvent (object held))
+    (λ command. Some (Ask user command))
     (λ command shows. (
       shown,
-      shows,
+      shows.0,
+      shows.1,
       these
           (member (codes "command") shown
           (member (codes "event") (string (codes "ask"))
@@ -44,7 +46,7 @@ command_held user shown held same given at_user at_command =
           held ((refl, (refl, tt)), ((refl, tt), (tt, tt))) same given.0
           (at_command.0, (given.1, (at_user, tt))),
     ))
-    (shown_in shown) (command_shown shown at_command.1)
+    (shown_in shown) (asked_shown shown at_command.1)
 
 ask_held : (held : Members) → count held ≡ 3 → IsEvent (codes "ask") (object held) →
     IfSome (ask_fields (object held)) (ShowsEvent (object held))

@@ -7,7 +7,7 @@ use Rattle.serde_json.specs.Find.{get, get_member, as_array}
 use Rattle.cam6_wiring.specs.declared.blocks.Grid.{Grid}
 use Rattle.cam6_commands.specs.declared.commands.NamedEntry.{NamedEntry}
 use Rattle.cam6_wire.specs.Fields.{count, number_at, text_at, ◌>>=◌}
-use Rattle.cam6_wire.specs.Replies.{natural}
+use Rattle.cam6_wire.specs.Numbers.{natural}
 use Rattle.cam6_wiring.specs.Texts.{grid_text, grid_named}
 use Rattle.cam6_wire.specs.Entries.{rule_name_in, entry_fields, entry_in, entries_in, entries_at}
 use Rattle.cam6_wire.specs.Shown.{ShowsEntry, ShowsEntries}
@@ -16,7 +16,7 @@ use Rattle.cam6_wire.proofs.Ordered.{IsOrdered, AreOrdered, HaveOrder, ordered_f
 use Rattle.cam6_wire.proofs.Exactly.{these}
 use Rattle.cam6_wire.proofs.Found.{number_found, text_found, grid_found, of_object}
 
-abbrev made_entry : List ℕ → List ℕ → Grid → ℕ → NamedEntry
+abbrev pub made_entry : List ℕ → List ℕ → Grid → ℕ → NamedEntry
 made_entry a b grid phase =
     record { a = rule_name_in a; b = rule_name_in b; grid = grid; phase = phase }
 

@@ -109,7 +109,7 @@ found_in key (member next d held) hold =
     (found_in key held hold.2)
 
 -- what stands at a key
-found_at : (key : List ℕ) (d : Data) → HasTexts d → IfSome (get key d) HasTexts
+pub found_at : (key : List ℕ) (d : Data) → HasTexts d → IfSome (get key d) HasTexts
 found_at key null has = tt
 found_at key (boolean b) has = tt
 found_at key (number n) has = tt
@@ -117,7 +117,7 @@ found_at key (string text) has = tt
 found_at key (array items) has = tt
 found_at key (object held) has = found_in key held has
 
-a_text : (d : Data) → HasTexts d → IfSome (as_str d) IsUtf8
+pub a_text : (d : Data) → HasTexts d → IfSome (as_str d) IsUtf8
 a_text null has = tt
 a_text (boolean b) has = tt
 a_text (number n) has = tt

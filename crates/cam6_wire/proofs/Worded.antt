@@ -8,7 +8,7 @@ use Rattle.std.proofs.lemmas.Slice.Eq.{bytes_eq-Decides}
 use Rattle.serde_json.specs.Data.{Data, string, object, Members, no_members, member}
 use Rattle.serde_json.specs.Find.{get}
 use Rattle.cam6_wire.specs.Fields.{count, number_at, text_at, ◌>>=◌}
-use Rattle.cam6_wire.specs.Replies.{natural}
+use Rattle.cam6_wire.specs.Numbers.{natural}
 use Rattle.cam6_wire.specs.Commands.{sole_number}
 use Rattle.cam6_wire.proofs.Steps.{of_map, of_step, of_test}
 use Rattle.cam6_wire.proofs.Ordered.{IsOrdered}

@@ -1,26 +1,31 @@
 -- What a line says: the JSON value that it is, and the command that the value is.
 use Rattle.std.specs.Prelude.{◌≡◌, ◌<◌, ◌≤◌, ℕ, List, [], ◌∷◌, length, codes, nat_lt, Bool}
-use Rattle.std.specs.Prelude.{true, false, if◌then◌else◌}
+use Rattle.std.specs.Prelude.{true, false, ◌||◌, if◌then◌else◌}
 use Rattle.std.specs.Prelude.{Option, Some, None, option_map, ok_or, Result, Ok, Err, ⊤}
 use Rattle.std.specs.Option.{option_map_or}
 use Rattle.std.specs.Str.{bytes_eq, is_utf8}
 use Rattle.serde_json.specs.Data.{Data}
+use Rattle.serde_json.specs.Find.{get}
 use Rattle.serde_json.specs.Read.{read}
 use Rattle.cam6_commands.specs.declared.commands.Command.{Command}
 use Rattle.cam6_commands.specs.declared.commands.Command.TheVariants.{Set, Rule, Cycle, Run, Back}
 use Rattle.cam6_commands.specs.declared.commands.Command.TheVariants.{Row, Plane, Clear}
 use Rattle.cam6_commands.specs.declared.commands.Command.TheVariants.{Drop as DropRule, Rules, Map}
 use Rattle.cam6_commands.specs.declared.commands.Command.TheVariants.{Side as SetSide, Colours}
-use Rattle.cam6_commands.specs.declared.commands.Command.TheVariants.{Count}
+use Rattle.cam6_commands.specs.declared.commands.Command.TheVariants.{Count, Save, Load}
+use Rattle.cam6_commands.specs.declared.saved.SavedMachine.{SavedMachine}
 use Rattle.cam6_commands.specs.declared.commands.NamedEntry.{NamedEntry}
 use Rattle.cam6_wire.specs.declared.faults.LineFault.{LineFault}
 use Rattle.cam6_wire.specs.declared.faults.LineFault.TheVariants.{NoMemory, TooLong}
-use Rattle.cam6_wire.specs.declared.faults.LineFault.TheVariants.{NoJson, NoCommand}
+use Rattle.cam6_wire.specs.declared.faults.LineFault.TheVariants.{NoJson, NoCommand, OtherSpelling}
 use Rattle.cam6_wire.specs.Limits.{limit_of}
 use Rattle.cam6_wire.specs.Fields.{has_size, number_at, text_at, bits_at, colours_at}
 use Rattle.cam6_wire.specs.Fields.{◌>>=◌}
 use Rattle.cam6_wire.specs.Wirings.{wiring_in}
 use Rattle.cam6_wire.specs.Entries.{entries_at}
+use Rattle.cam6_wire.specs.Loads.{saved_in}
+use Rattle.cam6_wire.specs.Saved.{load_bytes}
+use Rattle.cam6_wire.specs.declared.saved.Version.TheVariants.{First, Second}
 
 -- the command of the keys plane, row and bits
 abbrev pub set_fields : Data → Option Command
@@ -105,6 +110,10 @@ colours_of d = option_map Colours (sole_number (codes "row") d)
 unfoldable pub count_of : Data → Option Command
 count_of d = option_map Count (sole_number (codes "mask") d)
 
+-- {"do":"save"}
+unfoldable pub save_of : Data → Option Command
+save_of d = if has_size 1 d then Some Save else None
+
 -- by the word at the key do
 abbrev pub by_word : List ℕ → Data → Option Command
 by_word word d =
@@ -122,24 +131,41 @@ by_word word d =
     else if bytes_eq word (codes "map") then map_of d
     else if bytes_eq word (codes "colours") then colours_of d
     else if bytes_eq word (codes "count") then count_of d
+    else if bytes_eq word (codes "save") then save_of d
     else None
 
--- the command that a JSON value shows
+-- the command that a JSON value shows, unless it loads a machine
 abbrev pub shown_in : Data → Option Command
 shown_in d = do
   word ← text_at (codes "do") d
   by_word word d
+
+-- {"do":"load","machine":M}
+unfoldable pub load_of : Data → Option Command
+load_of d =
+    if has_size 2 d then option_map Load (get (codes "machine") d >>= saved_in) else None
+
+-- a load, or another command
+abbrev pub line_by_word : List ℕ → Data → Option Command
+line_by_word word d = if bytes_eq word (codes "load") then load_of d else by_word word d
+
+-- the command that a line's JSON value shows
+abbrev pub command_in : Data → Option Command
+command_in d = do
+  word ← text_at (codes "do") d
+  line_by_word word d
 
 -- whether there are entries
 abbrev pub are_some : List NamedEntry → Bool
 are_some [] = false
 are_some (entry ∷ entries) = true
 
--- a command of which texts are kept: a rule, a name, or entries
+-- a command of which texts are kept: a rule, a name, entries, or a machine
 abbrev pub keeps_text : Command → Bool
 keeps_text (Rule name wiring text) = true
 keeps_text (DropRule name) = true
 keeps_text (Cycle entries) = are_some entries
+keeps_text (Load saved) = true
 keeps_text _ = false
 
 -- whether a value shows such a command
@@ -162,9 +188,24 @@ said_by shown line =
     if nat_lt (limit_of line) (length line) then Err TooLong
     else from_value shown line (value_of line)
 
+-- whether a line is the one that loads this machine, in either version
+abbrev pub is_load_line : List ℕ → SavedMachine → Bool
+is_load_line line saved =
+    bytes_eq line (load_bytes Second saved) || bytes_eq line (load_bytes First saved)
+
+-- a machine is loaded by a line of that spelling alone; every other command has any
+abbrev pub is_spelled : List ℕ → Command → Bool
+is_spelled line (Load saved) = is_load_line line saved
+is_spelled line _ = true
+
+-- what a line says where its spelling is looked at too
+abbrev pub if_spelled : List ℕ → Result Command LineFault → Result Command LineFault
+if_spelled line (Ok c) = if is_spelled line c then Ok c else Err OtherSpelling
+if_spelled line (Err fault) = Err fault
+
 -- the command that a line says, or its fault
 abbrev pub command : List ℕ → Result Command LineFault
-command = said_by shown_in
+command line = if_spelled line (said_by command_in line)
 
 -- the fault that was answered is what the line says, unless memory ran out
 abbrev pub IsFaultOf : {A : Type 0} → LineFault → Result A LineFault → Type 0
@@ -172,6 +213,7 @@ IsFaultOf NoMemory said = ⊤
 IsFaultOf TooLong said = said ≡ Err TooLong
 IsFaultOf NoJson said = said ≡ Err NoJson
 IsFaultOf NoCommand said = said ≡ Err NoCommand
+IsFaultOf OtherSpelling said = said ≡ Err OtherSpelling
 
 -- what was answered is what the line says, unless memory ran out
 abbrev pub IsSaid : {A : Type 0} → Result A LineFault → Result A LineFault → Type 0
@@ -184,3 +226,4 @@ IsLinesFault NoMemory line = ⊤
 IsLinesFault TooLong line = limit_of line < length line
 IsLinesFault NoJson line = (length line ≤ limit_of line) × (value_of line ≡ None)
 IsLinesFault NoCommand line = ⊥
+IsLinesFault OtherSpelling line = ⊥

@@ -1,19 +1,31 @@
--- The laws that tie what a line says to the values that commands, events and seats are shown by,
--- that the text of a rule is UTF-8, and that answers are lines.
-use Rattle.std.specs.Prelude.{◌≡◌, ◌≤◌, ℕ, List, length, Some, Ok}
+-- The laws that tie what a line says to the values that commands, events and seats are shown by, that
+-- a machine is loaded by one line alone, that the text of a rule is UTF-8, and that answers are lines.
+use Rattle.std.specs.Prelude.{◌≡◌, ◌≤◌, ◌<◌, ◌*◌, ◌^◌, ℕ, List, length, slice_index, true}
+use Rattle.std.specs.Prelude.{Option, Some, None, Ok, ⊤}
+use Rattle.std.specs.List.{AllByRecursion}
 use Rattle.std.specs.Str.{IsUtf8}
 use Rattle.serde_json.specs.Data.{Data}
+use Rattle.serde_json.specs.Written.{compact_text}
+use Rattle.cam6_planes.specs.Side.{side_number}
+use Rattle.cam6_planes.specs.declared.sides.Side.{Side}
 use Rattle.cam6_wiring.specs.declared.wirings.Wiring.{Wiring}
 use Rattle.cam6_commands.specs.declared.commands.Command.{Command}
-use Rattle.cam6_commands.specs.declared.commands.Command.TheVariants.{Rule}
+use Rattle.cam6_commands.specs.declared.commands.Command.TheVariants.{Rule, Load}
+use Rattle.cam6_commands.specs.declared.commands.NamedEntry.{NamedEntry}
+use Rattle.cam6_commands.specs.declared.saved.SavedMachine.{SavedMachine}
+use Rattle.cam6_commands.specs.Limits.{cell_states}
 use Rattle.cam6_commands.specs.declared.events.Event.{Event}
 use Rattle.cam6_commands.specs.declared.events.Event.TheVariants.{Ask}
 use Rattle.cam6_commands.specs.declared.outcomes.Outcome.{Outcome}
 use Rattle.cam6_commands.specs.declared.replies.Reply.{Reply}
 use Rattle.cam6_wire.specs.declared.faults.LineFault.{LineFault}
 use Rattle.cam6_wire.specs.declared.seats.Seating.{Seating}
-use Rattle.cam6_wire.specs.Limits.{limit_of}
-use Rattle.cam6_wire.specs.Commands.{command, value_of}
+use Rattle.cam6_wire.specs.declared.saved.Version.{Version}
+use Rattle.cam6_wire.specs.declared.saved.Version.TheVariants.{First, Second}
+use Rattle.cam6_wire.specs.Limits.{limit_of, max_load_line}
+use Rattle.cam6_wire.specs.Entries.{rule_name_in}
+use Rattle.cam6_wire.specs.Saved.{saved_data, load_bytes}
+use Rattle.cam6_wire.specs.Commands.{command, value_of, is_spelled}
 use Rattle.cam6_wire.specs.Events.{event}
 use Rattle.cam6_wire.specs.Outcomes.{outcome_bytes}
 use Rattle.cam6_wire.specs.Replies.{reply_bytes, fault_bytes}
@@ -22,17 +34,77 @@ use Rattle.cam6_wire.specs.Seats.{seat, ShowsSeat, seating_bytes}
 use Rattle.cam6_wire.specs.Shown.{Shows}
 use Rattle.cam6_wire.specs.ShownEvents.{ShowsEvent}
 
--- a line whose value shows a command says it
+-- a line whose value shows a command, in its spelling where it loads a machine, says it
 abbrev pub ShownIsSaid : Type 0
 ShownIsSaid =
     (line : List ℕ) (d : Data) (c : Command) → length line ≤ limit_of line →
-    value_of line ≡ Some d → Shows d c → command line ≡ Ok c
+    value_of line ≡ Some d → Shows d c → is_spelled line c ≡ true → command line ≡ Ok c
 
 -- a line says no other command
 abbrev pub SaidIsShown : Type 0
 SaidIsShown =
     (line : List ℕ) (c : Command) → command line ≡ Ok c →
-    (length line ≤ limit_of line) × ((d : Data) × (value_of line ≡ Some d) × Shows d c)
+    (length line ≤ limit_of line)
+    × ((d : Data) × (value_of line ≡ Some d) × Shows d c × (is_spelled line c ≡ true))
+
+-- a whole number of 64 bits
+abbrev pub IsWord : ℕ → Type 0
+IsWord n = n < 2 ^ 64
+
+-- a name in UTF-8, which isn't the text that stands for none, or no name
+abbrev pub IsNameOrNone : Option (List ℕ) → Type 0
+IsNameOrNone None = ⊤
+IsNameOrNone (Some name) = IsUtf8 name × (rule_name_in name ≡ Some name)
+
+-- an entry that can be written and read back
+pub record IsSayableEntry (entry : NamedEntry) : Type 0 where
+  pub a : IsNameOrNone entry.a
+  pub b : IsNameOrNone entry.b
+  pub phase : IsWord entry.phase
+
+-- as many bytes as a row of one of the sides has
+abbrev pub AreRowBytes : List ℕ → Type 0
+AreRowBytes bytes =
+    (side : Side) × (8 * length bytes ≡ side_number side)
+    × ((i : ℕ) → slice_index bytes i < 256)
+
+-- the side of a version: 256 in the first one, and in the second whatever number
+abbrev pub IsSideIn : Version → ℕ → Type 0
+IsSideIn First side = side ≡ 256
+IsSideIn Second side = IsWord side
+
+-- what can be written as a saved machine and read back, whether or not there is such a machine
+pub record IsSayable (version : Version) (saved : SavedMachine) : Type 0 where
+  pub states : length saved.colours ≡ cell_states
+  pub colours : AllByRecursion IsWord saved.colours
+  pub cycle : AllByRecursion IsSayableEntry saved.cycle
+  pub four : length saved.planes ≡ 4
+  pub planes : AllByRecursion (AllByRecursion AreRowBytes) saved.planes
+  pub position : IsWord saved.position
+  pub names : AllByRecursion (λ rule. IsUtf8 rule.name) saved.rules
+  pub texts : AllByRecursion (λ rule. IsUtf8 rule.text) saved.rules
+  pub side : IsSideIn version saved.side
+
+-- a line that loads a machine is the one line that does in its version
+abbrev pub LoadHasOneLine : Type 0
+LoadHasOneLine =
+    (line : List ℕ) (saved : SavedMachine) → command line ≡ Ok (Load saved) →
+    (version : Version) × IsSayable version saved × (line ≡ load_bytes version saved)
+
+-- and that line loads it, where it is within the limit of such lines
+abbrev pub OneLineLoads : Type 0
+OneLineLoads =
+    (version : Version) (saved : SavedMachine) → IsSayable version saved →
+    length (load_bytes version saved) ≤ max_load_line →
+    command (load_bytes version saved) ≡ Ok (Load saved)
+
+-- what is written in one text in a version is one
+abbrev pub OneTextOneSaved : Type 0
+OneTextOneSaved =
+    (version : Version) (saved other : SavedMachine) →
+    IsSayable version saved → IsSayable version other →
+    compact_text (saved_data version saved) ≡ compact_text (saved_data version other) →
+    saved ≡ other
 
 -- the text of a rule that a line defines is UTF-8
 abbrev pub TextIsUtf8 : Type 0

@@ -8,7 +8,8 @@ use Rattle.cam6_commands.specs.declared.outcomes.Outcome.TheVariants.{NoMemory, 
 use Rattle.cam6_commands.specs.declared.outcomes.Outcome.TheVariants.{Leased, Banded, Preempted}
 use Rattle.cam6_commands.specs.declared.outcomes.Outcome.TheVariants.{Failed, Repaired, Evicted}
 use Rattle.cam6_commands.specs.declared.outcomes.Outcome.TheVariants.{Collected}
-use Rattle.cam6_wire.specs.Replies.{natural, done, reply_data}
+use Rattle.cam6_wire.specs.Replies.{done, reply_data}
+use Rattle.cam6_wire.specs.Numbers.{natural}
 
 -- {"refused":n}
 abbrev pub refused : ℕ → Data

@@ -1,8 +1,7 @@
 -- The JSON values that replies and the faults of lines are, and their texts.
 use Rattle.std.specs.Prelude.{ℕ, List, [], ◌∷◌, map, codes, slice_index}
-use Rattle.serde_json.specs.Data.{Data, string, number, unsigned, array, object}
-use Rattle.serde_json.specs.Data.{Items, Members, no_members, member}
-use Rattle.serde_json.specs.View.{items_of}
+use Rattle.serde_json.specs.Data.{Data, string, array, object}
+use Rattle.serde_json.specs.Data.{Members, no_members, member}
 use Rattle.serde_json.specs.Written.{compact_text}
 use Rattle.cam6_wiring.specs.Name.{phase_number}
 use Rattle.cam6_wiring.specs.declared.names.Half.{Half}
@@ -19,21 +18,13 @@ use Rattle.cam6_commands.specs.declared.replies.Done.{Done as WhatIsDone}
 use Rattle.cam6_commands.specs.declared.replies.Done.TheVariants.{Set, Rule, Cycle, Side, Run}
 use Rattle.cam6_commands.specs.declared.replies.Done.TheVariants.{Back, Row, Plane, Clear}
 use Rattle.cam6_commands.specs.declared.replies.Done.TheVariants.{Drop, Rules, Map, Colours, Count}
+use Rattle.cam6_commands.specs.declared.replies.Done.TheVariants.{Save, Load}
+use Rattle.cam6_wire.specs.Numbers.{natural, naturals, texts}
+use Rattle.cam6_wire.specs.Saved.{saved_data}
+use Rattle.cam6_wire.specs.declared.saved.Version.TheVariants.{Second}
 use Rattle.cam6_wire.specs.declared.faults.LineFault.{LineFault}
 use Rattle.cam6_wire.specs.Faults as line
 use Rattle.cam6_wiring.specs.Texts.{half_text}
-
--- a whole number
-abbrev pub natural : ℕ → Data
-natural n = number (unsigned n)
-
--- a list of whole numbers
-abbrev pub naturals : List ℕ → Items
-naturals numbers = items_of (map natural numbers)
-
--- texts as JSON strings
-abbrev pub texts : List (List ℕ) → Items
-texts rows = items_of (map string rows)
 
 -- a colour's lower case hexadecimal digit
 abbrev pub colour_digit : ℕ → ℕ
@@ -95,6 +86,11 @@ done_data (Count count) =
     object
     (member (codes "count") (natural count)
     (member (codes "ok") (string (codes "count")) no_members))
+done_data (Save machine) =
+    object
+    (member (codes "machine") (saved_data Second machine)
+    (member (codes "ok") (string (codes "save")) no_members))
+done_data Load = done (codes "load") no_members
 
 -- the JSON value of a refusal, its keys in byte order
 abbrev pub refusal_data : Refusal → Data

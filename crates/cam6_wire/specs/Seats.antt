@@ -7,7 +7,8 @@ use Rattle.cam6_wire.specs.declared.seats.Seating.{Seating}
 use Rattle.cam6_wire.specs.declared.seats.Seating.TheVariants.{Seated, Taken, NoUser}
 use Rattle.cam6_wire.specs.Commands.{said_by}
 use Rattle.cam6_wire.specs.Fields.{has_size, number_at}
-use Rattle.cam6_wire.specs.Replies.{done, fault_then, natural}
+use Rattle.cam6_wire.specs.Replies.{done, fault_then}
+use Rattle.cam6_wire.specs.Numbers.{natural}
 
 -- {"seat":u}
 unfoldable pub seat_in : Data → Option ℕ

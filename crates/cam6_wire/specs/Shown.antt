@@ -1,5 +1,5 @@
 -- The JSON value of each command, its keys in byte order.
-use Rattle.std.specs.Prelude.{◌≡◌, ℕ, ◌/◌, List, [], ◌∷◌, length, codes, Ok, ⊤}
+use Rattle.std.specs.Prelude.{◌≡◌, ℕ, ◌/◌, List, [], ◌∷◌, length, codes, Ok, Some, ⊤}
 use Rattle.hex.specs.Hex.{decode_sized}
 use Rattle.serde_json.specs.Data.{Data, string, array, object}
 use Rattle.cam6_planes.specs.Side.{side_number}
@@ -10,12 +10,14 @@ use Rattle.cam6_commands.specs.declared.commands.Command.TheVariants.{Set, Rule,
 use Rattle.cam6_commands.specs.declared.commands.Command.TheVariants.{Row, Plane, Clear}
 use Rattle.cam6_commands.specs.declared.commands.Command.TheVariants.{Drop as DropRule, Rules, Map}
 use Rattle.cam6_commands.specs.declared.commands.Command.TheVariants.{Side as SetSide, Colours}
-use Rattle.cam6_commands.specs.declared.commands.Command.TheVariants.{Count}
+use Rattle.cam6_commands.specs.declared.commands.Command.TheVariants.{Count, Save, Load}
 use Rattle.cam6_commands.specs.Limits.{cell_states}
 use Rattle.cam6_commands.specs.declared.commands.NamedEntry.{NamedEntry}
-use Rattle.cam6_wire.specs.Replies.{natural, naturals}
+use Rattle.cam6_wire.specs.Numbers.{natural, naturals}
 use Rattle.cam6_wiring.specs.Texts.{half_text, hood_text, minor_text, grid_text}
 use Rattle.cam6_wire.specs.Entries.{rule_name_in}
+use Rattle.cam6_wire.specs.Loads.{saved_in}
+use Rattle.cam6_wire.specs.Saved.{load_data}
 
 -- {"a":n,"b":n,"grid":g,"phase":f}
 abbrev pub ShowsEntry : Data → NamedEntry → Type 0
@@ -36,7 +38,7 @@ ShowsEntries (item d ds) (entry ∷ entries) = ShowsEntry d entry × ShowsEntrie
 ShowsEntries no_items (entry ∷ entries) = ⊥
 ShowsEntries (item d ds) [] = ⊥
 
--- the value shows the command
+-- the value shows the command, in whatever spelling
 abbrev pub Shows : Data → Command → Type 0
 -- {"bits":"32, 64 or 128 digits","do":"set","plane":p,"row":y}: the digits of a row of one of the
 -- sides, of either case
@@ -142,3 +144,12 @@ Shows d (Count mask) =
     (member (codes "do") (string (codes "count"))
     (member (codes "mask") (natural mask)
     no_members))
+-- {"do":"save"}
+Shows d Save = d ≡ object (member (codes "do") (string (codes "save")) no_members)
+-- {"do":"load","machine":M}
+Shows d (Load saved) = (machine : Data) × (saved_in machine ≡ Some saved) × (d ≡ load_data machine)
+
+-- every command but a load can be asked by an event
+abbrev pub CanBeAsked : Command → Type 0
+CanBeAsked (Load saved) = ⊥
+CanBeAsked _ = ⊤

@@ -4,14 +4,14 @@ use Rattle.serde_json.specs.Data.{Data, string, object, no_members, member}
 use Rattle.cam6_commands.specs.declared.events.Event.{Event}
 use Rattle.cam6_commands.specs.declared.events.Event.TheVariants.{Ask, Lease, Band, Preempt, Fail}
 use Rattle.cam6_commands.specs.declared.events.Event.TheVariants.{Repair, Evict, Collect}
-use Rattle.cam6_wire.specs.Replies.{natural}
-use Rattle.cam6_wire.specs.Shown.{Shows}
+use Rattle.cam6_wire.specs.Numbers.{natural}
+use Rattle.cam6_wire.specs.Shown.{Shows, CanBeAsked}
 
 -- the value shows the event
 abbrev pub ShowsEvent : Data → Event → Type 0
--- {"command":{..},"event":"ask","user":u}: the command's own value in it
+-- {"command":{..},"event":"ask","user":u}: the command's own value in it, which is no load
 ShowsEvent d (Ask user command) =
-    (shown : Data) × Shows shown command ×
+    (shown : Data) × Shows shown command × CanBeAsked command ×
     (d
     ≡ object
     (member (codes "command") shown

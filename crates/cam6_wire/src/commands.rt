@@ -1,26 +1,29 @@
 //! A line as a command.
 ghost use Rattle.std.specs.Prelude.{◌≡◌, ◌<◌, ◌≤◌, length, Err, IfErr, IfOk, IfSome, IsOk, Some};
 ghost use Rattle.std.specs.Prelude.{false};
+ghost use Rattle.std.specs.List.{AllByRecursion};
 ghost use Rattle.std.specs.Option.{option_map_or};
+ghost use Rattle.std.specs.Str.{IsUtf8};
 ghost use Rattle.cam6_wire.specs.declared.faults.LineFault.TheVariants.{NoMemory};
 ghost use Rattle.serde_json.specs.View.{view};
 ghost use Rattle.cam6_commands.specs.RuleTexts.{HasText};
 ghost use Rattle.cam6_wire.specs.Commands.{set_of, sole_number, rule_of, drop_of, listing_of};
-ghost use Rattle.cam6_wire.specs.Commands.{cycle_of, row_of, map_of, by_word};
-ghost use Rattle.cam6_wire.specs.Commands.{shown_in, command, value_of, IsLinesFault, IsSaid};
+ghost use Rattle.cam6_wire.specs.Commands.{cycle_of, row_of, map_of, save_of, by_word, shown_in};
+ghost use Rattle.cam6_wire.specs.Commands.{load_of, line_by_word, command_in, said_by, is_spelled};
+ghost use Rattle.cam6_wire.specs.Commands.{command, value_of, IsLinesFault, IsSaid};
 ghost use Rattle.cam6_wire.specs.Commands.{keeps_text, takes_text};
 ghost use Rattle.cam6_wire.specs.Limits.{limit_of};
 
 use crate::entries::entries_at;
 use crate::faults::LineFault;
 use crate::fields::{bits_at, colours_at, has_size, number_at, text_at};
+use crate::limits::line_limit;
+use crate::loads::saved_in;
+use crate::saved::is_load_line;
 use crate::wirings::wiring_in;
-use cam6_commands::{Command, Text};
+use cam6_commands::{Command, NamedRule, Text};
 use serde_json::{Category, Value};
 use std::alloc::{AllocError, Global};
-
-/// Bytes of a line, without its LF.
-pub const LINE_LIMIT: usize = 16_384;
 
 /// What a line says.
 pub fn read_command(alloc: Global, line: &[u8]) -> Result<Command, LineFault>
@@ -30,8 +33,32 @@ pub fn read_command(alloc: Global, line: &[u8]) -> Result<Command, LineFault>
         (0 < length line.now) × (length line.now ≤ limit_of line.now) }
     ensures texts { IfOk result (λ command. HasText command) }
 {
+    let command = command_said(alloc, line)?;
+    if !is_spelled(alloc, line, &command)? {
+        return Err(LineFault::OtherSpelling);
+    }
+    Ok(command)
+}
+
+/// What a line says, in whatever spelling.
+fn command_said(alloc: Global, line: &[u8]) -> Result<Command, LineFault>
+    ensures said { IsSaid result (said_by command_in line.now) }
+    ensures memory { result ≡ Err NoMemory →
+        (0 < length line.now) × (length line.now ≤ limit_of line.now) }
+    ensures texts { IfOk result (λ command. HasText command) }
+{
     let value = line_value(alloc, line)?;
-    command_shown(alloc, &value)?.ok_or(LineFault::NoCommand)
+    command_in(alloc, &value)?.ok_or(LineFault::NoCommand)
+}
+
+/// Whether a line that says this command has the spelling that is asked of it.
+fn is_spelled(alloc: Global, line: &[u8], command: &Command) -> Result<bool, AllocError>
+    ensures { IfOk result (λ is. is ≡ is_spelled line.now command.now) }
+{
+    match command {
+        Command::Load { machine } => is_load_line(alloc, line, machine),
+        _ => Ok(true),
+    }
 }
 
 /// The JSON value that a line is, unless the line is too long.
@@ -42,7 +69,8 @@ pub(crate) fn line_value(alloc: Global, line: &[u8]) -> Result<Value, LineFault>
     ensures memory { result ≡ Err NoMemory →
         (0 < length line.now) × (length line.now ≤ limit_of line.now) }
 {
-    if line.len() > LINE_LIMIT {
+    let limit = line_limit(line);
+    if line.len() > limit {
         return Err(LineFault::TooLong);
     }
     match Value::from_slice(alloc, line) {
@@ -54,7 +82,48 @@ pub(crate) fn line_value(alloc: Global, line: &[u8]) -> Result<Value, LineFault>
     }
 }
 
-/// The command that a JSON value shows.
+/// The command that a line's JSON value shows.
+fn command_in(alloc: Global, value: &Value) -> Result<Option<Command>, AllocError>
+    ensures command { IfOk result (λ command. command ≡ command_in (view value.now)) }
+    ensures texts { IfOk result (λ command. IfSome command HasText) }
+{
+    let Some(word) = text_at(value, "do") else {
+        return Ok(None);
+    };
+    let shown = line_by_word(alloc, word, value)?;
+    if let Some(command) = &shown {
+        has_text(command);
+    }
+    Ok(shown)
+}
+
+/// A load, or another command.
+fn line_by_word(alloc: Global, word: &str, value: &Value) -> Result<Option<Command>, AllocError>
+    ensures { IfOk result (λ command. command ≡ line_by_word word.now (view value.now)) }
+{
+    if word == "load" {
+        return load_of(alloc, value);
+    }
+    by_word(alloc, word, value)
+}
+
+#[tactic(auto, unfolding(crate::specs::Commands::load_of))]
+fn load_of(alloc: Global, value: &Value) -> Result<Option<Command>, AllocError>
+    ensures { IfOk result (λ command. command ≡ load_of (view value.now)) }
+{
+    if !has_size(value, 2) {
+        return Ok(None);
+    }
+    let Some(machine) = value.get("machine") else {
+        return Ok(None);
+    };
+    match saved_in(alloc, machine)? {
+        Some(machine) => Ok(Some(Command::Load { machine })),
+        None => Ok(None),
+    }
+}
+
+/// The command that a JSON value shows, unless it loads a machine: what can be asked by an event.
 pub fn command_shown(alloc: Global, value: &Value) -> Result<Option<Command>, AllocError>
     ensures command { IfOk result (λ command. command ≡ shown_in (view value.now)) }
     // Memory is wanted for a rule, a name and entries alone, once all of them are looked at.
@@ -71,7 +140,7 @@ pub fn command_shown(alloc: Global, value: &Value) -> Result<Option<Command>, Al
     Ok(shown)
 }
 
-/// The text of a rule is UTF-8, as every `Text` is.
+/// The texts of rules are UTF-8, as every `Text` is.
 fn has_text(command: &Command)
     ensures { HasText command.now }
 {
@@ -79,6 +148,7 @@ fn has_text(command: &Command)
         Command::Rule { text, .. } => {
             text.as_str();
         }
+        Command::Load { machine } => have_texts(machine.rules.as_slice()),
         Command::Set { .. }
         | Command::Clear { .. }
         | Command::Drop { .. }
@@ -91,7 +161,16 @@ fn has_text(command: &Command)
         | Command::Side { .. }
         | Command::Map { .. }
         | Command::Colours { .. }
-        | Command::Count { .. } => {}
+        | Command::Count { .. }
+        | Command::Save => {}
+    }
+}
+
+fn have_texts(rules: &[NamedRule])
+    ensures { AllByRecursion (λ rule. IsUtf8 rule.text) rules.now }
+{
+    for rule in rules {
+        rule.text.as_str();
     }
 }
 
@@ -116,6 +195,7 @@ fn by_word(alloc: Global, word: &str, value: &Value) -> Result<Option<Command>, 
         "map" => Ok(map_of(value)),
         "colours" => Ok(sole_number(value, "row").map(|row| Command::Colours { row })),
         "count" => Ok(sole_number(value, "mask").map(|mask| Command::Count { mask })),
+        "save" => Ok(save_of(value)),
         _ => Ok(None),
     }
 }
@@ -232,4 +312,14 @@ fn map_of(value: &Value) -> Option<Command>
     }
     let colours = colours_at(value, "colours")?;
     Some(Command::Map { colours })
+}
+
+#[tactic(auto, unfolding(crate::specs::Commands::save_of))]
+fn save_of(value: &Value) -> Option<Command>
+    ensures { result ≡ save_of (view value.now) }
+{
+    if !has_size(value, 1) {
+        return None;
+    }
+    Some(Command::Save)
 }

@@ -9,12 +9,14 @@ use std::alloc::{AllocError, AllocFailed};
 pub enum LineFault {
     /// Memory was asked for and refused.
     NoMemory,
-    /// The line has more than `LINE_LIMIT` bytes.
+    /// The line has more bytes than it may, by how it begins.
     TooLong,
     /// The line is no JSON value.
     NoJson,
     /// The line is a JSON value that is no command, no event, or asks for no seat.
     NoCommand,
+    /// The line loads a machine in another spelling than its one.
+    OtherSpelling,
 }
 
 impl LineFault {
@@ -27,6 +29,7 @@ impl LineFault {
             LineFault::TooLong => 1,
             LineFault::NoJson => 2,
             LineFault::NoCommand => 3,
+            LineFault::OtherSpelling => 4,
         }
     }
 }

@@ -1,12 +1,13 @@
 //! Laws that tie what a line says to the values that commands, events and seats are shown by, that
-//! the text of a rule is UTF-8, and that answers are lines. Each is the contract of a function that
-//! does nothing.
+//! a machine is loaded by one line alone, that the text of a rule is UTF-8, and that answers are
+//! lines. Each is the contract of a function that does nothing.
 ghost use Rattle.cam6_wire.specs.Laws.{ShownIsSaid, SaidIsShown, TextIsUtf8};
+ghost use Rattle.cam6_wire.specs.Laws.{LoadHasOneLine, OneLineLoads, OneTextOneSaved};
 ghost use Rattle.cam6_wire.specs.Laws.{ShownEventIsSaid, SaidEventIsShown, AskedTextIsUtf8};
 ghost use Rattle.cam6_wire.specs.Laws.{ShownSeatIsSaid, SaidSeatIsShown};
 ghost use Rattle.cam6_wire.specs.Laws.{ReplyIsLine, FaultIsLine, OutcomeIsLine, SeatingIsLine};
 
-/// A line whose value shows a command says it.
+/// A line whose value shows a command says it, where a load has its one spelling.
 pub fn a_shown_command_is_said()
     ensures law { ShownIsSaid }
 {}
@@ -14,6 +15,21 @@ pub fn a_shown_command_is_said()
 /// A line that says a command has a value that shows it: its keys, and no others.
 pub fn a_said_command_is_shown()
     ensures law { SaidIsShown }
+{}
+
+/// A line that loads a machine is the one that does, in its version.
+pub fn a_load_has_one_line()
+    ensures law { LoadHasOneLine }
+{}
+
+/// That line loads the machine.
+pub fn the_one_line_loads()
+    ensures law { OneLineLoads }
+{}
+
+/// Saved machines that are written in one text are one.
+pub fn one_text_is_of_one_saved_machine()
+    ensures law { OneTextOneSaved }
 {}
 
 /// The text of a rule that a line defines is UTF-8.

@@ -1,11 +1,14 @@
 //! The wire: command lines, event lines and the first lines of connections as JSON, and replies,
 //! outcomes and answers as JSON texts.
 //!
-//! Contract: `read_command` answers exactly the command that a line says, or fault 1, 2 or 3
+//! Contract: `read_command` answers exactly the command that a line says, or fault 1, 2, 3 or 4
 //! (`specs/Commands.antt`), by `serde_json`'s own reading; memory is wanted neither for an empty
-//! line nor for one that is too long. `command_shown` is the command that a JSON value shows, and
+//! line nor for one that is too long. A line may have 16,384 bytes, and one that begins with
+//! `{"do":"load",` 2,097,152 (`specs/Limits.antt`). A line that loads a machine has one spelling in
+//! each of two versions (`specs/Saved.antt`, `specs/Loads.antt`): where it has another, that is
+//! fault 4. `command_shown` is the command that a JSON value shows, unless it loads a machine, and
 //! wants memory for a rule, a name and entries alone, never for a value that shows no command. The
-//! text of a rule that either answers is UTF-8. `reply_text` is exactly the compact JSON text of a
+//! texts of rules that either answers are UTF-8. `reply_text` is exactly the compact JSON text of a
 //! reply (`specs/Replies.antt`), which reads back as the reply's value; `fault_text` is that of a
 //! line's fault, `fault_line` the same with its LF, and neither takes memory. `read_event` answers
 //! what a line says of users and boards in the same way (`specs/Events.antt`), a command within an
@@ -14,17 +17,20 @@
 //! line asks for, again in the same way, and `seating_line` is what is answered to it, with its LF
 //! (`specs/Seats.antt`).
 //!
-//! The laws: a line says a command, an event, or a seat, exactly where it has at most 16,384 bytes
-//! and its JSON value shows it, with its keys and no others; the text of a rule that a line defines
-//! is UTF-8; the text of a reply, of an outcome, of a line's fault and of the answer to a first line
-//! is one line.
+//! The laws: a line says a command, an event, or a seat, exactly where it has no more bytes than it
+//! may and its JSON value shows it, with its keys and no others, and where it has its spelling if it
+//! loads a machine; a line that loads a machine is the one that does in its version, and that line
+//! loads it; saved machines that are written in one text are one; the text of a rule that a line
+//! defines is UTF-8; the text of a reply, of an outcome, of a line's fault and of the answer to a
+//! first line is one line.
 //!
 //! Stands on: `cam6_planes`, `cam6_wiring`, `cam6_forth`, `cam6_table`, `cam6_block`,
 //! `cam6_commands`;
 //! `serde_json` with its grammar in `json`, and `hex`.
 //!
-//! Read next: `faults`, `commands` and `replies`; what they read, `fields`, `wirings` and
-//! `entries`; `events`, `outcomes` and `seats`; then `laws`.
+//! Read next: `faults`, `limits`, `commands` and `replies`; what they read, `fields`, `wirings` and
+//! `entries`; `saved`, a machine as it is written, and `loads`, as it is read; `events`, `outcomes`
+//! and `seats`; then `laws`.
 #![tactic(auto)]
 
 mod commands;
@@ -33,14 +39,19 @@ mod events;
 mod faults;
 mod fields;
 pub mod laws;
+mod limits;
+mod loads;
 mod outcomes;
 mod replies;
+mod saved;
 mod seats;
 mod wirings;
 
-pub use commands::{LINE_LIMIT, command_shown, read_command};
+pub use commands::{command_shown, read_command};
 pub use events::{event_shown, read_event};
 pub use faults::LineFault;
+pub use limits::{LINE_LIMIT, LOAD_LINE_LIMIT, begins_load_in, line_limit};
 pub use outcomes::outcome_text;
 pub use replies::{fault_line, fault_text, reply_text};
+pub use saved::Version;
 pub use seats::{Seating, read_seat, seating_line};

@@ -7,15 +7,18 @@ ghost use Rattle.std.specs.Str.{IsAscii};
 ghost use Rattle.serde_json.specs.Data.{array, string, no_members, member};
 ghost use Rattle.serde_json.specs.Read.{read};
 ghost use Rattle.serde_json.specs.View.{view};
-ghost use Rattle.cam6_wire.specs.Replies.{texts, colour_digit, done, reply_data, reply_bytes};
-ghost use Rattle.cam6_wire.specs.Replies.{fault_bytes, natural, cause_data};
+ghost use Rattle.cam6_wire.specs.Replies.{colour_digit, done, reply_data, reply_bytes};
+ghost use Rattle.cam6_wire.specs.Numbers.{texts};
+ghost use Rattle.cam6_wire.specs.Replies.{fault_bytes, cause_data};
+ghost use Rattle.cam6_wire.specs.Numbers.{natural};
 ghost use Rattle.cam6_wire.specs.Replies.{done_data, refusal_data};
 ghost use Rattle.cam6_commands.specs.Limits.{max_colour};
 ghost use Rattle.cam6_planes.specs.declared.row.TheConstants.{COLUMNS};
 
 use crate::faults::LineFault;
+use crate::saved::{Version, machine_value};
 use cam6_block::NotReversible;
-use cam6_commands::{Done, Names, PlaneRows, Refusal, Reply, RowColours};
+use cam6_commands::{Done, Names, PlaneRows, Refusal, Reply, RowColours, SavedMachine};
 use cam6_planes::{COLUMNS, NoMemory};
 use cam6_wiring::Half;
 use serde_json::{Value, json};
@@ -41,6 +44,7 @@ pub fn fault_text(fault: LineFault) -> &'static str
         LineFault::TooLong => "{\"fault\":1}",
         LineFault::NoJson => "{\"fault\":2}",
         LineFault::NoCommand => "{\"fault\":3}",
+        LineFault::OtherSpelling => "{\"fault\":4}",
     }
 }
 
@@ -54,6 +58,7 @@ pub fn fault_line(fault: LineFault) -> &'static str
         LineFault::TooLong => "{\"fault\":1}\n",
         LineFault::NoJson => "{\"fault\":2}\n",
         LineFault::NoCommand => "{\"fault\":3}\n",
+        LineFault::OtherSpelling => "{\"fault\":4}\n",
     }
 }
 
@@ -96,7 +101,17 @@ fn done_value(alloc: Global, done: &Done) -> Result<Value, AllocError>
             json!(in alloc; {"colours": colours, "ok": "colours"})
         }
         Done::Count { count } => json!(in alloc; {"count": *count, "ok": "count"}),
+        Done::Save { machine } => save_value(alloc, machine),
+        Done::Load => ok_value(alloc, "load"),
     }
+}
+
+/// The reply to a command that saves the machine.
+fn save_value(alloc: Global, machine: &SavedMachine) -> Result<Value, AllocError>
+    ensures { IfOk result (λ value. view value ≡ done_data (Done.Save machine.now)) }
+{
+    let machine = machine_value(alloc, Version::Second, machine)?;
+    json!(in alloc; {"machine": machine, "ok": "save"})
 }
 
 fn refusal_value(alloc: Global, refusal: Refusal) -> Result<Value, AllocError>

@@ -16,3 +16,7 @@ returns-in-NoJson c = sym (ap (λ (f : LineFault). fault_bytes f ++ 10 ∷ []) c
 pub returns-in-NoCommand : goal.returns-in-NoCommand
 unfolding serde_json_on_literals fault_bytes digits
 returns-in-NoCommand c = sym (ap (λ (f : LineFault). fault_bytes f ++ 10 ∷ []) c.in-NoCommand.is)
+
+pub returns-in-OtherSpelling : goal.returns-in-OtherSpelling
+unfolding serde_json_on_literals fault_bytes digits
+returns-in-OtherSpelling c = sym (ap (λ (f : LineFault). fault_bytes f ++ 10 ∷ []) c.in-OtherSpelling.is)

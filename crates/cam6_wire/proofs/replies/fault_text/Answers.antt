@@ -15,3 +15,7 @@ returns-in-NoJson c = sym (ap fault_bytes c.in-NoJson.is)
 pub returns-in-NoCommand : goal.returns-in-NoCommand
 unfolding serde_json_on_literals fault_bytes digits
 returns-in-NoCommand c = sym (ap fault_bytes c.in-NoCommand.is)
+
+pub returns-in-OtherSpelling : goal.returns-in-OtherSpelling
+unfolding serde_json_on_literals fault_bytes digits
+returns-in-OtherSpelling c = sym (ap fault_bytes c.in-OtherSpelling.is)

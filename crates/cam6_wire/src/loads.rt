@@ -1,0 +1,193 @@
+//! A JSON value as a saved machine.
+ghost use Rattle.std.specs.Prelude.{◌≡◌, IfOk, option_and_then};
+ghost use Rattle.serde_json.specs.View.{view, items_view};
+ghost use Rattle.cam6_wire.specs.Loads.{bits_in, rows_of, rows_in, planes_of, of_four, planes_at};
+ghost use Rattle.cam6_wire.specs.Loads.{rule_in, rules_in, rules_at, version_in, side_in};
+ghost use Rattle.cam6_wire.specs.Loads.{saved_fields, saved_in};
+
+use crate::entries::entries_at;
+use crate::fields::{colours_at, has_size, number_at, text_at};
+use crate::saved::Version;
+use crate::wirings::wiring_in;
+use cam6_commands::{BitRows, NamedRule, NamedRules, SavedMachine, Text};
+use cam6_planes::{Bits, bits_of_digits};
+use serde_json::Value;
+use std::alloc::{AllocError, Global};
+
+/// The saved machine that a value shows, in either version.
+#[tactic(auto, unfolding(crate::specs::Loads::saved_in))]
+pub(crate) fn saved_in(alloc: Global, value: &Value) -> Result<Option<SavedMachine>, AllocError>
+    ensures { IfOk result (λ saved. saved ≡ saved_in (view value.now)) }
+{
+    let Some(version) = version_in(value) else {
+        return Ok(None);
+    };
+    let Some(side) = side_in(version, value) else {
+        return Ok(None);
+    };
+    saved_fields(alloc, side, value)
+}
+
+/// The version of a value of a saved machine.
+fn version_in(value: &Value) -> Option<Version>
+    ensures { result ≡ version_in (view value.now) }
+{
+    match number_at(value, "version")? {
+        1 => Some(Version::First),
+        2 => Some(Version::Second),
+        _ => None,
+    }
+}
+
+/// The side, which is 256 in the first version. Each version has its number of keys.
+fn side_in(version: Version, value: &Value) -> Option<u64>
+    ensures { result ≡ side_in version (view value.now) }
+{
+    match version {
+        Version::First => { if has_size(value, 6) { Some(256) } else { None } }
+        Version::Second => {
+            if has_size(value, 7) {
+                number_at(value, "side")
+            } else {
+                None
+            }
+        }
+    }
+}
+
+/// What was saved of a machine of this side.
+fn saved_fields(alloc: Global, side: u64, value: &Value) -> Result<Option<SavedMachine>, AllocError>
+    ensures { IfOk result (λ saved. saved ≡ saved_fields side (view value.now)) }
+{
+    let Some(colours) = colours_at(value, "colours") else {
+        return Ok(None);
+    };
+    let Some(cycle) = entries_at(alloc, value, "cycle")? else {
+        return Ok(None);
+    };
+    let Some(planes) = planes_at(alloc, value, "planes")? else {
+        return Ok(None);
+    };
+    let Some(position) = number_at(value, "position") else {
+        return Ok(None);
+    };
+    let Some(rules) = rules_at(alloc, value, "rules")? else {
+        return Ok(None);
+    };
+    Ok(Some(SavedMachine {
+        colours,
+        cycle,
+        planes,
+        position,
+        rules,
+        side,
+    }))
+}
+
+/// The four planes at a key.
+fn planes_at(alloc: Global, value: &Value, key: &str) -> Result<Option<[BitRows; 4]>, AllocError>
+    ensures { IfOk result (λ planes. planes ≡ planes_at key.now (view value.now)) }
+{
+    match value.get(key).and_then(Value::as_array) {
+        Some(values) => four_planes(alloc, values),
+        None => Ok(None),
+    }
+}
+
+fn four_planes(alloc: Global, values: &[Value]) -> Result<Option<[BitRows; 4]>, AllocError>
+    ensures { IfOk result (λ planes.
+        planes ≡ option_and_then of_four (planes_of (items_view values.now))) }
+{
+    if values.len() != 4 {
+        return Ok(None);
+    }
+    let Some(first) = rows_in(alloc, &values[0])? else {
+        return Ok(None);
+    };
+    let Some(second) = rows_in(alloc, &values[1])? else {
+        return Ok(None);
+    };
+    let Some(third) = rows_in(alloc, &values[2])? else {
+        return Ok(None);
+    };
+    let Some(fourth) = rows_in(alloc, &values[3])? else {
+        return Ok(None);
+    };
+    Ok(Some([first, second, third, fourth]))
+}
+
+/// The rows of a plane.
+fn rows_in(alloc: Global, value: &Value) -> Result<Option<BitRows>, AllocError>
+    ensures { IfOk result (λ rows. rows ≡ rows_in (view value.now)) }
+{
+    match value.as_array() {
+        Some(values) => rows_of(alloc, values),
+        None => Ok(None),
+    }
+}
+
+fn rows_of(alloc: Global, values: &[Value]) -> Result<Option<BitRows>, AllocError>
+    ensures { IfOk result (λ rows. rows ≡ rows_of (items_view values.now)) }
+{
+    let mut rows = Vec::new(alloc);
+    for value in values {
+        match bits_in(value) {
+            Some(row) => rows.push(row)?,
+            None => return Ok(None),
+        }
+    }
+    Ok(Some(BitRows::new(rows)))
+}
+
+/// The bits of a row's digits.
+fn bits_in(value: &Value) -> Option<Bits>
+    ensures { result ≡ bits_in (view value.now) }
+{
+    bits_of_digits(value.as_str()?.as_bytes())
+}
+
+/// The rules at a key.
+fn rules_at(alloc: Global, value: &Value, key: &str) -> Result<Option<NamedRules>, AllocError>
+    ensures { IfOk result (λ rules. rules ≡ rules_at key.now (view value.now)) }
+{
+    match value.get(key).and_then(Value::as_array) {
+        Some(values) => rules_in(alloc, values),
+        None => Ok(None),
+    }
+}
+
+fn rules_in(alloc: Global, values: &[Value]) -> Result<Option<NamedRules>, AllocError>
+    ensures { IfOk result (λ rules. rules ≡ rules_in (items_view values.now)) }
+{
+    let mut rules = Vec::new(alloc);
+    for value in values {
+        match rule_in(alloc, value)? {
+            Some(rule) => rules.push(rule)?,
+            None => return Ok(None),
+        }
+    }
+    Ok(Some(NamedRules::new(rules)))
+}
+
+#[tactic(auto, unfolding(crate::specs::Loads::rule_in))]
+fn rule_in(alloc: Global, value: &Value) -> Result<Option<NamedRule>, AllocError>
+    ensures { IfOk result (λ rule. rule ≡ rule_in (view value.now)) }
+{
+    if !has_size(value, 5) {
+        return Ok(None);
+    }
+    let Some(name) = text_at(value, "name") else {
+        return Ok(None);
+    };
+    let Some(wiring) = wiring_in(value) else {
+        return Ok(None);
+    };
+    let Some(text) = text_at(value, "text") else {
+        return Ok(None);
+    };
+    Ok(Some(NamedRule {
+        name: Text::new(String::from_str(alloc, name)?),
+        wiring,
+        text: Text::new(String::from_str(alloc, text)?),
+    }))
+}
