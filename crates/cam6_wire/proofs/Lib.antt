@@ -10,6 +10,8 @@ pub mod Flat
 pub mod Steps
 -- Of what is read, each object has its keys in byte order, each once.
 pub mod Ordered
+-- The first bytes of a line, by which its limit goes.
+pub mod Heads
 -- What a line says, by the value that it is: as commands show it, or as events do.
 pub mod Saying
 -- An object with as many keys as are found in it has these keys and no others.

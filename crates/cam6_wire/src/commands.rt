@@ -14,13 +14,11 @@ ghost use Rattle.cam6_wire.specs.Limits.{limit_of};
 use crate::entries::entries_at;
 use crate::faults::LineFault;
 use crate::fields::{bits_at, colours_at, has_size, number_at, text_at};
+use crate::limits::line_limit;
 use crate::wirings::wiring_in;
 use cam6_commands::{Command, Text};
 use serde_json::{Category, Value};
 use std::alloc::{AllocError, Global};
-
-/// Bytes of a line, without its LF.
-pub const LINE_LIMIT: usize = 16_384;
 
 /// What a line says.
 pub fn read_command(alloc: Global, line: &[u8]) -> Result<Command, LineFault>
@@ -42,7 +40,8 @@ pub(crate) fn line_value(alloc: Global, line: &[u8]) -> Result<Value, LineFault>
     ensures memory { result ≡ Err NoMemory →
         (0 < length line.now) × (length line.now ≤ limit_of line.now) }
 {
-    if line.len() > LINE_LIMIT {
+    let limit = line_limit(line);
+    if line.len() > limit {
         return Err(LineFault::TooLong);
     }
     match Value::from_slice(alloc, line) {

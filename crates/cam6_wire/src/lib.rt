@@ -33,14 +33,16 @@ mod events;
 mod faults;
 mod fields;
 pub mod laws;
+mod limits;
 mod outcomes;
 mod replies;
 mod seats;
 mod wirings;
 
-pub use commands::{LINE_LIMIT, command_shown, read_command};
+pub use commands::{command_shown, read_command};
 pub use events::{event_shown, read_event};
 pub use faults::LineFault;
+pub use limits::{LINE_LIMIT, LOAD_LINE_LIMIT, begins_load_in, line_limit};
 pub use outcomes::outcome_text;
 pub use replies::{fault_line, fault_text, reply_text};
 pub use seats::{Seating, read_seat, seating_line};

@@ -1,0 +1,45 @@
+//! How long a line may be.
+ghost use Rattle.std.specs.Prelude.{◌≡◌, ◌++◌};
+ghost use Rattle.cam6_wire.specs.Limits.{begins_load, limit_of};
+
+/// Bytes of a line, without its LF.
+pub const LINE_LIMIT: usize = 16_384;
+
+/// Bytes of a line that begins as a load does.
+pub const LOAD_LINE_LIMIT: usize = 2_097_152;
+
+/// The bytes with which a load begins.
+const LOAD_HEAD: [u8; 13] = *b"{\"do\":\"load\",";
+
+/// The most bytes that this line may have, by how it begins.
+pub fn line_limit(line: &[u8]) -> usize
+    ensures { result ≡ limit_of line.now }
+{
+    if begins_load(line) {
+        LOAD_LINE_LIMIT
+    } else {
+        LINE_LIMIT
+    }
+}
+
+/// Whether a line begins as a load does.
+#[tactic(auto, unfolding(crate::specs::Limits::begins_load))]
+fn begins_load(line: &[u8]) -> bool
+    ensures { result ≡ begins_load line.now }
+{
+    line.starts_with(&LOAD_HEAD)
+}
+
+/// Whether a line of these two parts begins as a load does.
+pub fn begins_load_in(front: &[u8], part: &[u8]) -> bool
+    ensures { result ≡ begins_load (front.now ++ part.now) }
+{
+    if front.len() >= LOAD_HEAD.len() {
+        return begins_load(front);
+    }
+    let (_, rest) = LOAD_HEAD.split_at(front.len());
+    if !LOAD_HEAD.starts_with(front) {
+        return false;
+    }
+    part.starts_with(rest)
+}
