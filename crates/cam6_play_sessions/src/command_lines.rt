@@ -1,6 +1,7 @@
 //! A command as the plainest line that says it: compact, its keys in byte order, its digits small.
 
-use cam6_commands::{Command, NamedEntry, Text};
+use cam6_commands::{Command, NamedEntry, SavedMachine, Text};
+use cam6_wire::{Version, machine_value};
 use serde_json::{Value, json};
 use std::alloc::{AllocError, Global};
 
@@ -39,7 +40,15 @@ fn value_of(alloc: Global, command: &Command) -> Result<Value, AllocError> {
         Command::Map { colours } => map_value(alloc, colours),
         Command::Colours { row } => json!(in alloc; {"do": "colours", "row": *row}),
         Command::Count { mask } => json!(in alloc; {"do": "count", "mask": *mask}),
+        Command::Save => json!(in alloc; {"do": "save"}),
+        Command::Load { machine } => load_value(alloc, machine),
     }
+}
+
+/// A machine is told in the version that is written.
+fn load_value(alloc: Global, machine: &SavedMachine) -> Result<Value, AllocError> {
+    let machine = machine_value(alloc, Version::Second, machine)?;
+    json!(in alloc; {"do": "load", "machine": machine})
 }
 
 fn cycle_value(alloc: Global, entries: &[NamedEntry]) -> Result<Value, AllocError> {

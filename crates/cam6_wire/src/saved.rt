@@ -63,8 +63,8 @@ fn load_value(alloc: Global, version: Version, saved: &SavedMachine) -> Result<V
     json!(in alloc; {"do": "load", "machine": machine})
 }
 
-/// A saved machine in a version.
-pub(crate) fn machine_value(
+/// A saved machine as a JSON value, in a version.
+pub fn machine_value(
     alloc: Global,
     version: Version,
     saved: &SavedMachine,
