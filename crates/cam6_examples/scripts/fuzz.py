@@ -38,7 +38,7 @@ from machines import Alone, Replay
 MOST_CELLS, MOST_BANDS = 170_000, 200
 # How often a line is broken.
 BROKEN = 0.4
-LINE_FAULTS = [plain({"fault": number}) for number in (1, 2, 3)]
+LINE_FAULTS = [plain({"fault": number}) for number in (1, 2, 3, 4)]
 # A program that takes so many seconds for a play doesn't end at all.
 PATIENCE = 120
 
