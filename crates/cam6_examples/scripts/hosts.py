@@ -30,7 +30,7 @@ class Rule(undoing.Rule):
         super().__init__(half, hood, minor, text)
         self.key = (half, hood, minor, text)
         self.blocks = undoing.Rule(half, hood, minor, text)
-        centres, tokens = {"CENTER": 0, "CENTER'": 4}, text.split()
+        centres, tokens = {"CENTER": 0, "CENTER'": 4}, undoing.words_of(text)
         others = [name for name in wirings.names(hood, minor) if name in tokens and name not in centres]
         self.bits = centres | {name: 5 + i for i, name in enumerate(others)}
         self.known = {}
