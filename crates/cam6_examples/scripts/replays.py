@@ -376,8 +376,12 @@ def how_it_went(program, session, seed):
 def play_all(program, player, path):
     for number, limit in enumerate(limits_of(player, path), 1):
         session = Session(program, player, path, number, limit)
-        for line in dict.fromkeys(session.left_out):
-            print(f"left out {session.name}: no ask holds {line[:30]}, which has {len(line)} bytes")
+        loads = list(filter(is_load, session.left_out))
+        if loads:
+            print(f"loads left out {session.name}: {len(loads)}")
+        for line in session.left_out:
+            if line not in loads:
+                print(f"left out {session.name}: no ask holds {line[:30]}, which has {len(line)} bytes")
         if not session.seeds():
             print(f"not played {session.name}: it has {session.bands} bands")
         for seed in session.seeds():
