@@ -30,7 +30,8 @@ FILLERS = [
     "".join(chr(1 + i % 31) for i in range(31)), "\x01", "x", "\u00e9", '"\\', "\x7f\u00a0", "\U0001f600", " \x1f\n\t\r",
 ]  # fmt: skip
 RULES, STILL = {"do": "rules"}, {"do": "run", "n": 0}
-# What a million bytes more may be held of, in kB: room that the system keeps for the process.
+# What more may be held behind long lines than before the first, and than behind the first, in kB: a machine with its
+# rules, and what the library keeps of room that was given back.
 MOST_HELD, MOST_GROWN = 16_000, 400
 
 
@@ -320,8 +321,9 @@ def limits():
 # What is held, and how long it takes.
 
 
-def peak(process):
-    with open(f"/proc/{process.pid}/status", encoding="ascii") as told:
+def peak(pid):
+    """The most memory that a process has held, in kB."""
+    with open(f"/proc/{pid}/status", encoding="ascii") as told:
         return next(int(line.split()[1]) for line in told if line.startswith("VmHWM:"))
 
 
@@ -329,17 +331,17 @@ def is_held(it, what, lines, number):
     """Sends lines again and again, with a short one behind each: whether they are answered, and no memory is held."""
     pid = it.process.pid
     it.ask(plain(RULES))
-    before, wrong = held(it.process), 0
+    before, wrong = held(pid), 0
     early = max(1, number // 10)
     for i in range(number):
         line, wanted = lines[i % len(lines)]
         wrong += it.ask(line) != wanted
         wrong += not it.ask(plain(RULES)).startswith(b'{"names":')
         if i + 1 == early:
-            first = held(it.process)
-    last = held(it.process)
-    told = f"{before} kB before, {first} behind {early}, {last} behind {number}, {peak(it.process)} at most"
-    print(f"{what}, process {pid}: {told}")
+            first = held(pid)
+    last = held(pid)
+    told = f"{before} kB before, {first} behind {early}, {last} behind {number}, {peak(pid)} at most"
+    print(f"{what}: {told}")
     check(f"{what}: all are answered", wrong == 0, wrong)
     check(f"{what}: no more memory is held behind all than behind the first", last - first < MOST_GROWN, told)
     check(f"{what}: their room is given back", last - before < MOST_HELD, told)
