@@ -197,7 +197,8 @@ class Other:
     def shown(self):
         row = self.random.choice([0, 1, 14, 15, 16, 17, self.side - 2, self.side - 1, self.side])
         rows = [{"do": "row", "plane": self.random.randrange(4), "row": row}, {"do": "colours", "row": row}]
-        return self.random.choice([*rows, {"do": "count", "mask": self.random.randrange(65536)}, {"do": "rules"}])
+        others = [{"do": "count", "mask": self.random.randrange(65536)}, {"do": "rules"}, {"do": "save"}]
+        return self.random.choice([*rows, *others])
 
 
 class User:
