@@ -8,9 +8,9 @@ usage: fuzz.py play PROGRAM SEED..    plays the four kinds of each seed, and say
        fuzz.py examples FILE..        plays worked examples through the plain machine instead of the program
 
 A `session` is of commands to the machine of one user: all that there are, with rules of all words, cycles, steps,
-looks, machines that are saved and loaded, and each fault. A `replay` is of events by chance at a host of some users and boards, who ask for such commands;
-in the end all are brought to rest, and show their machines. In a `broken_session` and a `broken_replay` many lines are
-changed, in their bytes, in their spelling or in what they say.
+looks, machines that are saved and loaded, and each fault. A `replay` is of events by chance at a host of some users and
+boards, who ask for such commands; in the end all are brought to rest, and show their machines. In a `broken_session`
+and a `broken_replay` many lines are changed, in their bytes, in their spelling or in what they say.
 
 Shares nothing with the program: what comes back is what `machines` says, which reads lines and texts by itself,
 evaluates words at each cell, and looks for the state that an undone block was. A line is left out where it would take

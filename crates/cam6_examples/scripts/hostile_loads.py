@@ -1,7 +1,7 @@
 #!/usr/bin/env python3
 """Writes machines_never_saved.example, loads_in_lines.example and long_loads.example of cam6_play_sessions/data: lines
-that would load what is the text of no machine, lines that say a machine in another spelling than the plainest, and lines
-that say none. Each session ends with looks at the machine, which no refused line has changed.
+that would load what is the text of no machine, lines that say a machine in another spelling than the plainest, and
+lines that say none. Each session ends with looks at the machine, which no refused line has changed.
 
 Shares nothing with the program: which fault a line has is told here, by hand; what each spelling says stands in
 `spellings`. Replies are those of the machine alone in `hosts`.
@@ -139,17 +139,12 @@ def names(told):
     told.do({"do": "rules"})
 
 
-def one_case(size):
-    """A rule with so many words between braces, which is one more in size than twice so many."""
-    return ": R CENTER { " + "1 " * size + "} >PLN0 ;"
-
-
 # Texts with a fault of each kind, and next to some what has none.
 NO_TEXTS = {
     20: [": R FOO ;", ": R NORTH >PLN0 ;", ": R &CENTER >PLN0 ;", ": R R ;", ": R + é ;", ": R \u00a0 ;", ": R \v ;"],
     21: [": IF ;", ": CENTER ;", ": NORTH ;", ": ( a ) R ;", ": 7 ;", ": R ; : R ;", ": : ;", ": >PLN3 ;"],
-    22: ["R", ": R", ":", ": R ; ( a", ": R IF ;", ": R THEN ;", ": R ELSE ;", ": R { ;", ": R } ;", "( a ) ;", ": R ) ;"],
-    23: [": R " + "DROP " * 4097 + ";"],
+    22: ["R", ": R", ":", ": R ; ( a", ": R IF ;", ": R THEN ;", ": R ELSE ;", ": R { ;", ": R } ;", "( a ) ;"],
+    23: [": R " + "1 " * 4097 + ";", ": R 0 { " + "1 " * 2048 + "} >PLN0 ;"],
     24: [": R " + "1 IF " * 17 + "THEN " * 17 + ";"],
     25: [": R 1 >PLN2 ;", ": R 1 >PLNB ;"],
     26: [": R 65536 >PLN0 ;", ": R 99999999999999999999 >PLN0 ;"],
@@ -166,6 +161,7 @@ TEXTS_AT_LIMITS = [
     KEPT.ljust(8192),
     ": R ( " + "\x01" * 8182 + " ) ;",
     ": R ( " + "\u00e9" * 4091 + " ) ;",
+    ": R 0 { " + "1 " * 2046 + "} >PLN0 ;",
     ": R " + "1 " * 32 + ";",
     ": R 65535 >PLN0 ;",
 ]
@@ -261,9 +257,9 @@ def spelled(told, template, spelling, value):
 def lines():
     told = Loads(
         "loads_in_lines",
-        "A line that loads a machine has one spelling, without spaces, its keys in order, its numbers and texts as they "
-        "are written plainly and its digits small: each other one is told from it, and from what has another shape, or "
-        "is no JSON. Most have planes without rows, which are refused where they are spelled plainly.",
+        "A line that loads a machine has one spelling, without spaces, its keys in order, its numbers and texts as "
+        "they are written plainly and its digits small: each other one is told from it, and from what has another "
+        "shape, or is no JSON. Most have planes without rows, which are refused where they are spelled plainly.",
     )
     for write in (blanks, numbers, strings, settings, digits, keys, inner_keys, shapes, wholes):
         write(told)

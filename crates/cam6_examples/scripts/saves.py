@@ -1,14 +1,14 @@
-"""Saves machines by the program and loads them, of as many bytes as a machine has and at the largest lines, and looks at
-what comes back.
+"""Saves machines by the program and loads them, of as many bytes as a machine has and at the largest lines, and looks
+at what comes back.
 
 usage: saves.py PROGRAM [BYTES [LOADS]]
 
-A machine with sixteen rules of 8,192 bytes goes from one run to another, is run and undone; its line is cut behind each
-so many BYTES, a thousand where none are said; lines are sent that are as long as they may be, and longer, to `cam6
-alone`, `cam6 replay` and `cam6 serve`; machines go from one limit to another, and from a host to a machine alone. So many
-LOADS, a hundred where none are said, hold no memory behind them. What has to come back is told by hand, or by the plain
-machine of `hosts`. Tells the memory that is held, and how long a load and a save take. The last line is 'N passed, M
-failed'.
+A machine with sixteen rules of 8,192 bytes goes from one run to another, is run and undone; its line is cut behind
+each so many BYTES, a thousand where none are said; lines are sent that are as long as they may be, and longer, to `cam6
+alone`, `cam6 replay` and `cam6 serve`; machines go from one limit to another, and from a host to a machine alone. So
+many LOADS, a hundred where none are said, hold no memory behind them. What has to come back is told by hand, or by the
+plain machine of `hosts`. Tells the memory that is held, and how long a load and a save take. The last line is 'N
+passed, M failed'.
 """
 
 import subprocess
@@ -18,7 +18,7 @@ from statistics import median
 
 import connections
 from connections import Host, check
-from events import BLOCKS, REVERSIBLE, rule_line
+from events import REVERSIBLE, rule_line
 from growth import held
 from hosts import Machine
 from lines import LINE_LIMIT, LOAD_HEAD, LOAD_LIMIT, plain
@@ -26,10 +26,10 @@ from told_machines import SAVE, blank, entry, first_version, load, rule
 
 MOST_BYTES_OF_A_TEXT = 8192
 # What comments of large rules are made of: letters that are one, two or six times as long in a line.
-FILLERS = [
-    "".join(chr(1 + i % 31) for i in range(31)), "\x01", "x", "\u00e9", '"\\', "\x7f\u00a0", "\U0001f600", " \x1f\n\t\r",
-]  # fmt: skip
+FILLERS = ["".join(map(chr, range(1, 32))), "\x01", "x", "\u00e9", '"\\', "\x7f\u00a0", "\U0001f600", " \x1f\n\t\r"]
 RULES, STILL = {"do": "rules"}, {"do": "run", "n": 0}
+# A rule that does as many words at each address as it may have.
+LONGEST = ": A " + "1 DROP " * 32 + "; : R " + "A " * 64 + ";"
 # What more may be held behind long lines than before the first, and than behind the first, in kB: a machine with its
 # rules, and what the library keeps of room that was given back.
 MOST_HELD, MOST_GROWN = 16_000, 400
@@ -48,9 +48,8 @@ class Alone:
 
     def __init__(self, limit, *words):
         words = words or ("alone", "--side", str(limit))
-        self.process = subprocess.Popen(
-            [connections.program, *words], stdin=subprocess.PIPE, stdout=subprocess.PIPE
-        )
+        words = [connections.program, *words]
+        self.process = subprocess.Popen(words, stdin=subprocess.PIPE, stdout=subprocess.PIPE)
 
     def ask(self, line):
         self.process.stdin.write(line + b"\n")
@@ -195,8 +194,8 @@ def lines_of_loads(size):
 
 
 def lines_of_others(size):
-    """Lines of so many bytes that begin otherwise, and how they are answered by a machine without rules, if these aren't
-    too many."""
+    """Lines of so many bytes that begin otherwise, and how they are answered by a machine without rules, if these
+    aren't too many."""
     yield filled(size, plain(RULES), b" "), plain({"names": [], "ok": "rules"})
     yield filled(size, b'{"do": "load",', b" ", b'"machine":0}'), fault(3)
     yield filled(size, b' {"do":"load",', b" ", b'"machine":0}'), fault(3)
@@ -245,8 +244,9 @@ def first_lines(host):
     """Lines in the place of one that asks for a seat, each over a connection of its own."""
     seat = plain({"seat": 1})
     for line, wanted in [
-        (plain(load(blank(256))), fault(3)), (plain(load(LARGEST)), fault(3)), (plain(load(blank(256))) + b" ", fault(3)),
-        (plain(load(LARGEST))[:-1], fault(2)), (filled(LOAD_LIMIT, LOAD_HEAD, b" ", b'"seat":1}'), fault(3)),
+        (plain(load(blank(256))), fault(3)), (plain(load(LARGEST)), fault(3)),
+        (plain(load(blank(256))) + b" ", fault(3)), (plain(load(LARGEST))[:-1], fault(2)),
+        (filled(LOAD_LIMIT, LOAD_HEAD, b" ", b'"seat":1}'), fault(3)),
         (filled(LOAD_LIMIT, LOAD_HEAD, b" "), fault(2)), (filled(LOAD_LIMIT + 1, LOAD_HEAD, b" "), fault(1)),
         (filled(LOAD_LIMIT + 1, LOAD_HEAD, b" ", b'"seat":1}'), fault(1)), (plain(SAVE), fault(3)),
         (filled(LINE_LIMIT + 1, seat, b" "), fault(1)), (LOAD_HEAD + b'"seat":1}', fault(3)),
@@ -274,8 +274,9 @@ def seats():
     behind = model.do(SAVE)["machine"]
     says(one, "a machine is loaded at a seat, and run", (load(LARGE), ok("load")), (run, ran), (SAVE, saved(behind)))
     says(two, "another user's is as it was", (SAVE, saved(blank(256))), (RULES, plain({"names": [], "ok": "rules"})))
-    says(alone, "it goes on alone", (load(behind), ok("load")), (run, plain(model.do(run))), (SAVE, plain(model.do(SAVE))))
+    further_run = plain(model.do(run))
     further = model.do(SAVE)["machine"]
+    says(alone, "it goes on alone", (load(behind), ok("load")), (run, further_run), (SAVE, saved(further)))
     back = {"do": "back", "n": 42}, plain({"ok": "back", "position": LARGE["position"]})
     says(two, "and back at another seat", (load(further), ok("load")), back, (SAVE, saved(LARGE)))
     says(one, "where the first one's is as it was", (SAVE, saved(behind)))
@@ -349,9 +350,13 @@ def is_held(it, what, lines, number):
 
 def memory(number):
     loads = [(plain(load(LARGEST)), ok("load")), (plain(load(LARGE)), ok("load"))]
-    refused = [(filled(LOAD_LIMIT, plain(load(LARGE)), b" "), fault(4)), (filled(LOAD_LIMIT, LOAD_HEAD, b" "), fault(2)),
-               (filled(LOAD_LIMIT + 1, LOAD_HEAD, b" "), fault(1)), (plain(load(LARGEST))[:-9], fault(2)),
-               (filled(LOAD_LIMIT, LOAD_HEAD + b'"x":"', b"x", b'"}'), fault(3))]  # fmt: skip
+    refused = [
+        (filled(LOAD_LIMIT, plain(load(LARGE)), b" "), fault(4)),
+        (filled(LOAD_LIMIT, LOAD_HEAD, b" "), fault(2)),
+        (filled(LOAD_LIMIT + 1, LOAD_HEAD, b" "), fault(1)),
+        (plain(load(LARGEST))[:-9], fault(2)),
+        (filled(LOAD_LIMIT, LOAD_HEAD + b'"x":"', b"x", b'"}'), fault(3)),
+    ]
     for lines, name in ((loads, "machines of a million bytes"), (refused, "long lines that load nothing")):
         it = Alone(512)
         is_held(it, f"alone, {name}", lines, number)
@@ -380,6 +385,9 @@ def times():
     line = plain(load(blank(512)))
     print(f"a load of {len(line)} bytes without rules: {milliseconds(it, line, 20)}")
     print(f"a save of {len(saved(blank(512)))} bytes: {milliseconds(it, plain(SAVE), 20)}")
+    rules = [rule(f"R{i}", "A", "N/MOORE", "&/CENTERS", LONGEST) for i in range(16)]
+    line = plain(load(blank(128, rules=rules)))
+    print(f"a load of sixteen rules that are tried longest, all 4,096 words: {milliseconds(it, line, 3)}")
     ended(it, "times")
 
 

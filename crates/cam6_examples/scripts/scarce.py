@@ -50,7 +50,8 @@ EACH = [
     {"do": "clear", "plane": 0}, ROW, {"do": "rule"} | {key: value for key, value in PARITY.items() if key != "do"},
     cycle("P"), cell(2), {"do": "run", "n": 2}, ROW, {"do": "side", "side": 128}, RULES, {"do": "fly"}]
 SAVE = {"do": "save"}
-TURNED = [{"do": "side", "side": 128}, TURN, cycle("T"), {"do": "set", "plane": 0, "row": 5, "bits": "8" + "0" * 31}, RUN]
+TURNED = [
+    {"do": "side", "side": 128}, TURN, cycle("T"), {"do": "set", "plane": 0, "row": 5, "bits": "8" + "0" * 31}, RUN]
 
 
 def compact(value):
