@@ -1,7 +1,8 @@
 """Commands by chance for a machine: rules of all kinds and broken ones, cycles of them, pictures, steps both ways,
-looks at all that can be shown, and commands that are refused.
+looks at all that can be shown, machines that are saved and loaded, and commands that are refused.
 """
 
+import changed_machines
 from hosts import SIDES
 from rule_texts import block_text, broken_text, limits, whole_text
 from wirings import BLOCKS, HOODS, MINORS, SEEN_BY_BLOCKS
@@ -9,6 +10,7 @@ from wirings import BLOCKS, HOODS, MINORS, SEEN_BY_BLOCKS
 FREE = {"do": "cycle", "entries": [{"a": "-", "b": "-", "grid": "EVEN", "phase": 0}]}
 RULE_NAMES = ["R", "S", "T", "U", "a", "b", "~", "--", "!" * 24, "{}", "rule-1"]
 NO_RULE_NAMES = ["", "-", "x" * 25, "a b", 'a"b', "a\\b", "é", "a\x7f", "\x00", "a\n"]
+SAVE = {"do": "save"}
 NUMBERS = [0, 1, 3, 4, 15, 16, 127, 128, 255, 256, 511, 512, 65535, 65536, 2**63, 2**64 - 1]
 # How often what is asked for.
 WEIGHTS = {
@@ -26,14 +28,20 @@ WEIGHTS = {
     "blank": 2,
     "map": 2,
     "many_steps": 0.3,
+    "save": 6,
+    "load": 14,
 }
+# How many saved machines a user keeps.
+MOST_KEPT = 3
 
 
 class Asker:
-    """What a user asks for, by chance. `most` is how many cells may be stepped by one command."""
+    """What a user asks for, by chance. `most` is how many cells may be stepped by one command. A user has machines that
+    were saved, or makes others, by somebody else's commands."""
 
-    def __init__(self, machine, random, most=70_000):
+    def __init__(self, machine, random, most=70_000, is_loading=True):
         self.machine, self.random, self.most = machine, random, most
+        self.kept, self.is_loading = [], is_loading
         self.wishes, self.limit_half = [], random.choice("AB")
         self.limits = limits(random, self.limit_half)
         if random.random() < 0.3:
@@ -155,6 +163,38 @@ class Asker:
 
     def ask_map(self):
         return {"do": "map", "colours": [self.random.randrange(16) for _ in range(16)]}
+
+    def ask_save(self):
+        self.kept = [self.machine.do_save()["machine"], *self.kept][:MOST_KEPT]
+        return SAVE
+
+    def ask_load(self):
+        return self.load() if self.is_loading else self.ask_save()
+
+    def load(self):
+        """A machine that was saved, now or then or by another user; as it is, or with changes."""
+        machine = self.random.choice([*self.kept, *self.kept, None]) or self.other_machine()
+        if machine["side"] == 256 and self.random.random() < 0.2:
+            machine = dict(machine)
+            changed_machines.first_version(self.random, machine)
+        elif self.random.random() < 0.5:
+            machine = changed_machines.changed(self.random, machine)
+        if self.random.random() < 0.15:
+            machine = changed_machines.without_rows(machine)
+        return {"do": "load", "machine": machine}
+
+    def other_machine(self):
+        """What is saved of a machine by chance."""
+        machine = type(self.machine)(self.random.choice([128, 128, 128, 256]))
+        most = machine.torus.side**2
+        asker = Asker(machine, self.random, most, is_loading=False)
+        for _ in range(self.random.randrange(20)):
+            machine.do(asker.command())
+            if machine.is_long(most):
+                machine.forget()
+            machine.settle()
+        self.kept = [machine.do_save()["machine"], *self.kept][:MOST_KEPT]
+        return self.kept[0]
 
     def ask_refused(self):
         """A command with numbers, digits or a name of all kinds, which is refused or not."""

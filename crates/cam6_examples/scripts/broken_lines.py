@@ -3,7 +3,7 @@
 What a changed line says, if anything, isn't known here: that is told by `lines`, which reads it.
 """
 
-from lines import LINE_LIMIT, plain
+from lines import LINE_LIMIT, LOAD_HEAD, LOAD_LIMIT, plain
 
 NUMBERS = "0 1 2 3 4 15 16 17 127 128 255 256 65535 65536 18446744073709551615 18446744073709551616 -0 -1 0.0 1.0 1.5"
 NUMBERS += " 1e2 1E0 1e+1 1e-1 0e0 -1e999 1e999 1e308 1e309 1e-999 0e999 01 00 -01 +1 1. .5 1e 1e+ - 0x1 1_0 NaN"
@@ -70,8 +70,10 @@ class Speller:
 
 
 def places(value):
-    """All places in a value: of each the list or object, and the index or key."""
+    """The places in a value: of each the list or object, and the index or key. Of a list of many there are three."""
     keys = value if isinstance(value, dict) else range(len(value)) if isinstance(value, list) else []
+    if isinstance(keys, range) and len(keys) > 100:
+        keys = [0, len(keys) // 2, len(keys) - 1]
     for key in keys:
         yield value, key
         yield from places(value[key])
@@ -108,7 +110,12 @@ class Breaker:
         return self.random.choice(self.bytes)(line)
 
     def spelled(self, value):
-        return Speller(self.random).spelled(value)
+        """A line in any spelling; one that is to load a machine begins mostly as it may be long."""
+        speller = Speller(self.random)
+        is_load = isinstance(value, dict) and list(value) == ["do", "machine"] and value["do"] == "load"
+        if is_load and self.random.random() < 0.8:
+            return LOAD_HEAD + b'"machine":' + speller.spelled(value["machine"]) + b"}"
+        return speller.spelled(value)
 
     def place(self, value):
         return self.random.choice(list(places(value)))
@@ -175,30 +182,43 @@ class Breaker:
     def in_a_string(self, value):
         """Something stands in a string that belongs there or doesn't."""
         line = self.spelled(value)
-        i = self.random.choice([i for i, byte in enumerate(line) if byte == ord('"')])
+        quotes = [i for i, byte in enumerate(line) if byte == ord('"')]
+        i = self.random.choice(quotes if self.random.random() < 0.5 else quotes[:20] + quotes[-60:])
         return line[: i + 1] + self.random.choice(PIECES) + line[i + 1 :]
 
+    def at(self, line):
+        """Where a line is changed: of a long one as often near its ends."""
+        if len(line) > LINE_LIMIT and self.random.random() < 0.5:
+            return self.random.choice([self.random.randrange(100), len(line) - 1 - self.random.randrange(400)])
+        return self.random.randrange(len(line))
+
     def byte(self, line):
-        i = self.random.randrange(len(line))
+        i = self.at(line)
         byte = self.random.choice([*BYTES, self.random.randrange(256)])
         return line[:i] + bytes([byte]) + line[i + self.random.randrange(2) :]
 
     def byte_away(self, line):
-        i = self.random.randrange(len(line))
+        i = self.at(line)
         return line[:i] + line[i + self.random.choice([1, 1, 2, 5]) :]
 
     def cut(self, line):
-        i = self.random.randrange(len(line))
+        i = self.at(line)
         return self.random.choice([line[:i], line[i:]])
 
     def doubled(self, line):
         return line + self.random.choice([b"", b" ", b",", b"\r", b"\n"]) + line
 
     def padded(self, line):
-        """A line with space up to the largest length, or about it."""
-        length = LINE_LIMIT + self.random.choice([-1, 0, 0, 1, 1, 2, LINE_LIMIT, 2 * LINE_LIMIT])
+        """A line with space up to the largest length, or about it; seldom up to the largest one of a load."""
+        is_longest = line.startswith(LOAD_HEAD) and self.random.random() < 0.2
+        limit = LOAD_LIMIT if is_longest else LINE_LIMIT
+        length = limit + self.random.choice([-1, 0, 0, 1, 1, 2, LINE_LIMIT, 2 * LINE_LIMIT])
         space = self.random.choice([b" ", b" ", b"\t", b"x"]) * max(0, length - len(line))
-        return self.random.choice([line + space, space + line, line[:1] + space + line[1:]])
+        padded = [line + space, space + line, line[:1] + space + line[1:]]
+        if is_longest:
+            behind = len(LOAD_HEAD)
+            padded = [line + space, line[:-1] + space + line[-1:], line[:behind] + space + line[behind:]]
+        return self.random.choice(padded)
 
     def around(self, line):
         """Something that is no JSON before a line or behind it, or a CR, which is space."""
@@ -206,7 +226,7 @@ class Breaker:
         return line + more if self.random.random() < 0.7 else more + line
 
     def split(self, line):
-        i = self.random.randrange(len(line))
+        i = self.at(line)
         return line[:i] + b"\n" + line[i:]
 
     def coded(self, line):

@@ -8,9 +8,9 @@ usage: fuzz.py play PROGRAM SEED..    plays the four kinds of each seed, and say
        fuzz.py examples FILE..        plays worked examples through the plain machine instead of the program
 
 A `session` is of commands to the machine of one user: all that there are, with rules of all words, cycles, steps,
-looks, and each fault. A `replay` is of events by chance at a host of some users and boards, who ask for such commands;
-in the end all are brought to rest, and show their machines. In a `broken_session` and a `broken_replay` many lines are
-changed, in their bytes, in their spelling or in what they say.
+looks, machines that are saved and loaded, and each fault. A `replay` is of events by chance at a host of some users and
+boards, who ask for such commands; in the end all are brought to rest, and show their machines. In a `broken_session`
+and a `broken_replay` many lines are changed, in their bytes, in their spelling or in what they say.
 
 Shares nothing with the program: what comes back is what `machines` says, which reads lines and texts by itself,
 evaluates words at each cell, and looks for the state that an undone block was. A line is left out where it would take
@@ -26,7 +26,7 @@ from random import Random
 from tempfile import TemporaryFile
 
 import example_files
-from asks import NUMBERS, Asker
+from asks import NUMBERS, SAVE, Asker
 from broken_lines import Breaker
 from example_files import first_difference
 from events import plane_masks
@@ -36,9 +36,9 @@ from machines import Alone, Replay
 
 # How many cells the steps of a line may have, and how many bands of a command are done at the end.
 MOST_CELLS, MOST_BANDS = 170_000, 200
-# How often a line is broken.
-BROKEN = 0.4
-LINE_FAULTS = [plain({"fault": number}) for number in (1, 2, 3)]
+# How often a line is broken, and one that loads a machine.
+BROKEN, BROKEN_LOAD = 0.4, 0.8
+LINE_FAULTS = [plain({"fault": number}) for number in (1, 2, 3, 4)]
 # A program that takes so many seconds for a play doesn't end at all.
 PATIENCE = 120
 
@@ -59,7 +59,8 @@ class Play:
 
     def say(self, value):
         """Sends the line that says a value; before it, or instead of it, a broken one."""
-        if self.breaker and self.random.random() < BROKEN:
+        often = BROKEN_LOAD if value.get("do") == "load" else BROKEN
+        if self.breaker and self.random.random() < often:
             count = len(self.lines)
             for line in self.breaker.line(value).split(b"\n"):
                 self.send(line)
@@ -82,6 +83,7 @@ class Play:
         looks += [{"do": "row", "plane": plane, "row": asker.row()} for plane in range(4)]
         planes = self.random.sample(range(4), 4 if asker.machine.torus.side == 128 else 2)
         looks += [{"do": "plane", "plane": plane} for plane in planes]
+        looks += [SAVE] * (self.random.random() < 0.5)
         return looks + [{"do": "colours", "row": asker.row()}, {"do": "rules"}, {"do": "run", "n": 0}]
 
     def text(self):
@@ -125,7 +127,8 @@ class Schedule(Play):
         self.new = partial(Replay, [limit] * users, boards, cache)
         self.replay = self.new()
         self.host = self.replay.host
-        self.askers = {number: Asker(user.machine, self.random) for number, user in self.host.users.items()}
+        users = self.host.users.items()
+        self.askers = {number: Asker(user.machine, self.random, is_loading=False) for number, user in users}
 
     def answer(self, line):
         return self.replay.answer(line)
@@ -175,6 +178,11 @@ class Schedule(Play):
         named |= {"command": {"do": "run", "n": self.random.choice([0, 1, 2, 65536])}} if word == "ask" else {}
         self.event(word, **named)
 
+    def any_load(self):
+        """A command that would load a machine alone, by itself or in an ask: it is no event."""
+        load = self.askers[1].load()
+        self.say(self.random.choice([load, {"event": "ask", "user": 1, "command": load}]))
+
     def next_line(self):
         """An event that can happen, or now and then any."""
         choices = [(0.5 if self.host.keys else 0.1, self.evictions, ())]
@@ -188,8 +196,8 @@ class Schedule(Play):
         choices += [(1.5, self.repair, (board,)) for board in self.boards(DEAD)]
         choices += [(0.1, self.fail, (board,)) for board in self.boards(IDLE)]
         weights = [weight for weight, _, _ in choices]
-        choices.append((0, self.any_event, ()))
-        _, do, named = self.random.choices(choices, [*weights, 0.1 * sum(weights)])[0]
+        choices += [(0, self.any_event, ()), (0, self.any_load, ())]
+        _, do, named = self.random.choices(choices, [*weights, 0.1 * sum(weights), 0.01 * sum(weights)])[0]
         do(*named)
 
     def collect(self, user):

@@ -56,6 +56,7 @@ COMMANDS = [
     {"do": "map", "colours": [*range(15, 0, -1), 7]},
     {"do": "colours", "row": 9},
     {"do": "count", "mask": 2},
+    {"do": "save"},
     TO_BLANK,
 ]
 

@@ -30,7 +30,7 @@ class Rule(undoing.Rule):
         super().__init__(half, hood, minor, text)
         self.key = (half, hood, minor, text)
         self.blocks = undoing.Rule(half, hood, minor, text)
-        centres, tokens = {"CENTER": 0, "CENTER'": 4}, text.split()
+        centres, tokens = {"CENTER": 0, "CENTER'": 4}, undoing.words_of(text)
         others = [name for name in wirings.names(hood, minor) if name in tokens and name not in centres]
         self.bits = centres | {name: 5 + i for i, name in enumerate(others)}
         self.known = {}
@@ -101,6 +101,11 @@ class Torus(wirings.Torus):
             old |= {cell for place, cell in enumerate(block) if state >> place & 1}
         return old
 
+    def put(self, plane, y, digits):
+        """Gives a row these digits."""
+        self.cells -= {(plane, x, y) for x in range(self.side)}
+        self.cells |= {(plane, x, y) for x in range(self.side) if int(digits[x // 4], 16) >> 3 - x % 4 & 1}
+
     def state(self, x, y):
         return sum(((plane, x, y) in self.cells) << plane for plane in range(4))
 
@@ -155,11 +160,9 @@ class Machine:
         return any(name == used for _, _, used in self.uses())
 
     def do_set(self, plane, row, bits):
-        side = self.torus.side
-        if not self.has_row(plane, row) or len(bits) != side // 4:
+        if not self.has_row(plane, row) or len(bits) != self.torus.side // 4:
             return 65
-        self.torus.cells = {cell for cell in self.torus.cells if (cell[0], cell[2]) != (plane, row)}
-        self.torus.cells |= {(plane, x, row) for x in range(side) if int(bits[x // 4], 16) >> 3 - x % 4 & 1}
+        self.torus.put(plane, row, bits)
         return {}
 
     def do_clear(self, plane):
@@ -274,6 +277,61 @@ class Machine:
         set_cells = {(x, y) for _, x, y in self.torus.cells}
         blank = self.torus.side**2 - len(set_cells)
         return {"count": (mask & 1) * blank + sum(mask >> self.torus.state(x, y) & 1 for x, y in set_cells)}
+
+    def do_save(self):
+        rules = []
+        for name, rule in self.rules.items():
+            half, hood, minor, text = rule.key
+            rules.append({"half": half, "hood": hood, "minor": minor, "name": name, "text": text})
+        side = self.torus.side
+        return {
+            "machine": {
+                "colours": list(self.colours),
+                "cycle": [sorted_by_keys(entry) for entry in self.entries],
+                "planes": [[self.torus.digits(plane, y) for y in range(side)] for plane in range(4)],
+                "position": self.position,
+                "rules": rules,
+                "side": side,
+                "version": 2,
+            }
+        }
+
+    def do_load(self, machine):
+        new = self.saved(machine)
+        if new is None:
+            return 68
+        if new.torus.side > self.limit:
+            return 67
+        self.torus, self.rules, self.colours = new.torus, new.rules, new.colours
+        self.entries, self.position = new.entries, new.position
+        return {}
+
+    def saved(self, machine):
+        """The machine that was saved so, whatever its limit; or None, where none was."""
+        new, cycle = type(self)(max(SIDES)), machine["cycle"]
+        new.torus = self.torus_of(machine.get("side", 256), machine["planes"])
+        if new.torus is None:
+            return None
+        for rule in machine["rules"]:
+            if rule["name"] in new.rules or new.do_rule(**rule) != {}:
+                return None
+        if new.do_map(machine["colours"]) != {} or cycle and new.do_cycle(cycle) != {}:
+            return None
+        new.position = machine["position"]
+        return new if new.position < max(1, len(cycle)) else None
+
+    def torus_of(self, side, planes):
+        """The torus of this side with these planes, or None where there is none."""
+        if side not in SIDES or any(len(rows) != side for rows in planes):
+            return None
+        if any(len(digits) != side // 4 for rows in planes for digits in rows):
+            return None
+        torus = self.blank(side)
+        for plane, rows in enumerate(planes):
+            for y, digits in enumerate(rows):
+                if digits.strip("0"):
+                    torus.put(plane, y, digits)
+        return torus
 
 
 class User:

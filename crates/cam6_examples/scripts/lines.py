@@ -2,7 +2,8 @@
 
 Shares nothing with the program. The reader of JSON is as strict as serde_json is: a text is UTF-8 without a byte order
 mark, no control character stands by itself in a string, a surrogate has its other half, lists and objects are 127 deep
-at most, and a number that is too large for a float is none. Of a key that is repeated the last one counts.
+at most, and a number that is too large for a float is none. Of a key that is repeated the last one counts. A line that
+loads a machine has one spelling, which is the plainest.
 """
 
 import json
@@ -11,6 +12,8 @@ import re
 from wirings import HOODS, MINORS
 
 LINE_LIMIT, MOST_NESTED = 16384, 127
+# A line that begins so may have more bytes than another one.
+LOAD_HEAD, LOAD_LIMIT = b'{"do":"load",', 2097152
 LARGEST_NUMBER = 2**64 - 1
 # The first digits of the least number that is too large for a float, which is so many digits long.
 TOO_LARGE, TOO_LONG = 17976931348623158, 309
@@ -197,18 +200,46 @@ def is_map(value):
     return is_list_of(is_number)(value) and len(value) == 16
 
 
+RULE = {
+    "name": is_text,
+    "half": one_of("A", "B"),
+    "hood": one_of(*HOODS),
+    "minor": one_of(*MINORS),
+    "text": is_text,
+}
+
+
+def is_rule(value):
+    return is_object(value, **RULE)
+
+
+def are_planes(value):
+    return is_list_of(is_list_of(is_bits))(value) and len(value) == 4
+
+
+MACHINE = {
+    "colours": is_map,
+    "cycle": is_list_of(is_entry),
+    "planes": are_planes,
+    "position": is_number,
+    "rules": is_list_of(is_rule),
+    "version": is_number,
+}
+# By its version: a saved machine of the first one has no side.
+MACHINES = {1: MACHINE, 2: MACHINE | {"side": is_number}}
+
+
+def is_machine(value):
+    version = value.get("version") if isinstance(value, dict) else None
+    return is_number(version) and version in MACHINES and is_object(value, **MACHINES[version])
+
+
 COMMANDS = {
     "set": {"plane": is_number, "row": is_number, "bits": is_bits},
     "clear": {"plane": is_number},
     "row": {"plane": is_number, "row": is_number},
     "plane": {"plane": is_number},
-    "rule": {
-        "name": is_text,
-        "half": one_of("A", "B"),
-        "hood": one_of(*HOODS),
-        "minor": one_of(*MINORS),
-        "text": is_text,
-    },
+    "rule": RULE,
     "drop": {"name": is_text},
     "rules": {},
     "cycle": {"entries": is_list_of(is_entry)},
@@ -218,6 +249,8 @@ COMMANDS = {
     "colours": {"row": is_number},
     "count": {"mask": is_number},
     "side": {"side": is_number},
+    "save": {},
+    "load": {"machine": is_machine},
 }
 
 
@@ -231,8 +264,13 @@ def is_command(value):
     return is_one_of(value, "do", COMMANDS)
 
 
+def is_asked(value):
+    """Whether an ask may hold the value: a command that loads nothing."""
+    return is_command(value) and value["do"] != "load"
+
+
 EVENTS = {
-    "ask": {"user": is_number, "command": is_command},
+    "ask": {"user": is_number, "command": is_asked},
     "lease": {"user": is_number, "board": is_number},
     "band": {"board": is_number},
     "preempt": {"board": is_number},
@@ -247,15 +285,30 @@ def is_event(value):
     return is_one_of(value, "event", EVENTS)
 
 
+def line_limit(line):
+    """How many bytes a line may have that begins as this one does."""
+    return LOAD_LIMIT if line.startswith(LOAD_HEAD) else LINE_LIMIT
+
+
+def is_spelled(line, said):
+    """Whether a line is spelled as it has to be: one that loads a machine has one spelling."""
+    if said.get("do") != "load":
+        return True
+    texts = [digits for rows in said["machine"]["planes"] for digits in rows]
+    return line == plain(said) and all(digits == digits.lower() for digits in texts)
+
+
 def read_line(line, is_said):
     """What a line says, a command or an event; or the number of its fault."""
-    if len(line) > LINE_LIMIT:
+    if len(line) > line_limit(line):
         return 1
     try:
         value = Reader(line).whole()
     except NoJson:
         return 2
-    return value if is_said(value) else 3
+    if not is_said(value):
+        return 3
+    return value if is_spelled(line, value) else 4
 
 
 def lines_of(text):

@@ -185,12 +185,6 @@ class Machine(hosts.Machine):
                 new[first : first + 2] = getattr(self.torus, way)(rule, entry["grid"], entry["phase"])
         self.torus.planes = new
 
-    def do_set(self, plane, row, bits):
-        if not self.has_row(plane, row) or len(bits) != self.torus.side // 4:
-            return 65
-        self.torus.put(plane, row, bits)
-        return {}
-
     def do_clear(self, plane):
         if plane > 3:
             return 65

@@ -9,12 +9,15 @@ from os.path import dirname, join
 from textwrap import wrap
 
 from hosts import Machine
+from lines import plain
 from undoing import compact, short
 
 CRATES = join(dirname(__file__), "..", "..")
 # A letter, or a text that begins with a bracket or the like, nine times at least; and bytes that aren't seen, or aren't
 # those of ASCII.
 REPEATED_OR_UNSEEN = re.compile(r"(.|[][{}(,\\ ][ -~]{1,19}?)\1{8,}|[^ -~]+", re.DOTALL)
+# Blank rows of a saved machine, four at least.
+BLANK_ROWS = re.compile(r'("(?:0{32}|0{64}|0{128})",)\1{3,}')
 
 
 def text_of(data):
@@ -35,7 +38,12 @@ def marked(found):
 
 def shown(text):
     """A text as an example says it; blanks at its ends stand in marks."""
-    text = REPEATED_OR_UNSEEN.sub(marked, text)
+    said, at = "", 0
+    for found in BLANK_ROWS.finditer(text):
+        said += REPEATED_OR_UNSEEN.sub(marked, text[at : found.start()])
+        said += f"«{len(found[0]) // len(found[1])}*{found[1]}»"
+        at = found.end()
+    text = said + REPEATED_OR_UNSEEN.sub(marked, text[at:])
     return re.sub("^ +| +$", lambda blanks: f"«{len(blanks[0])}* »", text)
 
 
@@ -60,7 +68,7 @@ class Told:
         return text
 
     def line(self, text, answer):
-        self.say(f"> {self.shown(text)} => {self.shown(compact(answer))}")
+        self.say(f"> {self.shown(text)} => {self.shown(plain(answer).decode())}")
 
     def tell(self, text, meaning):
         """A line that says so, or has this fault."""
@@ -74,11 +82,11 @@ class Told:
 class ToldLines(Told):
     """Sessions of an example, in each of which a blank machine is told lines."""
 
-    def session(self, title=None):
-        self.machine = Machine(256)
+    def session(self, title=None, limit=256):
+        self.machine = Machine(limit)
         if title:
             self.say(f"\n# {title}")
-        self.say("as session")
+        self.say("as session" if limit == 256 else f"as session within {limit}")
 
     def answer(self, meaning):
         return self.machine.do(meaning)

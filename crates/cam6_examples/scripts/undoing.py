@@ -8,6 +8,7 @@ is no table of lines: a name is looked up in the block.
 """
 
 import json
+import re
 import sys
 
 # A block's places clockwise from its upper left cell.
@@ -16,12 +17,25 @@ TURNS = {"CENTER": 0, "CW": 1, "OPP": 2, "CCW": 3}
 STATES = range(256)
 
 
+def words_of(text):
+    """The tokens of a text that stand in no comment."""
+    words, is_comment = [], False
+    for token in re.findall("[^ \t\r\n]+", text):
+        if is_comment:
+            is_comment = not token.endswith(")")
+        elif token == "(":
+            is_comment = True
+        else:
+            words.append(token)
+    return words
+
+
 class Rule:
     """A rule's text over blocks."""
 
     def __init__(self, half, hood, minor, text):
         self.half, self.hood, self.minor = half, hood, minor
-        tokens = text.split()
+        tokens = words_of(text)
         self.words = {}
         while tokens:
             end = tokens.index(";")
