@@ -39,8 +39,8 @@ all_then P Q follows (x ∷ xs) are = (follows x are.0, all_then P Q follows xs 
 
 below_128 : (b : ℕ) → is_name_byte b ≡ true → nat_lt b 128 ≡ true
 below_128 b is =
-    let quote = and_parts _ _ (and_parts _ _ is).0 in
-    let most = leb-true b 126 (and_parts (nat_le 33 b) (nat_le b 126) quote.0).1 in
+    let range = (and_parts _ _ (and_parts _ _ is).0).0 in
+    let most = leb-true b 126 (and_parts (nat_le 33 b) (nat_le b 126) range).1 in
     lt-ltb b 128 (omega (arith, most))
 
 ascii_name : (name : List ℕ) → list_all is_name_byte name ≡ true → are_ascii name ≡ true
