@@ -240,7 +240,8 @@ rule_read d read =
 
 abbrev AreRules : List NamedRule → Type 0
 AreRules rules =
-    AllByRecursion (λ rule. IsUtf8 rule.name) rules × AllByRecursion (λ rule. IsUtf8 rule.text) rules
+    AllByRecursion (λ rule. IsUtf8 rule.name) rules
+    × AllByRecursion (λ rule. IsUtf8 rule.text) rules
 
 rules_read : (items : Items) → AreRead items → IfSome (rules_in items) AreRules
 rules_read no_items are = (tt, tt)

@@ -18,8 +18,8 @@
 //! (`specs/Seats.antt`).
 //!
 //! The laws: a line says a command, an event, or a seat, exactly where it has no more bytes than it
-//! may and its JSON value shows it, with its keys and no others, and where it has its spelling if it
-//! loads a machine; a line that loads a machine is the one that does in its version, and that line
+//! may and its JSON value shows it, with its keys and no others, and a load where the line has its
+//! spelling too; a line that loads a machine is the one that does in its version, and that line
 //! loads it; saved machines that are written in one text are one; the text of a rule that a line
 //! defines is UTF-8; the text of a reply, of an outcome, of a line's fault and of the answer to a
 //! first line is one line.

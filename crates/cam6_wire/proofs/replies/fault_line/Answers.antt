@@ -19,4 +19,5 @@ returns-in-NoCommand c = sym (ap (λ (f : LineFault). fault_bytes f ++ 10 ∷ []
 
 pub returns-in-OtherSpelling : goal.returns-in-OtherSpelling
 unfolding serde_json_on_literals fault_bytes digits
-returns-in-OtherSpelling c = sym (ap (λ (f : LineFault). fault_bytes f ++ 10 ∷ []) c.in-OtherSpelling.is)
+returns-in-OtherSpelling c =
+    sym (ap (λ (f : LineFault). fault_bytes f ++ 10 ∷ []) c.in-OtherSpelling.is)
