@@ -6,7 +6,7 @@ ghost use Rattle.cam6_table.specs.RuleTexts.{IsCodeFor};
 
 use cam6_board::{Board, FlakyBoard, SoftBoard};
 use cam6_cache::{Key, TableCache};
-use cam6_commands::{Command, Done, Event, Fault, Outcome, Refusal, Reply};
+use cam6_commands::{Command, Done, Event, Fault, Outcome, Refusal, Reply, SavedMachine};
 use cam6_core::{Core, run};
 use cam6_forth::{ParseFault, Rule, parse};
 use cam6_machine::{Machine, Now, replies_alone};
@@ -220,6 +220,37 @@ fn events_run(rt: HostRuntime) -> Result<(), Fail> {
         matches!(
             outcomes.get(1),
             Some(Outcome::Collected(Reply::Done(Done::Count { count: 0 })))
+        )
+    );
+    Ok(())
+}
+
+/// What is saved of a blank machine of side 128.
+fn saved_machine(alloc: Global) -> Result<Option<SavedMachine>, NoMemory> {
+    let mut machine = Machine::new(alloc, Side::S128)?;
+    match machine.reply_to(Command::Save)? {
+        Reply::Done(Done::Save { machine }) => Ok(Some(machine)),
+        _ => Ok(None),
+    }
+}
+
+// A line of events asks for no load, but a list of events may.
+#[test]
+fn machines_are_loaded_by_events(rt: HostRuntime) -> Result<(), Fail> {
+    let alloc = rt.alloc();
+    let Some(machine) = saved_machine(alloc)? else {
+        panic!(rt; "nothing was saved")
+    };
+    let mut core = Core::new(alloc, 1, 1, 1, [Side::S256].as_slice())?;
+    let mut events = Vec::new(alloc);
+    events.push(Event::Ask(1, Command::Load { machine }))?;
+    events.push(Event::Collect(1))?;
+    let outcomes = run(alloc, &mut core, events)?;
+    assert!(rt; matches!(outcomes.get(0), Some(Outcome::Asked(0))));
+    assert!(rt;
+        matches!(
+            outcomes.get(1),
+            Some(Outcome::Collected(Reply::Done(Done::Load)))
         )
     );
     Ok(())
