@@ -4,7 +4,7 @@ use Rattle.std.proofs.Common.{subst, inl, inr, append-nil, append_assoc, true, f
 use Rattle.cam6_planes.specs.declared.sides.Side.{Side}
 use Rattle.cam6_model.specs.Machine.{Machine, blank}
 use Rattle.cam6_wire.specs.Commands.{command}
-use Rattle.cam6_session.specs.Lines.{lines}
+use Rattle.cam6_session.specs.Lines.{lines, ended_lines}
 use Rattle.cam6_session.specs.Answering.{Answering, AreAnswered}
 use Rattle.cam6_session.specs.Answers.{text_to, after_line, by_machine}
 use Rattle.cam6_session.proofs.Splitting.{ended_lines_are_first}
@@ -92,9 +92,12 @@ module _ {S : Type 0} (by : Answering S) where
   has_answered (end.NoMemory false) s t taken unread written (inl none) =
       wrote_all (end.NoMemory false) s t (taken ++ unread) written []
       (lines (taken ++ unread)) refl (λ same. let never : ⊥ = cc in absurd never) none.1
-  has_answered (end.NoMemory false) s t taken unread written (inr stopped) =
+  has_answered (end.NoMemory false) s t taken unread written (inr (inl stopped)) =
       answered_before s t t taken unread stopped.0 (end.NoMemory false) written (λ same. cc)
       stopped.1
+  has_answered (end.NoMemory false) s t taken unread written (inr (inr stopped)) =
+      wrote_all (end.NoMemory false) s t (taken ++ unread) written (ended_lines taken) _
+      stopped.0.are (λ same. let never : ⊥ = cc in absurd never) stopped.1
 
 -- whatever line comes, it has an answer
 abbrev AnswersAll : {S : Type 0} → Answering S → Type 0

@@ -13,6 +13,7 @@ use Rattle.cam6_session.specs.declared.lines.Line.TheVariants as read
 use Rattle.cam6_session.specs.declared.sessions.End.TheVariants as end
 use Rattle.cam6_session.specs.declared.sessions.Stop.{Stop}
 use Rattle.cam6_session.proofs.Runs.{HasRun, RespondsTo, ends_input, fails_reading, meets_bound}
+use Rattle.cam6_session.proofs.Runs.{finds_no_room}
 use Rattle.cam6_session.proofs.Runs.{takes_ended, takes_last, goes_on, stops, answers_last}
 
 abbrev IfKnown : Option (List ℕ) → Option (List ℕ) → (List ℕ → List ℕ → Type 0) → Type 0
@@ -75,6 +76,13 @@ module _ {S : Type 0} (by : Answering S) where
     serves_until_bound reads =
         known Now (λ all out. AnswersReader by end.TurnBound (Some all) last (Some out) new s t)
         (λ all out run. meets_bound by s all out now last new t held run reads) first old runs
+
+    pub serves_until_room : Reads read.NoMemory now last held
+        → AnswersReader by (end.NoMemory false) first last old new s t
+    serves_until_room reads =
+        known Now
+        (λ all out. AnswersReader by (end.NoMemory false) (Some all) last (Some out) new s t)
+        (λ all out run. finds_no_room by s all out now last new t held run reads) first old runs
 
     module _ (then : Option (List ℕ)) (u : S) where
       pub runs_on : Reads read.Ended now last held → RespondsTo by (Ok tt) held new then t u

@@ -6,6 +6,8 @@ pub mod Splitting
 pub mod Answering
 -- For which lines memory is taken.
 pub mod Taking
+-- A line that is kept grows by a part.
+pub mod Keeping
 -- A line is read in parts, one a look, until its LF, the input's end or a fault.
 pub mod Parts
 -- Each look at the reader but the last takes a byte at least.

@@ -9,7 +9,9 @@ use Rattle.cam6_session.specs.Held.{Held, Holds, is_empty}
 use Rattle.cam6_wire.specs.OneLine.{HasNoLf}
 use Rattle.cam6_session.specs.Reading.{Reads, ReadsLine, TakesPart}
 use Rattle.cam6_session.specs.declared.lines.Line.TheVariants.{Ended, Last, EndOfInput, ReadFault}
+use Rattle.cam6_session.specs.declared.lines.Line.TheVariants as line_end
 use Rattle.cam6_session.specs.declared.lines.Part.TheVariants.{More, Newline, AtEnd, Fault}
+use Rattle.cam6_session.specs.declared.lines.Part.TheVariants as taking
 
 -- a part of a line has been read, and what is kept stands for it
 pub record HasRead (old new : Option (List ℕ)) (held : Held) : Type 0 where
@@ -109,5 +111,33 @@ reading_failed (Some all) (Some remaining) (Some unread) held kept read look =
         read.part ++ look.part,
         All-append (λ x. x ≢ 10) _ _ read.free look.free,
         Consumes-trans (Some all) (Some remaining) (Some unread) _ _ read.taken taken,
+      ),
+    )
+
+-- no room was found for a long line, of which some part had been read
+pub room_is_wanted : (old now new : Option (List ℕ)) (held kept : Held) → HasRead old now held
+    → TakesPart taking.NoMemory now new held kept → Reads line_end.NoMemory old new kept
+room_is_wanted None now new held kept read look = tt
+room_is_wanted (Some all) None new held kept read look = absurd read.taken
+room_is_wanted (Some all) (Some remaining) None held kept read look = absurd look.taken
+room_is_wanted (Some all) (Some remaining) (Some unread) held kept read look =
+    let wanted = look.wanted refl in
+    let more = wanted.1 in
+    let same : remaining ≡ unread = look.taken ∙ ap (λ l. (l ++ []) ++ unread) wanted.0 in
+    let is : all ≡ (read.part ++ more.0) ++ more.1 =
+    read.taken ∙ ap (λ l. read.part ++ l) more.2 ∙ sym (append_assoc read.part more.0 more.1) in (
+      unread,
+      refl,
+      (
+        read.part,
+        read.free,
+        read.taken ∙ ap (λ l. read.part ++ l) same,
+        (
+          read.part ++ more.0,
+          more.1,
+          is,
+          All-append (λ x. x ≢ 10) _ _ read.free more.3,
+          more.4 read.part read.holds,
+        ),
       ),
     )

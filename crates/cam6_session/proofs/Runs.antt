@@ -1,18 +1,20 @@
 -- A session so far: the lines that it took, each answered, and how it goes on or ends from there.
 use Rattle.std.proofs.Common.{◌≡◌, ℕ, List, [], ◌∷◌, ◌++◌, Option, None, Some, refl, sym, ap, ◌∙◌}
-use Rattle.std.proofs.Common.{subst, inr, append-nil, append_assoc, true, false, Result, Ok, Err}
+use Rattle.std.proofs.Common.{subst, inl, inr, append-nil, append_assoc, true, false, Result, Ok}
+use Rattle.std.proofs.Common.{Err, arith, length-append}
 use Rattle.std.proofs.lemmas.List.Elements.{All-push}
 use Rattle.std.specs.Prelude.{All}
 use Rattle.std.specs.Io.KnownBytes.{Appends, Keeps}
 use Rattle.cam6_session.specs.Lines.{lines, ended_lines, joined}
 use Rattle.cam6_session.specs.Answering.{Answering, AreAnswered}
 use Rattle.cam6_wire.specs.OneLine.{HasNoLf}
+use Rattle.cam6_wire.proofs.Heads.{head_stays}
 use Rattle.cam6_session.proofs.Splitting as split
 use Rattle.cam6_session.proofs.Answering.{answered_more}
 use Rattle.cam6_session.specs.Held.{Held, Holds}
-use Rattle.cam6_session.specs.Reading.{Reads}
+use Rattle.cam6_session.specs.Reading.{Reads, IsLongLoad}
 use Rattle.cam6_session.specs.Responding.{Responds, end_at}
-use Rattle.cam6_session.specs.Sessions.{StopsAt, AnswersReader, AnswersUntil}
+use Rattle.cam6_session.specs.Sessions.{StopsAt, StopsWithin, AnswersReader, AnswersUntil}
 use Rattle.cam6_session.specs.declared.lines.Line.TheVariants as read
 use Rattle.cam6_session.specs.declared.sessions.End.{End}
 use Rattle.cam6_session.specs.declared.sessions.End.TheVariants as end
@@ -31,6 +33,23 @@ kept : (old new : Option (List ℕ)) (bytes : List ℕ) → old ≡ Some bytes �
 kept None new bytes e keeps = let never : ⊥ = cc in absurd never
 kept (Some b) None bytes e keeps = absurd keeps
 kept (Some b) (Some c) bytes e keeps = ap Some keeps ∙ e
+
+-- what begins with a long load has it as the front of its first line
+first_is_load : (line rest : List ℕ) → HasNoLf line → IsLongLoad line
+    → (first : List ℕ) × (later : List (List ℕ)) × (lines (line ++ rest) ≡ first ∷ later)
+    × IsLongLoad first
+first_is_load [] rest free load = let never : ⊥ = omega (arith, load.long) in absurd never
+first_is_load (b ∷ line) rest free load =
+    let first = split.front_of_line b line rest free in
+    let front = b ∷ line in (
+      front ++ first.0,
+      first.1,
+      first.2,
+      record {
+        begins = head_stays front first.0 (omega (arith, load.long)) ∙ load.begins;
+        long = omega (arith, load.long, length-append front first.0);
+      },
+    )
 
 module _ {S : Type 0} (by : Answering S) where
   -- of a reader with all these bytes some lines have been taken, and a writer with these bytes has
@@ -115,6 +134,39 @@ module _ {S : Type 0} (by : Answering S) where
     meets_bound reads =
         let at = subst (λ u. Reads read.TurnBound u after held) run.leaves reads in
         gives_up at.0 at.2.0 at.1 at.2.1 at.2.2
+
+    -- no room was found for a line
+    pub finds_no_room : Reads read.NoMemory remaining after held
+        → AnswersReader by (end.NoMemory false) (Some all) after (Some out) new s t
+    finds_no_room reads =
+        let at = subst (λ u. Reads read.NoMemory u after held) run.leaves reads in
+        let unread = at.0 in
+        let part = at.2.0 in
+        let load = at.2.3 in
+        let first = first_is_load load.0 load.1 load.3 load.4 in
+        let ended : run.done ≡ ended_lines (joined run.done ++ part) =
+        sym (append-nil run.done)
+        ∙ ap (λ ls. run.done ++ ls) (sym (split.no_ended_line part at.2.1))
+        ∙ sym (split.ended_lines_joined run.done part run.free) in
+        let within : StopsWithin (joined run.done ++ part) unread = record {
+          line = first.0;
+          later = first.1;
+          are = ap lines (append_assoc (joined run.done) part unread
+              ∙ ap (λ l. joined run.done ++ l) (sym at.2.2)) ∙ lines_done run.unread
+              ∙ ap (λ l. run.done ++ lines l) load.2
+              ∙ ap (λ ls. run.done ++ ls) first.2
+              ∙ ap (λ ls. ls ++ first.0 ∷ first.1) ended;
+          long = first.3;
+        } in (
+          joined run.done ++ part,
+          unread,
+          run.written,
+          run.taken ∙ ap (λ l. joined run.done ++ l) at.2.2
+              ∙ sym (append_assoc (joined run.done) part unread),
+          at.1,
+          run.writes,
+          inr (inr (within, subst (λ ls. AreAnswered by s ls run.written t) ended run.answered)),
+        )
 
     -- a line was taken with its LF
     pub takes_ended : Reads read.Ended remaining after held → HasTaken s all out after new t held
@@ -232,7 +284,7 @@ module _ {S : Type 0} (by : Answering S) where
         let answered =
         subst (AreAnswered by s took.stop.done took.written) (sym at.1) took.answered in
         served (end.NoMemory false) took.written (kept new then _ took.writes at.0)
-        (inr (took.stop, answered, at.2))
+        (inr (inl (took.stop, answered, at.2)))
 
     -- a line was taken, and the session stops at it
     pub stops : (at : Stop) → RespondsTo (Err at) held new then t u

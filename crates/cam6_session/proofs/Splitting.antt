@@ -22,6 +22,30 @@ first_ended_line (b ∷ line) rest free =
     rw (ne_eqb b 10 (All-head (λ x. x ≢ 10) b line free))
     (ap (grow_line b) (first_ended_line line rest (All-tail (λ x. x ≢ 10) b line free)))
 
+-- bytes without an LF are the front of a text's first line
+begins_first : (b : ℕ) (ls : List (List ℕ))
+    → (more : List ℕ) × (later : List (List ℕ)) × (begin_line b ls ≡ (b ∷ more) ∷ later)
+begins_first b [] = ([], [], refl)
+begins_first b (line ∷ ls) = (line, ls, refl)
+
+pub front_of_line : (b : ℕ) (line rest : List ℕ) → HasNoLf (b ∷ line)
+    → (more : List ℕ) × (later : List (List ℕ))
+    × (lines ((b ∷ line) ++ rest) ≡ ((b ∷ line) ++ more) ∷ later)
+front_of_line b [] rest free =
+    let first = begins_first b (lines rest) in (
+      first.0,
+      first.1,
+      ap (λ t. cond t ([] ∷ lines rest) (begin_line b (lines rest)))
+          (ne_eqb b 10 (All-head (λ x. x ≢ 10) b [] free)) ∙ first.2,
+    )
+front_of_line b (c ∷ line) rest free =
+    let next = front_of_line c line rest (All-tail (λ x. x ≢ 10) b (c ∷ line) free) in (
+      next.0,
+      next.1,
+      ap (λ t. cond t ([] ∷ lines ((c ∷ line) ++ rest)) (begin_line b (lines ((c ∷ line) ++ rest))))
+          (ne_eqb b 10 (All-head (λ x. x ≢ 10) b (c ∷ line) free)) ∙ ap (begin_line b) next.2,
+    )
+
 -- without an LF a text is one line, which none ends
 pub only_line : (line : List ℕ) → HasNoLf line → line ≢ [] → lines line ≡ line ∷ []
 only_line [] free some = absurd (some refl)

@@ -1,14 +1,32 @@
 -- What reading a line takes from a reader, whose bytes may not be known, and what it keeps.
-use Rattle.std.specs.Prelude.{◌≡◌, ◌≢◌, ◌<◌, ℕ, List, [], ◌∷◌, ◌++◌, length}
+use Rattle.std.specs.Prelude.{◌≡◌, ◌≢◌, ◌<◌, ℕ, List, [], ◌∷◌, ◌++◌, length, true}
 use Rattle.std.specs.Prelude.{Option, Some, IfSome}
 use Rattle.std.specs.Io.KnownBytes.{Consumes, IsAtEnd}
+use Rattle.cam6_wire.specs.Limits.{max_line, begins_load}
 use Rattle.cam6_wire.specs.OneLine.{HasNoLf}
 use Rattle.cam6_session.specs.Held.{Held, Holds, Grows}
 use Rattle.cam6_session.specs.declared.lines.Part.{Part}
 use Rattle.cam6_session.specs.declared.lines.Part.TheVariants.{More, Newline, AtEnd, Fault}
+use Rattle.cam6_session.specs.declared.lines.Part.TheVariants as look
 use Rattle.cam6_session.specs.declared.lines.Line.{Line}
 use Rattle.cam6_session.specs.declared.lines.Line.TheVariants.{Ended, Last, EndOfInput}
-use Rattle.cam6_session.specs.declared.lines.Line.TheVariants.{ReadFault, TurnBound}
+use Rattle.cam6_session.specs.declared.lines.Line.TheVariants.{ReadFault, TurnBound, NoMemory}
+
+-- a line that begins as a load and is longer than any other line may be
+pub record IsLongLoad (line : List ℕ) : Type 0 where
+  pub begins : begins_load line ≡ true
+  pub long : max_line < length line
+
+-- these bytes begin with such a line, or with a front of it that is one
+abbrev pub BeginLongLoad : List ℕ → Type 0
+BeginLongLoad all =
+    (line rest : List ℕ) × (all ≡ line ++ rest) × HasNoLf line × IsLongLoad line
+
+-- a line that is kept becomes one by the bytes that come
+abbrev pub BecomesLong : Held → List ℕ → Type 0
+BecomesLong held all =
+    (part rest : List ℕ) × (all ≡ part ++ rest) × HasNoLf part ×
+    ((line : List ℕ) → Holds held line → IsLongLoad (line ++ part))
 
 -- what a look takes behind its part of the line
 abbrev pub ending : Part → List ℕ
@@ -16,6 +34,7 @@ ending More = []
 ending Newline = 10 ∷ []
 ending AtEnd = []
 ending Fault = []
+ending look.NoMemory = []
 
 -- one look at the reader took this part of a line
 pub record TakesPart (result : Part) (old new : Option (List ℕ)) (held kept : Held) : Type 0 where
@@ -25,6 +44,7 @@ pub record TakesPart (result : Part) (old new : Option (List ℕ)) (held kept : 
   pub taken : Consumes old new (part ++ ending result)
   pub more : result ≡ More → 0 < length part
   pub at_end : result ≡ AtEnd → (part ≡ []) × IsAtEnd old
+  pub wanted : result ≡ look.NoMemory → (part ≡ []) × IfSome old (BecomesLong held)
 
 -- of these bytes a line was taken, or a part of one, and those are unread
 abbrev pub ReadsLine : Line → List ℕ → List ℕ → Held → Type 0
@@ -35,6 +55,8 @@ ReadsLine Last all unread held =
 ReadsLine EndOfInput all unread held = (all ≡ []) × (unread ≡ [])
 ReadsLine ReadFault all unread held = (part : List ℕ) × HasNoLf part × (all ≡ part ++ unread)
 ReadsLine TurnBound all unread held = (part : List ℕ) × HasNoLf part × (all ≡ part ++ unread)
+ReadsLine NoMemory all unread held =
+    (part : List ℕ) × HasNoLf part × (all ≡ part ++ unread) × BeginLongLoad all
 
 -- the same where the reader tells its bytes; then it tells those that are unread
 abbrev pub Reads : Line → Option (List ℕ) → Option (List ℕ) → Held → Type 0
@@ -48,3 +70,4 @@ Turns Last old new = new < old
 Turns EndOfInput old new = new < old
 Turns ReadFault old new = new < old
 Turns TurnBound old new = new ≡ 0
+Turns NoMemory old new = new < old

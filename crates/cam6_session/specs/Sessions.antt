@@ -3,6 +3,7 @@
 use Rattle.std.specs.Prelude.{◌≡◌, ℕ, List, [], ◌∷◌, ◌++◌, Option, Some, IfSome, ◌⊎◌, true, false}
 use Rattle.cam6_session.specs.Lines.{lines, ended_lines}
 use Rattle.cam6_session.specs.Answering.{Answering, AreAnswered}
+use Rattle.cam6_session.specs.Reading.{IsLongLoad}
 use Rattle.cam6_session.specs.Responding.{TakesMemory}
 use Rattle.cam6_session.specs.declared.sessions.End.{End}
 use Rattle.cam6_session.specs.declared.sessions.End.TheVariants.{EndOfInput, ReadFault, TurnBound}
@@ -14,6 +15,13 @@ pub record StopsAt (taken unread : List ℕ) : Type 0 where
   pub line : List ℕ
   pub are : lines taken ≡ done ++ line ∷ []
   pub whole : lines (taken ++ unread) ≡ lines taken ++ lines unread
+
+-- of the next line no LF was taken, and it begins as a load and is longer than any other may be
+pub record StopsWithin (taken unread : List ℕ) : Type 0 where
+  pub line : List ℕ
+  pub later : List (List ℕ)
+  pub are : lines (taken ++ unread) ≡ ended_lines taken ++ line ∷ later
+  pub long : IsLongLoad line
 
 -- the lines before it were answered, and a front of its answer was written; what it says is done
 abbrev pub StopsWriting : {S : Type 0} → Answering S → S → List ℕ → List ℕ → List ℕ → S → Type 0
@@ -30,11 +38,12 @@ StopsDone {S} by s taken unread written t =
     (by.says stop.line ≡ true)
 
 -- the lines before it were answered, and memory is taken for it, but what it says isn't done; or no
--- line was taken
+-- line was taken; or the lines before one were answered for which room is taken
 abbrev pub StopsUndone : {S : Type 0} → Answering S → S → List ℕ → List ℕ → List ℕ → S → Type 0
 StopsUndone by s taken unread written t =
     ((taken ≡ []) × AreAnswered by s [] written t) ⊎
-    ((stop : StopsAt taken unread) × AreAnswered by s stop.done written t × TakesMemory stop.line)
+    ((stop : StopsAt taken unread) × AreAnswered by s stop.done written t × TakesMemory stop.line) ⊎
+    (StopsWithin taken unread × AreAnswered by s (ended_lines taken) written t)
 
 -- for each end, by the bytes taken, those that are unread, and those written
 abbrev pub AnswersUntil : {S : Type 0} → Answering S → End → S → List ℕ → List ℕ → List ℕ → S

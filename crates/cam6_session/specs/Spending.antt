@@ -17,6 +17,7 @@ TakesAByteEach line.Last before after read remaining = ⊤
 TakesAByteEach line.EndOfInput before after read remaining = ⊤
 TakesAByteEach line.ReadFault before after read remaining = ⊤
 TakesAByteEach line.TurnBound before after read remaining = TookAsMany before after read remaining
+TakesAByteEach line.NoMemory before after read remaining = ⊤
 
 -- serving ends for want of turns only where as many bytes were taken of the reader as there were
 -- turns

@@ -94,7 +94,6 @@ fn said(alloc: Global, line: &LineBuf) -> Result<Command, LineFault>
     read_command(alloc, bytes)
 }
 
-#[tactic(auto, using(crate::proofs::Taking::command_takes_memory))]
 fn respond_to<W: Write, D: Ask>(
     alloc: Global,
     command: Command,

@@ -1,11 +1,15 @@
 //! The buffer of one line.
+ghost use Rattle.std.specs.Prelude.{◌≡◌, ◌+◌, ◌≤◌, ◌<◌, ◌++◌, length, nat_lt, vec_len};
+ghost use Rattle.std.specs.Prelude.{vec_capacity, OnOk, OnErr};
+ghost use Rattle.cam6_wire.specs.Limits.{max_line, max_load_line, limit_of};
 
 use cam6_planes::NoMemory;
-use cam6_wire::LINE_LIMIT;
+use cam6_wire::{LINE_LIMIT, LOAD_LINE_LIMIT, begins_load_in};
 use std::alloc::Global;
 use std::marker::Model;
 
-/// Room for one line, which never grows. Of a line above the limit only its being too long is kept.
+/// Room for one line. It grows for a line that begins as a load alone, and is given back after it.
+/// Of a line above its limit only its being too long is kept.
 #[derive(Drop)]
 pub struct LineBuf {
     bytes: Vec<u8>,
@@ -14,21 +18,24 @@ pub struct LineBuf {
 
 impl Model for LineBuf {
     ghost use Rattle.std.specs.Prelude.{◌≤◌, vec_len, vec_capacity};
-    ghost use Rattle.cam6_wire.specs.Limits.{max_line};
+    ghost use Rattle.cam6_wire.specs.Limits.{max_line, max_load_line};
     ghost use Rattle.cam6_session.specs.Held.{Held};
 
     ghost Value = { Held };
 
     ghost view = { λ b. record { bytes = b.bytes.items; is_long = b.is_long } };
 
-    ghost invariant = { λ b. (max_line ≤ vec_capacity b.bytes) × (vec_len b.bytes ≤ max_line) };
+    ghost invariant = { λ b.
+        (max_line ≤ vec_capacity b.bytes) × (vec_len b.bytes ≤ max_load_line) };
 }
 
 impl LineBuf {
     ghost use Rattle.std.specs.Prelude.{◌≡◌, [], IfOk, None, Some, option_map, if◌then◌else◌};
+    ghost use Rattle.std.specs.Prelude.{OnOk, OnErr, ℕ, List, ◌++◌};
     ghost use Rattle.cam6_session.specs.Held.{Holds, Grows, is_empty};
+    ghost use Rattle.cam6_session.specs.Reading.{IsLongLoad};
 
-    /// An empty line, with room for all that will be kept of any line.
+    /// An empty line, with room for all that will be kept of any line but a load.
     pub fn new(alloc: Global) -> Result<LineBuf, NoMemory>
         ensures ok { IfOk result (λ line. Holds line []) }
     {
@@ -38,23 +45,33 @@ impl LineBuf {
         })
     }
 
-    /// Begins a new line.
+    /// Begins a new line, and gives back what room was taken for a load.
     pub fn clear(&mut self)
         ensures { Holds self.new [] }
     {
         self.bytes.clear();
+        self.bytes.shrink_to(LINE_LIMIT);
         self.is_long = false;
     }
 
-    /// Puts a part at the line's end.
-    pub fn add(&mut self, part: &[u8])
-        ensures { Grows self.old self.new part.now }
+    /// Puts a part at the line's end. Room is taken once, for a line that begins as a load and is
+    /// longer than any other may be; where none is found, the line stays as it was.
+    pub fn add(&mut self, part: &[u8]) -> Result<(), NoMemory>
+        ensures ok { OnOk result (Grows self.old self.new part.now) }
+        ensures kept { OnErr result (self.new ≡ self.old) }
+        ensures wanted { OnErr result ((line : List ℕ) → Holds self.old line →
+            IsLongLoad (line ++ part.now)) }
     {
-        if self.is_long || part.len() > LINE_LIMIT - self.bytes.len() {
-            self.is_long = true;
-        } else {
-            self.bytes.extend_from_slice(part).unwrap();
+        if self.is_long {
+            return Ok(());
         }
+        if is_too_long(&self.bytes, part) {
+            self.is_long = true;
+            return Ok(());
+        }
+        make_room(&mut self.bytes, part.len())?;
+        self.bytes.extend_from_slice(part).unwrap();
+        Ok(())
     }
 
     /// Whether the line has no byte.
@@ -75,4 +92,33 @@ impl LineBuf {
             Some(self.bytes.as_slice())
         }
     }
+}
+
+/// Whether a line of these two parts is above its limit.
+fn is_too_long(front: &[u8], part: &[u8]) -> bool
+    requires { length front.now ≤ max_load_line }
+    ensures { result ≡ nat_lt (limit_of (front.now ++ part.now))
+        (length (front.now ++ part.now)) }
+{
+    let length = front.len() + part.len();
+    if length <= LINE_LIMIT {
+        return false;
+    }
+    length > LOAD_LINE_LIMIT || !begins_load_in(front, part)
+}
+
+/// Makes room for so many bytes more. There is room as long as a line of any kind may have them.
+fn make_room(bytes: &mut Vec<u8>, more: usize) -> Result<(), NoMemory>
+    requires room { max_line ≤ vec_capacity bytes.old }
+    requires few { vec_len bytes.old + more ≤ max_load_line }
+    ensures bytes { bytes.new.items ≡ bytes.old.items }
+    ensures capacity { vec_capacity bytes.old ≤ vec_capacity bytes.new }
+    ensures ok { OnOk result (vec_len bytes.old + more ≤ vec_capacity bytes.new) }
+    ensures err { OnErr result (max_line < vec_len bytes.old + more) }
+{
+    if bytes.len() + more <= LINE_LIMIT {
+        return Ok(());
+    }
+    bytes.reserve_exact(LOAD_LINE_LIMIT - bytes.len())?;
+    Ok(())
 }

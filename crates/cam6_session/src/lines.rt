@@ -21,6 +21,8 @@ pub enum Line {
     ReadFault,
     /// The turns ran out. What was read of a line is given up.
     TurnBound,
+    /// Room for a long line was refused. What was read of it is given up.
+    NoMemory,
 }
 
 /// What one look at the reader showed of a line.
@@ -30,6 +32,7 @@ enum Part {
     Newline,
     AtEnd,
     Fault,
+    NoMemory,
 }
 
 /// Reads one line. Each look at the reader takes a turn.
@@ -47,6 +50,7 @@ pub fn next_line<R: BufRead>(reader: &mut R, line: &mut LineBuf, turns: &mut u64
             Part::Newline => return Line::Ended,
             Part::AtEnd => return last(line),
             Part::Fault => return Line::ReadFault,
+            Part::NoMemory => return Line::NoMemory,
         }
     }
     Line::TurnBound
@@ -75,7 +79,9 @@ fn take_part<R: BufRead>(reader: &mut R, line: &mut LineBuf) -> Part
         return Part::AtEnd;
     }
     let len = line_len(shown);
-    line.add(&shown[..len]);
+    let Ok(()) = line.add(&shown[..len]) else {
+        return Part::NoMemory;
+    };
     if len < shown.len() {
         reader.consume(len + 1);
         Part::Newline

@@ -113,6 +113,7 @@ pub fn answer_lines<R: BufRead, W: Write, A: Answerer>(
             Line::EndOfInput => return End::EndOfInput,
             Line::ReadFault => return End::ReadFault,
             Line::TurnBound => return End::TurnBound,
+            Line::NoMemory => return End::NoMemory { done: false },
             Line::Ended => {
                 if let Err(stop) = answerer.respond(alloc, &line, writer) {
                     return End::from(stop);

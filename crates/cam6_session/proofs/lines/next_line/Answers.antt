@@ -28,3 +28,7 @@ returns-in-AtEnd-clause-line g c =
 pub returns-in-Fault-clause-line : goal.returns-in-Fault-clause-line
 returns-in-Fault-clause-line g c =
     parts.reading_failed _ _ _ _ _ c.loop-turns.invariant.read c.in-Fault.ensures
+
+pub returns-in-NoMemory-clause-line : goal.returns-in-NoMemory-clause-line
+returns-in-NoMemory-clause-line g c =
+    parts.room_is_wanted _ _ _ _ _ c.loop-turns.invariant.read c.in-NoMemory.ensures

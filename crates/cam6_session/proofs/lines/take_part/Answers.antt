@@ -1,10 +1,13 @@
-use Rattle.std.proofs.Common.{◌+◌, [], ◌∷◌, ◌++◌, take, sym, ap, subst, ◌∙◌, rules, arith}
-use Rattle.std.proofs.Common.{append-nil}
+use Rattle.std.proofs.Common.{◌≢◌, ◌+◌, [], ◌∷◌, ◌++◌, take, sym, ap, subst, ◌∙◌, rules, arith}
+use Rattle.std.proofs.Common.{append-nil, length, refl}
+use Rattle.std.proofs.lemmas.Bool.{eqb-true}
 use Rattle.std.proofs.lemmas.Bool.Decides.{nat_tests}
 use Rattle.std.proofs.lemmas.List.{take_more, length-take-le}
+use Rattle.std.proofs.lemmas.List.Elements.{All-nil}
 use Rattle.std.specs.Io.KnownBytes.{Consumes}
 use Rattle.std.specs.Io.BufRead.{FillKeeps}
 use Rattle.std.proofs.BufReadLemmas.{Consumes_shown}
+use Rattle.cam6_session.proofs.Keeping.{grows_nothing, consumes_none, becomes_long_by, at_end_by}
 use Rattle.cam6_session.proofs.lines.take_part.Goals as goal
 
 pub returns-in-Err : goal.returns-in-Err
@@ -15,6 +18,7 @@ returns-in-Err g c = record {
   taken = search rules;
   more = λ e. cc;
   at_end = λ e. cc;
+  wanted = λ e. cc;
 }
 
 pub returns-else-len-shown : goal.returns-else-len-shown
@@ -35,6 +39,7 @@ returns-else-len-shown g c =
       more = λ e.
           rw (length-take-le len.result shown len.ensures.within) (grind (arith, nat_tests));
       at_end = λ e. cc;
+      wanted = λ e. cc;
     }
 
 pub returns-then-len-shown : goal.returns-then-len-shown
@@ -56,4 +61,47 @@ returns-then-len-shown g c =
       taken = subst (Consumes _ _) with_lf moved.0;
       more = λ e. cc;
       at_end = λ e. cc;
+      wanted = λ e. cc;
+    }
+
+pub returns-in_default : goal.returns-in_default
+returns-in_default g c =
+    let len = c.line_len-len in
+    let shown = c.in-Ok.shown.now in
+    let rested = c.fill_buf.follows.lender-at-none in
+    let keeps = FillKeeps _ (g.R.Read.remaining rested) (g.R.BufRead.consumable_len rested) in
+    let filled = subst keeps c.in-Ok.is c.fill_buf.follows.holds-at-none in
+    record {
+      part = [];
+      free = All-nil (λ x. x ≢ 10);
+      grows = grows_nothing c.args.line.now c.add.new.self c.in_default.ensures.kept;
+      taken = consumes_none _ _ filled.0;
+      more = λ e. cc;
+      at_end = λ e. cc;
+      wanted = λ e. (
+        refl,
+        becomes_long_by (g.R.Read.remaining c.args.reader.now) shown len.result c.args.line.now
+            len.ensures.within c.in-Ok.ensures.front len.ensures.before
+            c.in_default.ensures.wanted,
+      );
+    }
+
+pub returns-then-is_empty : goal.returns-then-is_empty
+returns-then-is_empty g c =
+    let shown = c.in-Ok.shown.now in
+    let rested = c.fill_buf.follows.lender-at-none in
+    let keeps = FillKeeps _ (g.R.Read.remaining rested) (g.R.BufRead.consumable_len rested) in
+    let filled = subst keeps c.in-Ok.is c.fill_buf.follows.holds-at-none in
+    record {
+      part = [];
+      free = All-nil (λ x. x ≢ 10);
+      grows = grows_nothing c.args.line.now c.args.line.now refl;
+      taken = consumes_none _ _ filled.0;
+      more = λ e. cc;
+      at_end = λ e. (
+        refl,
+        at_end_by _ shown (eqb-true (length shown) 0 (sym c.if-is_empty.ensures))
+            c.in-Ok.ensures.end,
+      );
+      wanted = λ e. cc;
     }

@@ -1,6 +1,6 @@
 use Rattle.cam6_session.proofs.Known.{serves_none, serves_all, serves_until_fault}
 use Rattle.cam6_session.proofs.Known.{serves_until_bound, runs_on, serves_until, serves_last}
-use Rattle.cam6_session.proofs.Known.{serves_until_last}
+use Rattle.cam6_session.proofs.Known.{serves_until_last, serves_until_room}
 use Rattle.cam6_session.proofs.Spending.{spent_more}
 use Rattle.std.proofs.Common.{◌∙◌}
 use Rattle.cam6_session.proofs.sessions.answer_lines.Goals as goal
@@ -23,6 +23,11 @@ pub returns-in-TurnBound-clause-served : goal.returns-in-TurnBound-clause-served
 returns-in-TurnBound-clause-served g c =
     serves_until_bound _ _ _ _ _ _ _ _ c.next_line.new.line c.loop-line.invariant.runs
     c.in-TurnBound.ensures.line
+
+pub returns-in-NoMemory-clause-served : goal.returns-in-NoMemory-clause-served
+returns-in-NoMemory-clause-served g c =
+    serves_until_room _ _ _ _ _ _ _ _ c.next_line.new.line c.loop-line.invariant.runs
+    c.in-NoMemory.ensures.line
 
 pub returns-in-Err-clause-served : goal.returns-in-Err-clause-served
 returns-in-Err-clause-served g c =
