@@ -6,7 +6,7 @@ use Rattle.cam6_wire.specs.Replies.{fault_bytes}
 use Rattle.cam6_wire.specs.Seats.{seating_bytes}
 use Rattle.cam6_wire.specs.declared.faults.LineFault.{LineFault}
 use Rattle.cam6_wire.specs.declared.faults.LineFault.TheVariants.{NoMemory, TooLong, NoJson}
-use Rattle.cam6_wire.specs.declared.faults.LineFault.TheVariants.{NoCommand}
+use Rattle.cam6_wire.specs.declared.faults.LineFault.TheVariants.{NoCommand, OtherSpelling}
 use Rattle.cam6_wire.specs.declared.seats.Seating.{Seating}
 use Rattle.cam6_wire.specs.declared.seats.Seating.TheVariants.{Seated, Taken, NoUser}
 use Rattle.cam6_server.specs.Connections.{AnswersOnly, Converses, FirstSays, IsFirst, IsRefusal}
@@ -22,6 +22,7 @@ fault_is NoMemory said told is = absurd (told refl)
 fault_is TooLong said told is = is
 fault_is NoJson said told is = is
 fault_is NoCommand said told is = is
+fault_is OtherSpelling said told is = is
 
 -- a place from which nothing is taken never tells that its seat is had
 pub not_seated : (old new : List (Option FreeDesk)) (user : ℕ) (seating : Seating) →

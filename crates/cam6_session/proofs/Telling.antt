@@ -30,6 +30,7 @@ is_said said fault.NoMemory other is = absurd (other refl)
 is_said said fault.TooLong other is = is
 is_said said fault.NoJson other is = is
 is_said said fault.NoCommand other is = is
+is_said said fault.OtherSpelling other is = is
 
 module _ {S : Type 0} (by : Answering S) (line : List ℕ) (old new : Option (List ℕ)) where
   -- a text that is the line's answer was told
@@ -64,6 +65,9 @@ module _ {S : Type 0} (by : Answering S) (line : List ℕ) (old new : Option (Li
       (answers (λ e. let never : ⊥ = cc in absurd never))
   fault_told result fault.NoCommand s tells answers takes =
       told result (fault_bytes fault.NoCommand) s s tells
+      (answers (λ e. let never : ⊥ = cc in absurd never))
+  fault_told result fault.OtherSpelling s tells answers takes =
+      told result (fault_bytes fault.OtherSpelling) s s tells
       (answers (λ e. let never : ⊥ = cc in absurd never))
 
 module _ (result : Result (Unit {0}) Stop) (line : List ℕ) (old new : Option (List ℕ)) where
