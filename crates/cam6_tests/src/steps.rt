@@ -140,4 +140,5 @@ fn numbers_of_line_faults(rt: HostRuntime) {
     assert_eq!(rt; LineFault::TooLong.number(), 1);
     assert_eq!(rt; LineFault::NoJson.number(), 2);
     assert_eq!(rt; LineFault::NoCommand.number(), 3);
+    assert_eq!(rt; LineFault::OtherSpelling.number(), 4);
 }
