@@ -3,6 +3,7 @@ use Rattle.std.specs.Prelude.{◌≡◌, ◌≢◌, ◌⊎◌, ℕ, List, [], �
 use Rattle.std.specs.Prelude.{Result, Ok, Err, true, false}
 use Rattle.cam6_model.specs.Machine.{Machine}
 use Rattle.cam6_session.specs.Answers.{by_machine}
+use Rattle.cam6_session.specs.Reading.{IsLongLoad}
 use Rattle.cam6_session.specs.Responding.{TakesMemory}
 use Rattle.cam6_session.specs.Sessions.{AnswersReader}
 use Rattle.cam6_session.specs.declared.sessions.End.{End}
@@ -68,8 +69,12 @@ abbrev pub IsCutShort : List ℕ → Option (List ℕ) → Type 0
 IsCutShort all remaining =
     (part unread : List ℕ) × HasNoLf part × (all ≡ part ++ unread) × (remaining ≡ Some unread)
 
+-- the first line begins as a load and is longer than any other line may be
+abbrev pub BeginsLongLoad : List ℕ → Type 0
+BeginsLongLoad all = (line unread : List ℕ) × IsFirst all line unread × IsLongLoad line
+
 -- why no first line is answered: the input has none; a read failed within it, or the turns ran out;
--- or no memory was found, for reading it at all, or for it
+-- or no memory was found, for reading any at all, for it, or within a long load for the rest of it
 abbrev pub IsSilent : End → List ℕ → Option (List ℕ) → Type 0
 IsSilent EndOfInput all remaining = all ≡ []
 IsSilent ReadFault all remaining = IsCutShort all remaining
@@ -80,6 +85,7 @@ IsSilent (NoMemory false) all remaining =
     (remaining ≡ Some all)
     ⊎ ((line unread : List ℕ) × IsFirst all line unread × (remaining ≡ Some unread)
     × TakesMemory line)
+    ⊎ (IsCutShort all remaining × BeginsLongLoad all)
 
 -- the same of a reader that tells its bytes
 abbrev pub StaysSilent : End → Option (List ℕ) → Option (List ℕ) → Type 0

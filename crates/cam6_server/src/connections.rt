@@ -72,6 +72,7 @@ fn first_line<R: BufRead>(alloc: Global, reader: &mut R) -> Result<Result<u64, L
         Line::EndOfInput => Err(End::EndOfInput),
         Line::ReadFault => Err(End::ReadFault),
         Line::TurnBound => Err(End::TurnBound),
+        Line::NoMemory => Err(End::NoMemory { done: false }),
     }
 }
 

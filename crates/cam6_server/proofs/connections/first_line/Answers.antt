@@ -1,4 +1,4 @@
-use Rattle.cam6_server.proofs.FirstLines.{reads_first}
+use Rattle.cam6_server.proofs.FirstLines.{reads_first, without_room}
 use Rattle.cam6_server.proofs.connections.first_line.Goals as goal
 
 pub returns-in-Ended-clause-read : goal.returns-in-Ended-clause-read
@@ -6,3 +6,7 @@ returns-in-Ended-clause-read g c =
     reads_first c.answerable.result c.next_line.new.line c.answerable.ensures.said
     c.next_line.result (g.R.Read.remaining c.args.reader.now)
     (g.R.Read.remaining c.next_line.new.reader) c.in-Ended.is c.next_line.ensures.line
+
+pub returns-clause-read : goal.returns-clause-read
+returns-clause-read g c =
+    without_room c.next_line.new.line _ _ c.in-NoMemory.ensures.line
