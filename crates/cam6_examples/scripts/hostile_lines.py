@@ -496,7 +496,7 @@ def nested():
 def longest():
     told = Lines(
         "longest_lines",
-        "Lines of 16,384 bytes, the most that a line may have, and of one byte more, which are passed over, whatever "
+        "Lines of 16,384 bytes, the most that a line but a load may have, and of one byte more, which are passed over, whatever "
         "they say; the next line is answered as ever. Bytes are counted, CR and blanks among them, and LF isn't.",
         BITS=BITS,
     )
