@@ -28,7 +28,7 @@ MOST_BYTES_OF_A_TEXT = 8192
 # What comments of large rules are made of: letters that are one, two or six times as long in a line.
 FILLERS = ["".join(map(chr, range(1, 32))), "\x01", "x", "\u00e9", '"\\', "\x7f\u00a0", "\U0001f600", " \x1f\n\t\r"]
 RULES, STILL = {"do": "rules"}, {"do": "run", "n": 0}
-# A rule that does as many words at each address as it may have, and reads each line, so that no two addresses are alike.
+# A rule that does as many words at each address as it may have, and reads each line: no two addresses are alike.
 NAMES = "CENTER CENTER' NORTH SOUTH WEST EAST N.WEST N.EAST S.WEST S.EAST &CENTER &CENTER'".split()
 LONGEST = ": A " + "".join(f"{name} DROP " for name in NAMES) + "1 DROP " * 20 + "; : R " + "A " * 64 + ";"
 # What more may be held behind long lines than before the first, and than behind the first, in kB: a machine with its
@@ -390,7 +390,8 @@ def times():
     print(f"a save of {len(saved(blank(512)))} bytes: {milliseconds(it, plain(SAVE), 20)}")
     rules = [rule(f"R{i}", "A", "N/MOORE", "&/CENTERS", LONGEST) for i in range(16)]
     line = plain(load(blank(128, rules=rules)))
-    print(f"a load of {len(line)} bytes, whose sixteen rules do all 4,096 words at each address: {milliseconds(it, line, 3)}")
+    words = "whose sixteen rules do all 4,096 words at each address"
+    print(f"a load of {len(line)} bytes, {words}: {milliseconds(it, line, 3)}")
     ended(it, "times")
 
 
