@@ -50,6 +50,8 @@ EACH = [
     {"do": "clear", "plane": 0}, ROW, {"do": "rule"} | {key: value for key, value in PARITY.items() if key != "do"},
     cycle("P"), cell(2), {"do": "run", "n": 2}, ROW, {"do": "side", "side": 128}, RULES, {"do": "fly"}]
 SAVE = {"do": "save"}
+# A line for which the buffer grows, and one behind it.
+LONG = [{"do": "load", "machine": {"x": "x" * 20000}}, RULES]
 TURNED = [
     {"do": "side", "side": 128}, TURN, cycle("T"), {"do": "set", "plane": 0, "row": 5, "bits": "8" + "0" * 31}, RUN]
 
@@ -59,7 +61,7 @@ def compact(value):
 
 
 def reply(machine, command):
-    is_known = hasattr(machine, "do_" + command["do"]) and command.get("machine") != {}
+    is_known = hasattr(machine, "do_" + command["do"]) and "colours" in command.get("machine", {"colours": []})
     return compact(machine.do(command) if is_known else {"fault": 3})
 
 
@@ -440,6 +442,8 @@ PARTS = {
     "cam6 replay, one name with two texts": of_replay(TWO_TEXTS),
     "a list of events, one name with two texts": of_list(TWO_TEXTS),
     "cam6 serve, each command": of_server(EACH),
+    "cam6 alone, a long line that loads nothing": of_cam6(["alone"], lines(LONG), lambda number: [replies(LONG)]),
+    "a long line that loads nothing, taken up again": of_session(LONG),
     "a machine saved and loaded, taken up again": of_session(saved()),
     "cam6 serve, a machine saved and loaded": of_server(saved()),
 }
