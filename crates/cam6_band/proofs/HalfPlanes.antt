@@ -1,6 +1,6 @@
 -- A row of all planes, half by half.
-use Rattle.std.proofs.Common.{◌≡◌, ℕ, zero, suc, ◌<◌, Bool, List, Option, Some, None, sym, ◌∙◌, ap}
-use Rattle.std.proofs.Common.{arith, slice_index}
+use Rattle.std.proofs.Common.{◌≡◌, ℕ, zero, suc, ◌<◌, Bool, sym, ◌∙◌, ap}
+use Rattle.std.proofs.Common.{arith}
 use Rattle.cam6_planes.specs.Cells.{Cells, torus, cells, stored_bit}
 use Rattle.cam6_planes.specs.Stored.{Stored, width}
 use Rattle.cam6_planes.proofs.CellsAt.{torus_at, torus_same}
@@ -9,31 +9,14 @@ use Rattle.cam6_wiring.specs.declared.names.Half.{Half}
 use Rattle.cam6_wiring.specs.declared.names.Half.TheVariants.{A, B}
 use Rattle.cam6_wiring.specs.declared.names.Level.{Level}
 use Rattle.cam6_wiring.specs.declared.names.Level.TheVariants.{Lower, Upper}
-use Rattle.cam6_wiring.specs.declared.neighbours.Setting.{Setting}
-use Rattle.cam6_table.specs.NewBits.{bit_for}
-use Rattle.cam6_band.specs.ByTables.{HalfEntries, StepTables, bit_by_table, table_for, setting_by}
+use Rattle.cam6_band.specs.ByTables.{StepTables, bit_by_table, table_for, setting_by}
 use Rattle.cam6_band.specs.ByTables.{step_by}
-use Rattle.cam6_band.specs.Internal.ByLines.{ShowAddresses, bit_by_lines}
 
 pub plane-lt : (half : Half) (level : Level) → plane_of half level < 4
 plane-lt A Lower = omega arith
 plane-lt A Upper = omega arith
 plane-lt B Lower = omega arith
 plane-lt B Upper = omega arith
-
--- the new bit by lines that show the addresses of f's cells is the one by the table, where the old
--- planes g have the bits of f
-pub by_lines : (s : ℕ) (f g : Cells) (setting : Setting) (table : Option HalfEntries) (y : ℕ)
-    (lines : List (List ℕ)) (level : Level) (x : ℕ) → x < s → y < s →
-    ShowAddresses s f setting table y lines →
-    g (plane_of setting.half level) x y ≡ f (plane_of setting.half level) x y →
-    bit_by_lines g setting.half table lines level x y
-    ≡ bit_by_table s (torus s f) setting table level x y
-by_lines s f g setting None y lines level x h k show old =
-    old ∙
-    sym (torus_at s f (plane_of setting.half level) x y (plane-lt setting.half level) h k)
-by_lines s f g setting (Some half) y lines level x h k show old =
-    ap (λ a. bit_for level (slice_index half.entries a)) (show x h)
 
 module _ (s : ℕ) (tables : StepTables) (f : Cells) where
   -- the new bit of a half's plane

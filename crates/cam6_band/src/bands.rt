@@ -9,7 +9,7 @@ ghost use Rattle.cam6_band.specs.Partway.{Partway};
 ghost use Rattle.cam6_band.specs.Next.{GoesOn, IsNext};
 
 use crate::images::{AtRest, Spare};
-use crate::new_rows::{LinesOfHalves, step_row};
+use crate::new_rows::step_band;
 use crate::tables::EntryTables;
 use cam6_planes::{CellRow, Planes, Side};
 use std::marker::Model;
@@ -73,33 +73,32 @@ impl MidStep {
     }
 
     /// Makes the next sixteen rows, by the tables that the step goes by.
-    pub fn band(self, tables: &EntryTables) -> Next
+    pub fn band(mut self, tables: &EntryTables) -> Next
         ensures next { let s = width self.planes in (o : Cells) →
             Partway o (step_by s (values_of tables.now) o) self →
             IsNext o (step_by s (values_of tables.now) o) result }
         ensures goes_on { GoesOn self.planes self.done result }
     {
-        let MidStep {
-            mut image,
-            first,
-            mut last,
-            done,
-        } = self;
-        let side = image.side();
-        let mut lines = LinesOfHalves::blank();
-        for y in done..done + BAND {
-            step_row(&mut image, &mut last, &first, y, tables, &mut lines);
-        }
-        let done = done + BAND;
+        let side = self.image.side();
+        step_band(
+            &mut self.image,
+            &mut self.last,
+            &self.first,
+            self.done,
+            tables,
+        );
+        let done = self.done + BAND;
         if done == side.number() {
+            let MidStep {
+                image,
+                first: _,
+                last: _,
+                done: _,
+            } = self;
             return Next::Whole(AtRest { planes: image });
         }
-        Next::More(MidStep {
-            image,
-            first,
-            last,
-            done,
-        })
+        self.done = done;
+        Next::More(self)
     }
 
     /// Takes the step to another image, to go on there; its own becomes spare.

@@ -17,13 +17,14 @@
 //!
 //! Nothing reads a cell of a `MidStep`, and none can be let go: it goes on, or it is abandoned.
 //!
-//! Stands on: `cam6_planes`, `cam6_wiring`, `cam6_table` and `cam6_cycle`.
+//! Stands on: `cam6_planes`, `cam6_wiring`, `cam6_lines`, `cam6_table` and `cam6_cycle`.
 //!
 //! Read next: `tables`, what a step goes by, and `positions`, where it lies; `images`; `bands`;
-//! then `new_rows`, one row of a step; and `laws`.
+//! then `new_rows`, the sixteen rows of a band, and `half_rows`, those of a half; and `laws`.
 #![tactic(auto)]
 
 mod bands;
+mod half_rows;
 mod images;
 pub mod laws;
 mod new_rows;

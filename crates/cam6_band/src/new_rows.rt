@@ -1,72 +1,153 @@
-//! One row of a step, written over the old one. All that bands know of a rule stands here.
-ghost use Rattle.std.specs.Prelude.{◌≡◌, ◌≢◌, ◌<◌, ◌≤◌, ◌+◌, ℕ};
+//! One band of a step, written over the old rows. All that bands know of a rule stands here.
+ghost use Rattle.std.specs.Prelude.{◌≡◌, ◌<◌, ◌≤◌, ◌+◌, ℕ, Some};
 ghost use Rattle.std.specs.Option.{option_map};
 ghost use Rattle.cam6_planes.specs.Cells.{Cells, cells, IsRow};
-ghost use Rattle.cam6_planes.specs.Row.{west_of};
-ghost use Rattle.cam6_planes.specs.Side.{side_number};
 ghost use Rattle.cam6_planes.specs.Stored.{width};
-ghost use Rattle.cam6_wiring.specs.Lines.{AreRowsAround};
 ghost use Rattle.cam6_wiring.specs.Name.{plane_of, other_half};
+ghost use Rattle.cam6_wiring.specs.declared.names.Half.TheVariants.{A, B};
 ghost use Rattle.cam6_wiring.specs.declared.names.Level.{Level};
-ghost use Rattle.cam6_band.specs.ByTables.{step_by, values_of, half_entries};
-ghost use Rattle.cam6_band.specs.Internal.ByLines.{ShowAddresses, bit_by_lines};
+ghost use Rattle.cam6_lines.specs.Bands.{IsBandOf, IsWithin, side_of};
+ghost use Rattle.cam6_band.specs.ByTables.{step_by, values_of, half_entries, setting_by, table_for};
+ghost use Rattle.cam6_band.specs.Limits.{band};
+ghost use Rattle.cam6_band.specs.Internal.NewRows.{AreOldRows, HasNewBits, IsOutside};
 
+use crate::half_rows::HalfRows;
 use crate::tables::{EntryTables, HalfTable};
-use cam6_planes::{CellRow, Planes, WORDS};
-use cam6_wiring::{Grid, Half, LINES, Level, Lines, Phase, Rows, Setting, put_lines};
+use cam6_lines::{Band, HEIGHT};
+use cam6_planes::{CellRow, Planes};
+use cam6_wiring::{Half, Setting};
 
-/// Room for what a row's cells show on the address lines of each half.
-#[derive(Drop)]
-pub(crate) struct LinesOfHalves {
-    a: Lines,
-    b: Lines,
-}
-
-impl LinesOfHalves {
-    pub(crate) fn blank() -> LinesOfHalves {
-        LinesOfHalves {
-            a: [[0; WORDS]; LINES],
-            b: [[0; WORDS]; LINES],
-        }
-    }
-}
-
-/// Writes the new row `y` over the old one, which is saved as the last of the old rows. The rows to
-/// the south of it are still old; to the south of the last one lies the old row 0.
-pub(crate) fn step_row(
+/// Writes the sixteen new rows from row `y` on over the old ones, of which the last is saved. The
+/// rows to the south of them are still old; to the south of the last row lies the old row 0. A
+/// half's new rows may hang on the other half's old ones: so both are made before any is written.
+pub(crate) fn step_band(
     image: &mut Planes,
     last: &mut CellRow,
     first: &CellRow,
     y: usize,
     tables: &EntryTables,
-    lines: &mut LinesOfHalves,
 )
-    requires { y < width image.old }
+    requires { y + band ≤ width image.old }
     ensures new { let s = width image.old in (f : Cells) →
-        IsRow s f (west_of s y) last.old → IsRow s f 0 first.now →
-        ((p x v : ℕ) → p < 4 → x < s → y ≤ v → v < s → cells image.old p x v ≡ f p x v) →
-        (p x : ℕ) → p < 4 → x < s →
-        cells image.new p x y ≡ step_by s (values_of tables.now) f p x y }
-    ensures others { (p x v : ℕ) → p < 4 → x < width image.old → v < width image.old → v ≢ y →
-        cells image.new p x v ≡ cells image.old p x v }
-    ensures saved { IsRow (width image.old) (cells image.old) y last.new }
+        AreOldRows s f y (cells image.old) last.old first.now →
+        (p x r : ℕ) → p < 4 → x < s → r < band →
+        cells image.new p x (y + r) ≡ step_by s (values_of tables.now) f p x (y + r) }
+    ensures others { (p x v : ℕ) → p < 4 → x < width image.old → v < width image.old →
+        IsOutside y v → cells image.new p x v ≡ cells image.old p x v }
+    ensures saved { IsRow (width image.old) (cells image.old) (y + 15) last.new }
     ensures side { image.new.side ≡ image.old.side }
     ensures limit { image.new.limit ≡ image.old.limit }
 {
-    let EntryTables { a, b, grid, phase } = *tables;
-    let rows = Rows {
-        side: image.side(),
+    match tables.a {
+        Some(by) => step_halves(image, last, first, y, &by, tables),
+        None => step_half(image, last, first, y, tables.setting(Half::B), &tables.b),
+    }
+}
+
+/// The same where half A has this table. Its rows are made first and written last.
+#[inline(never)]
+fn step_halves(
+    image: &mut Planes,
+    last: &mut CellRow,
+    first: &CellRow,
+    y: usize,
+    by: &HalfTable,
+    tables: &EntryTables,
+)
+    requires { y + band ≤ width image.old }
+    ensures a { let s = width image.old in (f : Cells) →
+        AreOldRows s f y (cells image.old) last.old first.now →
+        HasNewBits s f (setting_by A (values_of tables.now)) (Some (half_entries by.now)) y
+        (cells image.new) }
+    ensures b { let s = width image.old in let by_tables = values_of tables.now in (f : Cells) →
+        AreOldRows s f y (cells image.old) last.old first.now →
+        HasNewBits s f (setting_by B by_tables) (table_for B by_tables) y (cells image.new) }
+    ensures others { (p x v : ℕ) → p < 4 → x < width image.old → v < width image.old →
+        IsOutside y v → cells image.new p x v ≡ cells image.old p x v }
+    ensures saved { IsRow (width image.old) (cells image.old) (y + 15) last.new }
+    ensures side { image.new.side ≡ image.old.side }
+    ensures limit { image.new.limit ≡ image.old.limit }
+{
+    let mut rows = HalfRows::blank();
+    let old = old_rows(image, last, first, y);
+    rows.make(tables.setting(Half::A), by, &old);
+    step_half(image, last, first, y, tables.setting(Half::B), &tables.b);
+    rows.put(image, Half::A, y);
+}
+
+/// Writes a half's new rows, if it has a table, and saves the last of the old ones.
+fn step_half(
+    image: &mut Planes,
+    last: &mut CellRow,
+    first: &CellRow,
+    y: usize,
+    setting: Setting,
+    table: &Option<HalfTable>,
+)
+    requires { y + band ≤ width image.old }
+    ensures new { let s = width image.old in (f : Cells) →
+        AreOldRows s f y (cells image.old) last.old first.now →
+        HasNewBits s f setting (option_map half_entries table.now) y (cells image.new) }
+    ensures other_half { (level : Level) (x v : ℕ) → x < width image.old → v < width image.old →
+        let p = plane_of (other_half setting.half) level in
+        cells image.new p x v ≡ cells image.old p x v }
+    ensures others { (p x v : ℕ) → p < 4 → x < width image.old → v < width image.old →
+        IsOutside y v → cells image.new p x v ≡ cells image.old p x v }
+    ensures saved { IsRow (width image.old) (cells image.old) (y + 15) last.new }
+    ensures side { image.new.side ≡ image.old.side }
+    ensures limit { image.new.limit ≡ image.old.limit }
+{
+    match *table {
+        Some(by) => step_by_table(image, last, first, y, setting, &by),
+        None => *last = *image.row(y + HEIGHT - 1),
+    }
+}
+
+/// The same where the half has this table.
+#[inline(never)]
+fn step_by_table(
+    image: &mut Planes,
+    last: &mut CellRow,
+    first: &CellRow,
+    y: usize,
+    setting: Setting,
+    by: &HalfTable,
+)
+    requires { y + band ≤ width image.old }
+    ensures new { let s = width image.old in (f : Cells) →
+        AreOldRows s f y (cells image.old) last.old first.now →
+        HasNewBits s f setting (Some (half_entries by.now)) y (cells image.new) }
+    ensures other_half { (level : Level) (x v : ℕ) → x < width image.old → v < width image.old →
+        let p = plane_of (other_half setting.half) level in
+        cells image.new p x v ≡ cells image.old p x v }
+    ensures others { (p x v : ℕ) → p < 4 → x < width image.old → v < width image.old →
+        IsOutside y v → cells image.new p x v ≡ cells image.old p x v }
+    ensures saved { IsRow (width image.old) (cells image.old) (y + 15) last.new }
+    ensures side { image.new.side ≡ image.old.side }
+    ensures limit { image.new.limit ≡ image.old.limit }
+{
+    let mut rows = HalfRows::blank();
+    let old = old_rows(image, last, first, y);
+    rows.make(setting, by, &old);
+    *last = *image.row(y + HEIGHT - 1);
+    rows.put(image, setting.half, y);
+}
+
+/// The old rows from row `y` on, with those beside them.
+fn old_rows<'a>(image: &'a Planes, last: &'a CellRow, first: &'a CellRow, y: usize) -> Band<'a>
+    requires { y + band ≤ width image.now }
+    ensures rows { (f : Cells) →
+        AreOldRows (width image.now) f y (cells image.now) last.now first.now → IsBandOf f result }
+    ensures side { side_of result ≡ width image.now }
+    ensures first { result.first ≡ y }
+    ensures within { IsWithin result }
+{
+    Band {
+        planes: image,
+        first: y,
         north: last,
-        here: image.row(y),
-        south: row_to_the_south(image, first, y),
-    };
-    let half = Half::A;
-    put_half_lines(&mut lines.a, Setting { half, grid, phase }, &a, y, &rows);
-    let half = Half::B;
-    put_half_lines(&mut lines.b, Setting { half, grid, phase }, &b, y, &rows);
-    *last = *image.row(y);
-    put_half_row(image, Half::A, &a, y, &lines.a);
-    put_half_row(image, Half::B, &b, y, &lines.b);
+        south: row_to_the_south(image, first, y + HEIGHT - 1),
+    }
 }
 
 /// The row to the south of row `y`, where the first row is saved apart.
@@ -80,48 +161,4 @@ fn row_to_the_south<'a>(image: &'a Planes, first: &'a CellRow, y: usize) -> &'a 
         return first;
     }
     image.row(y + 1)
-}
-
-/// Writes what the cells of row `y` show on a half's address lines, where the half has a table.
-fn put_half_lines(
-    lines: &mut Lines,
-    setting: Setting,
-    table: &Option<HalfTable>,
-    y: usize,
-    rows: &Rows,
-)
-    requires { y < side_number rows.now.side }
-    ensures { (f : Cells) → AreRowsAround f y rows.now →
-        ShowAddresses (side_number rows.now.side) f setting (option_map half_entries table.now) y
-        lines.new }
-{
-    if let Some(HalfTable { hood, minor, .. }) = *table {
-        put_lines(lines, setting, hood, minor, y, rows);
-    }
-}
-
-/// Writes a half's new row `y`: at each cell the entry at the address that the lines show.
-fn put_half_row(image: &mut Planes, half: Half, table: &Option<HalfTable>, y: usize, lines: &Lines)
-    requires { y < width image.old }
-    ensures half { (level : Level) (x : ℕ) → x < width image.old →
-        cells image.new (plane_of half level) x y
-        ≡ bit_by_lines (cells image.old) half (option_map half_entries table.now) lines.now
-        level x y }
-    ensures other_half { (level : Level) (x v : ℕ) → x < width image.old → v < width image.old →
-        cells image.new (plane_of (other_half half) level) x v
-        ≡ cells image.old (plane_of (other_half half) level) x v }
-    ensures others { (p x v : ℕ) → p < 4 → x < width image.old → v < width image.old → v ≢ y →
-        cells image.new p x v ≡ cells image.old p x v }
-    ensures side { image.new.side ≡ image.old.side }
-    ensures limit { image.new.limit ≡ image.old.limit }
-{
-    let Some(by) = *table else {
-        return;
-    };
-    let mut lower = [0; WORDS];
-    let mut upper = [0; WORDS];
-    by.table
-        .look_up(&mut lower, &mut upper, lines, image.side());
-    image.set_row_words(half.plane(Level::Lower), y, lower);
-    image.set_row_words(half.plane(Level::Upper), y, upper);
 }

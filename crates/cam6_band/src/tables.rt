@@ -1,6 +1,6 @@
 //! What a step goes by: the tables of a cycle's entry.
 ghost use Rattle.std.specs.Prelude.{◌≡◌};
-ghost use Rattle.cam6_band.specs.ByTables.{table_for, setting_by};
+ghost use Rattle.cam6_band.specs.ByTables.{setting_by, values_of};
 
 use cam6_table::Table;
 use cam6_wiring::{Grid, Half, Hood, Minor, Phase, Setting};
@@ -21,4 +21,17 @@ pub struct EntryTables<'a> {
     pub b: Option<HalfTable<'a>>,
     pub grid: Grid,
     pub phase: Phase,
+}
+
+impl<'a> EntryTables<'a> {
+    /// The grid and the phase, for a half.
+    pub(crate) fn setting(&self, half: Half) -> Setting
+        ensures { result ≡ setting_by half (values_of self.now) }
+    {
+        Setting {
+            half,
+            grid: self.grid,
+            phase: self.phase,
+        }
+    }
 }

@@ -42,6 +42,7 @@ pub fn invert(table: &Table, hood: Hood, minor: Minor, out: &mut Table) -> Resul
     }
     fill_hidden(out);
     fill_shown(table, hood, minor, out);
+    out.quicken(hood, minor);
     Ok(())
 }
 

@@ -16,7 +16,8 @@ use cam6_table::{Code, ENTRIES, Table, fill};
 use cam6_wiring::Wiring;
 
 /// Fills the table of a rule's code: forward, the one of its words; backward, the one that undoes
-/// its blocks, by way of the straight one, or says why there is none. It takes no memory.
+/// its blocks, by way of the straight one, or says why there is none. The table gets its program
+/// here, which goes with its copies. It takes no memory.
 pub fn fill_by(
     code: &Code,
     wiring: Wiring,
@@ -43,6 +44,7 @@ pub fn fill_by(
     match direction {
         Direction::Forward => {
             fill_straight(code, out);
+            out.quicken(wiring.hood, wiring.minor);
             Ok(())
         }
         Direction::Backward => {

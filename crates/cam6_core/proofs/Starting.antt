@@ -13,7 +13,7 @@ use Rattle.cam6_core.specs.declared.parts.Whereabouts.{Whereabouts}
 use Rattle.cam6_core.specs.declared.parts.Whereabouts.TheVariants.{Resting, Queued, Out, Finished}
 use Rattle.cam6_station.specs.Held.{Manned}
 use Rattle.cam6_station.specs.Held as board
-use Rattle.cam6_core.specs.State.{State, at_number}
+use Rattle.cam6_core.specs.State.{State, at_number, IsHeldWithin, AreHeldWithin}
 use Rattle.cam6_core.specs.Fresh.{fresh}
 use Rattle.cam6_core.specs.Good.{UserFits, BoardFits, IsOnHisBoard, Good}
 use Rattle.cam6_core.specs.Model.{User, user, or_nobody, newcomer, resting, Seat, seat, idle}
@@ -88,6 +88,15 @@ only_idle : (n b : ℕ) (y : Manned) → slice_get (replicate n board.idle) b �
 only_idle zero b y at = cc at
 only_idle (suc n) zero y at = (sym (same_Some board.idle y at), refl)
 only_idle (suc n) (suc b) y at = only_idle n b y at
+
+-- idle boards hold nobody's lease
+pub idle_hold_none : (users n : ℕ) (boards : List Manned) → boards ≡ replicate n board.idle →
+    AreHeldWithin users boards × (length boards ≡ n)
+idle_hold_none users n boards idle_boards = (
+  λ b y at. subst (IsHeldWithin users)
+      (sym (only_idle n b y (ap (λ all. slice_get all b) (sym idle_boards) ∙ at)).0) tt,
+  ap length idle_boards ∙ length-replicate n board.idle,
+)
 
 -- a core of newcomers and idle boards agrees with the model of it
 pub begins_good : (limits : List Side) (n : ℕ) (s : State) → AreNewcomers limits s.users →

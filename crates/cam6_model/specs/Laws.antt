@@ -1,4 +1,4 @@
--- What follows of steps, and what a machine always is.
+-- What follows of steps, what a machine always is, and what is saved of it and loaded.
 use Rattle.std.specs.Prelude.{◌≡◌, ◌≢◌, ◌↔◌, ℕ, ◌+◌, ◌<◌, ◌%◌, true, List, length, Option, Some, None}
 use Rattle.std.specs.Prelude.{IsOk, ⊤, ◌≤◌, [], slice_index, slice_index_or}
 use Rattle.std.specs.List.{AllByRecursion}

@@ -5,7 +5,8 @@
 //! and row of a torus. `blank` sets none; `bit`, `row_words`, `row_hex` and `row_bits` show what is there;
 //! `set_row_words` and `put_row` change one row of one plane and nothing else; `copy_from` makes
 //! the planes equal, side and all; `set_side` blanks them at another side, within the limit that
-//! `blank` took memory for; `west` and `east` move a row by one column. `row` lends a row of all
+//! `blank` took memory for; `west` and `east` move a row by one column, `moved_east` and
+//! `moved_west` a word, with what comes in from the word beside it. `row` lends a row of all
 //! four planes. `bits_of_digits` gives the bits of hexadecimal digits, of either case, that are as
 //! many as a row of one of the sides has, and none of others (`specs/Digits.antt`).
 //!
@@ -29,5 +30,8 @@ mod sides;
 pub use digits::{Bits, bits_of_digits};
 pub use memory::NoMemory;
 pub use planes::Planes;
-pub use row::{BYTES, COLUMNS, CellRow, DIGITS, Row, WORDS, east, put_east, put_west, west};
+pub use row::{
+    BYTES, COLUMNS, CellRow, DIGITS, Row, WORDS, east, moved_east, moved_west, put_east, put_west,
+    west,
+};
 pub use sides::Side;

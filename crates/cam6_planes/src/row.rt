@@ -80,7 +80,8 @@ pub fn put_east(shifted: &mut Row, row: &Row, side: Side)
 }
 
 /// The word with its columns one further east, and the last of the word `before` in front of them.
-fn moved_east(word: u64, before: u64) -> u64
+#[inline]
+pub fn moved_east(word: u64, before: u64) -> u64
     ensures first { word_column result 0 ≡ word_column before 63 }
     ensures others { (c : ℕ) → c < 63 → word_column result (c + 1) ≡ word_column word c }
 {
@@ -88,7 +89,8 @@ fn moved_east(word: u64, before: u64) -> u64
 }
 
 /// The word with its columns one further west, and the first of the word `after` behind them.
-fn moved_west(word: u64, after: u64) -> u64
+#[inline]
+pub fn moved_west(word: u64, after: u64) -> u64
     ensures others { (c : ℕ) → c < 63 → word_column result c ≡ word_column word (c + 1) }
     ensures last { word_column result 63 ≡ word_column after 0 }
 {

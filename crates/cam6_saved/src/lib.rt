@@ -11,8 +11,8 @@
 //! So, of a blank machine of side 256: its text in the first version says no side, and in the second
 //! one 256; either line gives it back, and no third one does.
 //!
-//! Stands on: `cam6_planes`, `cam6_commands`, `cam6_model` and `cam6_wire`; on `serde_json` with its
-//! grammar in `json`, and `hex`.
+//! Stands on: `cam6_planes`, `cam6_wiring`, `cam6_cycle`, `cam6_forth`, `cam6_commands`, `cam6_model`
+//! and `cam6_wire`; on `serde_json` with its grammar in `json`, and `hex`.
 //!
 //! Read next: `specs/Texts.antt`; then `laws`.
 #![tactic(auto)]

@@ -1,6 +1,7 @@
 -- Bands that are left, and a lease of which none are.
-use Rattle.std.proofs.Common.{◌≡◌, ◌∙◌, ◌<◌, ◌≤◌, ◌-◌, ◌*◌, ◌/◌, ℕ, zero, suc, refl, sym, ap}
-use Rattle.std.proofs.Common.{subst, arith, lit≤}
+use Rattle.std.proofs.Common.{◌≡◌, ◌∙◌, ◌<◌, ◌≤◌, ◌-◌, ◌*◌, ◌/◌, ◌%◌, ◌==◌, ℕ, zero, suc, refl, sym, ap}
+use Rattle.std.proofs.Common.{subst, arith, lit≤, false}
+use Rattle.std.proofs.Math.Dec.{eqb-suc-zero}
 use Rattle.std.proofs.Math.Nat.{suc-mul}
 use native.Mathlib.Decide.{dec_lt}
 use Rattle.cam6_planes.specs.Cells.{Cells, cells}
@@ -88,3 +89,18 @@ finishes l rest m c job is none stands image =
     (shown_at_rest _ _ job.image rest image stands.on.planes ∙
     ap (λ (x : Machine). x.planes) there)
     (sym stands.fits.position ∙ stands.on.position ∙ ap (λ (x : Machine). x.position) there)
+
+not_zero : (n : ℕ) → 0 < n → (n == 0) ≡ false
+not_zero zero h = absurd (omega (arith, h))
+not_zero (suc n) h = eqb-suc-zero n
+
+-- in the middle of a step the bands left are no whole steps
+pub part_left : (side : Side) (steps rows : ℕ) → 0 < steps → 0 < rows → rows < side_number side →
+    rows % band ≡ 0 →
+    ((steps * bands_of_step side - rows / band) % bands_of_step side == 0) ≡ false
+part_left S128 steps rows some begun within whole =
+    not_zero ((steps * 8 - rows / 16) % 8) (omega (arith, some, begun, within, whole))
+part_left S256 steps rows some begun within whole =
+    not_zero ((steps * 16 - rows / 16) % 16) (omega (arith, some, begun, within, whole))
+part_left S512 steps rows some begun within whole =
+    not_zero ((steps * 32 - rows / 16) % 32) (omega (arith, some, begun, within, whole))

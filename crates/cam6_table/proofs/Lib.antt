@@ -32,3 +32,17 @@ pub mod Jumps
 pub mod LinesRead
 -- How many values a stack word wants.
 pub mod Wants
+-- Rows of a unit go to their places in the rows of a band.
+pub mod UnitRows
+-- Rows of a band are written one by one.
+pub mod BandRows
+-- In planes that are kept every cell keeps its bit.
+pub mod KeptPlanes
+-- A program that computes the entries makes the new bits.
+pub mod ComputedBits
+-- What holds of the value in each lane so far holds in one lane more.
+pub mod EachLane
+-- A table is filled: an entry that is put where it is the result makes no other wrong.
+pub mod RightEntries
+-- Code comes to the same from a place and from the place after its next instruction.
+pub mod Outcomes

@@ -5,7 +5,8 @@ ghost use Rattle.cam6_wiring.specs.Seen.{shown};
 ghost use Rattle.cam6_table.specs.declared.evaluation.TheConstants.{MAX_TURNS};
 ghost use Rattle.cam6_table.specs.Words.{IsOutcome};
 ghost use Rattle.cam6_table.specs.Limits.{max_turns};
-ghost use Rattle.cam6_table.specs.Codes.{act, exec, turns_of, result_at, turns_at, at_head, Acts};
+ghost use Rattle.cam6_table.specs.Codes.{act, exec, turns_of, result_at, turns_at, at_head};
+ghost use Rattle.cam6_table.specs.Codes.{last_of, Acts};
 
 use crate::codes::{Code, Instruction, Instructions};
 use crate::faults::RuleFault;
@@ -25,24 +26,47 @@ pub fn eval(code: &Code, address: u16, turns: &mut u32) -> Result<u8, RuleFault>
     ensures constant { MAX_TURNS ≡ max_turns }
 {
     let mut state = untouched();
-    run(code.instructions(), address, &mut state, turns)?;
+    let code = code.instructions();
+    run(code, start(code), address, &mut state, turns)?;
     Ok(entry_of(&state, address))
 }
 
-/// Runs the instructions from a state on.
-fn run(
+/// A place in code: so many instructions are left, and a word of a case is looked for, if any.
+#[derive(Clone, Copy, Debug, PartialEq, Eq)]
+pub struct Place {
+    pub behind: usize,
+    pub word: Option<usize>,
+}
+
+/// The place where code starts.
+pub fn start(code: &Instructions) -> Place
+    ensures { result ≡ record { behind = length code.now; word = None } }
+{
+    Place {
+        behind: code.len(),
+        word: None,
+    }
+}
+
+/// Runs the instructions from a place and a state on.
+pub fn run(
     code: &Instructions,
+    from: Place,
     address: u16,
     state: &mut State,
     turns: &mut u32,
 ) -> Result<(), RuleFault>
-    requires turns { length code.now ≤ turns.old }
-    ensures done { IsOutcome (exec (shown address) code.now 0 None state.old) state.new result }
-    ensures turns { turns.old ≡ turns.new + turns_of (shown address) code.now 0 None state.old }
-    ensures limit { turns.old ≤ turns.new + length code.now }
+    requires place { from.behind ≤ length code.now }
+    requires turns { from.behind ≤ turns.old }
+    ensures done { IsOutcome
+        (exec (shown address) (last_of from.behind code.now) 0 from.word state.old)
+        state.new result }
+    ensures turns { turns.old ≡ turns.new
+        + turns_of (shown address) (last_of from.behind code.now) 0 from.word state.old }
+    ensures limit { turns.old ≤ turns.new + from.behind }
 {
-    let mut behind = code.len();
-    let mut word = None;
+    let mut behind = from.behind;
+    let mut word = from.word;
     while behind > 0 {
         behind -= 1;
         *turns -= 1;
@@ -55,12 +79,13 @@ fn run(
 
 /// How the code goes on: it passes so many instructions, and looks for a word of a case, if any.
 #[derive(Clone, Copy, Debug, PartialEq, Eq)]
-struct Next {
-    passed: usize,
-    word: Option<usize>,
+pub struct Next {
+    pub passed: usize,
+    pub word: Option<usize>,
 }
 
 /// Does one instruction.
+#[inline(always)]
 fn act(
     word: Option<usize>,
     instruction: Instruction,
@@ -92,14 +117,14 @@ fn act(
     Ok(go(0, None))
 }
 
-fn go(passed: usize, word: Option<usize>) -> Next
+pub fn go(passed: usize, word: Option<usize>) -> Next
     ensures { result ≡ record { passed = passed; word = word } }
 {
     Next { passed, word }
 }
 
 /// At the head of a case's word: the word is done where it is the one looked for.
-fn at_head(word: Option<usize>, length: usize, after: usize) -> Next
+pub fn at_head(word: Option<usize>, length: usize, after: usize) -> Next
     ensures { result ≡ at_head word length after }
 {
     match word {
@@ -110,7 +135,7 @@ fn at_head(word: Option<usize>, length: usize, after: usize) -> Next
 }
 
 /// The bit of an address line.
-fn bit_of(address: u16, line: u8) -> u16
+pub fn bit_of(address: u16, line: u8) -> u16
     ensures { result ≡ bit_number (shown address line) }
 {
     if line < 16 { address >> line & 1 } else { 0 }

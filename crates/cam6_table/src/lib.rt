@@ -17,23 +17,31 @@
 //! Stands on: `cam6_planes`, `cam6_wiring`, `cam6_lookup` and `cam6_forth`.
 //!
 //! Read next: `stacks`, what a word does; `outputs`; `codes`, the instructions; `emitter`, how a
-//! rule becomes code; `evaluation`; `lines_read`, on which lines its results hang; `tables`;
+//! rule becomes code; `evaluation`; `lane_values`, `lanes` and `together`, how code runs at many
+//! addresses at once; `lines_read`, on which lines its results hang; `tables`; `filling`;
 //! `compiling`; then `laws`.
 #![tactic(auto)]
 
+mod bands;
 mod codes;
 mod compiling;
 mod emitter;
 mod evaluation;
 mod faults;
+mod filling;
+mod lane_values;
+mod lanes;
 pub mod laws;
 mod lines_read;
 mod outputs;
 mod stacks;
 mod tables;
+mod together;
 
+pub use bands::{BandRows, Written};
 pub use codes::{Code, Instruction};
 pub use compiling::{NotCompiled, compile};
 pub use evaluation::{MAX_TURNS, eval};
 pub use faults::RuleFault;
-pub use tables::{ENTRIES, Table, fill};
+pub use filling::fill;
+pub use tables::{ENTRIES, Table};

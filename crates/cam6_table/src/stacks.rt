@@ -62,7 +62,8 @@ impl Stack {
         Ok(self.values[self.len])
     }
 
-    fn put(&mut self, value: u16)
+    /// Puts a value on top.
+    pub fn put(&mut self, value: u16)
         requires room { length self.old < MAX_VALUES }
         ensures { self.new ≡ value ∷ self.old }
     {

@@ -1,19 +1,13 @@
 //! A rule's table: its entry at each address.
-ghost use Rattle.std.specs.Prelude.{◌≡◌, ◌<◌, ℕ, Ok, IfOk, IfErr, length};
+ghost use Rattle.std.specs.Prelude.{◌≡◌, ◌<◌, ℕ, IfOk, length};
 ghost use Rattle.std.specs.Prelude.{slice_index, replicate};
 ghost use Rattle.cam6_table.specs.declared.tables.TheConstants.{ENTRIES};
-ghost use Rattle.cam6_table.specs.Tables.{AreEntries, IsLeastStop};
-ghost use Rattle.cam6_table.specs.Limits.{addresses};
-ghost use Rattle.cam6_table.specs.Codes.{result_at};
-ghost use Rattle.cam6_table.specs.Internal.LinesRead.{IsMaskFor};
 
-use crate::codes::Code;
-use crate::evaluation::{MAX_TURNS, eval};
-use crate::faults::RuleFault;
-use crate::lines_read::lines_read;
+use cam6_lines::Plan;
 use cam6_lookup::look_up_rows;
 use cam6_planes::{NoMemory, Row, Side};
-use cam6_wiring::Lines;
+use cam6_program::Program;
+use cam6_wiring::{Hood, Lines, Minor};
 use std::alloc::Global;
 use std::marker::Model;
 
@@ -24,18 +18,24 @@ pub const ENTRIES: u16 = 4096;
 /// table as the list of its entries.
 #[derive(Drop)]
 pub struct Table {
-    entries: Vec<u8>,
+    pub(crate) entries: Vec<u8>,
+    /// A program that computes the entries, if the table was given one.
+    pub(crate) program: Option<Program>,
+    /// How the program's lines are seen under the wiring for which it was given.
+    pub(crate) plan: Option<Plan>,
 }
 
 impl Model for Table {
-    ghost use Rattle.std.specs.Prelude.{◌≡◌, List, ℕ, vec_len};
+    ghost use Rattle.std.specs.Prelude.{◌≡◌, List, ℕ, IfSome, vec_len};
+    ghost use Rattle.cam6_program.specs.Computing.{Computes};
     ghost use Rattle.cam6_table.specs.Limits.{addresses};
 
     ghost Value = { List ℕ };
 
     ghost view = { λ t. t.entries.items };
 
-    ghost invariant = { λ t. vec_len t.entries ≡ addresses };
+    ghost invariant = { λ t. (vec_len t.entries ≡ addresses)
+        × IfSome t.program (λ program. Computes t.entries.items program) };
 }
 
 impl Table {
@@ -51,7 +51,11 @@ impl Table {
         ensures { IfOk result (λ table. table ≡ replicate ENTRIES 0) }
     {
         let entries = vec![in alloc; 0; usize::from(ENTRIES)]?;
-        Ok(Table { entries })
+        Ok(Table {
+            entries,
+            program: None,
+            plan: None,
+        })
     }
 
     /// How many entries there are; in every table as many.
@@ -78,6 +82,7 @@ impl Table {
     {
         let position = usize::from(address);
         self.entries[position] = entry;
+        self.program = None;
     }
 
     /// Writes both planes' new rows of a row's lines: at each column that bit of the entry at the
@@ -91,47 +96,31 @@ impl Table {
         look_up_rows(lower, upper, lines, side, &self.entries);
     }
 
+    /// Gives the table a program, if its entries have a short one, by which bands are made faster,
+    /// fastest under this neighbourhood and minor assignment. A program goes with the table's
+    /// copies, until an entry is written. It takes no memory.
+    pub fn quicken(&mut self, hood: Hood, minor: Minor)
+        ensures { self.new ≡ self.old }
+    {
+        self.program = Program::of(&self.entries);
+        self.plan = match &self.program {
+            Some(program) => Some(Plan::of(program.asked(), hood, minor)),
+            None => None,
+        };
+    }
+
     /// Makes the table a copy of another one. It takes no memory.
     pub fn copy_from(&mut self, other: &Table)
         ensures { self.new ≡ other.now }
     {
         self.entries.copy_from_slice(&other.entries);
+        self.program = match &other.program {
+            Some(program) => Some(program.copy()),
+            None => None,
+        };
+        self.plan = match &other.plan {
+            Some(plan) => Some(plan.copy()),
+            None => None,
+        };
     }
-}
-
-/// Makes the table that of a rule, or names the least address at which it stops, and the fault
-/// there, also if no cell shows the address. After a fault nothing is promised of the table's
-/// entries. It takes no memory. The code runs only where the lines that it reads differ: its result
-/// hangs on no other.
-pub fn fill(code: &Code, table: &mut Table) -> Result<(), (u16, RuleFault)>
-    ensures whole { length table.new ≡ addresses }
-    ensures filled { IfOk result (λ _. AreEntries (result_at code.now) table.new) }
-    ensures fault { IfErr result (λ refused. IsLeastStop (result_at code.now) refused.0 refused.1) }
-{
-    prove!(table.entries.len() == usize::from(ENTRIES));
-    let mask = lines_read(code);
-    for address in 0..ENTRIES {
-        match entry_at(code, address, mask, table) {
-            Ok(entry) => table.put(address, entry),
-            Err(fault) => return Err((address, fault)),
-        }
-    }
-    Ok(())
-}
-
-/// The code's entry at an address, or its fault there. It stands in the table already where another
-/// address, which comes before, shows the same on all lines of the mask.
-fn entry_at(code: &Code, address: u16, mask: u16, table: &Table) -> Result<u8, RuleFault>
-    requires address { address < ENTRIES }
-    requires mask { IsMaskFor mask code.now }
-    requires filled { (before : ℕ) → before < address →
-        result_at code.now before ≡ Ok (slice_index table.now before) }
-    ensures { result ≡ result_at code.now address }
-{
-    let same = address & mask;
-    if same < address {
-        return Ok(table.at(same));
-    }
-    let mut turns = MAX_TURNS;
-    eval(code, address, &mut turns)
 }

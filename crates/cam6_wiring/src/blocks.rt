@@ -54,7 +54,8 @@ pub fn in_block(corner: Corner, rotation: Rotation) -> Compass
 }
 
 /// 0 in a block's left column, and 1 in its right one; of a row, 0 in the upper and 1 in the lower.
-pub(crate) fn side_in_block(grid: Grid, x: usize) -> usize
+#[inline]
+pub fn side_in_block(grid: Grid, x: usize) -> usize
     ensures { result ≡ side_in_block grid x }
 {
     match grid {

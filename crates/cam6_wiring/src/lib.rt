@@ -1,14 +1,15 @@
 //! Wiring: which neighbour each of a half's twelve address lines shows, and what a cell sees there.
 //!
-//! Contract: `line_of` is the line of a name; `seen` the bit that a name means to a cell;
-//! `address_at` is the number whose bits are what the cell sees under the name of each line
-//! (`specs/Seen.antt`), for all five neighbourhoods, three minor assignments, both halves, both
-//! grids and four phases. `lines_of_row` and `put_lines` are the same for a whole row of cells: at
-//! each column, on each line, what the cell there sees under the line's name (`specs/Lines.antt`).
-//! `corner_of` and `in_block` are a cell's corner of its Margolus block and where the block's other
-//! cells lie.
-//! `is_margolus` says whether a neighbourhood is one of blocks. `text` is the text of a half, a
-//! neighbourhood, a minor assignment or a grid, and `named` what a text names (`specs/Texts.antt`).
+//! Contract: `line_of` is the line of a name, and `names_of` the names of all lines; `seen` is the
+//! bit that a name means to a cell; `address_at` is the number whose bits are what the cell sees
+//! under the name of each line (`specs/Seen.antt`), for all five neighbourhoods, three minor
+//! assignments, both halves, both grids and four phases. `lines_of_row` and `put_lines` are the
+//! same for a whole row of cells: at each column, on each line, what the cell there sees under the
+//! line's name (`specs/Lines.antt`). `corner_of` and `in_block` are a cell's corner of its Margolus
+//! block and where the block's other cells lie; `side_in_block` says in which of a block's two
+//! columns or rows a column or row is. `is_margolus` says whether a neighbourhood is one of blocks.
+//! `text` is the text of a half, a neighbourhood, a minor assignment or a grid, and `named` what a
+//! text names (`specs/Texts.antt`).
 //!
 //! The laws: an address shows, on the line of each name, what is seen under it, and 0 on every
 //! other line; the line of a name and the names of the lines say the same; a name is the same as
@@ -32,9 +33,9 @@ mod rows;
 mod texts;
 mod wirings;
 
-pub use blocks::{Corner, Grid, corner_of, in_block};
+pub use blocks::{Corner, Grid, corner_of, in_block, side_in_block};
 pub use lines::{Lines, lines_of_row, put_lines};
 pub use names::{Compass, Half, Level, Name, Phase, Rotation};
 pub use neighbours::{Setting, address_at, seen};
 pub use rows::Rows;
-pub use wirings::{Hood, LINES, Minor, Wiring, line_of};
+pub use wirings::{Hood, LINES, Minor, Wiring, line_of, names_of};

@@ -79,7 +79,7 @@ fn is_at(name: Name, known: Option<Name>) -> bool
 }
 
 /// The name of each line, the lowest first, where it has one.
-pub(crate) fn names_of(hood: Hood, minor: Minor) -> [Option<Name>; LINES]
+pub fn names_of(hood: Hood, minor: Minor) -> [Option<Name>; LINES]
     ensures { result ≡ names_of hood minor }
 {
     let [n0, n1, n2, n3, n4, n5, n6, n7, n8, n9] = hood_names(hood);

@@ -1,0 +1,19 @@
+-- The rows that a half gets for a band.
+use Rattle.std.specs.Prelude.{ℕ, ◌+◌, Bool, [], slice_index_or, if◌then◌else◌}
+use Rattle.cam6_planes.specs.Cells.{Cells}
+use Rattle.cam6_planes.specs.Row.{column_bit}
+use Rattle.cam6_wiring.specs.declared.names.Level.{Level}
+use Rattle.cam6_wiring.specs.declared.names.Level.TheVariants.{Lower, Upper}
+use Rattle.cam6_band.specs.declared.half_rows.HalfRows.{HalfRows}
+use Rattle.cam6_band.specs.declared.half_rows.PlaneRows.{PlaneRows}
+
+-- those of the plane of a level
+abbrev pub rows_of : Level → HalfRows → PlaneRows
+rows_of Lower half = half.lower
+rows_of Upper half = half.upper
+
+-- the bit of plane p at column x of row r of the band from row y on, once the rows are put into
+-- planes g
+abbrev pub bit_put : PlaneRows → Cells → ℕ → ℕ → ℕ → ℕ → Bool
+bit_put plane g p x y r =
+    if plane.is_written then column_bit (slice_index_or plane.rows r []) x else g p x (y + r)

@@ -1,0 +1,119 @@
+//! A half's new rows of a band: made beside the planes, and then put in the place of the old ones.
+ghost use Rattle.std.specs.Prelude.{◌≡◌, ◌≢◌, ◌<◌, ◌≤◌, ◌+◌, ◌⊎◌, ℕ, []};
+ghost use Rattle.std.specs.Prelude.{slice_index_or};
+ghost use Rattle.cam6_planes.specs.Cells.{Cells, cells};
+ghost use Rattle.cam6_planes.specs.Row.{column_bit};
+ghost use Rattle.cam6_planes.specs.Stored.{width};
+ghost use Rattle.cam6_wiring.specs.Name.{plane_of, other_half};
+ghost use Rattle.cam6_wiring.specs.declared.names.Level.{Level};
+ghost use Rattle.cam6_lines.specs.Bands.{IsBandOf, IsWithin};
+ghost use Rattle.cam6_table.specs.Bands.{ShowNewBits};
+ghost use Rattle.cam6_band.specs.Limits.{band};
+ghost use Rattle.cam6_band.specs.Internal.HalfRows.{rows_of, bit_put};
+ghost use Rattle.cam6_band.specs.Internal.NewRows.{IsOutside};
+
+use crate::tables::HalfTable;
+use cam6_lines::{Band, HEIGHT};
+use cam6_planes::{Planes, WORDS};
+use cam6_table::BandRows;
+use cam6_wiring::{Half, Level, Setting};
+
+/// A plane's new rows of a band. They are put only if they were written: else every cell keeps its
+/// bit.
+#[derive(Drop)]
+pub(crate) struct PlaneRows {
+    rows: BandRows,
+    is_written: bool,
+}
+
+/// The new rows of both planes of a half.
+#[derive(Drop)]
+pub(crate) struct HalfRows {
+    lower: PlaneRows,
+    upper: PlaneRows,
+}
+
+impl PlaneRows {
+    fn blank() -> PlaneRows {
+        PlaneRows {
+            rows: [[0; WORDS]; HEIGHT],
+            is_written: false,
+        }
+    }
+
+    /// Puts the rows that were written in the place of those of plane `p` from row `y` on.
+    fn put(&self, image: &mut Planes, p: usize, y: usize)
+        requires plane { p < 4 }
+        requires rows { y + band ≤ width image.old }
+        ensures rows { (x r : ℕ) → x < width image.old → r < band →
+            cells image.new p x (y + r) ≡ bit_put self.now (cells image.old) p x y r }
+        ensures others { (q x v : ℕ) → q < 4 → x < width image.old → v < width image.old →
+            (q ≢ p) ⊎ IsOutside y v → cells image.new q x v ≡ cells image.old q x v }
+        ensures side { image.new.side ≡ image.old.side }
+        ensures limit { image.new.limit ≡ image.old.limit }
+    {
+        if self.is_written {
+            put_rows(image, p, y, &self.rows);
+        }
+    }
+}
+
+impl HalfRows {
+    pub(crate) fn blank() -> HalfRows {
+        HalfRows {
+            lower: PlaneRows::blank(),
+            upper: PlaneRows::blank(),
+        }
+    }
+
+    /// Makes the new rows of a band, by the half's table.
+    pub(crate) fn make(&mut self, setting: Setting, by: &HalfTable, band: &Band)
+        requires { IsWithin band.now }
+        ensures { (f : Cells) → IsBandOf f band.now → (level : Level) →
+            let plane = rows_of level self.new in
+            ShowNewBits by.now.table.now f band.now setting by.now.hood by.now.minor level
+            plane.is_written plane.rows }
+    {
+        let HalfTable { table, hood, minor } = *by;
+        let lower = &mut self.lower.rows;
+        let upper = &mut self.upper.rows;
+        let written = table.band(lower, upper, setting, hood, minor, band);
+        self.lower.is_written = written.lower;
+        self.upper.is_written = written.upper;
+    }
+
+    /// Puts the rows that were written in the place of the half's from row `y` on.
+    pub(crate) fn put(&self, image: &mut Planes, half: Half, y: usize)
+        requires { y + band ≤ width image.old }
+        ensures half { (level : Level) (x r : ℕ) → x < width image.old → r < band →
+            let p = plane_of half level in
+            cells image.new p x (y + r)
+            ≡ bit_put (rows_of level self.now) (cells image.old) p x y r }
+        ensures other_half { (level : Level) (x v : ℕ) → x < width image.old →
+            v < width image.old → let p = plane_of (other_half half) level in
+            cells image.new p x v ≡ cells image.old p x v }
+        ensures others { (p x v : ℕ) → p < 4 → x < width image.old → v < width image.old →
+            IsOutside y v → cells image.new p x v ≡ cells image.old p x v }
+        ensures side { image.new.side ≡ image.old.side }
+        ensures limit { image.new.limit ≡ image.old.limit }
+    {
+        self.lower.put(image, half.plane(Level::Lower), y);
+        self.upper.put(image, half.plane(Level::Upper), y);
+    }
+}
+
+/// Writes the rows of plane `p` from row `y` on.
+fn put_rows(image: &mut Planes, p: usize, y: usize, rows: &BandRows)
+    requires plane { p < 4 }
+    requires rows { y + band ≤ width image.old }
+    ensures rows { (x r : ℕ) → x < width image.old → r < band →
+        cells image.new p x (y + r) ≡ column_bit (slice_index_or rows.now r []) x }
+    ensures others { (q x v : ℕ) → q < 4 → x < width image.old → v < width image.old →
+        (q ≢ p) ⊎ IsOutside y v → cells image.new q x v ≡ cells image.old q x v }
+    ensures side { image.new.side ≡ image.old.side }
+    ensures limit { image.new.limit ≡ image.old.limit }
+{
+    for r in 0..HEIGHT {
+        image.set_row_words(p, y + r, rows[r]);
+    }
+}

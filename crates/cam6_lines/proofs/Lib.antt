@@ -1,0 +1,24 @@
+-- Lemmas, in the order of reading.
+
+-- The row above a row.
+pub mod RowsAbove
+-- The columns of words that are the same throughout.
+pub mod SameWords
+-- Words whose columns are chosen by a mask.
+pub mod ChosenWords
+-- The words of a unit's rows.
+pub mod RowsOfUnits
+-- What cells see in their blocks.
+pub mod InBlocks
+-- Where cells look, by the cases of code.
+pub mod Looking
+-- Rows that are written one by one.
+pub mod WrittenRows
+-- Lines that are written one by one.
+pub mod LineByLine
+-- The home of a line's part.
+pub mod Homes
+-- Units that are seen in parts.
+pub mod UnitsSeen
+-- How lines are seen is the same at both wider sides.
+pub mod PlannedViews

@@ -1,0 +1,20 @@
+-- Units: the rows of a band, of as many columns as are looked at together, one row after the other.
+use Rattle.std.specs.Prelude.{ℕ, ◌+◌, ◌*◌, ◌/◌, ◌%◌, ◌==◌, Bool, ◌&&◌, List, [], ◌∷◌}
+use Rattle.cam6_planes.specs.declared.sides.Side.{Side}
+use Rattle.cam6_planes.specs.declared.sides.Side.TheVariants.{S128, S256, S512}
+
+-- columns of a unit
+abbrev pub columns : Side → ℕ
+columns S128 = 128
+columns S256 = 256
+columns S512 = 256
+
+-- where a unit has column i of its row r
+abbrev pub place : Side → ℕ → ℕ → ℕ
+place side r i = columns side * r + i
+
+-- of what lines show, the lowest first, that of the lines for which a mask has a bit, and 0 on the
+-- others
+abbrev pub asked_for : ℕ → List Bool → List Bool
+asked_for mask [] = []
+asked_for mask (bit ∷ bits) = ((mask % 2 == 1) && bit) ∷ asked_for (mask / 2) bits

@@ -1,0 +1,352 @@
+//! Parts: what the cells of a unit see under a name, also in the rows beside the band.
+ghost use Rattle.std.specs.Prelude.{◌≡◌, ◌<◌, ◌≤◌, ◌+◌, ◌-◌, ◌*◌, ◌==◌, ℕ};
+ghost use Rattle.cam6_planes.specs.Cells.{Cells};
+ghost use Rattle.cam6_planes.specs.Row.{column_bit};
+ghost use Rattle.cam6_wiring.specs.declared.blocks.Grid.TheVariants.{Even, Odd};
+ghost use Rattle.cam6_wiring.specs.declared.names.Compass.TheVariants.{Center, West, East};
+ghost use Rattle.cam6_wiring.specs.Block.{side_in_block};
+ghost use Rattle.cam6_lines.specs.Bands.{IsBandOf, IsWithin, side_of};
+ghost use Rattle.cam6_lines.specs.Limits.{height};
+ghost use Rattle.cam6_lines.specs.Units.{columns};
+ghost use Rattle.cam6_lines.specs.Internal.Parts.{first_beside, first_row, ShowsPart, ShowsBeside};
+ghost use Rattle.cam6_lines.specs.Internal.Parts.{ShowsInBlock, ShowsRowsBeside, ShowsRowsInBlock};
+ghost use Rattle.cam6_lines.specs.declared.parts.TheConstants.{PART};
+ghost use Rattle.cam6_lines.specs.declared.rows.TheConstants.{ROW_WORDS};
+
+use crate::bands::{Band, HEIGHT};
+use crate::rows::{ROW_WORDS, UnitRow, is_lower, row_seen, seen_beside, seen_in_block};
+use crate::units::words_of_row;
+use cam6_planes::Side;
+use cam6_wiring::{Compass, Grid, Name, Rotation, Setting};
+
+/// Words of a part: eighteen rows of at most 256 columns.
+pub(crate) const PART: usize = 72;
+
+/// Eighteen rows of a unit's columns. The first is of the row to the north of a band, and the last
+/// of the row to its south.
+pub(crate) type Part = [u64; PART];
+
+/// Writes what the cells of the unit see under a name, in each row of the part in which it is
+/// looked for.
+pub(crate) fn put_part(part: &mut Part, setting: Setting, name: Name, band: &Band, unit: usize)
+    requires within { IsWithin band.now }
+    requires unit { columns band.now.planes.now.side * unit < side_of band.now }
+    ensures { (f : Cells) → IsBandOf f band.now → ShowsPart f setting name band.now unit part.new }
+{
+    let Setting { half, grid, .. } = setting;
+    match name {
+        Name::Beside(Compass::Center, level) => put_here(part, half.plane(level), band, unit),
+        Name::Beside(Compass::West, level) => put_west(part, half.plane(level), band, unit),
+        Name::Beside(Compass::East, level) => put_east(part, half.plane(level), band, unit),
+        Name::MinorCenter(level) => put_here(part, half.other().plane(level), band, unit),
+        Name::InBlock(rotation, level) => match grid {
+            Grid::Even => put_in_even_blocks(part, rotation, half.plane(level), band, unit),
+            Grid::Odd => put_in_odd_blocks(part, rotation, half.plane(level), band, unit),
+        },
+        _ => put_rows(part, setting, name, band, unit),
+    }
+}
+
+/// As `put_part`, under any name. The functions below do the same for names that many lines have,
+/// each in a loop of its own, so that no row asks anew where its cells look.
+fn put_rows(part: &mut Part, setting: Setting, name: Name, band: &Band, unit: usize)
+    requires within { IsWithin band.now }
+    requires unit { columns band.now.planes.now.side * unit < side_of band.now }
+    ensures { (f : Cells) → IsBandOf f band.now → ShowsPart f setting name band.now unit part.new }
+{
+    let side = band.planes.side();
+    let words = words_of_row(side);
+    let first = first_row(name);
+    for j in first..HEIGHT + 2 - first {
+        put_row(
+            part,
+            words * j,
+            row_seen(side, setting, name, band, unit, j),
+        );
+    }
+}
+
+/// Writes the cells of the unit in plane `p`.
+fn put_here(part: &mut Part, p: usize, band: &Band, unit: usize)
+    requires plane { p < 4 }
+    requires within { IsWithin band.now }
+    requires unit { columns band.now.planes.now.side * unit < side_of band.now }
+    ensures { (f : Cells) → IsBandOf f band.now → ShowsBeside f Center p band.now unit part.new }
+{
+    put_beside(part, Compass::Center, p, band, unit);
+}
+
+/// Writes what lies to their west.
+fn put_west(part: &mut Part, p: usize, band: &Band, unit: usize)
+    requires plane { p < 4 }
+    requires within { IsWithin band.now }
+    requires unit { columns band.now.planes.now.side * unit < side_of band.now }
+    ensures { (f : Cells) → IsBandOf f band.now → ShowsBeside f West p band.now unit part.new }
+{
+    put_beside(part, Compass::West, p, band, unit);
+}
+
+/// Writes what lies to their east.
+fn put_east(part: &mut Part, p: usize, band: &Band, unit: usize)
+    requires plane { p < 4 }
+    requires within { IsWithin band.now }
+    requires unit { columns band.now.planes.now.side * unit < side_of band.now }
+    ensures { (f : Cells) → IsBandOf f band.now → ShowsBeside f East p band.now unit part.new }
+{
+    put_beside(part, Compass::East, p, band, unit);
+}
+
+/// Writes what lies there in plane `p`. The first row and the last one, which lie elsewhere, are
+/// written apart from the others.
+#[inline(always)]
+fn put_beside(part: &mut Part, compass: Compass, p: usize, band: &Band, unit: usize)
+    requires compass { first_beside compass ≡ 0 }
+    requires plane { p < 4 }
+    requires within { IsWithin band.now }
+    requires unit { columns band.now.planes.now.side * unit < side_of band.now }
+    ensures { (f : Cells) → IsBandOf f band.now → ShowsBeside f compass p band.now unit part.new }
+{
+    // A copy, since no write to the part can change it: its fields are fetched once.
+    let own = *band;
+    let side = own.planes.side();
+    put_row_beside(part, side, compass, p, &own, unit, 0);
+    for j in 1..HEIGHT + 1 {
+        put_row_beside(part, side, compass, p, &own, unit, j);
+    }
+    put_row_beside(part, side, compass, p, &own, unit, HEIGHT + 1);
+}
+
+/// Writes row `j` of it, after the rows before.
+#[inline(always)]
+fn put_row_beside(
+    part: &mut Part,
+    side: Side,
+    compass: Compass,
+    p: usize,
+    band: &Band,
+    unit: usize,
+    j: usize,
+)
+    requires side { side ≡ band.now.planes.now.side }
+    requires plane { p < 4 }
+    requires within { IsWithin band.now }
+    requires unit { columns band.now.planes.now.side * unit < side_of band.now }
+    requires first { first_beside compass ≤ j }
+    requires last { j + first_beside compass < height + 2 }
+    ensures { (f : Cells) → IsBandOf f band.now →
+        ShowsRowsBeside f compass p band.now unit j part.old →
+        ShowsRowsBeside f compass p band.now unit (j + 1) part.new }
+{
+    let at = words_of_row(side) * j;
+    put_row(part, at, seen_beside(side, compass, p, band, unit, j));
+}
+
+/// Writes what lies in their blocks of the even grid, whose columns are moved within their words.
+/// What it calls knows the grid and the rotation, so that its loop is compiled for them alone.
+#[inline(never)]
+fn put_in_even_blocks(part: &mut Part, rotation: Rotation, p: usize, band: &Band, unit: usize)
+    requires plane { p < 4 }
+    requires within { IsWithin band.now }
+    requires unit { columns band.now.planes.now.side * unit < side_of band.now }
+    ensures { (f : Cells) → IsBandOf f band.now →
+        ShowsInBlock f Even rotation p band.now unit part.new }
+{
+    let lower = is_lower(Grid::Even, band, 1);
+    match rotation {
+        Rotation::Clockwise => {
+            if lower {
+                put_from_lower(part, Grid::Even, Rotation::Clockwise, p, band, unit)
+            } else {
+                put_from_upper(part, Grid::Even, Rotation::Clockwise, p, band, unit)
+            }
+        }
+        Rotation::Opposite => {
+            if lower {
+                put_from_lower(part, Grid::Even, Rotation::Opposite, p, band, unit)
+            } else {
+                put_from_upper(part, Grid::Even, Rotation::Opposite, p, band, unit)
+            }
+        }
+        Rotation::CounterClockwise => {
+            if lower {
+                put_from_lower(part, Grid::Even, Rotation::CounterClockwise, p, band, unit)
+            } else {
+                put_from_upper(part, Grid::Even, Rotation::CounterClockwise, p, band, unit)
+            }
+        }
+    }
+}
+
+/// And of the odd grid, some of whose blocks lie in two words.
+#[inline(never)]
+fn put_in_odd_blocks(part: &mut Part, rotation: Rotation, p: usize, band: &Band, unit: usize)
+    requires plane { p < 4 }
+    requires within { IsWithin band.now }
+    requires unit { columns band.now.planes.now.side * unit < side_of band.now }
+    ensures { (f : Cells) → IsBandOf f band.now →
+        ShowsInBlock f Odd rotation p band.now unit part.new }
+{
+    let lower = is_lower(Grid::Odd, band, 1);
+    match rotation {
+        Rotation::Clockwise => {
+            if lower {
+                put_from_lower(part, Grid::Odd, Rotation::Clockwise, p, band, unit)
+            } else {
+                put_from_upper(part, Grid::Odd, Rotation::Clockwise, p, band, unit)
+            }
+        }
+        Rotation::Opposite => {
+            if lower {
+                put_from_lower(part, Grid::Odd, Rotation::Opposite, p, band, unit)
+            } else {
+                put_from_upper(part, Grid::Odd, Rotation::Opposite, p, band, unit)
+            }
+        }
+        Rotation::CounterClockwise => {
+            if lower {
+                put_from_lower(part, Grid::Odd, Rotation::CounterClockwise, p, band, unit)
+            } else {
+                put_from_upper(part, Grid::Odd, Rotation::CounterClockwise, p, band, unit)
+            }
+        }
+    }
+}
+
+/// Writes what lies in their blocks, where the band's rows are those of eight rows of blocks.
+#[inline(always)]
+fn put_from_upper(
+    part: &mut Part,
+    grid: Grid,
+    rotation: Rotation,
+    p: usize,
+    band: &Band,
+    unit: usize,
+)
+    requires upper { side_in_block grid band.now.first ≡ 0 }
+    requires plane { p < 4 }
+    requires within { IsWithin band.now }
+    requires unit { columns band.now.planes.now.side * unit < side_of band.now }
+    ensures { (f : Cells) → IsBandOf f band.now →
+        ShowsInBlock f grid rotation p band.now unit part.new }
+{
+    let own = *band;
+    let side = own.planes.side();
+    for k in 0..HEIGHT / 2 {
+        put_pair(part, side, grid, rotation, p, &own, unit, 2 * k + 1);
+    }
+}
+
+/// Writes it, where the band's first row lies in the blocks of the row to its north, and its last
+/// one in those of the row to its south.
+#[inline(always)]
+fn put_from_lower(
+    part: &mut Part,
+    grid: Grid,
+    rotation: Rotation,
+    p: usize,
+    band: &Band,
+    unit: usize,
+)
+    requires lower { side_in_block grid band.now.first ≡ 1 }
+    requires plane { p < 4 }
+    requires within { IsWithin band.now }
+    requires unit { columns band.now.planes.now.side * unit < side_of band.now }
+    ensures { (f : Cells) → IsBandOf f band.now →
+        ShowsInBlock f grid rotation p band.now unit part.new }
+{
+    let own = *band;
+    let side = own.planes.side();
+    for k in 0..HEIGHT / 2 {
+        put_row_in_block(part, side, grid, rotation, true, p, &own, unit, 2 * k + 1);
+        put_row_in_block(part, side, grid, rotation, false, p, &own, unit, 2 * k + 2);
+    }
+}
+
+/// Writes row `j`, the upper one of its blocks, and their lower one, after the rows before. Both
+/// are made before the first is written, so that what they look at is fetched once.
+#[inline(always)]
+fn put_pair(
+    part: &mut Part,
+    side: Side,
+    grid: Grid,
+    rotation: Rotation,
+    p: usize,
+    band: &Band,
+    unit: usize,
+    j: usize,
+)
+    requires side { side ≡ band.now.planes.now.side }
+    requires upper { side_in_block grid (band.now.first + j - 1) ≡ 0 }
+    requires plane { p < 4 }
+    requires within { IsWithin band.now }
+    requires unit { columns band.now.planes.now.side * unit < side_of band.now }
+    requires first { 0 < j }
+    requires last { j < height }
+    ensures { (f : Cells) → IsBandOf f band.now →
+        ShowsRowsInBlock f grid rotation p band.now unit j part.old →
+        ShowsRowsInBlock f grid rotation p band.now unit (j + 2) part.new }
+{
+    let words = words_of_row(side);
+    let upper = seen_in_block(side, grid, rotation, false, p, band, unit, j);
+    let lower = seen_in_block(side, grid, rotation, true, p, band, unit, j + 1);
+    put_row(part, words * j, upper);
+    put_row(part, words * (j + 1), lower);
+}
+
+/// Writes row `j` alone.
+#[inline(always)]
+fn put_row_in_block(
+    part: &mut Part,
+    side: Side,
+    grid: Grid,
+    rotation: Rotation,
+    lower: bool,
+    p: usize,
+    band: &Band,
+    unit: usize,
+    j: usize,
+)
+    requires side { side ≡ band.now.planes.now.side }
+    requires lower { lower ≡ (side_in_block grid (band.now.first + j - 1) == 1) }
+    requires plane { p < 4 }
+    requires within { IsWithin band.now }
+    requires unit { columns band.now.planes.now.side * unit < side_of band.now }
+    requires first { 0 < j }
+    requires last { j < height + 1 }
+    ensures { (f : Cells) → IsBandOf f band.now →
+        ShowsRowsInBlock f grid rotation p band.now unit j part.old →
+        ShowsRowsInBlock f grid rotation p band.now unit (j + 1) part.new }
+{
+    let at = words_of_row(side) * j;
+    put_row(
+        part,
+        at,
+        seen_in_block(side, grid, rotation, lower, p, band, unit, j),
+    );
+}
+
+/// The first row of a part that is made for a name; as many are left out at its end.
+#[inline(always)]
+fn first_row(name: Name) -> usize
+    ensures value { result ≡ first_row name }
+    ensures within { result ≤ 1 }
+{
+    match name {
+        Name::Beside(Compass::Center | Compass::West | Compass::East, _) => 0,
+        _ => 1,
+    }
+}
+
+/// Writes a row from word `at` on. At side 128 its last two words lie in the next row, which is
+/// written after it.
+#[inline(always)]
+fn put_row(part: &mut Part, at: usize, row: UnitRow)
+    requires room { at + ROW_WORDS ≤ PART }
+    ensures row { (x : ℕ) → x < 64 * ROW_WORDS →
+        column_bit part.new (64 * at + x) ≡ column_bit row x }
+    ensures before { (x : ℕ) → x < 64 * at → column_bit part.new x ≡ column_bit part.old x }
+{
+    for k in 0..ROW_WORDS {
+        part[at + k] = row[k];
+    }
+}

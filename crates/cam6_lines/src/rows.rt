@@ -1,0 +1,341 @@
+//! What the cells of one row of a unit see under a name, in words.
+ghost use Rattle.std.specs.Prelude.{◌≡◌, ◌<◌, ◌≤◌, ◌+◌, ◌-◌, ◌*◌, ◌%◌, ◌==◌};
+ghost use Rattle.std.specs.Prelude.{ℕ, if◌then◌else◌, slice_index};
+ghost use Rattle.cam6_planes.specs.Cells.{Cells, torus};
+ghost use Rattle.cam6_planes.specs.Row.{word_column, column_bit, west_of, east_of};
+ghost use Rattle.cam6_planes.specs.Side.{side_number};
+ghost use Rattle.cam6_planes.specs.declared.row.TheConstants.{WORDS};
+ghost use Rattle.cam6_lines.specs.declared.rows.TheConstants.{ROW_WORDS};
+ghost use Rattle.cam6_wiring.specs.Block.{side_in_block};
+ghost use Rattle.cam6_wiring.specs.Seen.{column_beside, row_beside, seen_beside, seen_in_block};
+ghost use Rattle.cam6_lines.specs.Bands.{IsBandOf, IsWithin, side_of};
+ghost use Rattle.cam6_lines.specs.Limits.{height};
+ghost use Rattle.cam6_lines.specs.Units.{columns};
+ghost use Rattle.cam6_lines.specs.Internal.Parts.{first_beside, first_row, row_above, ShowsRow};
+
+use crate::bands::Band;
+use crate::units::words_of_row;
+use crate::words::{chosen_word, right_columns, word_of};
+use cam6_planes::{Row, Side, moved_east, moved_west};
+use cam6_wiring::{Compass, Grid, Name, Rotation, Setting, side_in_block};
+
+/// Words of a row of a unit at most.
+pub(crate) const ROW_WORDS: usize = 4;
+
+/// A row of a unit. At side 128 only its first two words mean anything.
+pub(crate) type UnitRow = [u64; ROW_WORDS];
+
+/// What the cells of a unit see under a name, in row `j` of a part.
+#[inline(always)]
+pub(crate) fn row_seen(
+    side: Side,
+    setting: Setting,
+    name: Name,
+    band: &Band,
+    unit: usize,
+    j: usize,
+) -> UnitRow
+    requires side { side ≡ band.now.planes.now.side }
+    requires within { IsWithin band.now }
+    requires unit { columns band.now.planes.now.side * unit < side_of band.now }
+    requires first { first_row name ≤ j }
+    requires last { j + first_row name < height + 2 }
+    ensures { (f : Cells) → IsBandOf f band.now → ShowsRow f setting name band.now unit j result }
+{
+    let Setting { half, grid, phase } = setting;
+    match name {
+        Name::Beside(compass, level) => seen_beside(
+            side,
+            compass,
+            half.plane(level),
+            band,
+            unit,
+            j,
+        ),
+        Name::InBlock(rotation, level) => {
+            let lower = is_lower(grid, band, j);
+            seen_in_block(
+                side,
+                grid,
+                rotation,
+                lower,
+                half.plane(level),
+                band,
+                unit,
+                j,
+            )
+        }
+        Name::MinorCenter(level) => {
+            seen_beside(
+                side,
+                Compass::Center,
+                half.other().plane(level),
+                band,
+                unit,
+                j,
+            )
+        }
+        Name::Phase(level) | Name::MinorPhase(level) => [word_of(phase.bit(level)); ROW_WORDS],
+        Name::Horz | Name::MinorHorz => [right_columns(grid); ROW_WORDS],
+        Name::Vert | Name::MinorVert => { [word_of(is_lower(grid, band, j)); ROW_WORDS] }
+    }
+}
+
+/// Whether row `j` of a part is the lower one of its blocks.
+#[inline(always)]
+pub(crate) fn is_lower(grid: Grid, band: &Band, j: usize) -> bool
+    requires within { IsWithin band.now }
+    requires first { 0 < j }
+    requires last { j < height + 1 }
+    ensures { result ≡ (side_in_block grid (band.now.first + j - 1) == 1) }
+{
+    side_in_block(grid, band.first + j - 1) == 1
+}
+
+/// What they see of plane `p` in their blocks. The block's other row lies to the south of its upper
+/// row, and to the north of its lower one.
+#[inline(always)]
+pub(crate) fn seen_in_block(
+    side: Side,
+    grid: Grid,
+    rotation: Rotation,
+    lower: bool,
+    p: usize,
+    band: &Band,
+    unit: usize,
+    j: usize,
+) -> UnitRow
+    requires side { side ≡ band.now.planes.now.side }
+    requires lower { lower ≡ (side_in_block grid (band.now.first + j - 1) == 1) }
+    requires plane { p < 4 }
+    requires within { IsWithin band.now }
+    requires unit { columns band.now.planes.now.side * unit < side_of band.now }
+    requires first { 0 < j }
+    requires last { j < height + 1 }
+    ensures { (f : Cells) → IsBandOf f band.now →
+        (i : ℕ) → let side = band.now.planes.now.side in i < columns side →
+        column_bit result i ≡ seen_in_block (side_of band.now) (torus (side_of band.now) f)
+        grid rotation p (columns side * unit + i) (row_above band.now j) }
+{
+    let here = &band.above(j)[p];
+    let other = &band.above(other_row(lower, j))[p];
+    match rotation {
+        Rotation::Clockwise => along_or_across(grid, !lower, here, other, side, unit),
+        Rotation::Opposite => {
+            by_sides(
+                grid,
+                columns_east(other, side, unit),
+                columns_west(other, side, unit),
+            )
+        }
+        Rotation::CounterClockwise => along_or_across(grid, lower, here, other, side, unit),
+    }
+}
+
+/// The row of a part that lies in the same blocks as row `j`, their upper or lower one.
+#[inline(always)]
+fn other_row(lower: bool, j: usize) -> usize
+    requires first { 0 < j }
+    requires last { j < height + 1 }
+    ensures row { (s first : ℕ) → first + height ≤ s → west_of s (first + result)
+        ≡ (let y = west_of s (first + j) in if lower then west_of s y else east_of s y) }
+    ensures within { result < height + 2 }
+{
+    if lower { j - 1 } else { j + 1 }
+}
+
+/// What lies in their blocks one corner from them, where the left columns look along their row and
+/// the right ones across to the other row, or the other way round.
+#[inline(always)]
+fn along_or_across(
+    grid: Grid,
+    left_along: bool,
+    here: &Row,
+    other: &Row,
+    side: Side,
+    unit: usize,
+) -> UnitRow
+    requires { columns side * unit < side_number side }
+    ensures { (i : ℕ) → i < columns side → let x = columns side * unit + i in
+        let s = side_number side in column_bit result i ≡ (if side_in_block grid i == 1
+        then (if left_along then column_bit other.now x else column_bit here.now (west_of s x))
+        else (if left_along then column_bit here.now (east_of s x) else column_bit other.now x)) }
+{
+    let across = columns_here(other, side, unit);
+    if left_along {
+        by_sides(grid, columns_east(here, side, unit), across)
+    } else {
+        by_sides(grid, across, columns_west(here, side, unit))
+    }
+}
+
+/// The left columns of the grid's blocks of one row, and the right ones of another.
+#[inline(always)]
+fn by_sides(grid: Grid, left: UnitRow, right: UnitRow) -> UnitRow
+    ensures { (i : ℕ) → i < 64 * ROW_WORDS → column_bit result i
+        ≡ (if side_in_block grid i == 1 then column_bit right i else column_bit left i) }
+{
+    let rights = right_columns(grid);
+    [
+        chosen_word(rights, left[0], right[0]),
+        chosen_word(rights, left[1], right[1]),
+        chosen_word(rights, left[2], right[2]),
+        chosen_word(rights, left[3], right[3]),
+    ]
+}
+
+/// What they see of plane `p` beside them.
+#[inline(always)]
+pub(crate) fn seen_beside(
+    side: Side,
+    compass: Compass,
+    p: usize,
+    band: &Band,
+    unit: usize,
+    j: usize,
+) -> UnitRow
+    requires side { side ≡ band.now.planes.now.side }
+    requires plane { p < 4 }
+    requires within { IsWithin band.now }
+    requires unit { columns band.now.planes.now.side * unit < side_of band.now }
+    requires first { first_beside compass ≤ j }
+    requires last { j + first_beside compass < height + 2 }
+    ensures { (f : Cells) → IsBandOf f band.now →
+        (i : ℕ) → let side = band.now.planes.now.side in i < columns side →
+        column_bit result i ≡ seen_beside (side_of band.now) (torus (side_of band.now) f)
+        compass p (columns side * unit + i) (row_above band.now j) }
+{
+    let row = &band.above(row_beside(compass, j))[p];
+    columns_beside(row, compass, side, unit)
+}
+
+/// The row of a part that lies there, seen from row `j`.
+#[inline(always)]
+fn row_beside(compass: Compass, j: usize) -> usize
+    requires first { first_beside compass ≤ j }
+    requires last { j + first_beside compass < height + 2 }
+    ensures row { (s first : ℕ) → first + height ≤ s →
+        row_beside s compass (west_of s (first + j)) ≡ west_of s (first + result) }
+    ensures within { result < height + 2 }
+{
+    match compass {
+        Compass::Center | Compass::West | Compass::East => j,
+        Compass::North | Compass::NorthWest | Compass::NorthEast => j - 1,
+        Compass::South | Compass::SouthWest | Compass::SouthEast => j + 1,
+    }
+}
+
+/// Of a row of cells, at each column of the unit, what it has in the column that lies there.
+#[inline(always)]
+fn columns_beside(row: &Row, compass: Compass, side: Side, unit: usize) -> UnitRow
+    requires { columns side * unit < side_number side }
+    ensures { (i : ℕ) → i < columns side → column_bit result i
+        ≡ column_bit row.now (column_beside (side_number side) compass (columns side * unit + i)) }
+{
+    match compass {
+        Compass::Center | Compass::North | Compass::South => columns_here(row, side, unit),
+        Compass::West | Compass::NorthWest | Compass::SouthWest => columns_west(row, side, unit),
+        Compass::East | Compass::NorthEast | Compass::SouthEast => columns_east(row, side, unit),
+    }
+}
+
+/// What it has in the column itself.
+#[inline(always)]
+fn columns_here(row: &Row, side: Side, unit: usize) -> UnitRow
+    requires { columns side * unit < side_number side }
+    ensures { (i : ℕ) → i < columns side →
+        column_bit result i ≡ column_bit row.now (columns side * unit + i) }
+{
+    words_here(row, words_of_row(side) * unit)
+}
+
+/// What it has to the west.
+#[inline(always)]
+fn columns_west(row: &Row, side: Side, unit: usize) -> UnitRow
+    requires { columns side * unit < side_number side }
+    ensures { (i : ℕ) → i < columns side → column_bit result i
+        ≡ column_bit row.now (west_of (side_number side) (columns side * unit + i)) }
+{
+    words_west(row, side.words(), words_of_row(side) * unit)
+}
+
+/// And to the east.
+#[inline(always)]
+fn columns_east(row: &Row, side: Side, unit: usize) -> UnitRow
+    requires { columns side * unit < side_number side }
+    ensures { (i : ℕ) → i < columns side → column_bit result i
+        ≡ column_bit row.now (east_of (side_number side) (columns side * unit + i)) }
+{
+    words_east(row, side.words(), words_of_row(side) * unit)
+}
+
+/// The four words from word `first` on.
+#[inline(always)]
+fn words_here(row: &Row, first: usize) -> UnitRow
+    requires { first + ROW_WORDS ≤ WORDS }
+    ensures { (k : ℕ) → k < ROW_WORDS → slice_index result k ≡ slice_index row.now (first + k) }
+{
+    [row[first], row[first + 1], row[first + 2], row[first + 3]]
+}
+
+/// The four words from word `first` on, each of whose columns has what the row of so many words has
+/// to the west of it.
+#[inline(always)]
+fn words_west(row: &Row, words: usize, first: usize) -> UnitRow
+    requires some { 0 < words }
+    requires most { words ≤ WORDS }
+    requires first { first + ROW_WORDS ≤ WORDS }
+    ensures { (k c : ℕ) → k < ROW_WORDS → first + k < words → c < 64 →
+        word_column (slice_index result k) c
+        ≡ column_bit row.now (west_of (64 * words) (64 * (first + k) + c)) }
+{
+    [
+        moved_east(row[first], row[word_before(words, first)]),
+        moved_east(row[first + 1], row[first]),
+        moved_east(row[first + 2], row[first + 1]),
+        moved_east(row[first + 3], row[first + 2]),
+    ]
+}
+
+/// And to the east of it. A row has an even number of words, and its units begin at even ones, so
+/// two of the four have their next word in the row whatever its side.
+#[inline(always)]
+fn words_east(row: &Row, words: usize, first: usize) -> UnitRow
+    requires most { words ≤ WORDS }
+    requires even { words % 2 ≡ 0 }
+    requires first { first + ROW_WORDS ≤ WORDS }
+    requires even_first { first % 2 ≡ 0 }
+    ensures { (k c : ℕ) → k < ROW_WORDS → first + k < words → c < 64 →
+        word_column (slice_index result k) c
+        ≡ column_bit row.now (east_of (64 * words) (64 * (first + k) + c)) }
+{
+    [
+        moved_west(row[first], row[first + 1]),
+        moved_west(row[first + 1], row[word_after(words, first + 1)]),
+        moved_west(row[first + 2], row[first + 3]),
+        moved_west(row[first + 3], row[word_after(words, first + 3)]),
+    ]
+}
+
+/// The word to the west of word `i` of so many, round the torus.
+#[inline(always)]
+fn word_before(words: usize, i: usize) -> usize
+    requires words { 0 < words }
+    requires most { words ≤ WORDS }
+    requires word { i < WORDS }
+    ensures word { i < words → west_of (64 * words) (64 * i) ≡ 64 * result + 63 }
+    ensures within { result < WORDS }
+{
+    if i == 0 { words - 1 } else { i - 1 }
+}
+
+/// The word to the east of it.
+#[inline(always)]
+fn word_after(words: usize, i: usize) -> usize
+    requires words { words ≤ WORDS }
+    requires word { i < WORDS }
+    ensures word { i < words → east_of (64 * words) (64 * i + 63) ≡ 64 * result }
+    ensures within { result < WORDS }
+{
+    if i + 1 < words { i + 1 } else { 0 }
+}

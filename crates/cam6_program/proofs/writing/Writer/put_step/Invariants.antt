@@ -1,0 +1,6 @@
+use Rattle.std.proofs.Common.{◌≤◌}
+use Rattle.cam6_program.specs.declared.programs.TheConstants.{MAX_STEPS}
+use Rattle.cam6_program.proofs.writing.Writer.put_step.Given as goal
+
+abbrev pub invariant-loop-source : goal.invariant-loop-source
+invariant-loop-source l = l.self.count ≤ MAX_STEPS

@@ -1,0 +1,62 @@
+-- What a program means: the two bits that it makes of what the twelve lines show. Any list of steps
+-- means something, whether anybody wants it or not.
+use Rattle.std.specs.Prelude.{ℕ, Bool, false, not, ◌&&◌, ◌||◌, if◌then◌else◌}
+use Rattle.std.specs.Prelude.{List, [], ◌∷◌, slice_index_or, slice_set, replicate}
+use Rattle.std.specs.Prelude.{Option, Some, None}
+use Rattle.cam6_wiring.specs.declared.names.Level.{Level}
+use Rattle.cam6_lines.specs.Units.{asked_for}
+use Rattle.cam6_program.specs.Programs.{Steps, number, source_of}
+use Rattle.cam6_program.specs.declared.steps.Source.{Source}
+use Rattle.cam6_program.specs.declared.steps.Source.TheVariants.{Constant, Line, Slot}
+use Rattle.cam6_program.specs.declared.steps.Operation.{Operation}
+use Rattle.cam6_program.specs.declared.steps.Operation.TheVariants.{Choice, And, AndNot}
+use Rattle.cam6_program.specs.declared.steps.Operation.TheVariants.{Or, OrNot, Xor}
+use Rattle.cam6_program.specs.declared.steps.Step.{Step}
+
+-- what a source gives, of what the lines show and the slots hold. Past the last line and the last
+-- slot there is 0
+abbrev pub read : List Bool → List Bool → Source → Bool
+read lines slots (Constant bit) = bit
+read lines slots (Line line) = slice_index_or lines line false
+read lines slots (Slot slot) = slice_index_or slots slot false
+
+-- what an operation makes of what it reads; a choice takes one of two by a third
+abbrev pub made : List Bool → List Bool → Operation → Bool
+made lines slots (Choice by low high) =
+    if read lines slots by then read lines slots high else read lines slots low
+made lines slots (And first second) = read lines slots first && read lines slots second
+made lines slots (AndNot first second) = read lines slots first && not (read lines slots second)
+made lines slots (Or first second) = read lines slots first || read lines slots second
+made lines slots (OrNot first second) = read lines slots first || not (read lines slots second)
+made lines slots (Xor first second) =
+    if read lines slots first then not (read lines slots second) else read lines slots second
+
+-- the slots after a step: it empties the slot that it writes, and then puts there what its
+-- operation makes. What is put past the last slot is lost
+abbrev pub after_step : List Bool → Step → List Bool → List Bool
+after_step lines step slots =
+    let emptied : List Bool = slice_set slots step.into false in
+    slice_set emptied step.into (made lines emptied step.operation)
+
+-- the slots after steps
+abbrev pub after_steps : List Bool → List Step → List Bool → List Bool
+after_steps lines [] slots = slots
+after_steps lines (step ∷ steps) slots = after_steps lines steps (after_step lines step slots)
+
+-- so many slots that hold 0
+abbrev pub empty : ℕ → List Bool
+empty slots = replicate slots false
+
+-- the new bit of a level, of what all lines show, of the lines that the program is shown, and of
+-- what the slots hold in the end
+abbrev pub given : Level → List Bool → List Bool → List Bool → Option Source → Bool
+given level bits lines slots None = slice_index_or bits (number level) false
+given level bits lines slots (Some source) = read lines slots source
+
+-- the new bit of a level that a program makes of what the lines show. It is shown those that it
+-- asks for
+abbrev pub bit_by : Level → Steps → List Bool → Bool
+bit_by level program bits =
+    let lines : List Bool = asked_for program.asked bits in
+    given level bits lines (after_steps lines program.steps (empty program.slots))
+    (source_of level program)

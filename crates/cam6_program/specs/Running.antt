@@ -1,0 +1,38 @@
+-- What is read and made at one column of units, which only this crate cites.
+use Rattle.std.specs.Prelude.{ℕ, Bool, false, ◌≡◌, ◌<◌, ◌*◌, List, ◌∷◌, ◌++◌, map, drop, length}
+use Rattle.cam6_planes.specs.Row.{column_bit}
+use Rattle.cam6_wiring.specs.Lines.{at_column}
+use Rattle.cam6_wiring.specs.Seen.{number_of}
+use Rattle.cam6_wiring.specs.declared.wirings.TheConstants.{LINES}
+use Rattle.cam6_wiring.specs.declared.names.Level.{Level}
+use Rattle.cam6_lines.specs.Units.{asked_for}
+use Rattle.cam6_program.specs.Programs.{Steps, keeps}
+use Rattle.cam6_program.specs.Meaning.{made, bit_by}
+use Rattle.cam6_program.specs.declared.steps.Operation.{Operation}
+use Rattle.cam6_program.specs.declared.running.Readable.{Readable}
+
+-- what the lines show
+abbrev pub lines_at : ℕ → Readable → List Bool
+lines_at c readable = at_column c (map (λ line. line.now) readable.lines.now)
+
+-- what the slots hold, of which the one that is written is empty
+abbrev pub slots_at : ℕ → Readable → List Bool
+slots_at c readable = at_column c readable.before.now ++ (false ∷ at_column c readable.behind.now)
+
+-- slots that lie behind others, once an operation has written the first
+abbrev pub with_first : List Bool → List Bool → Operation → List Bool → List Bool
+with_first lines before operation slots =
+    made lines (before ++ (false ∷ drop 1 slots)) operation ∷ drop 1 slots
+
+-- of lines that show 0 where the program doesn't ask for them, the unit has the bits that it makes
+abbrev pub Makes : Level → Steps → List (List ℕ) → ℕ → List ℕ → Type 0
+Makes level program lines words unit =
+    keeps level program ≡ false → (c : ℕ) (bits : List Bool) → c < 64 * words →
+    at_column c lines ≡ asked_for program.asked bits →
+    column_bit unit c ≡ bit_by level program bits
+
+-- the unit has, at the column of each address, the bit that the program makes there
+abbrev pub MakesAtAddresses : Level → Steps → List ℕ → Type 0
+MakesAtAddresses level program unit =
+    (bits : List Bool) → length bits ≡ LINES →
+    column_bit unit (number_of bits) ≡ bit_by level program bits

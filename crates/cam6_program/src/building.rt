@@ -1,0 +1,113 @@
+//! Building: entries as a diagram of choices by the bits of their address.
+//!
+//! At first there is a node for each bit of each entry: the bit itself. Two that lie side by side
+//! differ in the lowest line alone, so that their choice by that line stands for both. Then there
+//! are half as many, and the next line's turn comes. After the last line two nodes are left, one
+//! for each level.
+ghost use Rattle.std.specs.Prelude.{◌≡◌, ◌<◌, ◌≤◌, ◌^◌, length, IfOk};
+ghost use Rattle.cam6_wiring.specs.declared.wirings.TheConstants.{LINES};
+ghost use Rattle.cam6_program.specs.declared.programs.TheConstants.{MAX_STEPS};
+
+use crate::nodes::{Choice, Node, ONE, ZERO};
+use crate::programs::MAX_STEPS;
+use cam6_wiring::LINES;
+
+const ENTRIES: usize = 1 << LINES;
+
+/// There are more choices than a program has steps.
+#[derive(Drop)]
+pub(crate) struct TooLong;
+
+/// Choices, each after those among which it chooses, and what is to become of both levels.
+#[derive(Drop)]
+pub(crate) struct Diagram {
+    pub(crate) choices: [Choice; MAX_STEPS],
+    pub(crate) count: usize,
+    /// The first choice by the line whose turn it is.
+    first: usize,
+    pub(crate) lower: Node,
+    pub(crate) upper: Node,
+}
+
+impl Diagram {
+    /// The diagram of the lower and the upper bits of entries.
+    pub(crate) fn of(entries: &[u8]) -> Result<Diagram, TooLong>
+        requires { length entries.now ≡ 2 ^ LINES }
+        ensures { IfOk result (λ diagram. diagram.count ≤ MAX_STEPS) }
+    {
+        let mut nodes = [ZERO; 2 * ENTRIES];
+        for address in 0..ENTRIES {
+            nodes[address] = Node::lowest_bit(entries[address]);
+            nodes[ENTRIES + address] = Node::lowest_bit(entries[address] >> 1);
+        }
+        let mut diagram = Diagram {
+            choices: [Choice {
+                by: ZERO,
+                low: ZERO,
+                high: ZERO,
+            }; MAX_STEPS],
+            count: 0,
+            first: 0,
+            lower: ZERO,
+            upper: ZERO,
+        };
+        for line in 0..LINES {
+            diagram.join_pairs(Node::line(line), &mut nodes[..2 * ENTRIES >> line])?;
+        }
+        diagram.lower = nodes[0];
+        diagram.upper = nodes[1];
+        Ok(diagram)
+    }
+
+    /// The choice of each pair of nodes by a line, in the first half of them.
+    fn join_pairs(&mut self, by: Node, nodes: &mut [Node]) -> Result<(), TooLong>
+        requires { self.old.count ≤ MAX_STEPS }
+        ensures { self.new.count ≤ MAX_STEPS }
+    {
+        self.first = self.count;
+        // Equal pairs often follow each other.
+        let mut last = Choice {
+            by,
+            low: ZERO,
+            high: ZERO,
+        };
+        let mut joined = ZERO;
+        for k in 0..nodes.len() / 2 {
+            let choice = Choice {
+                by,
+                low: nodes[2 * k],
+                high: nodes[2 * k + 1],
+            };
+            if choice != last {
+                last = choice;
+                joined = self.node(choice)?;
+            }
+            nodes[k] = joined;
+        }
+        Ok(())
+    }
+
+    /// The node that a choice by this line makes.
+    fn node(&mut self, choice: Choice) -> Result<Node, TooLong>
+        requires { self.old.count ≤ MAX_STEPS }
+        ensures { self.new.count ≤ MAX_STEPS }
+    {
+        if choice.low == choice.high {
+            return Ok(choice.low);
+        }
+        if choice.low == ZERO && choice.high == ONE {
+            return Ok(choice.by);
+        }
+        for place in self.first..self.count {
+            if self.choices[place] == choice {
+                return Ok(Node::choice(place));
+            }
+        }
+        if self.count == MAX_STEPS {
+            return Err(TooLong);
+        }
+        self.choices[self.count] = choice;
+        self.count += 1;
+        Ok(Node::choice(self.count - 1))
+    }
+}

@@ -1,0 +1,80 @@
+//! The operations of a step, at all columns of units at once. Each makes so many words; what lies
+//! past them isn't touched.
+ghost use Rattle.std.specs.Prelude.{◌≡◌, ◌<◌, ◌≤◌, ◌*◌, ℕ, not, ◌&&◌, ◌||◌, if◌then◌else◌};
+ghost use Rattle.cam6_planes.specs.Row.{column_bit};
+ghost use Rattle.cam6_lines.specs.declared.units.TheConstants.{UNIT};
+
+use cam6_lines::{UNIT, Unit};
+
+/// `high` where `by` is 1, and `low` where it is 0.
+#[inline(always)]
+pub(crate) fn put_choice(out: &mut Unit, by: &Unit, low: &Unit, high: &Unit, words: usize)
+    requires { words ≤ UNIT }
+    ensures { (c : ℕ) → c < 64 * words → column_bit out.new c ≡
+        (if column_bit by.now c then column_bit high.now c else column_bit low.now c) }
+{
+    for k in 0..words {
+        out[k] = low[k] ^ (by[k] & (low[k] ^ high[k]));
+    }
+}
+
+/// 1 where both are 1.
+#[inline(always)]
+pub(crate) fn put_and(out: &mut Unit, first: &Unit, second: &Unit, words: usize)
+    requires { words ≤ UNIT }
+    ensures { (c : ℕ) → c < 64 * words → column_bit out.new c ≡
+        (column_bit first.now c && column_bit second.now c) }
+{
+    for k in 0..words {
+        out[k] = first[k] & second[k];
+    }
+}
+
+/// 1 where the first is 1 and the second is not.
+#[inline(always)]
+pub(crate) fn put_and_not(out: &mut Unit, first: &Unit, second: &Unit, words: usize)
+    requires { words ≤ UNIT }
+    ensures { (c : ℕ) → c < 64 * words → column_bit out.new c ≡
+        (column_bit first.now c && not (column_bit second.now c)) }
+{
+    for k in 0..words {
+        out[k] = first[k] & !second[k];
+    }
+}
+
+/// 1 where the first or the second is 1.
+#[inline(always)]
+pub(crate) fn put_or(out: &mut Unit, first: &Unit, second: &Unit, words: usize)
+    requires { words ≤ UNIT }
+    ensures { (c : ℕ) → c < 64 * words → column_bit out.new c ≡
+        (column_bit first.now c || column_bit second.now c) }
+{
+    for k in 0..words {
+        out[k] = first[k] | second[k];
+    }
+}
+
+/// 1 where the first is 1 or the second is not.
+#[inline(always)]
+pub(crate) fn put_or_not(out: &mut Unit, first: &Unit, second: &Unit, words: usize)
+    requires { words ≤ UNIT }
+    ensures { (c : ℕ) → c < 64 * words → column_bit out.new c ≡
+        (column_bit first.now c || not (column_bit second.now c)) }
+{
+    for k in 0..words {
+        out[k] = first[k] | !second[k];
+    }
+}
+
+/// 1 where one of both is 1.
+#[inline(always)]
+pub(crate) fn put_xor(out: &mut Unit, first: &Unit, second: &Unit, words: usize)
+    requires { words ≤ UNIT }
+    ensures { (c : ℕ) → c < 64 * words → column_bit out.new c ≡
+        (if column_bit first.now c then not (column_bit second.now c)
+        else column_bit second.now c) }
+{
+    for k in 0..words {
+        out[k] = first[k] ^ second[k];
+    }
+}

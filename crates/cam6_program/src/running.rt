@@ -1,0 +1,196 @@
+//! Steps, one after the other, at all columns of units at once.
+ghost use Rattle.std.specs.Prelude.{◌≡◌, ◌<◌, ◌≤◌, ◌*◌, ℕ, false, length, map, IfSome};
+ghost use Rattle.std.specs.Prelude.{slice_index_or};
+ghost use Rattle.cam6_planes.specs.Row.{column_bit};
+ghost use Rattle.cam6_wiring.specs.Lines.{at_column};
+ghost use Rattle.cam6_lines.specs.declared.units.TheConstants.{UNIT};
+ghost use Rattle.cam6_program.specs.Meaning.{read, made, after_step, after_steps};
+ghost use Rattle.cam6_program.specs.Running.{lines_at, slots_at, with_first};
+
+use crate::operations::{put_and, put_and_not, put_choice, put_or, put_or_not, put_xor};
+use crate::steps::{Operation, Source, Step};
+use cam6_lines::{Lines, UNIT, Unit};
+use cam6_wiring::LINES;
+
+/// What a step can read: the lines, and the slots before the one that it writes and behind it.
+#[derive(Clone, Copy)]
+pub(crate) struct Readable<'a> {
+    pub(crate) lines: &'a Lines<'a>,
+    pub(crate) before: &'a [Unit],
+    pub(crate) behind: &'a [Unit],
+}
+
+static ZEROS: Unit = [0; UNIT];
+
+static ONES: Unit = [u64::MAX; UNIT];
+
+/// A unit that shows the same bit everywhere.
+pub(crate) fn constant(bit: bool) -> &'static Unit
+    ensures { (c : ℕ) → c < 64 * UNIT → column_bit result.now c ≡ bit }
+{
+    if bit { &ONES } else { &ZEROS }
+}
+
+impl<'a> Readable<'a> {
+    /// What a source gives.
+    fn read(&self, source: Source) -> &'a Unit
+        ensures { (c : ℕ) → c < 64 * UNIT →
+            column_bit result.now c ≡ read (lines_at c self.now) (slots_at c self.now) source }
+    {
+        match source {
+            Source::Constant(bit) => constant(bit),
+            Source::Line(line) => shown(self.lines, usize::from(line)),
+            Source::Slot(slot) => self.slot(usize::from(slot)),
+        }
+    }
+
+    /// What a slot holds.
+    fn slot(&self, slot: usize) -> &'a Unit
+        ensures { (c : ℕ) → c < 64 * UNIT →
+            column_bit result.now c ≡ slice_index_or (slots_at c self.now) slot false }
+    {
+        let written = self.before.len();
+        if slot < written {
+            &self.before[slot]
+        } else if slot > written && slot - written - 1 < self.behind.len() {
+            &self.behind[slot - written - 1]
+        } else {
+            constant(false)
+        }
+    }
+}
+
+/// What a line shows.
+fn shown<'a>(lines: &Lines<'a>, line: usize) -> &'a Unit
+    ensures { (c : ℕ) → c < 64 * UNIT → column_bit result.now c ≡
+        slice_index_or (at_column c (map (λ line. line.now) lines.now)) line false }
+{
+    if line < LINES {
+        lines[line]
+    } else {
+        constant(false)
+    }
+}
+
+/// What an operation makes of what it reads, in so many words.
+#[inline(always)]
+fn put_made(out: &mut Unit, operation: Operation, from: &Readable, words: usize)
+    requires { words ≤ UNIT }
+    ensures { (c : ℕ) → c < 64 * words →
+        column_bit out.new c ≡ made (lines_at c from.now) (slots_at c from.now) operation }
+{
+    match operation {
+        Operation::Choice { by, low, high } => {
+            put_choice(out, from.read(by), from.read(low), from.read(high), words)
+        }
+        Operation::And(first, second) => put_and(out, from.read(first), from.read(second), words),
+        Operation::AndNot(first, second) => {
+            put_and_not(out, from.read(first), from.read(second), words)
+        }
+        Operation::Or(first, second) => put_or(out, from.read(first), from.read(second), words),
+        Operation::OrNot(first, second) => {
+            put_or_not(out, from.read(first), from.read(second), words)
+        }
+        Operation::Xor(first, second) => put_xor(out, from.read(first), from.read(second), words),
+    }
+}
+
+/// Takes a step.
+#[inline(always)]
+fn take_step(step: Step, lines: &Lines, slots: &mut [Unit], words: usize)
+    requires { words ≤ UNIT }
+    ensures count { length slots.new ≡ length slots.old }
+    ensures step { (c : ℕ) → c < 64 * words → at_column c slots.new ≡
+        after_step (at_column c (map (λ line. line.now) lines.now)) step (at_column c slots.old) }
+{
+    let into = usize::from(step.into);
+    if into < slots.len() {
+        let (before, slots) = slots.split_at_mut(into);
+        write_first(slots, before, lines, step.operation, words);
+    }
+}
+
+/// Writes the first of the slots that lie behind others.
+#[inline(always)]
+fn write_first(
+    slots: &mut [Unit],
+    before: &[Unit],
+    lines: &Lines,
+    operation: Operation,
+    words: usize,
+)
+    requires words { words ≤ UNIT }
+    requires some { 0 < length slots.old }
+    ensures count { length slots.new ≡ length slots.old }
+    ensures first { (c : ℕ) → c < 64 * words → at_column c slots.new ≡ with_first
+        (at_column c (map (λ line. line.now) lines.now)) (at_column c before.now) operation
+        (at_column c slots.old) }
+{
+    if let Some((out, behind)) = slots.split_first_mut() {
+        let from = Readable {
+            lines: &*lines,
+            before,
+            behind,
+        };
+        put_made(out, operation, &from, words);
+    }
+}
+
+/// Takes all steps, one after the other. For whole units the number of words is known where the
+/// loops over them are compiled, which makes them a third shorter.
+pub(crate) fn take_steps(steps: &[Step], lines: &Lines, slots: &mut [Unit], words: usize)
+    requires { words ≤ UNIT }
+    ensures { (c : ℕ) → c < 64 * words → at_column c slots.new ≡ after_steps
+        (at_column c (map (λ line. line.now) lines.now)) steps.now (at_column c slots.old) }
+{
+    if words == UNIT {
+        take_steps_of_units(steps, lines, slots);
+    } else {
+        take_steps_of_parts(steps, lines, slots, words);
+    }
+}
+
+/// Takes all steps over whole units.
+#[inline(never)]
+fn take_steps_of_units(steps: &[Step], lines: &Lines, slots: &mut [Unit])
+    ensures { (c : ℕ) → c < 64 * UNIT → at_column c slots.new ≡ after_steps
+        (at_column c (map (λ line. line.now) lines.now)) steps.now (at_column c slots.old) }
+{
+    take_in_turn(steps, lines, slots, UNIT);
+}
+
+/// Takes all steps over the first words of units.
+#[inline(never)]
+fn take_steps_of_parts(steps: &[Step], lines: &Lines, slots: &mut [Unit], words: usize)
+    requires { words ≤ UNIT }
+    ensures { (c : ℕ) → c < 64 * words → at_column c slots.new ≡ after_steps
+        (at_column c (map (λ line. line.now) lines.now)) steps.now (at_column c slots.old) }
+{
+    take_in_turn(steps, lines, slots, words);
+}
+
+#[inline(always)]
+fn take_in_turn(steps: &[Step], lines: &Lines, slots: &mut [Unit], words: usize)
+    requires { words ≤ UNIT }
+    ensures { (c : ℕ) → c < 64 * words → at_column c slots.new ≡ after_steps
+        (at_column c (map (λ line. line.now) lines.now)) steps.now (at_column c slots.old) }
+{
+    for k in 0..steps.len() {
+        take_step(steps[k], lines, slots, words);
+    }
+}
+
+/// Puts what a source gives after the last step. A level that is kept has none.
+pub(crate) fn put_given(out: &mut Unit, source: Option<Source>, lines: &Lines, slots: &[Unit])
+    ensures { IfSome source (λ source. (c : ℕ) → c < 64 * UNIT → column_bit out.new c ≡
+        read (at_column c (map (λ line. line.now) lines.now)) (at_column c slots.now) source) }
+{
+    if let Some(source) = source {
+        let from = Readable {
+            lines,
+            before: slots,
+            behind: &slots[..0],
+        };
+        *out = *from.read(source);
+    }
+}

@@ -1,0 +1,35 @@
+//! The steps of a program.
+
+/// What a step reads: a bit that is always the same, what an address line shows, or what a slot
+/// holds. Past the last line and the last slot there is 0.
+#[derive(Clone, Copy, Debug, PartialEq, Eq)]
+pub enum Source {
+    Constant(bool),
+    Line(u8),
+    Slot(u8),
+}
+
+/// What a step makes of what it reads.
+#[derive(Clone, Copy, Debug, PartialEq, Eq)]
+pub enum Operation {
+    /// `high` where `by` is 1, and `low` where it is 0.
+    Choice {
+        by: Source,
+        low: Source,
+        high: Source,
+    },
+    And(Source, Source),
+    /// The first, and not the second.
+    AndNot(Source, Source),
+    Or(Source, Source),
+    /// The first, or not the second.
+    OrNot(Source, Source),
+    Xor(Source, Source),
+}
+
+/// A step empties the slot that it writes, and then puts there what its operation makes.
+#[derive(Clone, Copy, Debug, PartialEq, Eq)]
+pub struct Step {
+    pub into: u8,
+    pub operation: Operation,
+}

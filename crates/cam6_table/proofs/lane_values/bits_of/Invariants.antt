@@ -1,0 +1,12 @@
+use Rattle.std.proofs.Common.{length, ◌≡◌, ◌<◌, ℕ, slice_index}
+use Rattle.cam6_planes.specs.Row.{bit_number}
+use Rattle.cam6_wiring.specs.Seen.{shown}
+use Rattle.cam6_table.specs.declared.lane_values.TheConstants.{LANES}
+use Rattle.cam6_table.proofs.lane_values.bits_of.Given as goal
+
+abbrev pub invariant-loop-lane : goal.invariant-loop-lane
+invariant-loop-lane l = record {
+  lanes : length l.bits ≡ LANES;
+  each : (k : ℕ) → k < l.lane →
+      slice_index l.bits k ≡ bit_number (shown (slice_index l.addresses k) l.line);
+}

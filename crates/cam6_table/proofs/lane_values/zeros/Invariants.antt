@@ -1,0 +1,11 @@
+use Rattle.std.proofs.Common.{length, ◌≡◌, ◌==◌, ◌<◌, ℕ, slice_index}
+use Rattle.cam6_planes.specs.Row.{bit_number}
+use Rattle.cam6_table.specs.declared.lane_values.TheConstants.{LANES}
+use Rattle.cam6_table.proofs.lane_values.zeros.Given as goal
+
+abbrev pub invariant-loop-lane : goal.invariant-loop-lane
+invariant-loop-lane l = record {
+  lanes : length l.zeros ≡ LANES;
+  each : (k : ℕ) → k < l.lane →
+      slice_index l.zeros k ≡ bit_number (slice_index l.values k == 0);
+}

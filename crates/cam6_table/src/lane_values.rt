@@ -1,0 +1,170 @@
+//! One value for each lane, and what a word makes of two of them in every lane at once.
+ghost use Rattle.std.specs.Prelude.{◌≡◌, ◌==◌, ◌<◌, ◌∷◌, ◌/◌, ℕ, List, Ok, IsTrue, IfSome};
+ghost use Rattle.std.specs.Prelude.{slice_index, slice_index_or, true, false};
+ghost use Rattle.cam6_planes.specs.Row.{bit_number};
+ghost use Rattle.cam6_wiring.specs.Seen.{shown};
+ghost use Rattle.cam6_table.specs.declared.lane_values.TheConstants.{LANES};
+ghost use Rattle.cam6_table.specs.Words.{on_stack};
+ghost use Rattle.cam6_table.specs.Internal.Lanes.{Fits, stack_word};
+
+use crate::evaluation::bit_of;
+
+/// Addresses at which code runs at once.
+pub const LANES: usize = 64;
+
+/// One value for each lane.
+pub type LaneValues = [u16; LANES];
+
+/// A stack word that leaves one value of two.
+#[derive(Clone, Copy, Debug, PartialEq, Eq)]
+pub enum Merge {
+    Plus,
+    Minus,
+    Times,
+    And,
+    Or,
+    Xor,
+    Equal,
+    Less,
+    Greater,
+}
+
+impl Merge {
+    /// Whether the word stops at neither bound of the range. `a` stands below `b`.
+    #[inline(always)]
+    fn fits(self, a: u16, b: u16) -> bool
+        ensures { IsTrue result → Fits self a b }
+    {
+        match self {
+            Merge::Plus => a <= a.wrapping_add(b),
+            Merge::Minus => b <= a,
+            Merge::Times => u32::from(a) * u32::from(b) <= 65535,
+            Merge::And | Merge::Or | Merge::Xor => true,
+            Merge::Equal | Merge::Less | Merge::Greater => true,
+        }
+    }
+
+    /// The value that the word leaves.
+    #[inline(always)]
+    fn of(self, a: u16, b: u16) -> u16
+        ensures { (rest : List ℕ) → Fits self a b →
+            on_stack (stack_word self) (b ∷ a ∷ rest) ≡ Ok (result ∷ rest) }
+    {
+        match self {
+            Merge::Plus => a.wrapping_add(b),
+            Merge::Minus => a.wrapping_sub(b),
+            Merge::Times => a.wrapping_mul(b),
+            Merge::And => a & b,
+            Merge::Or => a | b,
+            Merge::Xor => a ^ b,
+            Merge::Equal => u16::from(a == b),
+            Merge::Less => u16::from(a < b),
+            Merge::Greater => u16::from(a > b),
+        }
+    }
+
+    /// Whether the word stops in no lane.
+    #[inline(always)]
+    pub fn fits_in_all(self, a: &LaneValues, b: &LaneValues) -> bool
+        ensures { IsTrue result → (lane : ℕ) → lane < LANES →
+            Fits self (slice_index a.now lane) (slice_index b.now lane) }
+    {
+        let mut fits = true;
+        for lane in 0..LANES {
+            fits &= self.fits(a[lane], b[lane]);
+        }
+        fits
+    }
+
+    /// The values that the word leaves.
+    #[inline(always)]
+    pub fn of_all(self, a: &LaneValues, b: &LaneValues) -> LaneValues
+        ensures { (lane : ℕ) → lane < LANES → (rest : List ℕ) →
+            Fits self (slice_index a.now lane) (slice_index b.now lane) →
+            on_stack (stack_word self) (slice_index b.now lane ∷ slice_index a.now lane ∷ rest)
+            ≡ Ok (slice_index result lane ∷ rest) }
+    {
+        let mut values = [0; LANES];
+        for lane in 0..LANES {
+            values[lane] = self.of(a[lane], b[lane]);
+        }
+        values
+    }
+}
+
+/// One value in all lanes.
+pub fn in_all(value: u16) -> LaneValues
+    ensures { (lane : ℕ) → lane < LANES → slice_index result lane ≡ value }
+{
+    [value; LANES]
+}
+
+/// 1 in the lanes in which the value is 0, and 0 in the others.
+pub fn zeros(values: &LaneValues) -> LaneValues
+    ensures { (lane : ℕ) → lane < LANES →
+        slice_index result lane ≡ bit_number (slice_index values.now lane == 0) }
+{
+    let mut zeros = [0; LANES];
+    for lane in 0..LANES {
+        zeros[lane] = u16::from(values[lane] == 0);
+    }
+    zeros
+}
+
+/// The bit of an address line in each lane.
+pub fn bits_of(addresses: &LaneValues, line: u8) -> LaneValues
+    ensures { (lane : ℕ) → lane < LANES →
+        slice_index result lane ≡ bit_number (shown (slice_index addresses.now lane) line) }
+{
+    let mut bits = [0; LANES];
+    for lane in 0..LANES {
+        bits[lane] = bit_of(addresses[lane], line);
+    }
+    bits
+}
+
+/// The values' halves, rounded down.
+pub fn halves(values: &LaneValues) -> LaneValues
+    ensures { (lane : ℕ) → lane < LANES →
+        slice_index result lane ≡ slice_index values.now lane / 2 }
+{
+    let mut halves = [0; LANES];
+    for lane in 0..LANES {
+        halves[lane] = values[lane] / 2;
+    }
+    halves
+}
+
+/// The value of all lanes, if it is one.
+pub fn common(values: &LaneValues) -> Option<u16>
+    ensures { IfSome result (λ value. (lane : ℕ) → lane < LANES →
+        slice_index values.now lane ≡ value) }
+{
+    let first = values[0];
+    let mut same = true;
+    for lane in 0..LANES {
+        same &= values[lane] == first;
+    }
+    if same { Some(first) } else { None }
+}
+
+/// The lanes in which the value is this one.
+pub fn alike(values: &LaneValues, value: u16) -> [bool; LANES]
+    ensures { (lane : ℕ) → lane < LANES → slice_index_or result lane false ≡ true →
+        slice_index values.now lane ≡ value }
+{
+    let mut alike = [false; LANES];
+    for lane in 0..LANES {
+        alike[lane] = values[lane] == value;
+    }
+    alike
+}
+
+/// How many lanes these are.
+pub fn number_of(members: &[bool; LANES]) -> usize {
+    let mut number = 0;
+    for lane in 0..LANES {
+        number += usize::from(members[lane]);
+    }
+    number
+}
