@@ -82,7 +82,10 @@ impl Table {
     {
         let position = usize::from(address);
         self.entries[position] = entry;
-        self.program = None;
+        // Emptying the program's place costs more than the entry, and there is seldom one.
+        if self.program.is_some() {
+            self.program = None;
+        }
     }
 
     /// Writes both planes' new rows of a row's lines: at each column that bit of the entry at the
