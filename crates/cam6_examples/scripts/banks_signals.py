@@ -108,4 +108,5 @@ def main():
     print_count({1}, len(STRAIGHT))
 
 
-main()
+if __name__ == "__main__":
+    main()

@@ -40,10 +40,10 @@ def main():
     assert after(2, FOUR) == SEED | {(64 + i * n, 64 + j * n) for i, j in FOUR for n in (1, 2)}
     assert [len(after(steps, FOUR)) for steps in range(32)] == [branches(steps) for steps in range(32)]
     print("# Dendrites without chance: a cell that has just one set neighbour is set, and stays so.")
-    print("# Answers: of four neighbours, after S. Ulam (1962), the first steps by hand: an arm to each side; after two steps its")
-    print("# end has three free sides, and so has the middle of each arm but two that see two arms. With the n-th step come 4 times")
-    print("# 3 to the power of one less than n has ones, as is known of this growth: 5, 9, 21, 25, 37, 49, 85 cells, and 1,365")
-    print("# after 31 steps. By scripts/dendrites.py, which looks at each cell's neighbours, and counts the same.")
+    print("# Answers: of four neighbours, after S. Ulam (1962), the first steps by hand: an arm to each side, of one cell and of two,")
+    print("# and then three cells more at the end of each. With the n-th step come 4 times 3 to the power of one less than n has ones")
+    print("# in its binary digits, as is known of this growth: 1, 5, 9, 21, 25, 37, 49, 85 cells, and 1,365 after 31 steps. The planes")
+    print("# by scripts/dendrites.py, which looks at each cell's neighbours, and counts the same.")
     four = ": SUM NORTH SOUTH + WEST + EAST + ; : D SUM 1 = CENTER OR >PLN0 ;"
     eight = ": SUM NORTH SOUTH + WEST + EAST + N.WEST + N.EAST + S.WEST + S.EAST + ; : E SUM 1 = CENTER OR >PLN0 ;"
     print_rule("D", "N/VONN", "&/CENTERS", four)

@@ -59,4 +59,5 @@ def main():
         print_plane(0, after(left))
 
 
-main()
+if __name__ == "__main__":
+    main()

@@ -78,4 +78,5 @@ def main():
     print_plane(0, beside(lambda cells: cells))
 
 
-main()
+if __name__ == "__main__":
+    main()

@@ -91,4 +91,5 @@ def main():
     print_plane(1, GLASS)
 
 
-main()
+if __name__ == "__main__":
+    main()

@@ -68,4 +68,5 @@ def main():
     print_plane(0, seeds)
 
 
-main()
+if __name__ == "__main__":
+    main()

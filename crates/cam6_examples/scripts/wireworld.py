@@ -64,7 +64,7 @@ def main():
     done = 0
     for time in (1, 12, 16, 21, 33, 39, 45, 57, 69):
         heads, tails = after(time)
-        print(f"# After {time} steps. At the output there is {'a signal' if OUTPUT in heads else 'none'}.")
+        print(f"# Step {time}: at the output there is {'a signal' if OUTPUT in heads else 'none'}.")
         print_steps(time - done)
         print_plane(0, heads)
         print_plane(1, tails)
@@ -73,4 +73,5 @@ def main():
     print_plane(2, WIRE)
 
 
-main()
+if __name__ == "__main__":
+    main()
