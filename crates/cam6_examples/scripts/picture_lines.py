@@ -151,7 +151,7 @@ def majority():
     lines.run(36)
     lines.say(do="clear", plane=3)
     lines.run(16)
-    lines.map(0, 1, 2, 3, 0, 1, 6, 7, 5, 4, 10, 11, 4, 5)
+    lines.map(0, 1, 2, 3, 0, 1, 6, 7, 4, 5, 10, 11, 4, 5)
     return lines.end()
 
 
