@@ -200,7 +200,7 @@ def pictures():
     yield "majority", majority()
     crowd = drop(EVERYWHERE, EVERYWHERE, 3, (64, 64), 16)
     yield "critters", by_blocks("critters", "C", "--scale 2 --crop 16 16 96 96", crowd, 300, (0, 7))
-    cloud = drop(EVERYWHERE, EVERYWHERE, 3, (64, 64), 26)
+    cloud = drop(EVERYWHERE, EVERYWHERE, 7, (64, 64), 24)
     yield "gases", by_blocks("gases", "G", "--scale 2 --crop 16 16 96 96", cloud, 24, (0, 10), (0, 1))
     yield "sand", hourglass()
     balls = {(40, 40), (87, 40), (40, 87), (87, 87), (52, 40), (75, 87)}
