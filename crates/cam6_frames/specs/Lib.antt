@@ -1,0 +1,8 @@
+-- In the order of reading: Lines, Frame, Replies, Run, Course, Front, Showing.
+pub mod Lines
+pub mod Frame
+pub mod Replies
+pub mod Run
+pub mod Course
+pub mod Front
+pub mod Showing

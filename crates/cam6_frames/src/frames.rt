@@ -1,0 +1,68 @@
+//! Rows of cells in colours, and frames of them.
+ghost use Rattle.std.specs.Prelude.{◌≡◌, ◌<◌, take, length};
+ghost use Rattle.std.specs.List.{AllByRecursion};
+ghost use Rattle.cam6_planes.specs.Side.{side_number};
+ghost use Rattle.cam6_frames.specs.Frame.{colours, colour_at, IsRowOf, IsFrame};
+
+use cam6_planes::{COLUMNS, Side};
+use std::marker::Model;
+
+/// How many colours there are.
+pub const COLOUR_COUNT: u8 = 16;
+
+/// A row of cells, a colour from 0 to 15 for each column. Contracts see it as a list.
+#[derive(Debug, Drop)]
+pub struct RowInColours {
+    side: Side,
+    colours: [u8; COLUMNS],
+}
+
+impl Model for RowInColours {
+    ghost use Rattle.std.specs.Prelude.{List, ℕ, take};
+    ghost use Rattle.cam6_planes.specs.Side.{side_number};
+    ghost use Rattle.cam6_frames.specs.Frame.{IsRowOf};
+
+    ghost Value = { List ℕ };
+
+    ghost view = { λ r. take (side_number r.side) r.colours };
+
+    ghost invariant = { λ r. IsRowOf r.side (take (side_number r.side) r.colours) };
+}
+
+/// A picture of a torus: its rows, as many as each has columns. Contracts see it as a list of rows.
+#[derive(Debug, Drop)]
+pub struct Frame {
+    rows: Vec<RowInColours>,
+}
+
+impl Model for Frame {
+    ghost use Rattle.std.specs.Prelude.{List, ℕ};
+    ghost use Rattle.cam6_frames.specs.Frame.{IsFrame};
+
+    ghost Value = { List (List ℕ) };
+
+    ghost view = { λ f. f.rows.items };
+
+    ghost invariant = { λ f. IsFrame f.rows.items };
+}
+
+impl Frame {
+    ghost use Rattle.cam6_frames.specs.Frame.{IsFrame};
+
+    /// How many rows and columns it has.
+    pub fn side(&self) -> Side
+        ensures side { side_number result ≡ length self.now }
+        ensures frame { IsFrame self.now }
+    {
+        self.rows[0].side
+    }
+
+    /// The colour at a column and a row, round the torus.
+    pub fn colour(&self, column: usize, row: usize) -> u8
+        ensures value { result ≡ colour_at self.now column row }
+        ensures few { result < colours }
+    {
+        let side = self.rows.len();
+        self.rows[row % side].colours[column % side]
+    }
+}
