@@ -29,6 +29,23 @@ impl Model for RowInColours {
     ghost invariant = { λ r. IsRowOf r.side (take (side_number r.side) r.colours) };
 }
 
+impl RowInColours {
+    /// The front of the colours, as many as the side has columns.
+    pub(crate) fn new(side: Side, colours: [u8; COLUMNS]) -> RowInColours
+        requires { IsRowOf side (take (side_number side) colours) }
+        ensures { result ≡ take (side_number side) colours }
+    {
+        RowInColours { side, colours }
+    }
+
+    /// How many columns it has.
+    pub(crate) fn side(&self) -> Side
+        ensures row { IsRowOf result self.now }
+    {
+        self.side
+    }
+}
+
 /// A picture of a torus: its rows, as many as each has columns. Contracts see it as a list of rows.
 #[derive(Debug, Drop)]
 pub struct Frame {
@@ -48,6 +65,14 @@ impl Model for Frame {
 
 impl Frame {
     ghost use Rattle.cam6_frames.specs.Frame.{IsFrame};
+
+    /// Rows that are a frame.
+    pub(crate) fn new(rows: Vec<RowInColours>) -> Frame
+        requires { IsFrame rows.items }
+        ensures { result ≡ rows.items }
+    {
+        Frame { rows }
+    }
 
     /// How many rows and columns it has.
     pub fn side(&self) -> Side
