@@ -1,8 +1,9 @@
--- In the order of reading: Lines, Frame, Replies, Run, Course, Front, Showing.
+-- In the order of reading: Lines, Frame, Replies, Run, Unfinished, Course, Front, Showing.
 pub mod Lines
 pub mod Frame
 pub mod Replies
 pub mod Run
+pub mod Unfinished
 pub mod Course
 pub mod Front
 pub mod Showing

@@ -2,6 +2,7 @@
 ghost use Rattle.std.specs.Prelude.{◌≡◌, ◌<◌, take, length};
 ghost use Rattle.std.specs.List.{AllByRecursion};
 ghost use Rattle.cam6_planes.specs.Side.{side_number};
+ghost use Rattle.cam6_planes.specs.declared.sides.Side.{Side};
 ghost use Rattle.cam6_frames.specs.Frame.{colours, colour_at, IsRowOf, IsFrame};
 
 use cam6_planes::{COLUMNS, Side};
@@ -39,10 +40,11 @@ impl RowInColours {
     }
 
     /// How many columns it has.
-    pub(crate) fn side(&self) -> Side
-        ensures row { IsRowOf result self.now }
+    pub(crate) fn columns(&self) -> usize
+        ensures columns { result ≡ length self.now }
+        ensures row { (side : Side) × (result ≡ side_number side) × IsRowOf side self.now }
     {
-        self.side
+        self.side.number()
     }
 }
 
