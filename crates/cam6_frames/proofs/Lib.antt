@@ -1,3 +1,5 @@
 pub mod Writes
 pub mod Kept
 pub mod OneMore
+pub mod Filled
+pub mod BitsRead

@@ -9,13 +9,14 @@
 //!
 //! Stands on: `cam6_planes`, for the sides and the digits of rows; `serde_json` and `hex`.
 //!
-//! Read next: `frames`, rows and frames; `replies`, what a line says; `runs`, rows one after another;
-//! then `showing`, with `lines` and `writers`.
+//! Read next: `frames`, rows and frames; `replies`, what a line says, with `rows`; `runs`, rows one
+//! after another; then `showing`, with `lines` and `writers`.
 #![tactic(auto)]
 
 mod frames;
 mod lines;
 mod replies;
+mod rows;
 mod runs;
 mod showing;
 mod writers;
