@@ -3,3 +3,5 @@ pub mod Kept
 pub mod OneMore
 pub mod Filled
 pub mod BitsRead
+pub mod Saying
+pub mod LongRows

@@ -1,6 +1,7 @@
--- In the order of reading: Lines, Frame, Replies, Run, Unfinished, Course, Front, Showing.
+-- In the order of reading: Lines, Frame, LineValue, Replies, Run, Unfinished, Course, Front, Showing.
 pub mod Lines
 pub mod Frame
+pub mod LineValue
 pub mod Replies
 pub mod Run
 pub mod Unfinished

@@ -1,9 +1,11 @@
 //! Rows of cells in colours, and frames of them.
-ghost use Rattle.std.specs.Prelude.{◌≡◌, ◌<◌, take, length};
+ghost use Rattle.std.specs.Prelude.{◌≡◌, ◌<◌, take, length, All};
+ghost use Rattle.std.specs.Bool.{OnTrue};
 ghost use Rattle.std.specs.List.{AllByRecursion};
 ghost use Rattle.cam6_planes.specs.Side.{side_number};
 ghost use Rattle.cam6_planes.specs.declared.sides.Side.{Side};
 ghost use Rattle.cam6_frames.specs.Frame.{colours, colour_at, IsRowOf, IsFrame};
+ghost use Rattle.cam6_frames.specs.Replies.{are_long, frame_of_rows};
 
 use cam6_planes::{COLUMNS, Side};
 use std::marker::Model;
@@ -92,4 +94,31 @@ impl Frame {
         let side = self.rows.len();
         self.rows[row % side].colours[column % side]
     }
+}
+
+/// The frame that rows are, if they are as many as each of them has columns, which is one of the
+/// sides.
+pub(crate) fn frame_of_rows(rows: Vec<RowInColours>) -> Option<Frame>
+    ensures { result ≡ frame_of_rows rows.items }
+{
+    let columns = rows.len();
+    Side::of(columns as u64)?;
+    if !are_long(columns, &rows) {
+        return None;
+    }
+    Some(Frame::new(rows))
+}
+
+/// Whether each row has so many columns.
+fn are_long(columns: usize, rows: &[RowInColours]) -> bool
+    ensures long { result ≡ are_long columns rows.now }
+    ensures rows { OnTrue result (All (λ row. (length row ≡ columns)
+        × AllByRecursion (λ colour. colour < colours) row) rows.now) }
+{
+    for row in rows {
+        if row.columns() != columns {
+            return false;
+        }
+    }
+    true
 }
