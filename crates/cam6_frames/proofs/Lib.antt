@@ -5,3 +5,4 @@ pub mod Filled
 pub mod BitsRead
 pub mod Saying
 pub mod LongRows
+pub mod FirstLine

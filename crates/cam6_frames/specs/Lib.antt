@@ -1,5 +1,6 @@
--- In the order of reading: Lines, Frame, LineValue, Replies, Run, Unfinished, Course, Front, Showing.
+-- In the order of reading: Lines, Reading, Frame, LineValue, Replies, Run, Unfinished, Course, Front, Showing.
 pub mod Lines
+pub mod Reading
 pub mod Frame
 pub mod LineValue
 pub mod Replies
