@@ -1,4 +1,4 @@
--- In the order of reading: Lines, Reading, Frame, LineValue, Replies, Run, Unfinished, Course, Front, Showing.
+-- In the order of reading: Lines, Reading, Frame, LineValue, Replies, Run, Unfinished, Course, Front, Taking, Showing.
 pub mod Lines
 pub mod Reading
 pub mod Frame
@@ -8,4 +8,5 @@ pub mod Run
 pub mod Unfinished
 pub mod Course
 pub mod Front
+pub mod Taking
 pub mod Showing

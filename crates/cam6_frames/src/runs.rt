@@ -1,5 +1,5 @@
 //! Rows of colours one after another, until they are a frame.
-ghost use Rattle.std.specs.Prelude.{◌≡◌, IfOk, OnErr, Err, None, Some};
+ghost use Rattle.std.specs.Prelude.{◌≡◌, ◌↔◌, IsTrue, IfOk, OnErr, Err, None, Some};
 ghost use Rattle.cam6_frames.specs.Run.{taken};
 ghost use Rattle.cam6_frames.specs.Unfinished.{IsUnfinished, goes_on};
 ghost use Rattle.cam6_frames.specs.declared.runs.Untaken.TheVariants.{BreaksOff};
@@ -46,6 +46,13 @@ impl Run {
         Run {
             rows: Vec::new(alloc),
         }
+    }
+
+    /// Whether no frame is under way.
+    pub(crate) fn is_empty(&self) -> bool
+        ensures { IsTrue result ↔ (self.now ≡ []) }
+    {
+        self.rows.is_empty()
     }
 
     /// Takes a reply: the frame that it makes whole, if it does.
