@@ -6,3 +6,5 @@ pub mod BitsRead
 pub mod Saying
 pub mod LongRows
 pub mod FirstLine
+pub mod Courses
+pub mod Unknown

@@ -71,8 +71,9 @@ pub fn show_frames<R: BufRead, S: Screen>(alloc: Global, reader: &mut R, screen:
             Reading::ReadFault => return End::ReadFault,
             Reading::NoMemory => return End::NoMemory,
         }
-        if let Err(stop) = take_line(alloc, &line, &mut run, screen) {
-            return end_at(before + 1, stop);
+        match take_line(alloc, &line, &mut run, screen) {
+            Ok(()) => {}
+            Err(stop) => return end_at(before + 1, stop),
         }
     }
     End::TooManyLines
