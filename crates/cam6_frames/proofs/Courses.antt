@@ -1,10 +1,9 @@
 -- What some of the lines show, and what the others do.
-use Rattle.std.proofs.Common.{◌≡◌, ◌+◌, ◌∙◌, ◌++◌, ℕ, List, [], ◌∷◌, flat_map, Option, Some, None, Result, Ok, Err}
+use Rattle.std.proofs.Common.{◌≡◌, ◌+◌, ◌∙◌, ◌++◌, ℕ, List, [], ◌∷◌, flat_map, Option, Some, None, Ok, Err}
 use Rattle.std.proofs.Common.{refl, sym, ap, option_and_then, append_assoc, append-nil}
 use Rattle.std.proofs.Common.{subst}
 use Rattle.std.proofs.KnownBytes.{Appends-nil, Keeps-refl}
 use Rattle.std.proofs.lemmas.Grind.{flat_map-append}
-use Rattle.std.specs.Prelude.{IfSome}
 use Rattle.std.specs.Option.{option_to_list}
 use Rattle.std.specs.Io.KnownBytes.{Keeps, Appends}
 use Rattle.cam6_frames.specs.declared.replies.Said.{Said}
@@ -16,9 +15,8 @@ use Rattle.cam6_frames.specs.Course.{at_end, on_taken, on_said, course}
 use Rattle.cam6_frames.specs.Front.{WritesSome}
 use Rattle.cam6_frames.specs.Reading.{ReadsOf, Reads}
 use Rattle.cam6_frames.specs.Showing.{shown_in, EndsSo, ShowsFrames}
-use Rattle.cam6_frames.specs.Taking.{step, frames_of, BreaksAt, Change, TakesLine, end_at, end_after}
+use Rattle.cam6_frames.specs.Taking.{step, frames_of, BreaksAt, TakesLine, end_at, end_after}
 use Rattle.cam6_frames.specs.declared.lines.Reading.{Reading}
-use Rattle.cam6_frames.specs.declared.lines.Reading.TheVariants.{Line, EndOfInput}
 use Rattle.cam6_frames.specs.declared.showing.End.{End}
 use Rattle.cam6_frames.specs.declared.showing.Stop.{Stop}
 use Rattle.cam6_frames.specs.declared.showing.Stop.TheVariants.{NoReply, BreaksOff, WriteFault, NoMemory}
@@ -125,7 +123,7 @@ module _ (picture : List (List ℕ) → List ℕ) (all out : List ℕ) where
     falls_short end ends fs more new splits writes =
         let front = flat_map picture h.shown in
         let all_bytes : flat_map picture (shown_in all).frames
-            ≡ front ++ ((writes.0 ++ writes.1) ++ flat_map picture more) =
+        ≡ front ++ ((writes.0 ++ writes.1) ++ flat_map picture more) =
         ap (flat_map picture) (h.frames ∙ ap (λ l. h.shown ++ l) splits)
         ∙ flat_map-append picture h.shown (fs ++ more)
         ∙ ap (λ l. front ++ l) (flat_map-append picture fs more)

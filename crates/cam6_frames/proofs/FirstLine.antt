@@ -1,10 +1,10 @@
 -- The first line of some bytes, and the lines behind it.
-use Rattle.std.proofs.Common.{◌≡◌, ◌<◌, ◌-◌, ◌==◌, get_or, ◌&&◌, ◌∙◌, ◌++◌, ℕ, List, [], ◌∷◌, length, take}
+use Rattle.std.proofs.Common.{◌≡◌, ◌<◌, ◌-◌, ◌==◌, get_or, ◌∙◌, ℕ, List, [], ◌∷◌, length, take}
 use Rattle.std.proofs.Common.{Bool, true, false, cond, Option, Some, None, suc, refl, sym, ap, arith, nat_lt}
 use Rattle.std.specs.Prelude.{IfSome}
 use Rattle.std.specs.Io.BufRead.{take_through, drop_through, strip_last, DropsThrough}
 use Rattle.cam6_frames.specs.Lines.{begin_line, lines}
-use Rattle.cam6_frames.specs.Reading.{ReadsOf, Reads}
+use Rattle.cam6_frames.specs.Reading.{Reads}
 use Rattle.cam6_frames.specs.declared.lines.Reading.TheVariants.{Line}
 
 cut_or_whole : (ends : Bool) (n b : ℕ) (line : List ℕ)

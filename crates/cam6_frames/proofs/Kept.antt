@@ -1,5 +1,5 @@
 -- A frame's colours, from its rows as they are kept.
-use Rattle.std.proofs.Common.{◌≡◌, ◌<◌, ◌≤◌, ◌%◌, ◌∙◌, ℕ, List, [], length, take, get_or, refl, sym, ap}
+use Rattle.std.proofs.Common.{◌≡◌, ◌<◌, ◌%◌, ◌∙◌, ℕ, List, [], length, take, get_or, sym, ap}
 use Rattle.std.proofs.Common.{◌∷◌, subst, arith, min, zero, suc}
 use Rattle.std.proofs.Math.Nat.{mod-lt}
 use Rattle.std.proofs.lemmas.List.{get_or-take, get_or_default, length-take}

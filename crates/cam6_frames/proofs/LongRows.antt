@@ -1,5 +1,5 @@
 -- Rows of one length, one after another.
-use Rattle.std.proofs.Common.{◌≡◌, ◌<◌, ◌+◌, ◌∙◌, ◌==◌, ℕ, List, [], ◌∷◌, length, get_or, drop, cond, sym, ap, add-one}
+use Rattle.std.proofs.Common.{◌≡◌, ◌<◌, ◌+◌, ◌∙◌, ℕ, List, ◌∷◌, length, get_or, drop, cond, sym, ap, add-one}
 use Rattle.std.proofs.Common.{subst, suc, false, eq-eqb, drop-cons}
 use Rattle.std.specs.List.{AllByRecursion}
 use Rattle.cam6_planes.specs.declared.sides.Side.{Side}
@@ -18,10 +18,10 @@ module _ (columns : ℕ) (rows : List (List ℕ)) (i : ℕ) (row : List ℕ) (wi
   others_decide long =
       rw (add-one i)
       (sym (
-        ap (are_long columns) (drop-cons rows i row within)
-        ∙ ap (λ r. are_long columns (r ∷ drop (suc i) rows)) (sym here)
-        ∙ ap (λ b. cond b (are_long columns (drop (suc i) rows)) false)
-        (eq-eqb (length row) columns long)
+      ap (are_long columns) (drop-cons rows i row within)
+      ∙ ap (λ r. are_long columns (r ∷ drop (suc i) rows)) (sym here)
+      ∙ ap (λ b. cond b (are_long columns (drop (suc i) rows)) false)
+      (eq-eqb (length row) columns long)
       ))
 
   -- it is long itself

@@ -1,5 +1,5 @@
 -- The same of a reader and a screen of which it isn't known whether they tell their bytes.
-use Rattle.std.proofs.Common.{◌≡◌, ◌+◌, ℕ, List, [], ◌∷◌, Option, None, Some, Result, Ok, Err, sym, subst}
+use Rattle.std.proofs.Common.{◌≡◌, ◌+◌, ℕ, List, [], Option, None, Some, Result, Ok, Err, sym, subst}
 use Rattle.std.specs.Prelude.{IfSome}
 use Rattle.cam6_frames.specs.Course.{Verdict}
 use Rattle.cam6_frames.specs.Reading.{Reads}

@@ -96,8 +96,11 @@ fn take_line<S: Screen>(
     screen: &mut S,
 ) -> Result<(), Stop>
     ensures taken { TakesLine (S.picture screen.old) line.now result (record {
-        old = run.old; new = run.new;
-        before = S.contents screen.old; after = S.contents screen.new }) }
+      old = run.old;
+      new = run.new;
+      before = S.contents screen.old;
+      after = S.contents screen.new;
+    }) }
     ensures stays { S.picture screen.new ≡ S.picture screen.old }
 {
     match take_reply(alloc, line, run)? {

@@ -1,4 +1,4 @@
-use Rattle.std.proofs.Common.{rules, arith}
+use Rattle.std.proofs.Common.{arith}
 use Rattle.cam6_frames.proofs.FirstLine.{reads_line}
 use Rattle.cam6_frames.proofs.lines.read_line.Goals as goal
 

@@ -1,4 +1,3 @@
-use Rattle.std.proofs.Common.{rules}
 use Rattle.cam6_frames.proofs.Saying.{value_found, no_value}
 use Rattle.cam6_frames.proofs.replies.line_value.Goals as goal
 

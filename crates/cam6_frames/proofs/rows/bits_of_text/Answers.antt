@@ -1,4 +1,4 @@
-use Rattle.std.proofs.Common.{rules, sym, ap, ◌∙◌, ◌*◌, length}
+use Rattle.std.proofs.Common.{rules, sym}
 use Rattle.cam6_frames.proofs.BitsRead.{bits_shown}
 use Rattle.cam6_frames.proofs.rows.bits_of_text.Goals as goal
 

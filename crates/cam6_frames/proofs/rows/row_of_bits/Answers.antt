@@ -1,4 +1,4 @@
-use Rattle.std.proofs.Common.{rules, ◌≡◌, ◌<◌}
+use Rattle.std.proofs.Common.{rules}
 use Rattle.cam6_frames.proofs.Filled.{front_filled}
 use Rattle.cam6_frames.proofs.rows.row_of_bits.Goals as goal
 

@@ -1,5 +1,4 @@
-use Rattle.std.proofs.Common.{rules, sym, ap, ◌∙◌, length, arith, subst, ◌≤◌}
-use Rattle.cam6_frames.specs.Frame.{IsFrame}
+use Rattle.std.proofs.Common.{rules, ap, length, arith}
 use Rattle.cam6_frames.proofs.OneMore.{stays_unfinished, becomes_frame}
 use Rattle.cam6_frames.proofs.runs.take_row.Goals as goal
 

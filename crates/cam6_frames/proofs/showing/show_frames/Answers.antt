@@ -1,4 +1,4 @@
-use Rattle.std.proofs.Common.{◌∙◌, refl, rules}
+use Rattle.std.proofs.Common.{◌∙◌, refl}
 use Rattle.cam6_frames.proofs.Unknown.{shown_at_first, is_cut_off, is_at_end, shown_on, is_not_taken}
 use Rattle.cam6_frames.specs.declared.showing.End.TheVariants.{ReadFault, NoMemory, TooManyLines}
 use Rattle.cam6_frames.proofs.showing.show_frames.Goals as goal
