@@ -8,3 +8,4 @@ pub mod LongRows
 pub mod FirstLine
 pub mod Courses
 pub mod Unknown
+pub mod ReadBack

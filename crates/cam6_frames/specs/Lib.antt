@@ -1,4 +1,5 @@
--- In the order of reading: Lines, Reading, Frame, LineValue, Replies, Run, Unfinished, Course, Front, Taking, Showing.
+-- In the order of reading: Lines, Reading, Frame, LineValue, Replies, Run, Unfinished, Course, Front,
+-- Taking, Showing, Laws.
 pub mod Lines
 pub mod Reading
 pub mod Frame
@@ -10,3 +11,4 @@ pub mod Course
 pub mod Front
 pub mod Taking
 pub mod Showing
+pub mod Laws

@@ -10,10 +10,11 @@
 //! Stands on: `cam6_planes`, for the sides and the digits of rows; `serde_json` and `hex`.
 //!
 //! Read next: `frames`, rows and frames; `replies`, what a line says, with `rows`; `runs`, rows one
-//! after another; then `showing`, with `lines` and `writers`.
+//! after another; then `showing`, with `lines` and `writers`; then `laws`, what is read back.
 #![tactic(auto)]
 
 mod frames;
+pub mod laws;
 mod lines;
 mod replies;
 mod rows;
