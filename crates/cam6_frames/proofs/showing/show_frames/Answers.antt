@@ -1,0 +1,48 @@
+use Rattle.std.proofs.Common.{◌∙◌, refl}
+use Rattle.cam6_frames.proofs.Unknown.{shown_at_first, is_cut_off, is_at_end, shown_on, is_not_taken}
+use Rattle.cam6_frames.specs.declared.showing.End.TheVariants.{ReadFault, NoMemory, TooManyLines}
+use Rattle.cam6_frames.proofs.showing.show_frames.Goals as goal
+
+pub loop-before-init : goal.loop-before-init
+loop-before-init g c = record {
+  same = refl;
+  shown =
+      shown_at_first (g.S.Screen.picture c.args.screen.now) (g.R.Read.remaining c.args.reader.now)
+      (g.S.Screen.contents c.args.screen.now) c.new-run.result c.new-run.ensures;
+}
+
+pub returns-in-ReadFault : goal.returns-in-ReadFault
+returns-in-ReadFault g c =
+    is_cut_off _ _ _ _ _ _ _ c.loop-before.invariant.shown ReadFault (λ v missing. tt)
+
+pub returns-in-NoMemory : goal.returns-in-NoMemory
+returns-in-NoMemory g c =
+    is_cut_off _ _ _ _ _ _ _ c.loop-before.invariant.shown NoMemory (λ v missing. tt)
+
+pub returns : goal.returns
+returns g c =
+    is_cut_off _ _ _ _ _ _ _ c.loop-before.invariant.shown TooManyLines (λ v missing. tt)
+
+pub returns-in-EndOfInput : goal.returns-in-EndOfInput
+returns-in-EndOfInput g c =
+    is_at_end _ _ _ _ _ _ _ c.loop-before.invariant.shown c.end_after.result
+    (g.R.Read.remaining c.read_line.new.reader) c.read_line.new.line.items c.end_after.ensures
+    c.in-EndOfInput.ensures
+
+pub returns-in-Err : goal.returns-in-Err
+returns-in-Err g c =
+    is_not_taken _ _ _ _ _ _ _ c.loop-before.invariant.shown c.read_line.new.line.items
+    c.deref.result.now c.deref.ensures.value (g.R.Read.remaining c.read_line.new.reader)
+    c.in-Line.ensures (g.S.Screen.picture c.loop-before.screen) c.loop-before.invariant.same
+    (g.S.Screen.contents c.take_line.new.screen) c.take_line.new.run c.end_at.result c.in-Err.stop
+    c.end_at.ensures c.in-Err.ensures.taken
+
+pub loop-before-preserved : goal.loop-before-preserved
+loop-before-preserved g c = record {
+  same = c.in-Ok.ensures.stays ∙ c.loop-before.invariant.same;
+  shown =
+      shown_on _ _ _ _ _ _ _ c.loop-before.invariant.shown c.read_line.new.line.items
+      c.deref.result.now c.deref.ensures.value (g.R.Read.remaining c.read_line.new.reader)
+      c.in-Line.ensures (g.S.Screen.picture c.loop-before.screen) c.loop-before.invariant.same
+      (g.S.Screen.contents c.take_line.new.screen) c.take_line.new.run c.in-Ok.ensures.taken;
+}
