@@ -1,5 +1,5 @@
 -- The words that the program takes, and what they ask for.
-use Rattle.std.specs.Prelude.{◌≡◌, ◌≢◌, ℕ, List, [], ◌∷◌, codes, Option, Some, None, ⊤}
+use Rattle.std.specs.Prelude.{◌≡◌, ◌≢◌, ◌⊎◌, ¬, true, ℕ, List, [], ◌∷◌, codes, Option, Some, None, ⊤}
 use Rattle.std.specs.Prelude.{if◌then◌else◌, option_and_then, option_map}
 use Rattle.std.specs.Borrow.{Bor}
 use Rattle.std.specs.Str.{bytes_eq}
@@ -11,6 +11,7 @@ use Rattle.clap.specs.Words.{with_rule, with_subcommand}
 use Rattle.clap.specs.declared.builder.value_parser.ValueParser.TheVariants.{Names, Unsigned}
 use Rattle.clap.specs.declared.error.kind.ErrorKind.{ErrorKind}
 use Rattle.clap.specs.declared.error.kind.ErrorKind.TheVariants.{OutOfMemory, DisplayHelp}
+use Rattle.clap.specs.declared.error.kind.ErrorKind.TheVariants.{DisplayVersion}
 use Rattle.cam6_planes.specs.declared.sides.Side.{Side}
 use Rattle.cam6_planes.specs.declared.sides.Side.TheVariants.{S128, S256, S512}
 use Rattle.cam6_cache.specs.Limits.{max_capacity}
@@ -113,12 +114,19 @@ serve sides =
     connections_option)
     (side_option sides)
 
+-- `cam6` by itself, which has a version
+abbrev pub without_words : App
+without_words =
+    record (new_app (codes "cam6")) {
+      top = record ((new_app (codes "cam6")).top) { has_version = true };
+    }
+
 -- `cam6`, with its subcommands; the three sides may be kept in a place for each
 abbrev pub program : TextsAt → TextsAt → TextsAt → App
 program of_alone of_replay of_serve =
     with_subcommand
     (with_subcommand
-    (with_subcommand (new_app (codes "cam6")) (alone of_alone).top)
+    (with_subcommand without_words (alone of_alone).top)
     (replay of_replay).top)
     (serve of_serve).top
 
@@ -190,15 +198,19 @@ HasMode (Serve serving port) said =
     said
     ≡ Some (served serving.users serving.boards serving.cache serving.limit serving.connections port)
 
+-- help, or the version, is asked for
+abbrev pub IsAsked : ErrorKind → Type 0
+IsAsked kind = (kind ≡ DisplayHelp) ⊎ (kind ≡ DisplayVersion)
+
 -- an error of clap's of this kind is refused so
 abbrev pub IsOfKind : Refused → ErrorKind → Type 0
-IsOfKind (Help text) kind = kind ≡ DisplayHelp
-IsOfKind (Words text) kind = (kind ≢ DisplayHelp) × (kind ≢ OutOfMemory)
+IsOfKind (Help text) kind = IsAsked kind
+IsOfKind (Words text) kind = ¬ (IsAsked kind) × (kind ≢ OutOfMemory)
 IsOfKind NoMemory kind = ⊤
 
--- help and a refusal come only where clap has an error of such a kind
+-- help, the version and a refusal come only where clap has an error of such a kind
 abbrev pub Refuses : Kinds → Refused → Type 0
-Refuses kinds (Help text) = IsAmong DisplayHelp kinds
+Refuses kinds (Help text) = (kind : ErrorKind) × IsAmong kind kinds × IsAsked kind
 Refuses kinds (Words text) =
-    (kind : ErrorKind) × IsAmong kind kinds × (kind ≢ DisplayHelp) × (kind ≢ OutOfMemory)
+    (kind : ErrorKind) × IsAmong kind kinds × ¬ (IsAsked kind) × (kind ≢ OutOfMemory)
 Refuses kinds NoMemory = ⊤

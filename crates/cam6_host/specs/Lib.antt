@@ -1,6 +1,7 @@
--- In the order of reading: Sharing, CommandLine, Unreadable, Turns, Replays, Statuses.
+-- In the order of reading: Sharing, CommandLine, Slips, Unreadable, Turns, Replays, Statuses.
 pub mod Sharing
 pub mod CommandLine
+pub mod Slips
 pub mod Unreadable
 pub mod Turns
 pub mod Replays

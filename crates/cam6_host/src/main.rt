@@ -24,6 +24,7 @@ ghost use Rattle.cam6_host.specs.Unreadable.{IsUnreadable};
 mod modes;
 #[cfg(test)]
 mod run_tests;
+mod slips;
 mod statuses;
 mod streams;
 mod words;
@@ -38,10 +39,18 @@ use statuses::{NO_MEMORY, WRITE_FAILED, failure_of, fault_of, refusal_of};
 use std::alloc::Global;
 use std::env::Env;
 use std::io;
-use std::io::{BufReader, ErrorKind};
+use std::io::{BufReader, ErrorKind, IsTerminal};
 use std::net::{Ipv4Addr, Net, TcpListener, TcpStream};
 use std::process::ExitCode;
 use streams::{replay_streams, serve_streams};
+
+/// What is told where commands are typed.
+const COMMANDS_ARE_TYPED: &str = "\
+cam6: a command a line, as {\"do\":\"rules\"}; Ctrl-D ends; see docs/MANUAL.md or cam6 --help\n";
+
+/// What is told where events are typed.
+const EVENTS_ARE_TYPED: &str = "\
+cam6: an event a line, as {\"event\":\"evict\"}; Ctrl-D ends; see docs/MANUAL.md or cam6 --help\n";
 
 fn main(rt: HostRuntime) -> ExitCode {
     run(
@@ -55,6 +64,8 @@ fn run<R: Env + Input + Print + Eprint + AllocGlobal, F: Fn(Serving, u16) -> Exi
     rt: &R,
     served: &F,
 ) -> ExitCode
+where
+    R::Reader: IsTerminal,
     requires { F.IsAlwaysCallable served.now }
 {
     let options = match options_given(rt) {
@@ -108,9 +119,22 @@ fn unreadable(alloc: Global, kind: ErrorKind) -> Refused
     }
 }
 
+/// Tells somebody who types what is read.
+fn greet(rt: &impl Eprint, input: &impl IsTerminal, text: &str) {
+    if input.is_terminal() {
+        // That it can't be told is no fault of what is typed.
+        let _ = rt.eprint(text);
+    }
+}
+
 /// Serves one machine over standard input and output.
-fn alone<R: Input + Print + Eprint + AllocGlobal>(rt: &R, limit: Side) -> ExitCode {
-    let Ok(mut reader) = BufReader::new(rt.alloc(), rt.reader()) else {
+fn alone<R: Input + Print + Eprint + AllocGlobal>(rt: &R, limit: Side) -> ExitCode
+where
+    R::Reader: IsTerminal,
+{
+    let input = rt.reader();
+    greet(rt, &input, COMMANDS_ARE_TYPED);
+    let Ok(mut reader) = BufReader::new(rt.alloc(), input) else {
         return failed(rt, NO_MEMORY, "cam6: no memory\n");
     };
     let end = serve_streams(rt.alloc(), limit, &mut reader, &mut io::writer(rt));
@@ -122,8 +146,13 @@ fn shared<R: Input + Print + Eprint + AllocGlobal>(
     rt: &R,
     sharing: Sharing,
     limit: Side,
-) -> ExitCode {
-    let Ok(mut reader) = BufReader::new(rt.alloc(), rt.reader()) else {
+) -> ExitCode
+where
+    R::Reader: IsTerminal,
+{
+    let input = rt.reader();
+    greet(rt, &input, EVENTS_ARE_TYPED);
+    let Ok(mut reader) = BufReader::new(rt.alloc(), input) else {
         return failed(rt, NO_MEMORY, "cam6: no memory\n");
     };
     let end = replay_streams(rt.alloc(), sharing, limit, &mut reader, &mut io::writer(rt));

@@ -9,7 +9,7 @@ use std::cell::RefCell;
 use std::env::{Env, FillError};
 use std::fmt::Display;
 use std::io;
-use std::io::{BufRead, ErrorKind, Lines, Read};
+use std::io::{BufRead, ErrorKind, IsTerminal, Lines, Read};
 use std::process::ExitCode;
 
 /// Some input, and whether reading fails behind it.
@@ -38,6 +38,12 @@ impl BufRead for Given {
 
     fn consume(&mut self, amount: usize) {
         self.bytes = &self.bytes[amount.min(self.bytes.len())..];
+    }
+}
+
+impl IsTerminal for Given {
+    fn is_terminal(&self) -> bool {
+        false
     }
 }
 

@@ -1,6 +1,6 @@
 //! The words of the command line.
 ghost use Rattle.std.specs.Prelude.{◌≡◌, ◌<◌, ◌≤◌, [], IfOk, IsSome, MatchResult, Some, false};
-ghost use Rattle.std.specs.Prelude.{◌⊎◌, IsErr, map, string_bytes};
+ghost use Rattle.std.specs.Prelude.{◌⊎◌, IsErr, IfErr, length, map, string_bytes};
 ghost use Rattle.clap.specs.Words.{App, app_of, fault_of, found_of, kind_of, rows_of, rule_of};
 ghost use Rattle.clap.specs.Words.{subcommand_of, subcommand_rows_of};
 ghost use Rattle.cam6_host.specs.CommandLine.{AreSides, HasMode, IsOfKind, IsProgram, Refuses};
@@ -14,8 +14,10 @@ ghost use Rattle.cam6_host.specs.CommandLine.{boards_option as option_of_boards}
 ghost use Rattle.cam6_host.specs.CommandLine.{cache_option as option_of_tables};
 ghost use Rattle.cam6_host.specs.CommandLine.{port_option as option_of_ports};
 ghost use Rattle.cam6_host.specs.CommandLine.{connections_option as option_of_connections};
+ghost use Rattle.cam6_host.specs.Slips.{EndsWith, IsTold, slip, told_of as what_is_told};
 
 use crate::modes::{Options, Refused, Sharing};
+use crate::slips::{slip_of, told_of};
 use cam6_cache::MAX_CAPACITY;
 use cam6_core::{MAX_BOARDS, MAX_USERS};
 use cam6_planes::Side;
@@ -31,13 +33,52 @@ static SIDES: [&str; 3] = ["128", "256", "512"];
 /// The last port.
 const MAX_PORT: u64 = 65_535;
 
+/// The program's version, and the toolchain that proves it.
+const VERSION: &str = "1 (rattle-kit-13f logic dac8208d650f15bf)";
+
+/// What the statuses mean, and where more is said.
+const PROGRAM_TEXT: &str = "\
+Exit statuses: 0 end of input, help or version; 2 refused words; 3 read failed; 4 write failed;
+5 no memory; 6 turn bound reached; 7 network failed. Each but 0 is told on standard error.
+
+A line to try: a blank machine has no rules.
+  echo '{\"do\":\"rules\"}' | cam6
+Commands, rules, events and faults are in docs/MANUAL.md, rules to look at in docs/GALLERY.md.";
+
+/// What `alone` answers.
+const ALONE_TEXT: &str = "\
+Each line is a command as JSON, and is answered by a line. The machine is blank at first. It ends with
+the input; typed at a terminal, by Ctrl-D.
+
+Exit statuses: 0 end of input; 2 refused words; 3 read failed; 4 write failed; 5 no memory; 6 turn
+bound reached.
+
+A line to try: at side 128, what plane 0 has in row 0.
+  echo '{\"do\":\"row\",\"plane\":0,\"row\":0}' | cam6 alone --side 128";
+
+/// What `replay` answers.
+const REPLAY_TEXT: &str = "\
+Each line is an event as JSON: a user asks, a board leases his command, does a band of rows, fails.
+What comes of it is answered by a line. Users are numbered from 1, boards from 0.
+
+Exit statuses: 0 end of input; 2 refused words; 3 read failed; 4 write failed; 5 no memory; 6 turn
+bound reached.
+
+A line to try: user 1 asks which rules he has, and is answered at once.
+  echo '{\"event\":\"ask\",\"user\":1,\"command\":{\"do\":\"rules\"}}' | cam6 replay";
+
 /// What is said on a connection, with a session to try.
 const SEATS_TEXT: &str = "\
-The first line of a connection to `serve` asks for the machine of a user, who are numbered from 1:
+The first line of a connection asks for the machine of a user, who are numbered from 1:
   {\"seat\":1}
 It is answered by {\"ok\":\"seat\"}, or by {\"fault\":80} where the user has a connection, and by
 {\"fault\":81} where there is no such user. Each line behind it is a command, as of `alone`, and is
-answered by a line. A session to try, with one command, which lists the rules that there are:
+answered by a line.
+
+Exit statuses: 0 as many connections as were to be served; 2 refused words; 5 no memory; 7 network
+failed.
+
+A session to try, with one command, which lists the rules that there are:
   cam6 serve &
   printf '{\"seat\":1}\\n{\"do\":\"rules\"}\\n' | nc -N 127.0.0.1 6006";
 
@@ -49,13 +90,16 @@ pub fn options(alloc: Global, words: &[String]) -> Result<Options, Refused>
     ensures refused { (app : App) × IsProgram app × MatchResult result
         (λ _. fault_of app (map string_bytes words.now) ≡ [])
         (Refuses (fault_of app (map string_bytes words.now))) }
+    // What is told of words that are often meant otherwise stands at the end.
+    ensures slip { IfErr result
+        (λ refused. EndsWith refused (what_is_told (slip (map string_bytes words.now)))) }
 {
     let Ok(command) = program(alloc) else {
         return Err(Refused::NoMemory);
     };
     match command.try_get_matches_from(words) {
         Ok(matches) => Ok(mode_given(&matches)),
-        Err(error) => Err(refusal(alloc, error)),
+        Err(error) => Err(refusal(alloc, error, told_of(slip_of(words)))),
     }
 }
 
@@ -158,10 +202,12 @@ pub fn program<'a>(alloc: Global) -> Result<Command<'a>, AllocError>
 {
     let alone = Command::new(alloc, "alone")
         .about("Answers command lines on standard input")
+        .after_help(ALONE_TEXT)
         .arg(side_option(alloc))?;
     Command::new(alloc, "cam6")
         .about("A CAM-6 cellular automata machine; without words, as `alone`")
-        .after_help(SEATS_TEXT)
+        .after_help(PROGRAM_TEXT)
+        .version(VERSION)
         .subcommand(alone)?
         .subcommand(replay(alloc)?)?
         .subcommand(serve(alloc)?)
@@ -174,6 +220,7 @@ fn replay<'a>(alloc: Global) -> Result<Command<'a>, AllocError>
 {
     Command::new(alloc, "replay")
         .about("Does the events of lines on standard input: users who share boards and tables")
+        .after_help(REPLAY_TEXT)
         .arg(users_option(alloc))?
         .arg(boards_option(alloc))?
         .arg(cache_option(alloc))?
@@ -269,26 +316,40 @@ fn side_option<'a>(alloc: Global) -> Arg<'a>
         .help("The largest side that a machine may have")
 }
 
-/// What clap's error means for the program.
-fn refusal(alloc: Global, error: clap::Error) -> Refused
-    ensures { IsOfKind result (kind_of error) }
+/// What clap's error means for the program; what is told of a slip stands behind its text.
+fn refusal(alloc: Global, error: clap::Error, slip: &str) -> Refused
+    ensures kind { IsOfKind result (kind_of error) }
+    ensures slip { EndsWith result slip.now }
 {
     let kind = error.kind();
-    refused(kind, error.to_string(alloc))
+    refused(kind, error.to_string(alloc), slip)
 }
 
 /// What an error of this kind means for the program, with its text, or none for want of memory.
-fn refused(kind: ErrorKind, text: Result<String, AllocError>) -> Refused
+fn refused(kind: ErrorKind, text: Result<String, AllocError>, slip: &str) -> Refused
     ensures kind { IsOfKind result kind }
+    ensures slip { EndsWith result slip.now }
     // Memory is told to be wanted only where it is.
-    ensures memory { result ≡ Refused.NoMemory → (kind ≡ ErrorKind.OutOfMemory) ⊎ IsErr text }
+    ensures memory { result ≡ Refused.NoMemory →
+        (kind ≡ ErrorKind.OutOfMemory) ⊎ (IsErr text ⊎ (0 < length slip.now)) }
 {
     let Ok(text) = text else {
         return Refused::NoMemory;
     };
     match kind {
         ErrorKind::OutOfMemory => Refused::NoMemory,
-        ErrorKind::DisplayHelp => Refused::Help(text),
-        _ => Refused::Words(text),
+        ErrorKind::DisplayHelp | ErrorKind::DisplayVersion => Refused::Help(text),
+        _ => with_slip(text, slip),
+    }
+}
+
+/// Refused words, with what is told of a slip.
+fn with_slip(text: String, slip: &str) -> Refused
+    ensures words { IsTold result (string_bytes text) slip.now }
+{
+    let mut text = text;
+    match text.push_str(slip) {
+        Ok(()) => Refused::Words(text),
+        Err(_) => Refused::NoMemory,
     }
 }

@@ -96,7 +96,9 @@ fn words_are_refused(rt: HostRuntime) -> Result<(), Fail> {
         ("cam6 replay --help", 0),
         ("cam6 serve --help", 0),
         ("cam6 help", 0),
-        ("cam6 --version", 2),
+        ("cam6 --version", 0),
+        ("cam6 -V", 0),
+        ("cam6 alone --version", 2),
         ("cam6 --side 256", 2),
         ("cam6 --users 4", 2),
         ("cam6 alone --side 200", 2),
@@ -148,7 +150,29 @@ fn words_are_refused(rt: HostRuntime) -> Result<(), Fail> {
         };
         assert_eq!(rt; status, Some(want), "{line}");
         let clap = text_of_clap(alloc, words.as_slice())?;
-        assert_eq!(rt; text, clap.as_str(), "{line}");
+        assert!(rt; text.starts_with(clap.as_str()), "{line}");
+    }
+    Ok(())
+}
+
+// What is told of words that are often meant otherwise, behind clap's own text.
+#[test]
+fn slips_are_told(rt: HostRuntime) -> Result<(), Fail> {
+    let alloc = rt.alloc();
+    for (line, want) in [
+        ("cam6 --side 128", "cam6 alone --side 128\n"),
+        ("cam6 --side=128", "cam6 alone --side 128\n"),
+        ("cam6 --users 4", "cam6 serve --users 4 --boards 2\n"),
+        ("cam6 --port 6006", "cam6 serve --port 6006\n"),
+        ("cam6 life.lines", "cam6 < FILE, or cam6 replay < FILE\n"),
+        ("cam6 alone life.lines", "cam6 < FILE, or cam6 replay < FILE\n"),
+    ] {
+        let read = options(alloc, words_of(alloc, line)?.as_slice());
+        let text = match &read {
+            Ok(_) => "",
+            Err(refused) => refusal_of(refused).1,
+        };
+        assert!(rt; text.ends_with(want), "{line}");
     }
     Ok(())
 }
