@@ -1,0 +1,13 @@
+-- Why the words of the command line can't be had.
+use Rattle.std.specs.Prelude.{◌≡◌, ◌≢◌, codes, string_bytes, ⊤}
+use Rattle.std.specs.declared.io.ErrorKind.{ErrorKind}
+use Rattle.std.specs.declared.io.ErrorKind.TheVariants.{OutOfMemory}
+use Rattle.cam6_draw.specs.declared.modes.Refused.{Refused}
+use Rattle.cam6_draw.specs.declared.modes.Refused.TheVariants.{Help, Words, NoMemory}
+
+-- for want of memory, or because one is no UTF-8
+abbrev pub IsUnreadable : Refused → ErrorKind → Type 0
+IsUnreadable (Help text) kind = ⊥
+IsUnreadable (Words text) kind =
+    (kind ≢ OutOfMemory) × (string_bytes text ≡ codes "cam6_draw: a word is not UTF-8\n")
+IsUnreadable NoMemory kind = ⊤

@@ -1,0 +1,2 @@
+mod ValuesRead
+mod Refusals
