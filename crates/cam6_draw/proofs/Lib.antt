@@ -10,3 +10,5 @@ pub mod Lights
 pub mod ValuesRead
 -- Of the program, clap's matches and faults are functions of the words; what a refusal says of them.
 pub mod Refusing
+-- What is asked for, by the parts that clap's rows say.
+pub mod Asked
