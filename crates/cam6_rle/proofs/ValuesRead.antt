@@ -10,7 +10,8 @@ use Rattle.clap.specs.ValueTests.{is_unsigned_in}
 use Rattle.clap.specs.Matches.{first_value, found_of}
 use Rattle.clap.specs.declared.builder.value_parser.ValueParser.TheVariants.{Unsigned}
 use Rattle.clap.specs.declared.parser.matches.ArgMatches.{ArgMatches}
-use Rattle.cam6_rle.specs.CommandLine.{last_move, move_said}
+use Rattle.cam6_rle.specs.CommandLine.{move_said}
+use Rattle.cam6_rle.specs.Placing.{last_move}
 
 pub text_at : (m : ArgMatches) (name : Text) (given : Option Text)
     → given ≡ first_value (found_of m) name → first_of name (rows_of (found_of m)) ≡ given

@@ -17,6 +17,7 @@ use Rattle.clap.specs.declared.builder.action.ArgAction.TheVariants.{Count}
 use Rattle.clap.specs.declared.builder.value_parser.ValueParser.TheVariants.{Names, Unsigned}
 use Rattle.cam6_planes.specs.declared.sides.Side.{Side}
 use Rattle.cam6_planes.specs.declared.sides.Side.TheVariants.{S128, S256, S512}
+use Rattle.cam6_rle.specs.Placing.{Placing, last_move}
 use Rattle.cam6_rle.specs.declared.modes.Options.{Options}
 use Rattle.cam6_rle.specs.declared.modes.Options.TheVariants.{Place, Gather}
 use Rattle.cam6_rle.specs.declared.modes.Refused.{Refused}
@@ -33,10 +34,6 @@ abbrev pub side_said : Text → Option Side
 side_said word = if bytes_eq word (side_text S128) then Some S128
     else (if bytes_eq word (side_text S256) then Some S256
     else (if bytes_eq word (side_text S512) then Some S512 else None))
-
--- the last column, or row, by which a pattern is moved
-abbrev pub last_move : ℕ
-last_move = 511
 
 -- a whole number up to that, as a word
 abbrev pub move_said : Text → Option ℕ
@@ -136,8 +133,8 @@ IsProgram app = (sides : TextsAt) × AreSides sides × (app ≡ program sides)
 
 -- what the program is to do
 pub data Task : Type 0 where
-  -- set a pattern on a torus of this side, moved by so many columns and rows, in these planes
-  place : Side → ℕ → ℕ → List ℕ → Task
+  -- set a pattern
+  place : Placing → Task
   -- write the text of each frame of replies, with this name of a rule
   gather : Text → Task
 
@@ -163,7 +160,7 @@ placed side column row planes = do
   c ← column
   r ← row
   p ← planes
-  Some (place s c r p)
+  Some (place (record { side = s; column = c; row = r; planes = p }))
 
 -- set a pattern, as the options say
 abbrev pub place_at : List Row → Option Task
@@ -191,7 +188,7 @@ task_of rows =
 
 -- the words ask for this
 abbrev pub HasTask : Options → Option Task → Type 0
-HasTask (Place side column row planes) said = said ≡ Some (place side column row planes)
+HasTask (Place placing) said = said ≡ Some (place placing)
 HasTask (Gather rule) said = said ≡ Some (gather (string_bytes rule))
 
 -- help, or the version, is asked for

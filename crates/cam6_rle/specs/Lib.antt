@@ -1,4 +1,5 @@
--- In the order of reading: CommandLine, Refusals, Unreadable, Statuses.
+-- In the order of reading: Placing, CommandLine, Refusals, Unreadable, Statuses.
+pub mod Placing
 pub mod CommandLine
 pub mod Refusals
 pub mod Unreadable

@@ -24,16 +24,20 @@ failure TooManyLines = Some (6, codes "cam6_rle: too many lines\n")
 
 -- why a text is no pattern
 abbrev pub cause_told : Cause → List ℕ
-cause_told cause.NoHeader = codes "a header is wanted, as x = 3, y = 3\n"
-cause_told cause.Unexpected = codes "a byte that says nothing here\n"
-cause_told cause.CountTooLarge = codes "a number above 512\n"
-cause_told cause.TooWide = codes "too wide\n"
-cause_told cause.TooHigh = codes "too high\n"
-cause_told cause.TooManyStates = codes "more states than the planes hold\n"
-cause_told cause.NoEnd = codes "the end, !, is missing\n"
+cause_told cause.NoHeader = codes ": a header is wanted, as x = 3, y = 3\n"
+cause_told cause.Unexpected = codes ": a byte that says nothing here\n"
+cause_told cause.CountTooLarge = codes ": a number above 512\n"
+cause_told cause.TooWide = codes ": too wide\n"
+cause_told cause.TooHigh = codes ": too high\n"
+cause_told cause.TooManyStates = codes ": more states than the planes hold\n"
+cause_told cause.NoEnd = codes ": the end, !, is missing\n"
 
--- and where
+-- a column, and what is told of it
+abbrev pub column_told : ℕ → List ℕ → List ℕ
+column_told column text = codes ", column " ++ decimal column ++ text
+
+-- the first fault, and where
 abbrev pub fault_told : PatternFault → List ℕ
 fault_told fault =
     at_line fault.line
-    (codes ", column " ++ decimal fault.column ++ codes ": " ++ cause_told fault.cause)
+    (column_told fault.column (cause_told fault.cause))

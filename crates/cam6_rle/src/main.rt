@@ -23,8 +23,9 @@ mod statuses;
 mod words;
 
 use cam6_frames::{End, Unshown, show_frames};
-use cam6_patterns::{ChosenPlanes, Pattern, PatternFault, PatternTexts, Unread};
-use cam6_patterns::{read_pattern, write_placed};
+use cam6_patterns::{
+    ChosenPlanes, Pattern, PatternFault, PatternTexts, Unread, read_pattern, write_placed,
+};
 use cam6_planes::Side;
 use modes::{Options, Place, Refused};
 use statuses::{BAD_INPUT, NO_MEMORY, WRITE_FAILED, failure_of, fault_text, refusal_of};

@@ -2,6 +2,7 @@
 ghost use Rattle.std.specs.Prelude.{◌≡◌, IfOk, IfSome, option_map, string_bytes};
 ghost use Rattle.cam6_rle.specs.Refusals.{refusal};
 ghost use Rattle.cam6_rle.specs.Statuses.{at_line as at_line_told, failure, fault_told, cause_told};
+ghost use Rattle.cam6_rle.specs.Statuses.{column_told};
 
 use crate::modes::Refused;
 use cam6_frames::End;
@@ -62,10 +63,15 @@ fn at_line(alloc: Global, line: u64, text: &str) -> Result<String, AllocError>
 pub fn fault_text(alloc: Global, fault: PatternFault) -> Result<String, AllocError>
     ensures { IfOk result (λ told. string_bytes told ≡ fault_told fault) }
 {
-    let line = fault.line;
-    let column = fault.column;
-    let cause = cause_text(fault.cause);
-    format!(in alloc; "cam6_rle: line {line}, column {column}: {cause}")
+    let text = at_column(alloc, fault.column, cause_text(fault.cause))?;
+    at_line(alloc, fault.line as u64, text.as_str())
+}
+
+/// A column by its number.
+fn at_column(alloc: Global, column: usize, text: &str) -> Result<String, AllocError>
+    ensures { IfOk result (λ told. string_bytes told ≡ column_told column text.now) }
+{
+    format!(in alloc; ", column {column}{text}")
 }
 
 /// Why a text is no pattern.
@@ -73,13 +79,13 @@ fn cause_text(cause: Cause) -> &'static str
     ensures { result.now ≡ cause_told cause }
 {
     match cause {
-        Cause::NoHeader => "a header is wanted, as x = 3, y = 3\n",
-        Cause::Unexpected => "a byte that says nothing here\n",
-        Cause::CountTooLarge => "a number above 512\n",
-        Cause::TooWide => "too wide\n",
-        Cause::TooHigh => "too high\n",
-        Cause::TooManyStates => "more states than the planes hold\n",
-        Cause::NoEnd => "the end, !, is missing\n",
+        Cause::NoHeader => ": a header is wanted, as x = 3, y = 3\n",
+        Cause::Unexpected => ": a byte that says nothing here\n",
+        Cause::CountTooLarge => ": a number above 512\n",
+        Cause::TooWide => ": too wide\n",
+        Cause::TooHigh => ": too high\n",
+        Cause::TooManyStates => ": more states than the planes hold\n",
+        Cause::NoEnd => ": the end, !, is missing\n",
     }
 }
 

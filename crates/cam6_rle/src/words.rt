@@ -1,5 +1,5 @@
 //! The words of the command line.
-ghost use Rattle.std.specs.Prelude.{◌≡◌, ◌⊎◌, ◌-◌, IfOk, IfErr, IsErr, None};
+ghost use Rattle.std.specs.Prelude.{◌≡◌, ◌⊎◌, ◌-◌, ◌≤◌, IfOk, IfErr, IfSome, IsErr, None};
 ghost use Rattle.std.specs.Prelude.{option_map, map, string_bytes, true, false, codes, is_some};
 ghost use Rattle.std.specs.List.{list_all};
 ghost use Rattle.clap.specs.Words.{App, app_of, found_of, kind_of, rows_of, rule_of};
@@ -10,13 +10,14 @@ ghost use Rattle.cam6_rle.specs.CommandLine.{placed, side_at, move_at, planes_at
 ghost use Rattle.cam6_rle.specs.CommandLine.{side_said, move_said, planes_said};
 ghost use Rattle.cam6_rle.specs.CommandLine.{says_planes, is_plane_digit, are_different, gather_at};
 ghost use Rattle.cam6_rle.specs.CommandLine.{side_option as option_of_sides};
+ghost use Rattle.cam6_rle.specs.Placing.{last_move};
 ghost use Rattle.cam6_rle.specs.CommandLine.{move_option as option_of_moves};
 ghost use Rattle.cam6_rle.specs.CommandLine.{planes_option as option_of_planes};
 ghost use Rattle.cam6_rle.specs.CommandLine.{replies_option as option_of_replies};
 ghost use Rattle.cam6_rle.specs.CommandLine.{rule_option as option_of_rules};
 
-use crate::modes::{Options, Refused};
-use crate::planes::ChosenPlanes;
+use crate::modes::{Options, Place, Refused};
+use cam6_patterns::ChosenPlanes;
 use cam6_planes::Side;
 use clap::builder::ValueParser;
 use clap::error::ErrorKind;
@@ -112,14 +113,16 @@ fn placed(
     row: Option<usize>,
     planes: Option<ChosenPlanes>,
 ) -> Option<Options>
+    requires column { IfSome column (λ column. column ≤ last_move) }
+    requires row { IfSome row (λ row. row ≤ last_move) }
     ensures { MayHaveTask result (placed side column row planes) }
 {
-    Some(Options::Place {
+    Some(Options::Place(Place {
         side: side?,
         column: column?,
         row: row?,
         planes: planes?,
-    })
+    }))
 }
 
 /// The side that `--side` says.
@@ -133,7 +136,8 @@ fn side_given(matches: &ArgMatches<'_>) -> Option<Side>
 /// The columns, or rows, that an option says.
 #[tactic(auto, using(crate::proofs::ValuesRead::text_at))]
 fn move_given(matches: &ArgMatches<'_>, name: &str) -> Option<usize>
-    ensures { result ≡ move_at name.now (rows_of (found_of matches.now)) }
+    ensures value { result ≡ move_at name.now (rows_of (found_of matches.now)) }
+    ensures within { IfSome result (λ cells. cells ≤ last_move) }
 {
     move_of_word(matches.get_str(name)?)
 }
@@ -199,7 +203,8 @@ fn side_of_word(word: &str) -> Option<Side>
 
 /// The columns, or rows, that a word is.
 fn move_of_word(word: &str) -> Option<usize>
-    ensures { result ≡ move_said word.now }
+    ensures value { result ≡ move_said word.now }
+    ensures within { IfSome result (λ cells. cells ≤ last_move) }
 {
     let Ok(number) = word.parse::<u64>() else {
         return None;
@@ -281,7 +286,7 @@ fn planes_of_digits(digits: &[u8]) -> ChosenPlanes
         [a, b, c, d] => (4, [*a - b'0', *b - b'0', *c - b'0', *d - b'0']),
         _ => unreachable!(),
     };
-    ChosenPlanes { count, planes }
+    ChosenPlanes::new(count, planes)
 }
 
 /// The program's command line.

@@ -2,10 +2,10 @@ use Rattle.std.proofs.Common.{arith}
 use Rattle.cam6_rle.proofs.ValuesRead.{no_move, some_move}
 use Rattle.cam6_rle.proofs.words.move_of_word.Goals as goal
 
-pub returns-in_default : goal.returns-in_default
-returns-in_default c = no_move c.args.word.now (λ is. c.in_default.ensures.value.0 (is.0, is.1))
+pub returns-in_default-clause-value : goal.returns-in_default-clause-value
+returns-in_default-clause-value c = no_move c.args.word.now (λ is. c.in_default.ensures.value.0 (is.0, is.1))
 
-pub returns : goal.returns
-returns c =
+pub returns-clause-value : goal.returns-clause-value
+returns-clause-value c =
     some_move c.args.word.now c.in-Ok.number c.in-Ok.ensures.value.0.0.0
     c.in-Ok.ensures.value.0.0.1 c.in-Ok.ensures.value.0.1 (omega arith)

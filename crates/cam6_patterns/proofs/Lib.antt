@@ -1,0 +1,12 @@
+pub mod Each
+pub mod Numbers
+pub mod Heads
+pub mod Splitting
+pub mod Stages
+pub mod Bounded
+pub mod TextsAre
+pub mod Fronts
+pub mod Filling
+pub mod LinesOfRows
+pub mod Rows
+pub mod Texts

@@ -1,0 +1,316 @@
+//! The lines before the cells: remarks, and the header.
+ghost use Rattle.std.specs.Prelude.{◌≡◌, ◌<◌, ℕ, Option, MatchOption, None, Some, option_and_then, ◌*◌};
+ghost use Rattle.std.specs.Prelude.{codes};
+ghost use Rattle.cam6_patterns.specs.Pattern.{most_cells};
+ghost use Rattle.cam6_patterns.specs.Header.{is_blank, is_decimal, past_blanks, number_at_front};
+ghost use Rattle.cam6_patterns.specs.Header.{number_behind};
+ghost use Rattle.cam6_patterns.specs.Header.{after, after_sign, extent_at_front, ends_header};
+ghost use Rattle.cam6_patterns.specs.Header.{extents_in, turn_at_front, corner_at_front};
+ghost use Rattle.cam6_patterns.specs.Header.{after_first, corner_in, if_none};
+ghost use Rattle.cam6_patterns.specs.Reading.{box, on_head, on_header};
+ghost use Rattle.cam6_patterns.specs.Outcome.{StandsFor, AreExtents, LeadsTo, boxed};
+ghost use Rattle.cam6_planes.specs.Side.{side_number};
+
+use crate::faults::{Cause, PatternFault};
+use cam6_planes::Side;
+
+/// How many columns and rows a pattern has at most, and a torus.
+pub(crate) const MOST_CELLS: usize = 512;
+
+/// Where a pattern lies, and how large it is.
+#[derive(Clone, Copy)]
+pub(crate) struct Extent {
+    pub(crate) width: usize,
+    pub(crate) height: usize,
+    pub(crate) column: usize,
+    pub(crate) row: usize,
+}
+
+/// How far a line before the cells leads.
+#[derive(Clone, Copy)]
+pub(crate) enum Head {
+    /// The header comes later, and remarks may have said where the pattern lies.
+    Before(Option<(usize, usize)>),
+    /// The line is the header.
+    Within(Extent),
+}
+
+/// A line before the cells, by its number: a remark, a line without a mark, or the header.
+pub(crate) fn read_head(
+    side: Side,
+    number: usize,
+    corner: Option<(usize, usize)>,
+    line: &[u8],
+) -> Result<Head, PatternFault>
+    ensures { (states : ℕ) → LeadsTo states
+        (on_head (side_number side) states number corner line.now) result }
+{
+    let Some((first, _)) = line.split_first() else {
+        return Ok(Head::Before(corner));
+    };
+    if *first == b'#' {
+        return Ok(Head::Before(either(corner_in(line), corner)));
+    }
+    if past_blanks(line).is_empty() {
+        return Ok(Head::Before(corner));
+    }
+    header(side, number, corner, extents_in(line))
+}
+
+/// The header: the pattern is no wider and no higher than the torus.
+fn header(
+    side: Side,
+    number: usize,
+    corner: Option<(usize, usize)>,
+    extents: Option<(usize, usize)>,
+) -> Result<Head, PatternFault>
+    ensures { (states : ℕ) (said : Option (ℕ × ℕ)) → AreExtents said extents →
+        LeadsTo states (on_header (side_number side) states number corner said) result }
+{
+    let Some((width, height)) = extents else {
+        return Err(fault(number, Cause::NoHeader));
+    };
+    if side.number() < width {
+        return Err(fault(number, Cause::TooWide));
+    }
+    if side.number() < height {
+        return Err(fault(number, Cause::TooHigh));
+    }
+    Ok(Head::Within(boxed(corner, width, height)))
+}
+
+/// The box of a pattern, whose corner remarks may have said.
+fn boxed(corner: Option<(usize, usize)>, width: usize, height: usize) -> Extent
+    ensures { boxed result ≡ box corner (width, height) }
+{
+    match corner {
+        None => Extent {
+            width,
+            height,
+            column: 0,
+            row: 0,
+        },
+        Some((column, row)) => Extent {
+            width,
+            height,
+            column,
+            row,
+        },
+    }
+}
+
+/// The first, or else the second.
+fn either(first: Option<(usize, usize)>, second: Option<(usize, usize)>) -> Option<(usize, usize)>
+    ensures { result ≡ if_none first second }
+{
+    match first {
+        None => second,
+        Some(found) => Some(found),
+    }
+}
+
+fn fault(line: usize, cause: Cause) -> PatternFault
+    ensures { result ≡ (record { line = line; column = 1; cause = cause }) }
+{
+    PatternFault {
+        line,
+        column: 1,
+        cause,
+    }
+}
+
+/// A space, a tab, or a CR.
+pub(crate) fn is_blank(byte: u8) -> bool
+    ensures { result ≡ is_blank byte }
+{
+    byte == b' ' || byte == b'\t' || byte == b'\r'
+}
+
+pub(crate) fn is_decimal(byte: u8) -> bool
+    ensures { result ≡ is_decimal byte }
+{
+    b'0' <= byte && byte < b':'
+}
+
+/// Without the blanks before it.
+fn past_blanks(bytes: &[u8]) -> &[u8]
+    ensures { result.now ≡ past_blanks bytes.now }
+{
+    let mut rest = bytes;
+    while let Some((byte, later)) = rest.split_first() {
+        if !is_blank(*byte) {
+            return rest;
+        }
+        rest = later;
+    }
+    rest
+}
+
+/// A number of one digit at least, and what comes after it.
+fn number_at_front(bytes: &[u8]) -> Option<(usize, &[u8])>
+    ensures { MatchOption result (number_at_front bytes.now ≡ None)
+        (λ r. (n : ℕ) × (number_at_front bytes.now ≡ Some (n, r.1.now)) × StandsFor n r.0) }
+{
+    let (first, later) = bytes.split_first()?;
+    if !is_decimal(*first) {
+        return None;
+    }
+    Some(number_behind(usize::from(*first - b'0'), later))
+}
+
+/// The number that the digits at the front write behind a first one, and what comes after them.
+fn number_behind(first: usize, bytes: &[u8]) -> (usize, &[u8])
+    requires { first < 10 }
+    ensures { (n : ℕ) × (number_behind first bytes.now ≡ (n, result.1.now))
+        × StandsFor n result.0 }
+{
+    let mut number = first;
+    let mut rest = bytes;
+    while let Some((byte, later)) = rest.split_first() {
+        if !is_decimal(*byte) {
+            return (number, rest);
+        }
+        number = lowered(10 * number + usize::from(*byte - b'0'));
+        rest = later;
+    }
+    (number, rest)
+}
+
+/// A small number that stands for this one.
+fn lowered(number: usize) -> usize
+    ensures same { StandsFor number result }
+    ensures small { result < 3 * most_cells }
+{
+    if number < 2 * MOST_CELLS {
+        number
+    } else {
+        2 * MOST_CELLS + number % MOST_CELLS
+    }
+}
+
+/// What comes after these bytes, if they are the first.
+fn after<'a>(first: &[u8], bytes: &'a [u8]) -> Option<&'a [u8]>
+    ensures { MatchOption result (after first.now bytes.now ≡ None)
+        (λ r. after first.now bytes.now ≡ Some r.now) }
+{
+    let mut wanted = first;
+    let mut rest = bytes;
+    while let Some((want, wanted_later)) = wanted.split_first() {
+        let (byte, later) = rest.split_first()?;
+        if *want != *byte {
+            return None;
+        }
+        wanted = wanted_later;
+        rest = later;
+    }
+    Some(rest)
+}
+
+/// Blanks and then this byte.
+fn after_sign(sign: u8, bytes: &[u8]) -> Option<&[u8]>
+    ensures { MatchOption result (after_sign sign bytes.now ≡ None)
+        (λ r. after_sign sign bytes.now ≡ Some r.now) }
+{
+    after(&[sign], past_blanks(bytes))
+}
+
+/// A letter, an equals sign and a number, with blanks between.
+fn extent_at_front(letter: u8, bytes: &[u8]) -> Option<(usize, &[u8])>
+    ensures { MatchOption result (extent_at_front letter bytes.now ≡ None)
+        (λ r. (n : ℕ) × (extent_at_front letter bytes.now ≡ Some (n, r.1.now))
+        × StandsFor n r.0) }
+{
+    let rest = after_sign(letter, bytes)?;
+    let rest = after_sign(b'=', rest)?;
+    number_at_front(past_blanks(rest))
+}
+
+/// Nothing more, or a comma.
+fn ends_header(bytes: &[u8]) -> bool
+    ensures { result ≡ ends_header bytes.now }
+{
+    match bytes.split_first() {
+        None => true,
+        Some((byte, _)) => *byte == b',',
+    }
+}
+
+/// The width and the height.
+fn extents_in(line: &[u8]) -> Option<(usize, usize)>
+    ensures { AreExtents (extents_in line.now) result }
+{
+    let (width, rest) = extent_at_front(b'x', line)?;
+    let rest = after_sign(b',', rest)?;
+    let (height, rest) = extent_at_front(b'y', rest)?;
+    if ends_header(past_blanks(rest)) {
+        Some((width, height))
+    } else {
+        None
+    }
+}
+
+/// A whole number on a ring of so many as a torus has at most, and what comes after it.
+fn turn_at_front(bytes: &[u8]) -> Option<(usize, &[u8])>
+    ensures { MatchOption result (turn_at_front bytes.now ≡ None)
+        (λ r. turn_at_front bytes.now ≡ Some (r.0, r.1.now)) }
+{
+    let (first, later) = bytes.split_first()?;
+    if *first == b'-' {
+        let (number, rest) = number_at_front(later)?;
+        Some(((MOST_CELLS - number % MOST_CELLS) % MOST_CELLS, rest))
+    } else {
+        let (number, rest) = number_at_front(bytes)?;
+        Some((number % MOST_CELLS, rest))
+    }
+}
+
+/// Two of them with this byte between them.
+fn corner_at_front(between: u8, bytes: &[u8]) -> Option<(usize, usize)>
+    ensures { result ≡ corner_at_front between bytes.now }
+{
+    let (column, rest) = turn_at_front(bytes)?;
+    let rest = after(&[between], rest)?;
+    let (row, _) = turn_at_front(rest)?;
+    Some((column, row))
+}
+
+/// What comes after the first place at which these bytes stand.
+fn after_first<'a>(wanted: &[u8], bytes: &'a [u8]) -> Option<&'a [u8]>
+    ensures { MatchOption result (after_first wanted.now bytes.now ≡ None)
+        (λ r. after_first wanted.now bytes.now ≡ Some r.now) }
+{
+    let mut rest = bytes;
+    while let Some((_, later)) = rest.split_first() {
+        if let Some(found) = after(wanted, rest) {
+            return Some(found);
+        }
+        rest = later;
+    }
+    None
+}
+
+/// Where a remark says that the pattern lies, if it does.
+fn corner_in(line: &[u8]) -> Option<(usize, usize)>
+    ensures { result ≡ corner_in line.now }
+{
+    let second = either(corner_after(b"#P ", line), corner_after(b"#R ", line));
+    either(corner_of_position(line), second)
+}
+
+/// Behind "Pos=" in a remark of Golly's.
+fn corner_of_position(line: &[u8]) -> Option<(usize, usize)>
+    ensures { result
+        ≡ option_and_then
+        (λ rest. option_and_then (corner_at_front 44) (after_first (codes "Pos=") rest))
+        (after (codes "#CXRLE ") line.now) }
+{
+    let rest = after(b"#CXRLE ", line)?;
+    corner_at_front(b',', after_first(b"Pos=", rest)?)
+}
+
+/// Behind these bytes, with a space between the numbers.
+fn corner_after(first: &[u8], line: &[u8]) -> Option<(usize, usize)>
+    ensures { result ≡ option_and_then (corner_at_front 32) (after first.now line.now) }
+{
+    corner_at_front(b' ', after(first, line)?)
+}

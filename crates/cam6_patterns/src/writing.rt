@@ -1,0 +1,263 @@
+//! Frames, written as run-length texts.
+ghost use Rattle.std.specs.Prelude.{◌≡◌, ◌<◌, ◌≤◌, ◌+◌, ◌++◌, [], ◌∷◌, OnOk, IfOk, take, length};
+ghost use Rattle.std.specs.Prelude.{get_or, nat_lt, codes};
+ghost use Rattle.std.specs.List.{AllByRecursion, list_all};
+ghost use Rattle.cam6_patterns.specs.Pattern.{most_cells, most_states};
+ghost use Rattle.cam6_patterns.specs.Writing.{text_of_frame, header, row_by_row, row_ends, runs};
+ghost use Rattle.cam6_patterns.specs.Writing.{filled, counted, letter, trimmed, states_of};
+ghost use Rattle.cam6_patterns.specs.Outcome.{Fills, FillsRow};
+
+use arrayvec::ArrayVec;
+use cam6_frames::{Frame, Screen, Unshown, write_bytes};
+use cam6_planes::COLUMNS;
+use itoa::Buffer;
+use std::alloc::{AllocError, Global};
+use std::io::Write;
+
+/// A writer of run-length texts, one behind the other.
+#[derive(Drop)]
+pub struct PatternTexts<W> {
+    writer: W,
+    /// The name of a rule, or nothing.
+    rule: String,
+    /// The text that is made.
+    text: Vec<u8>,
+}
+
+impl<W: Write> PatternTexts<W> {
+    ghost use Rattle.std.specs.Prelude.{◌≡◌, string_bytes};
+
+    pub fn new(alloc: Global, writer: W, rule: String) -> PatternTexts<W>
+        ensures writer { result.writer ≡ writer }
+        ensures rule { result.rule ≡ rule }
+    {
+        PatternTexts {
+            writer,
+            rule,
+            text: Vec::new(alloc),
+        }
+    }
+}
+
+impl<W: Write> Screen for PatternTexts<W> {
+    ghost use Rattle.std.specs.Prelude.{List, ℕ, Option, string_bytes};
+    ghost use Rattle.cam6_frames.specs.Front.{WritesFront};
+    ghost use Rattle.cam6_patterns.specs.Writing.{text_of_frame};
+
+    ghost picture = { λ s frame. text_of_frame (string_bytes s.rule) frame };
+
+    ghost contents = { λ s. W.contents s.writer };
+
+    fn show(&mut self, frame: &Frame) -> Result<(), Unshown> {
+        match make_text(&mut self.text, self.rule.as_bytes(), frame) {
+            Ok(()) => write_bytes(&mut self.writer, &self.text),
+            Err(_) => Err(Unshown::NoMemory),
+        }
+    }
+}
+
+/// The text of a frame, in place of what was there.
+fn make_text(text: &mut Vec<u8>, rule: &[u8], frame: &Frame) -> Result<(), AllocError>
+    ensures { OnOk result (text.new.items ≡ text_of_frame rule.now frame.now) }
+{
+    text.clear();
+    push_header(text, frame.side().number(), rule)?;
+    push_rows(text, states_of(frame), frame)?;
+    text.extend_from_slice(b"\n")?;
+    Ok(())
+}
+
+/// The header of as many rows as columns, with the name of a rule if there is one.
+fn push_header(text: &mut Vec<u8>, side: usize, rule: &[u8]) -> Result<(), AllocError>
+    ensures { OnOk result
+        (text.new.items ≡ text.old.items ++ header side side rule.now) }
+{
+    let mut buffer = Buffer::new();
+    let number = buffer.format(side).as_bytes();
+    text.extend_from_slice(b"x = ")?;
+    text.extend_from_slice(number)?;
+    text.extend_from_slice(b", y = ")?;
+    text.extend_from_slice(number)?;
+    if !rule.is_empty() {
+        text.extend_from_slice(b", rule = ")?;
+        text.extend_from_slice(rule)?;
+    }
+    text.extend_from_slice(b"\n")
+}
+
+/// All rows of a frame, and the end, but not the LF behind it.
+fn push_rows(text: &mut Vec<u8>, states: u8, frame: &Frame) -> Result<(), AllocError>
+    ensures { OnOk result (text.old.items ++ filled 0 (row_by_row states 0 frame.now)
+        ≡ text.new.items ++ codes "\n") }
+{
+    let side = frame.side().number();
+    let mut used = 0;
+    let mut ends = 0;
+    for y in 0..side {
+        let row = row_cells(frame, y);
+        let now = push_row(text, used, states, ends, &row[..side])?;
+        used = now.0;
+        ends = now.1;
+    }
+    let _used = push_part(text, used, b"!")?;
+    Ok(())
+}
+
+/// A row after the ends of others, which weren't written yet. Answers how many bytes the last line
+/// has, and how many rows' ends weren't written then.
+fn push_row(
+    text: &mut Vec<u8>,
+    used: usize,
+    states: u8,
+    ends: usize,
+    row: &[u8],
+) -> Result<(usize, usize), AllocError>
+    requires ends { ends ≤ most_cells }
+    requires row { AllByRecursion (λ cell. cell < most_states) row.now }
+    ensures parts { IfOk result (λ now. FillsRow text.old.items used states ends row.now
+        text.new.items now.0 now.1) }
+    ensures ends { IfOk result (λ now. now.1 ≤ ends + 1) }
+{
+    let cells = trimmed(row);
+    if cells.is_empty() {
+        return Ok((used, ends + 1));
+    }
+    let used = push_row_ends(text, used, ends)?;
+    let used = push_runs(text, used, states, cells)?;
+    Ok((used, 1))
+}
+
+/// The ends of so many rows.
+fn push_row_ends(text: &mut Vec<u8>, used: usize, ends: usize) -> Result<usize, AllocError>
+    ensures { IfOk result (λ after.
+        Fills text.old.items used (row_ends ends) text.new.items after) }
+{
+    if ends == 0 {
+        return Ok(used);
+    }
+    push_part(text, used, counted(ends, b'$').as_slice())
+}
+
+/// The runs of a row.
+fn push_runs(text: &mut Vec<u8>, used: usize, states: u8, cells: &[u8]) -> Result<usize, AllocError>
+    requires { AllByRecursion (λ cell. cell < most_states) cells.now }
+    ensures { IfOk result (λ after.
+        Fills text.old.items used (runs states cells.now) text.new.items after) }
+{
+    let Some((first, later)) = cells.split_first() else {
+        return Ok(used);
+    };
+    let mut rest = later;
+    let mut state = *first;
+    let mut count = 1;
+    let mut used = used;
+    while let Some((cell, later)) = rest.split_first() {
+        rest = later;
+        if *cell == state {
+            count += 1;
+            continue;
+        }
+        used = push_part(text, used, counted(count, letter(states, state)).as_slice())?;
+        state = *cell;
+        count = 1;
+    }
+    push_part(text, used, counted(count, letter(states, state)).as_slice())
+}
+
+/// A part, on a new line where it doesn't fit. Answers how many bytes the last line has.
+fn push_part(text: &mut Vec<u8>, used: usize, part: &[u8]) -> Result<usize, AllocError>
+    ensures { IfOk result (λ after.
+        Fills text.old.items used (part.now ∷ []) text.new.items after) }
+{
+    if LINE_LENGTH < used || LINE_LENGTH - used < part.len() {
+        text.extend_from_slice(b"\n")?;
+        text.extend_from_slice(part)?;
+        return Ok(part.len());
+    }
+    text.extend_from_slice(part)?;
+    Ok(used + part.len())
+}
+
+/// How many bytes a line has at most.
+const LINE_LENGTH: usize = 70;
+
+/// A number and a letter.
+type Part = ArrayVec<u8, 48>;
+
+/// So many of a sign: one has no number.
+fn counted(count: usize, letter: u8) -> Part
+    ensures { result.items ≡ counted count letter }
+{
+    let mut part = Part::new();
+    if count != 1 {
+        let mut buffer = Buffer::new();
+        part.try_extend_from_slice(buffer.format(count).as_bytes())
+            .unwrap();
+    }
+    part.push(letter);
+    part
+}
+
+/// A state's letter.
+fn letter(states: u8, state: u8) -> u8
+    requires { state < most_states }
+    ensures { result ≡ letter states state }
+{
+    if states <= 2 {
+        return if state == 0 { b'b' } else { b'o' };
+    }
+    if state == 0 { b'.' } else { 64 + state }
+}
+
+/// Without the cells of state 0 behind the last of another one.
+fn trimmed(row: &[u8]) -> &[u8]
+    ensures { result.now ≡ trimmed row.now }
+{
+    let mut cells = row;
+    while let Some((last, front)) = cells.split_last() {
+        if *last != 0 {
+            return cells;
+        }
+        cells = front;
+    }
+    cells
+}
+
+/// Two states, or else sixteen.
+fn states_of(frame: &Frame) -> u8
+    ensures { result ≡ states_of frame.now }
+{
+    let side = frame.side().number();
+    for y in 0..side {
+        let row = row_cells(frame, y);
+        if !are_two_states(&row[..side]) {
+            return 16;
+        }
+    }
+    2
+}
+
+fn are_two_states(cells: &[u8]) -> bool
+    ensures { result ≡ list_all (λ cell. nat_lt cell 2) cells.now }
+{
+    let mut rest = cells;
+    while let Some((cell, later)) = rest.split_first() {
+        if *cell >= 2 {
+            return false;
+        }
+        rest = later;
+    }
+    true
+}
+
+/// The cells of a row, and more behind them.
+fn row_cells(frame: &Frame, y: usize) -> [u8; COLUMNS]
+    requires { y < length frame.now }
+    ensures { take (length frame.now) result ≡ get_or frame.now y [] }
+{
+    let mut cells = [0; COLUMNS];
+    for x in 0..frame.side().number() {
+        cells[x] = frame.colour(x, y);
+    }
+    cells
+}
