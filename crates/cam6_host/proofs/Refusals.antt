@@ -6,8 +6,12 @@ use Rattle.clap.specs.Simple.{is_simple}
 use Rattle.clap.specs.Words.{App, HasKind, IsAmong, Kinds, Text, fault_of, is_simple_and_free}
 use Rattle.clap.specs.Words.{kind_of}
 use Rattle.clap.specs.declared.error.Error.{Error}
+use Rattle.clap.specs.declared.error.kind.ErrorKind.{ErrorKind}
+use Rattle.clap.specs.declared.error.kind.ErrorKind.TheVariants.{OutOfMemory, DisplayHelp}
+use Rattle.clap.specs.declared.error.kind.ErrorKind.TheVariants.{DisplayVersion}
 use Rattle.cam6_planes.specs.declared.sides.Side.TheVariants.{S128, S256, S512}
-use Rattle.cam6_host.specs.CommandLine.{IsOfKind, IsProgram, Refuses, TextsAt, program, side_text}
+use Rattle.cam6_host.specs.CommandLine.{IsAsked, IsOfKind, IsProgram, Refuses, TextsAt}
+use Rattle.cam6_host.specs.CommandLine.{program, side_text}
 use Rattle.cam6_host.specs.declared.modes.Refused.{Refused}
 use Rattle.cam6_host.specs.declared.modes.Refused.TheVariants.{Help, Words, NoMemory}
 
@@ -34,10 +38,14 @@ matches_program of_alone of_replay of_serve = refl
 pub is_simple_program : (app : App) → IsProgram app → is_simple_and_free app ≡ true
 is_simple_program app is = ap is_simple_and_free is.6 ∙ program_is_simple is.0 is.1 is.2
 
+not_asked : (kind : ErrorKind) → kind ≡ OutOfMemory → IsAsked kind → ⊥
+not_asked kind memory (inl help) = cc
+not_asked kind memory (inr version) = cc
+
 refused_as_kind : (kinds : Kinds) (refused : Refused) (e : Error) → HasKind kinds e
     → IsOfKind refused (kind_of e) → Refuses kinds refused
-refused_as_kind kinds (Help text) e (inl memory) is = cc
-refused_as_kind kinds (Help text) e (inr among) is = subst (λ k. IsAmong k kinds) is among
+refused_as_kind kinds (Help text) e (inl memory) is = absurd (not_asked (kind_of e) memory is)
+refused_as_kind kinds (Help text) e (inr among) is = (kind_of e, among, is)
 refused_as_kind kinds (Words text) e (inl memory) is = absurd (is.1 memory)
 refused_as_kind kinds (Words text) e (inr among) is = (kind_of e, among, is.0, is.1)
 refused_as_kind kinds NoMemory e has is = tt

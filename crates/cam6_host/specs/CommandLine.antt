@@ -1,5 +1,5 @@
 -- The words that the program takes, and what they ask for.
-use Rattle.std.specs.Prelude.{◌≡◌, ◌≢◌, ◌⊎◌, ¬, true, ℕ, List, [], ◌∷◌, codes, Option, Some, None, ⊤}
+use Rattle.std.specs.Prelude.{◌≡◌, ◌≢◌, ◌⊎◌, true, ℕ, List, [], ◌∷◌, codes, Option, Some, None, ⊤}
 use Rattle.std.specs.Prelude.{if◌then◌else◌, option_and_then, option_map}
 use Rattle.std.specs.Borrow.{Bor}
 use Rattle.std.specs.Str.{bytes_eq}
@@ -114,19 +114,16 @@ serve sides =
     connections_option)
     (side_option sides)
 
--- `cam6` by itself, which has a version
-abbrev pub without_words : App
-without_words =
-    record (new_app (codes "cam6")) {
-      top = record ((new_app (codes "cam6")).top) { has_version = true };
-    }
+-- a command that has a version
+abbrev pub with_version : App → App
+with_version app = record app { top = record (app.top) { has_version = true } }
 
 -- `cam6`, with its subcommands; the three sides may be kept in a place for each
 abbrev pub program : TextsAt → TextsAt → TextsAt → App
 program of_alone of_replay of_serve =
     with_subcommand
     (with_subcommand
-    (with_subcommand without_words (alone of_alone).top)
+    (with_subcommand (with_version (new_app (codes "cam6"))) (alone of_alone).top)
     (replay of_replay).top)
     (serve of_serve).top
 
@@ -205,12 +202,12 @@ IsAsked kind = (kind ≡ DisplayHelp) ⊎ (kind ≡ DisplayVersion)
 -- an error of clap's of this kind is refused so
 abbrev pub IsOfKind : Refused → ErrorKind → Type 0
 IsOfKind (Help text) kind = IsAsked kind
-IsOfKind (Words text) kind = ¬ (IsAsked kind) × (kind ≢ OutOfMemory)
+IsOfKind (Words text) kind = (IsAsked kind → ⊥) × (kind ≢ OutOfMemory)
 IsOfKind NoMemory kind = ⊤
 
 -- help, the version and a refusal come only where clap has an error of such a kind
 abbrev pub Refuses : Kinds → Refused → Type 0
 Refuses kinds (Help text) = (kind : ErrorKind) × IsAmong kind kinds × IsAsked kind
 Refuses kinds (Words text) =
-    (kind : ErrorKind) × IsAmong kind kinds × ¬ (IsAsked kind) × (kind ≢ OutOfMemory)
+    (kind : ErrorKind) × IsAmong kind kinds × (IsAsked kind → ⊥) × (kind ≢ OutOfMemory)
 Refuses kinds NoMemory = ⊤

@@ -2,7 +2,7 @@
 use Rattle.std.specs.Prelude.{◌≡◌, ◌<◌, ℕ, List, [], ◌∷◌, ◌++◌, codes, length, Option, Some, None}
 use Rattle.std.specs.Prelude.{⊤, string_bytes}
 use Rattle.std.specs.Prelude.{Bool, ◌||◌, ◌&&◌, not, if◌then◌else◌, eqb}
-use Rattle.std.specs.List.{starts_with}
+use Rattle.std.specs.List.{starts_with, slice_get}
 use Rattle.std.specs.Str.{bytes_eq}
 use Rattle.cam6_host.specs.declared.modes.Refused.{Refused}
 use Rattle.cam6_host.specs.declared.modes.Refused.TheVariants.{Help, Words, NoMemory}
@@ -48,12 +48,15 @@ abbrev pub slip_at_two : List ℕ → List ℕ → Option Slip
 slip_at_two word next =
     if reads_lines word && is_plain next then Some FileAsWord else slip_at word
 
+-- at the first word, if there is one, and the next
+abbrev pub slip_by : Option (List ℕ) → Option (List ℕ) → Option Slip
+slip_by None next = None
+slip_by (Some word) None = slip_at word
+slip_by (Some word) (Some next) = slip_at_two word next
+
 -- of the words, of which the first is the program's name
 abbrev pub slip : List (List ℕ) → Option Slip
-slip [] = None
-slip (name ∷ []) = None
-slip (name ∷ word ∷ []) = slip_at word
-slip (name ∷ word ∷ next ∷ later) = slip_at_two word next
+slip words = slip_by (slice_get words 1) (slice_get words 2)
 
 -- what is told of it
 abbrev pub told_of : Option Slip → List ℕ

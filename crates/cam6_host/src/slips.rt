@@ -20,10 +20,10 @@ pub enum Slip {
 pub fn slip_of(words: &[String]) -> Option<Slip>
     ensures { result ≡ slip (map string_bytes words.now) }
 {
-    match words {
-        [_, word] => slip_at(word.as_str()),
-        [_, word, next, ..] => slip_at_two(word.as_str(), next.as_str()),
-        _ => None,
+    let word = words.get(1)?;
+    match words.get(2) {
+        None => slip_at(word.as_str()),
+        Some(next) => slip_at_two(word.as_str(), next.as_str()),
     }
 }
 

@@ -165,7 +165,10 @@ fn slips_are_told(rt: HostRuntime) -> Result<(), Fail> {
         ("cam6 --users 4", "cam6 serve --users 4 --boards 2\n"),
         ("cam6 --port 6006", "cam6 serve --port 6006\n"),
         ("cam6 life.lines", "cam6 < FILE, or cam6 replay < FILE\n"),
-        ("cam6 alone life.lines", "cam6 < FILE, or cam6 replay < FILE\n"),
+        (
+            "cam6 alone life.lines",
+            "cam6 < FILE, or cam6 replay < FILE\n",
+        ),
     ] {
         let read = options(alloc, words_of(alloc, line)?.as_slice());
         let text = match &read {

@@ -1,6 +1,7 @@
-use Rattle.std.proofs.Common.{subst}
+use Rattle.std.proofs.Common.{◌∙◌, ap, subst}
 use Rattle.clap.specs.Words.{app_of}
 use Rattle.cam6_host.specs.CommandLine.{HasMode}
+use Rattle.cam6_host.specs.Slips.{EndsWith, told_of}
 use Rattle.cam6_host.proofs.Refusals.{is_simple_program, refused_as_clap_does, some_program}
 use Rattle.cam6_host.proofs.ModesGiven.{mode_of_matches}
 use Rattle.cam6_host.proofs.words.options.Goals as goal
@@ -36,5 +37,10 @@ returns-in-Err-clause-refused c = (
   app_of c.in-Ok.command,
   c.in-Ok.ensures,
   refused_as_clap_does (app_of c.in-Ok.command) _ c.refusal.result c.in-Err.error
-      c.in-Ok.ensures c.in-Err.ensures.kinds c.refusal.ensures,
+      c.in-Ok.ensures c.in-Err.ensures.kinds c.refusal.ensures.kind,
 )
+
+pub returns-in-Err-clause-slip : goal.returns-in-Err-clause-slip
+returns-in-Err-clause-slip c =
+    subst (EndsWith c.refusal.result) (c.told_of.ensures ∙ ap told_of c.slip_of.ensures)
+    c.refusal.ensures.slip

@@ -2,6 +2,7 @@ use Rattle.std.proofs.Common.{◌∙◌, ap, ap₂, refl}
 use Rattle.std.proofs.lemmas.Result.{IfOk-weaker}
 use Rattle.clap.specs.Simple.{app_of_fields}
 use Rattle.clap.specs.Words.{with_rule, with_subcommand}
+use Rattle.cam6_host.specs.CommandLine.{with_version}
 use Rattle.cam6_host.proofs.PlainCommands.{has_no_globals}
 use Rattle.cam6_host.proofs.words.program.Goals as goal
 
@@ -11,10 +12,14 @@ returns c =
     let of_replay = c.in_ok-replay.ensures in
     let of_serve = c.in_ok-serve.ensures in
     let alone = c.in_ok-alone.ensures.shape c.side_option.ensures.global
-    ∙ ap₂ with_rule (ap app_of_fields c.about.ensures ∙ c.new.ensures.app) of_alone.2 in
+    ∙ ap₂ with_rule
+    (ap app_of_fields c.after_help.ensures ∙ ap app_of_fields c.about.ensures ∙ c.new.ensures.app)
+    of_alone.2 in
     let one = c.in_ok-subcommand.ensures.shape (has_no_globals _ _ alone refl)
     ∙ ap₂ with_subcommand
-    (ap app_of_fields c.after_help.ensures ∙ ap app_of_fields c.about-2.ensures ∙ c.new-2.ensures.app)
+    (ap app_of_fields c.version.ensures
+    ∙ ap with_version
+    (ap app_of_fields c.after_help-2.ensures ∙ ap app_of_fields c.about-2.ensures ∙ c.new-2.ensures.app))
     (ap (λ a. a.top) alone) in
     let two = c.in_ok-subcommand-2.ensures.shape (has_no_globals _ _ of_replay.2 refl)
     ∙ ap₂ with_subcommand one (ap (λ a. a.top) of_replay.2) in
