@@ -10,3 +10,10 @@ pub mod Filling
 pub mod LinesOfRows
 pub mod Rows
 pub mod Texts
+pub mod PartsRead
+pub mod LinesRead
+pub mod SignsRead
+pub mod RunsRead
+pub mod RowsRead
+pub mod HeadRead
+pub mod TextRead
