@@ -1,4 +1,4 @@
--- The exit status of words that ask for no pictures, with what is told.
+-- The exit status of words that ask for nothing, with what is told.
 use Rattle.std.specs.Prelude.{ℕ, List, codes, string_bytes}
 use Rattle.cam6_rle.specs.declared.modes.Refused.{Refused}
 use Rattle.cam6_rle.specs.declared.modes.Refused.TheVariants.{Help, Words, NoMemory}

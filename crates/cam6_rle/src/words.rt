@@ -1,9 +1,9 @@
 //! The words of the command line.
-ghost use Rattle.std.specs.Prelude.{◌≡◌, ◌⊎◌, ◌-◌, ◌≤◌, IfOk, IfErr, IfSome, IsErr, None};
+ghost use Rattle.std.specs.Prelude.{◌≡◌, ◌⊎◌, ◌-◌, ◌≤◌, IfOk, IfErr, IfSome, IsErr, None, []};
 ghost use Rattle.std.specs.Prelude.{option_map, map, string_bytes, true, false, codes, is_some};
 ghost use Rattle.std.specs.List.{list_all};
 ghost use Rattle.clap.specs.Words.{App, app_of, found_of, kind_of, rows_of, rule_of};
-ghost use Rattle.clap.specs.Words.{matches_of, first_of};
+ghost use Rattle.clap.specs.Words.{matches_of, first_of, fault_of};
 ghost use Rattle.cam6_rle.specs.CommandLine.{AreSides, HasTask, IsOfKind, IsProgram, Refuses};
 ghost use Rattle.cam6_rle.specs.CommandLine.{TextsAt, task_of, place_at, is_one_line, MayHaveTask};
 ghost use Rattle.cam6_rle.specs.CommandLine.{placed, side_at, move_at, planes_at};
@@ -56,6 +56,9 @@ and goes with --replies
 pub fn options(alloc: Global, words: &[String]) -> Result<Options, Refused>
     ensures task { IfOk result (λ options. (app : App) × IsProgram app
         × HasTask options (task_of (matches_of app (map string_bytes words.now)))) }
+    // Words that clap refuses are never taken.
+    ensures taken { IfOk result (λ _. (app : App) × IsProgram app
+        × (fault_of app (map string_bytes words.now) ≡ [])) }
     ensures refused { IfErr result (λ refused. (app : App) × IsProgram app
         × Refuses app (map string_bytes words.now) refused) }
 {
