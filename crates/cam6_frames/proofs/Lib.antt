@@ -9,3 +9,4 @@ pub mod FirstLine
 pub mod Courses
 pub mod Unknown
 pub mod ReadBack
+pub mod Counted

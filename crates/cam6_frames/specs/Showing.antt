@@ -1,5 +1,5 @@
 -- What is written for lines of replies: the pictures of the frames that they show, in their order.
-use Rattle.std.specs.Prelude.{◌≡◌, ℕ, List, [], ◌++◌, Option, Some, IfSome, flat_map, ⊤}
+use Rattle.std.specs.Prelude.{◌≡◌, ◌≤◌, ℕ, List, [], ◌++◌, length, Option, Some, IfSome, flat_map, ⊤}
 use Rattle.cam6_frames.specs.Lines.{lines}
 use Rattle.cam6_frames.specs.Course.{Course, course, Verdict, whole, no_reply, breaks_off}
 use Rattle.cam6_frames.specs.declared.showing.End.{End}
@@ -30,3 +30,8 @@ ShowsFrames picture end read old new =
     (written missing : List ℕ) ×
     (flat_map picture (shown_in all).frames ≡ written ++ missing) ×
     (new ≡ Some (out ++ written)) × EndsSo end (shown_in all).verdict missing))
+
+-- the end says that there are too many lines only where there are as many as are counted
+abbrev pub AreTooMany : End → Option (List ℕ) → Type 0
+AreTooMany end read =
+    end ≡ TooManyLines → IfSome read (λ all. 18446744073709551615 ≤ length (lines all))

@@ -1,6 +1,6 @@
 //! Frames, shown one after another.
 ghost use Rattle.std.specs.Prelude.{◌≡◌};
-ghost use Rattle.cam6_frames.specs.Showing.{ShowsFrames};
+ghost use Rattle.cam6_frames.specs.Showing.{AreTooMany, ShowsFrames};
 ghost use Rattle.cam6_frames.specs.Front.{WritesFront};
 ghost use Rattle.cam6_frames.specs.Taking.{TakesReply, TakesLine, ShowsFrame, end_at, end_after};
 
@@ -59,8 +59,9 @@ pub trait Screen {
 
 /// Shows the frames of a reader's lines of replies.
 pub fn show_frames<R: BufRead, S: Screen>(alloc: Global, reader: &mut R, screen: &mut S) -> End
-    ensures { ShowsFrames (S.picture screen.old) result (R.remaining reader.old)
+    ensures shown { ShowsFrames (S.picture screen.old) result (R.remaining reader.old)
         (S.contents screen.old) (S.contents screen.new) }
+    ensures lines { AreTooMany result (R.remaining reader.old) }
 {
     let mut line = Vec::new(alloc);
     let mut run = Run::new(alloc);

@@ -1,4 +1,5 @@
 use Rattle.std.proofs.Common.{◌≡◌}
+use Rattle.cam6_frames.proofs.Counted.{Counted}
 use Rattle.cam6_frames.proofs.Unknown.{Shown}
 use Rattle.cam6_frames.proofs.showing.show_frames.Given as goal
 
@@ -8,4 +9,5 @@ invariant-loop-before g l = record {
   shown : Shown (g.S.Screen.picture l.fn.screen) (g.R.Read.remaining l.fn.reader)
       (g.S.Screen.contents l.fn.screen) l.before l.run (g.R.Read.remaining l.reader)
       (g.S.Screen.contents l.screen);
+  counted : Counted (g.R.Read.remaining l.fn.reader) l.before (g.R.Read.remaining l.reader);
 }
