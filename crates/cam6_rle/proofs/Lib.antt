@@ -1,2 +1,0 @@
-mod ValuesRead
-mod Refusals

@@ -1,0 +1,42 @@
+//! What the words of `cam6_draw` ask for.
+
+use cam6_pictures::Look;
+use thiserror::Error;
+
+/// What `cam6_draw` is to do.
+#[derive(Clone, Copy, Debug)]
+pub struct DrawOptions {
+    /// How frames are looked at.
+    pub look: Look,
+    /// How their pictures are written.
+    pub way: Way,
+}
+
+/// How pictures are written.
+#[derive(Clone, Copy, Debug)]
+pub enum Way {
+    /// As files of the netpbm programs, one behind the other.
+    Ppm,
+    /// On a terminal, one over the other.
+    Text {
+        /// How many pictures a second at most, where that is said.
+        rate: Option<usize>,
+    },
+}
+
+/// Why words that clap takes ask for nothing.
+#[derive(Clone, Copy, Debug, Error)]
+pub(crate) enum Unsaid {
+    #[error("one of --ppm and --text is wanted, and not both")]
+    Way,
+    #[error("--frames goes with --text alone")]
+    FramesOfFiles,
+    #[error("--frames takes a whole number from 1 to 1000")]
+    Frames,
+    #[error("--scale takes a whole number from 1 to 16")]
+    Scale,
+    #[error("--crop takes a column and a row from 0 to 511, and a width and a height from 1 to 512")]
+    Crop,
+    #[error("--palette takes sixteen groups of six hexadecimal digits, with commas between them")]
+    Palette,
+}
