@@ -17,6 +17,20 @@ BLINKER = "#CXRLE Pos=-1,254\nx = 3, y = 1\n3o!\n"
 WIRE = "x = 6, y = 3, rule = WireWorld\n.4C$C..AB\nC$.4C!\nbehind the end there may be anything\n"
 SPACED = "#C\n#P 2 -3\n\n  x=4,y = 5 , rule = B3/S23\n  b2o\tb $\r\n3$ 4o\n!\n"
 
+# Words that are refused, and replies that show no frames: the status, and what stands on standard error.
+ROW = '{"colours":"' + 128 * "0" + '","ok":"colours"}\n'
+FAULTS = [
+    (["--planes", ""], "", 2, "cam6_rle: --planes wants one to four of the digits 0 to 3"),
+    (["--planes", "4"], "", 2, "cam6_rle: --planes wants one to four of the digits 0 to 3"),
+    (["--planes", "010"], "", 2, "cam6_rle: --planes wants one to four of the digits 0 to 3"),
+    (["--rule", "B3/S23"], "", 2, "--rule wants one line,\nand goes with --replies\n"),
+    (["--replies", "--rule", "a\nb"], "", 2, "--rule wants one line,\nand goes with --replies\n"),
+    (["--side", "100"], "", 2, "--side"),
+    (["--column", "512"], "", 2, "--column"),
+    (["--replies"], "x\n", 3, "cam6_rle: line 1 is no reply\n"),
+    (["--replies"], 127 * ROW, 3, "cam6_rle: line 127 breaks off a frame\n"),
+]
+
 # Texts that are no patterns: the text, the words, and the line, the column and the cause.
 MALFORMED = [
     ("", [], (0, 1, "a header")),
@@ -114,6 +128,10 @@ class Tally:
         self.check(f"{text!r} is refused at {place}: {err!r}",
                    (status, out) == (3, "") and err.startswith(at) and cause in err)
 
+    def fault(self, words, text, status, told):
+        found, out, err = self.run(self.rle, words, text)
+        self.check(f"{words} with {text[:40]!r}: {err!r}", (found, out) == (status, "") and told in err)
+
     def there_and_back(self, name, states, side, rule=""):
         """Planes by chance as replies, their text, and the lines that it says."""
         replies = replies_of(states, side)
@@ -189,6 +207,8 @@ def main():
         tally.placed("a spaced text", SPACED, side=512, column=511, row=2, planes=(2,))
         for text, words, place in MALFORMED:
             tally.malformed(text, words, place)
+        for words, text, status, told in FAULTS:
+            tally.fault(words, text, status, told)
         tally.there_and_back("no cells", {}, 128)
         tally.there_and_back("one cell", {(255, 255): 1}, 256)
         tally.there_and_back("cells of one plane", by_chance(1, 256, 1, 0.3), 256, "B3/S23")

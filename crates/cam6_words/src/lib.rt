@@ -2,7 +2,7 @@
 //!
 //! Contract: `options_of_draw` and `options_of_rle` read the words as `clap` takes them
 //! (`specs/DrawWords.antt`, `specs/RleWords.antt`), and words are refused only where clap has a fault of
-//! them, or where they ask for nothing (`specs/Refusals.antt`). `failure_of` is each end's exit status
+//! them, where they ask for nothing, or for want of memory (`specs/Refusals.antt`). `failure_of` is each end's exit status
 //! with its line (`specs/Statuses.antt`), with which `ended` ends; `refusal_of` that of words that are
 //! refused, with which `refuse` ends; `fault_text` tells why a text is no pattern, and where.
 //!

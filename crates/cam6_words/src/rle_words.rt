@@ -53,7 +53,7 @@ and goes with --replies
 
 /// Reads the words, of which the first is the program's name.
 pub fn options_of_rle(alloc: Global, words: &[String]) -> Result<RleOptions, Refused>
-    // What clap has of the words doesn't depend on where the sides' words are kept.
+    // By the command line as it is, wherever the three words of the sides are kept.
     ensures task { IfOk result (λ options. (app : App) × IsProgram app
         × (fault_of app (map string_bytes words.now) ≡ [])
         × HasTask options (task_of (matches_of app (map string_bytes words.now)))) }
