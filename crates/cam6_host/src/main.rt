@@ -22,14 +22,10 @@ ghost use Rattle.cam6_host.specs.Statuses.{failure, fault as fault_told, refusal
 ghost use Rattle.cam6_host.specs.Unreadable.{IsUnreadable};
 
 mod modes;
-#[cfg(test)]
-mod run_tests;
 mod slips;
 mod statuses;
 mod streams;
 mod words;
-#[cfg(test)]
-mod words_tests;
 
 use cam6_planes::Side;
 use cam6_server::{Fault, Handle, Serving, serve_net};

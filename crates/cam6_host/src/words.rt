@@ -34,7 +34,7 @@ static SIDES: [&str; 3] = ["128", "256", "512"];
 const MAX_PORT: u64 = 65_535;
 
 /// The program's version, and the toolchain that proves it.
-const VERSION: &str = "1 (rattle-kit-13f logic dac8208d650f15bf)";
+const VERSION: &str = "1 (Rattle logic dac8208d650f15bf)";
 
 /// What the statuses mean, and where more is said.
 const PROGRAM_TEXT: &str = "\

@@ -1,7 +1,7 @@
 //! The two programs.
 
 /// Their version, and the toolchain that proves them.
-pub(crate) const VERSION: &str = "1 (rattle-kit-13f logic dac8208d650f15bf)";
+pub(crate) const VERSION: &str = "1 (Rattle logic dac8208d650f15bf)";
 
 /// A program, in whose name faults are told.
 #[derive(Clone, Copy, Debug)]
