@@ -72,17 +72,18 @@ impl Desk {
         // Memory is wanted as by a machine alone.
         ensures memory { WantsNone self.old command → IsOk result }
     {
-        let Some(resting) = self.resting.take() else {
-            unreachable!()
+        let resting = match self.resting.take() {
+            Some(resting) => resting,
+            None => unreachable!(),
         };
         match resting.ask(command) {
             Asked::NoMemory(same) => {
-                self.resting = Some(same);
+                self.resting.insert(same);
                 Err(NoMemory)
             }
             Asked::Finished(finished) => {
                 let (resting, reply) = finished.collect();
-                self.resting = Some(resting);
+                self.resting.insert(resting);
                 Ok(Put::Answered(reply))
             }
             Asked::Queued(queued) => {
@@ -101,7 +102,7 @@ impl Desk {
         }
         let finished = steps::collect(&self.table.shared, &mut self.seat, self.user)?;
         let (resting, reply) = finished.collect();
-        self.resting = Some(resting);
+        self.resting.insert(resting);
         Some(reply)
     }
 

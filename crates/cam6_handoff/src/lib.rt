@@ -22,8 +22,6 @@
 //! `desks` and `seats`; then `queues`.
 #![tactic(auto)]
 
-#[cfg(test)]
-mod asking_tests;
 mod desks;
 mod queues;
 mod rule;

@@ -101,8 +101,9 @@ pub(crate) fn collect(shelf: &Shelf, chair: &mut Chair, user: usize) -> Option<F
     if shelf.compare_exchange::<Collecting>(chair, user, DONE, MINE) != DONE {
         return None;
     }
-    let Some(place) = shelf.exchange(chair, user, None) else {
-        unreachable!()
+    let place = match shelf.exchange(chair, user, None) {
+        Some(place) => place,
+        None => unreachable!(),
     };
     match place {
         Place::Finished(finished) => Some(finished),
@@ -121,8 +122,9 @@ pub(crate) fn take(shelf: &Shelf, chair: &mut Chair, user: usize, board: u8) -> 
     if shelf.compare_exchange::<Taking>(chair, user, READY, OUT + board as u64) != READY {
         return None;
     }
-    let Some(place) = shelf.exchange(chair, user, None) else {
-        unreachable!()
+    let place = match shelf.exchange(chair, user, None) {
+        Some(place) => place,
+        None => unreachable!(),
     };
     match place {
         Place::Queued(queued) => Some(queued),

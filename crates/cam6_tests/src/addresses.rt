@@ -8,7 +8,6 @@ use cam6_planes::{NoMemory, Planes, Side, WORDS};
 use cam6_wiring::{Grid, Half, Hood, Minor, Phase, Setting};
 use std::alloc::Global;
 use std::process::Abort;
-use std::test::Fail;
 
 /// Of each plane the last two rows and the first two, and of each row the last two columns and the
 /// first two.
@@ -19,28 +18,24 @@ const PICTURE: [[u64; 4]; 4] = [
     [0b0011, 0b1001, 0b0100, 0b1110],
 ];
 
-fn picture(rt: &impl Abort, alloc: Global, side: Side) -> Result<Planes, NoMemory> {
-    let mut planes = Planes::blank(alloc, side)?;
+/// Sets those rows of a plane.
+fn set_rows(rt: &impl Abort, planes: &mut Planes, plane: usize, rows: [u64; 4]) {
+    let side = planes.side();
     let last = side.words() - 1;
-    for (plane, rows) in PICTURE.into_iter().enumerate() {
-        for (row, bits) in [254, 255, 0, 1].into_iter().zip(rows) {
-            let mut row_words = [0; WORDS];
-            row_words[0] = bits << 62;
-            row_words[last] = bits >> 2;
-            set_row(rt, &mut planes, plane, on_side(side, (0, row)).1, row_words);
-        }
+    for (row, bits) in [254, 255, 0, 1].into_iter().zip(rows) {
+        let mut row_words = [0; WORDS];
+        row_words[0] = bits << 62;
+        row_words[last] = bits >> 2;
+        set_row(rt, planes, plane, on_side(side, (0, row)).1, row_words);
     }
-    Ok(planes)
 }
 
-/// The picture on a torus of each side.
-fn pictures(rt: &impl Abort, alloc: Global) -> Result<[Planes; 3], NoMemory> {
-    let [small, middle, large] = SIDES;
-    Ok([
-        picture(rt, alloc, small)?,
-        picture(rt, alloc, middle)?,
-        picture(rt, alloc, large)?,
-    ])
+fn picture(rt: &impl Abort, alloc: Global, side: Side) -> Result<Planes, NoMemory> {
+    let mut planes = Planes::blank(alloc, side)?;
+    for (plane, rows) in PICTURE.into_iter().enumerate() {
+        set_rows(rt, &mut planes, plane, rows);
+    }
+    Ok(planes)
 }
 
 /// The address with these bits on lines 0 to 11.
@@ -52,24 +47,31 @@ fn address_with(lines: &str) -> u16 {
     address
 }
 
+fn check_address(
+    rt: &impl Abort,
+    planes: &Planes,
+    hood: Hood,
+    minor: Minor,
+    setting: Setting,
+    looking: (usize, usize),
+    want: u16,
+) {
+    let address = address_of(rt, planes, hood, minor, setting, looking);
+    assert_eq!(rt; address, want, "{hood:?} {minor:?} {setting:?} {looking:?}");
+}
+
 fn check_addresses(
     rt: &impl Abort,
-    planes: &[Planes; 3],
+    planes: &Planes,
     hood: Hood,
     minor: Minor,
     setting: Setting,
     lines: &str,
 ) {
-    for planes in planes {
-        for (cell, lines) in CELLS.into_iter().zip(lines.split(' ')) {
-            let looking = on_side(planes.side(), cell);
-            let address = address_of(rt, planes, hood, minor, setting, looking);
-            assert_eq!(rt;
-                address,
-                address_with(lines),
-                "{hood:?} {minor:?} {setting:?} {looking:?}"
-            );
-        }
+    for (cell, lines) in CELLS.into_iter().zip(lines.split(' ')) {
+        let looking = on_side(planes.side(), cell);
+        let want = address_with(lines);
+        check_address(rt, planes, hood, minor, setting, looking, want);
     }
 }
 
@@ -78,9 +80,7 @@ fn setting(half: Half, grid: Grid, phase: Phase) -> Setting {
 }
 
 // By hand from the picture, name by name in the order of the profile's tables of address bits.
-#[test]
-fn addresses_beside(rt: HostRuntime) -> Result<(), Fail> {
-    let planes = pictures(&rt, rt.alloc())?;
+fn check_beside(rt: &impl Abort, planes: &Planes) {
     let (even, odd) = (Grid::Even, Grid::Odd);
     for (hood, minor, setting, lines) in [
         (
@@ -120,15 +120,21 @@ fn addresses_beside(rt: HostRuntime) -> Result<(), Fail> {
             "101001011000 010111010010 100100100101 001001011011",
         ),
     ] {
-        check_addresses(&rt, &planes, hood, minor, setting, lines);
+        check_addresses(rt, planes, hood, minor, setting, lines);
+    }
+}
+
+#[test]
+fn addresses_beside(rt: HostRuntime) -> Result<(), NoMemory> {
+    for side in SIDES {
+        let planes = picture(&rt, rt.alloc(), side)?;
+        check_beside(&rt, &planes);
     }
     Ok(())
 }
 
 // By hand in the same way, each name by the cell's place in its block.
-#[test]
-fn addresses_in_blocks(rt: HostRuntime) -> Result<(), Fail> {
-    let planes = pictures(&rt, rt.alloc())?;
+fn check_in_blocks(rt: &impl Abort, planes: &Planes) {
     let (even, odd) = (Grid::Even, Grid::Odd);
     for (hood, minor, setting, lines) in [
         (
@@ -186,7 +192,15 @@ fn addresses_in_blocks(rt: HostRuntime) -> Result<(), Fail> {
             "011010011111 101001100101 000111101010 110100010000",
         ),
     ] {
-        check_addresses(&rt, &planes, hood, minor, setting, lines);
+        check_addresses(rt, planes, hood, minor, setting, lines);
+    }
+}
+
+#[test]
+fn addresses_in_blocks(rt: HostRuntime) -> Result<(), NoMemory> {
+    for side in SIDES {
+        let planes = picture(&rt, rt.alloc(), side)?;
+        check_in_blocks(&rt, &planes);
     }
     Ok(())
 }

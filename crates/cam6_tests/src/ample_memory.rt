@@ -6,7 +6,7 @@ ghost use Rattle.cam6_table.specs.RuleTexts.{IsCodeFor};
 
 use cam6_board::{Board, FlakyBoard, SoftBoard};
 use cam6_cache::{Key, TableCache};
-use cam6_commands::{Command, Done, Event, Fault, Outcome, Refusal, Reply, SavedMachine};
+use cam6_commands::{Command, Done, Event, Fault, Outcome, Refusal, Reply};
 use cam6_core::{Core, run};
 use cam6_forth::{ParseFault, Rule, parse};
 use cam6_machine::{Machine, Now, replies_alone};
@@ -16,7 +16,8 @@ use cam6_table::{Code, Table, compile};
 use cam6_wire::{command_shown, read_command, reply_text};
 use cam6_wiring::{Half, Hood, Minor, Wiring};
 use serde_json::Value;
-use std::alloc::Global;
+use std::alloc::{AllocError, Global};
+use std::process::Abort;
 use std::test::Fail;
 
 #[test]
@@ -55,12 +56,9 @@ fn code_for(alloc: Global, wiring: Wiring, text: &str) -> Option<Code>
     compile(alloc, wiring, text, &mut trial).ok()
 }
 
-#[test]
-fn tables_are_kept(rt: HostRuntime) -> Result<(), Fail> {
-    let alloc = rt.alloc();
-    let mut cache = TableCache::new(alloc, 1)?;
-    let mut key = Key::scratch(alloc)?;
-    let mut table = Table::blank(alloc)?;
+/// How many tables a cache of one has, before and behind each of two loads of a rule's table, and
+/// whether each load found it there.
+fn loads(alloc: Global, cache: &mut TableCache) -> Result<([usize; 3], [bool; 2]), NoMemory> {
     let wiring = Wiring {
         half: Half::A,
         hood: Hood::VonNeumann,
@@ -68,33 +66,70 @@ fn tables_are_kept(rt: HostRuntime) -> Result<(), Fail> {
     };
     let text = ": R CENTER >PLN0 ;";
     let code = code_for(alloc, wiring, text).ok_or(NoMemory)?;
+    let mut key = Key::scratch(alloc)?;
+    let mut table = Table::blank(alloc)?;
     key.set(wiring.half, wiring.hood, wiring.minor, text, false);
-    assert_eq!(rt; cache.len(), 0);
-    assert!(rt; !cache.load(&key, &code, &mut table));
-    assert_eq!(rt; cache.len(), 1);
-    assert!(rt; cache.load(&key, &code, &mut table));
-    assert_eq!(rt; cache.len(), 1);
+    let before = cache.len();
+    let first = cache.load(&key, &code, &mut table);
+    let between = cache.len();
+    let second = cache.load(&key, &code, &mut table);
+    Ok(([before, between, cache.len()], [first, second]))
+}
+
+fn check_loads(rt: &impl Abort, alloc: Global, cache: &mut TableCache) -> Result<(), NoMemory> {
+    let (lengths, are_found) = loads(alloc, cache)?;
+    assert_eq!(rt; lengths, [0, 1, 1]);
+    assert_eq!(rt; are_found, [false, true]);
     Ok(())
+}
+
+#[test]
+fn tables_are_kept(rt: HostRuntime) -> Result<(), NoMemory> {
+    let mut cache = TableCache::new(rt.alloc(), 1)?;
+    check_loads(&rt, rt.alloc(), &mut cache)
+}
+
+/// Whether a run of no steps is refused at once.
+fn is_refused_now(machine: &mut Machine) -> Result<bool, NoMemory> {
+    let now = machine.now(Command::Run { n: 0 })?;
+    Ok(matches!(&now, Now::Reply(Reply::Refused(_))))
+}
+
+/// Whether it is refused by a reply.
+fn is_refused(machine: &mut Machine) -> Result<bool, NoMemory> {
+    let reply = machine.reply_to(Command::Run { n: 0 })?;
+    Ok(matches!(&reply, Reply::Refused(_)))
+}
+
+/// Whether it is where the machine stands for a desk.
+fn is_refused_at_a_desk(desk: &mut Machine) -> Result<bool, NoMemory> {
+    let reply = desk.ask(Command::Run { n: 0 })?;
+    Ok(matches!(&reply, Reply::Refused(_)))
 }
 
 // No cycle is set.
 #[test]
-fn machines_answer_now(rt: HostRuntime) -> Result<(), Fail> {
+fn machines_answer_now(rt: HostRuntime) -> Result<(), NoMemory> {
     let mut machine = Machine::new(rt.alloc(), Side::S256)?;
-    let now = machine.now(Command::Run { n: 0 })?;
-    assert!(rt; matches!(&now, Now::Reply(Reply::Refused(_))));
+    check_refused_now(&rt, &mut machine);
+    Ok(())
+}
+
+fn check_refused_now(rt: &impl Abort, machine: &mut Machine) {
+    assert_eq!(rt; is_refused_now(machine), Ok(true));
+}
+
+fn check_replies_of(rt: &impl Abort, machine: &mut Machine) -> Result<(), NoMemory> {
+    assert_eq!(rt; machine.limit(), Side::S256);
+    assert!(rt; is_refused(machine)?);
+    assert!(rt; is_refused_at_a_desk(machine)?);
     Ok(())
 }
 
 #[test]
-fn machines_answer(rt: HostRuntime) -> Result<(), Fail> {
+fn machines_answer(rt: HostRuntime) -> Result<(), NoMemory> {
     let mut machine = Machine::new(rt.alloc(), Side::S256)?;
-    assert_eq!(rt; machine.limit(), Side::S256);
-    let reply = machine.reply_to(Command::Run { n: 0 })?;
-    assert!(rt; matches!(&reply, Reply::Refused(_)));
-    let reply = machine.ask(Command::Run { n: 0 })?;
-    assert!(rt; matches!(&reply, Reply::Refused(_)));
-    Ok(())
+    check_replies_of(&rt, &mut machine)
 }
 
 /// Commands of several kinds, by their number; a blank machine of 256 columns is asked all of them.
@@ -124,17 +159,27 @@ fn is_its_reply(number: usize, reply: &Reply) -> bool {
     }
 }
 
-#[test]
-fn lists_are_answered(rt: HostRuntime) -> Result<(), Fail> {
-    let mut commands = Vec::new(rt.alloc());
+/// The commands of these numbers, in order.
+fn commands(alloc: Global) -> Result<Vec<Command>, AllocError> {
+    let mut commands = Vec::new(alloc);
     for number in 0..7 {
         commands.push(command(number))?;
     }
-    let (replies, _machine) = replies_alone(rt.alloc(), Side::S256, commands)?;
+    Ok(commands)
+}
+
+fn check_replies(rt: &impl Abort, replies: &[Reply]) {
     assert_eq!(rt; replies.len(), 7);
     for (number, reply) in replies.iter().enumerate() {
         assert!(rt; is_its_reply(number, reply));
     }
+}
+
+#[test]
+fn lists_are_answered(rt: HostRuntime) -> Result<(), NoMemory> {
+    let commands = commands(rt.alloc())?;
+    let (replies, _machine) = replies_alone(rt.alloc(), Side::S256, commands)?;
+    check_replies(&rt, replies.as_slice());
     Ok(())
 }
 
@@ -142,10 +187,15 @@ const NO_STEPS: &str = r#"{"do":"run","n":0}"#;
 
 // Boards begin empty, and one that is to fail hasn't yet.
 #[test]
-fn boards_are_made(rt: HostRuntime) -> Result<(), Fail> {
-    let alloc = rt.alloc();
-    let soft = SoftBoard::new(alloc)?;
+fn soft_boards_are_made(rt: HostRuntime) -> Result<(), Fail> {
+    let soft = SoftBoard::new(rt.alloc())?;
     assert_eq!(rt; soft.rows(), None);
+    Ok(())
+}
+
+#[test]
+fn flaky_boards_are_made(rt: HostRuntime) -> Result<(), Fail> {
+    let alloc = rt.alloc();
     let flaky = FlakyBoard::new(alloc, vec![in alloc; 1]?)?;
     assert_eq!(rt; flaky.faults(), 0);
     Ok(())
@@ -184,15 +234,18 @@ fn lines_are_kept(rt: HostRuntime) -> Result<(), Fail> {
 
 const REFUSED: &[u8] = b"{\"fault\":63}\n";
 
-#[test]
-fn machines_are_served(rt: HostRuntime) -> Result<(), Fail> {
-    let alloc = rt.alloc();
-    let mut machine = Machine::new(alloc, Side::S256)?;
+fn check_served(rt: &impl Abort, alloc: Global, machine: &mut Machine) {
     let mut writer = Vec::new(alloc);
     let mut reader = NO_STEPS.as_bytes();
-    let end = serve(alloc, &mut reader, &mut writer, &mut machine, 9);
+    let end = serve(alloc, &mut reader, &mut writer, machine, 9);
     assert_eq!(rt; end, End::EndOfInput);
     assert_eq!(rt; writer.as_slice(), REFUSED);
+}
+
+#[test]
+fn machines_are_served(rt: HostRuntime) -> Result<(), NoMemory> {
+    let mut machine = Machine::new(rt.alloc(), Side::S256)?;
+    check_served(&rt, rt.alloc(), &mut machine);
     Ok(())
 }
 
@@ -205,15 +258,21 @@ fn sessions_are_served(rt: HostRuntime) {
     assert_eq!(rt; writer.as_slice(), REFUSED);
 }
 
-// Cells of no state: the reply to its command alone wants no memory for it.
-#[test]
-fn events_run(rt: HostRuntime) -> Result<(), Fail> {
-    let alloc = rt.alloc();
-    let mut core = Core::new(alloc, 1, 1, 1, [Side::S128].as_slice())?;
+/// A user asks for this, and collects what comes of it.
+fn asked_for(alloc: Global, command: Command) -> Result<Vec<Event>, AllocError> {
     let mut events = Vec::new(alloc);
-    events.push(Event::Ask(1, Command::Count { mask: 0 }))?;
+    events.push(Event::Ask(1, command))?;
     events.push(Event::Collect(1))?;
-    let outcomes = run(alloc, &mut core, events)?;
+    Ok(events)
+}
+
+/// What comes of events in a new core of one user, whose machine is of this limit.
+fn outcomes(alloc: Global, limit: Side, events: Vec<Event>) -> Result<Vec<Outcome>, NoMemory> {
+    let mut core = Core::new(alloc, 1, 1, 1, [limit].as_slice())?;
+    run(alloc, &mut core, events)
+}
+
+fn check_counted(rt: &impl Abort, outcomes: &[Outcome]) {
     assert_eq!(rt; outcomes.len(), 2);
     assert!(rt; matches!(outcomes.get(0), Some(Outcome::Asked(0))));
     assert!(rt;
@@ -222,30 +281,32 @@ fn events_run(rt: HostRuntime) -> Result<(), Fail> {
             Some(Outcome::Collected(Reply::Done(Done::Count { count: 0 })))
         )
     );
+}
+
+// Cells of no state: the reply to its command alone wants no memory for it.
+#[test]
+fn events_run(rt: HostRuntime) -> Result<(), NoMemory> {
+    let events = asked_for(rt.alloc(), Command::Count { mask: 0 })?;
+    let outcomes = outcomes(rt.alloc(), Side::S128, events)?;
+    check_counted(&rt, outcomes.as_slice());
     Ok(())
 }
 
-/// What is saved of a blank machine of side 128.
-fn saved_machine(alloc: Global) -> Result<Option<SavedMachine>, NoMemory> {
+/// The reply that saves a blank machine of side 128.
+fn saving_reply(alloc: Global) -> Result<Reply, NoMemory> {
     let mut machine = Machine::new(alloc, Side::S128)?;
-    match machine.reply_to(Command::Save)? {
-        Reply::Done(Done::Save { machine }) => Ok(Some(machine)),
-        _ => Ok(None),
+    machine.reply_to(Command::Save)
+}
+
+/// The command that loads what a reply saved.
+fn loading(reply: Reply) -> Option<Command> {
+    match reply {
+        Reply::Done(Done::Save { machine }) => Some(Command::Load { machine }),
+        _ => None,
     }
 }
 
-// A line of events asks for no load, but a list of events may.
-#[test]
-fn machines_are_loaded_by_events(rt: HostRuntime) -> Result<(), Fail> {
-    let alloc = rt.alloc();
-    let Some(machine) = saved_machine(alloc)? else {
-        panic!(rt; "nothing was saved")
-    };
-    let mut core = Core::new(alloc, 1, 1, 1, [Side::S256].as_slice())?;
-    let mut events = Vec::new(alloc);
-    events.push(Event::Ask(1, Command::Load { machine }))?;
-    events.push(Event::Collect(1))?;
-    let outcomes = run(alloc, &mut core, events)?;
+fn check_loaded(rt: &impl Abort, outcomes: &[Outcome]) {
     assert!(rt; matches!(outcomes.get(0), Some(Outcome::Asked(0))));
     assert!(rt;
         matches!(
@@ -253,5 +314,14 @@ fn machines_are_loaded_by_events(rt: HostRuntime) -> Result<(), Fail> {
             Some(Outcome::Collected(Reply::Done(Done::Load)))
         )
     );
+}
+
+// A line of events asks for no load, but a list of events may.
+#[test]
+fn machines_are_loaded_by_events(rt: HostRuntime) -> Result<(), Fail> {
+    let command = loading(saving_reply(rt.alloc())?).ok_or("nothing was saved")?;
+    let events = asked_for(rt.alloc(), command)?;
+    let outcomes = outcomes(rt.alloc(), Side::S256, events)?;
+    check_loaded(&rt, outcomes.as_slice());
     Ok(())
 }

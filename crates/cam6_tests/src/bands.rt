@@ -11,7 +11,6 @@ use cam6_table::{Code, Table, fill};
 use cam6_wiring::{Grid, Half, Hood, Minor, Phase};
 use std::alloc::Global;
 use std::process::Abort;
-use std::test::Fail;
 
 /// A lone ball of a block goes to the opposite corner, and two that face each other go to the other
 /// two.
@@ -85,6 +84,10 @@ fn check_mid(rt: &impl Abort, mid: &MidStep, side: Side, bands: u16) {
     assert_eq!(rt; mid.limit(), side);
 }
 
+fn check_limit(rt: &impl Abort, spare: &Spare, limit: Side) {
+    assert_eq!(rt; spare.limit(), limit);
+}
+
 /// Goes on in another image, which has to have room for the step.
 fn moved(rt: &impl Abort, mid: MidStep, spare: Spare) -> (MidStep, Spare) {
     assert!(rt; mid.side().number() <= spare.limit().number());
@@ -113,7 +116,7 @@ fn check_step(rt: &impl Abort, image: AtRest, spare: Spare, tables: &EntryTables
     check_mid(rt, &mid, side, bands);
     let (mid, spare) = moved(rt, mid, spare);
     check_mid(rt, &mid, side, bands);
-    assert_eq!(rt; spare.limit(), side);
+    check_limit(rt, &spare, side);
     let left = (side.number() / 16 - 1) as u16;
     let mid = after_bands(rt, mid, tables, left.saturating_sub(bands));
     check_ball(rt, last_band(rt, mid, tables).planes());
@@ -137,33 +140,67 @@ fn bands_of(side: Side) -> [u16; 2] {
     [1, (side.number() / 16 - 1) as u16]
 }
 
+/// A step on a torus of this side is moved behind so many bands.
+fn check_moved(
+    rt: &impl Abort,
+    alloc: Global,
+    tables: &EntryTables,
+    side: Side,
+    bands: u16,
+) -> Result<(), NoMemory> {
+    let image = with_a_ball(rt, alloc, side)?;
+    let planes = Planes::blank(alloc, side)?;
+    check_step(rt, image, Spare::of(planes), tables, bands);
+    Ok(())
+}
+
 // By hand, from the picture of the two grids: on the odd one the cell at column 0 of row 0 is the
 // lower right one of its block, and the upper left one stands at the last column of the last row.
-#[test]
-fn a_step_is_moved(rt: HostRuntime) -> Result<(), Fail> {
-    let table = billiards(rt.alloc()).ok_or(NoMemory)?;
-    let tables = on_the_odd_grid(&table);
+fn check_moves(rt: &impl Abort, alloc: Global, tables: &EntryTables) -> Result<(), NoMemory> {
     for side in SIDES {
         for bands in bands_of(side) {
-            let image = with_a_ball(&rt, rt.alloc(), side)?;
-            let spare = Spare::of(Planes::blank(rt.alloc(), side)?);
-            check_step(&rt, image, spare, &tables, bands);
+            check_moved(rt, alloc, tables, side, bands)?;
         }
     }
     Ok(())
 }
 
-// By hand in the same way: what the step that is given up leaves behind isn't seen.
 #[test]
-fn a_step_is_abandoned(rt: HostRuntime) -> Result<(), Fail> {
+fn a_step_is_moved(rt: HostRuntime) -> Result<(), NoMemory> {
     let table = billiards(rt.alloc()).ok_or(NoMemory)?;
-    let tables = on_the_odd_grid(&table);
+    check_moves(&rt, rt.alloc(), &on_the_odd_grid(&table))
+}
+
+/// A step on a torus of this side is given up behind so many bands.
+fn check_given_up(
+    rt: &impl Abort,
+    alloc: Global,
+    tables: &EntryTables,
+    side: Side,
+    bands: u16,
+) -> Result<(), NoMemory> {
+    let first = with_a_ball(rt, alloc, side)?;
+    let second = with_a_ball(rt, alloc, side)?;
+    check_abandoned(rt, first, second, tables, bands);
+    Ok(())
+}
+
+// By hand in the same way: what the step that is given up leaves behind isn't seen.
+fn check_all_given_up(
+    rt: &impl Abort,
+    alloc: Global,
+    tables: &EntryTables,
+) -> Result<(), NoMemory> {
     for side in SIDES {
         for bands in bands_of(side) {
-            let first = with_a_ball(&rt, rt.alloc(), side)?;
-            let second = with_a_ball(&rt, rt.alloc(), side)?;
-            check_abandoned(&rt, first, second, &tables, bands);
+            check_given_up(rt, alloc, tables, side, bands)?;
         }
     }
     Ok(())
+}
+
+#[test]
+fn a_step_is_abandoned(rt: HostRuntime) -> Result<(), NoMemory> {
+    let table = billiards(rt.alloc()).ok_or(NoMemory)?;
+    check_all_given_up(&rt, rt.alloc(), &on_the_odd_grid(&table))
 }

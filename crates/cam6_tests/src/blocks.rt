@@ -1,12 +1,12 @@
 //! Corners of blocks, rotations in them, and addresses round a lone cell, worked out by hand.
 
-use crate::within::address_of;
+use crate::within::{address_of, seen_at};
 use cam6_planes::{NoMemory, Planes, Side};
 use cam6_wiring::{
-    Compass, Corner, Grid, Half, Hood, Level, Minor, Name, Phase, Rotation, Setting, address_at,
-    corner_of, in_block, seen,
+    Compass, Corner, Grid, Half, Hood, Level, Minor, Name, Phase, Rotation, Setting, corner_of,
+    in_block,
 };
-use std::test::Fail;
+use std::process::Abort;
 
 // From the picture of the two grids round the corner of the torus.
 #[test]
@@ -63,10 +63,7 @@ fn one_cell(alloc: std::alloc::Global) -> Result<Planes, NoMemory> {
     Ok(planes)
 }
 
-// The cell at column 0 of row 0 of plane 0 is set, and no other.
-#[test]
-fn addresses_round_a_cell(rt: HostRuntime) -> Result<(), Fail> {
-    let planes = one_cell(rt.alloc())?;
+fn check_round(rt: &impl Abort, planes: &Planes) {
     let (moore, block) = (Hood::Moore, Hood::Margolus);
     for (half, hood, grid, x, y, want) in [
         (Half::A, moore, Grid::Even, 0, 0, 1),
@@ -83,26 +80,35 @@ fn addresses_round_a_cell(rt: HostRuntime) -> Result<(), Fail> {
     ] {
         let phase = Phase::P0;
         let setting = Setting { half, grid, phase };
-        let address = address_of(&rt, &planes, hood, Minor::Centers, setting, (x, y));
+        let address = address_of(rt, planes, hood, Minor::Centers, setting, (x, y));
         assert_eq!(rt; address, want, "{half:?} {hood:?} {grid:?} {x} {y}");
     }
+}
+
+fn check_phases(rt: &impl Abort, planes: &Planes) {
     let setting = Setting {
         half: Half::A,
         grid: Grid::Odd,
         phase: Phase::P2,
     };
-    assert!(rt; seen(&planes, setting, Name::MinorPhase(Level::Upper), 0, 0));
-    assert!(rt; seen(&planes, setting, Name::Horz, 0, 0));
-    let address = address_at(
-        &planes,
-        Half::A,
-        Hood::MargolusPhase,
-        Minor::Phases,
-        Grid::Even,
-        Phase::P2,
-        9,
-        9,
-    );
+    let phase = Name::MinorPhase(Level::Upper);
+    assert!(rt; seen_at(rt, planes, setting, phase, (0, 0)));
+    assert!(rt; seen_at(rt, planes, setting, Name::Horz, (0, 0)));
+    let setting = Setting {
+        half: Half::A,
+        grid: Grid::Even,
+        phase: Phase::P2,
+    };
+    let (hood, minor) = (Hood::MargolusPhase, Minor::Phases);
+    let address = address_of(rt, planes, hood, minor, setting, (9, 9));
     assert_eq!(rt; address, 512 + 2048);
+}
+
+// The cell at column 0 of row 0 of plane 0 is set, and no other.
+#[test]
+fn addresses_round_a_cell(rt: HostRuntime) -> Result<(), NoMemory> {
+    let planes = one_cell(rt.alloc())?;
+    check_round(&rt, &planes);
+    check_phases(&rt, &planes);
     Ok(())
 }

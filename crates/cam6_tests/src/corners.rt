@@ -5,9 +5,7 @@ use crate::rows::lone;
 use crate::within::{seen_at, set_row};
 use cam6_planes::{NoMemory, Planes, Side, WORDS};
 use cam6_wiring::{Compass, Grid, Half, Level, Name, Phase, Rotation, Setting};
-use std::alloc::Global;
 use std::process::Abort;
-use std::test::Fail;
 
 /// A cell's column and row, where 255 is the last and 254 the last but one.
 pub(crate) type Place = (u8, u8);
@@ -25,16 +23,6 @@ pub(crate) fn on_side(side: Side, place: Place) -> (usize, usize) {
         _ => usize::from(coordinate % 2),
     };
     (at(place.0), at(place.1))
-}
-
-/// Blank planes of each side.
-fn blank_planes(alloc: Global) -> Result<[Planes; 3], NoMemory> {
-    let [small, middle, large] = SIDES;
-    Ok([
-        Planes::blank(alloc, small)?,
-        Planes::blank(alloc, middle)?,
-        Planes::blank(alloc, large)?,
-    ])
 }
 
 fn beside(compass: Compass) -> [Name; 2] {
@@ -77,7 +65,7 @@ fn check_places(
 /// Unprimed names read planes 0 and 2, primed ones planes 1 and 3.
 fn check_names(
     rt: &impl Abort,
-    planes: &mut [Planes; 3],
+    planes: &mut Planes,
     grid: Grid,
     names: [Name; 2],
     places: [Place; 4],
@@ -91,16 +79,12 @@ fn check_names(
     ] {
         let phase = Phase::P0;
         let setting = Setting { half, grid, phase };
-        for planes in planes.iter_mut() {
-            check_places(rt, planes, setting, name, plane, places);
-        }
+        check_places(rt, planes, setting, name, plane, places);
     }
 }
 
 // By hand: a row further up is one less, a column further west is one less, round the torus.
-#[test]
-fn places_beside(rt: HostRuntime) -> Result<(), Fail> {
-    let mut planes = blank_planes(rt.alloc())?;
+fn check_beside(rt: &impl Abort, planes: &mut Planes) {
     for (compass, places) in [
         (Compass::Center, [(0, 0), (255, 0), (0, 255), (255, 255)]),
         (Compass::North, [(0, 255), (255, 255), (0, 254), (255, 254)]),
@@ -116,17 +100,23 @@ fn places_beside(rt: HostRuntime) -> Result<(), Fail> {
         (Compass::SouthEast, [(1, 1), (0, 1), (1, 0), (0, 0)]),
     ] {
         for grid in [Grid::Even, Grid::Odd] {
-            check_names(&rt, &mut planes, grid, beside(compass), places);
+            check_names(rt, planes, grid, beside(compass), places);
         }
+    }
+}
+
+#[test]
+fn places_beside(rt: HostRuntime) -> Result<(), NoMemory> {
+    for side in SIDES {
+        let mut planes = Planes::blank(rt.alloc(), side)?;
+        check_beside(&rt, &mut planes);
     }
     Ok(())
 }
 
 // By hand, from the picture of the blocks: on the even grid each of the four cells is the outermost
 // of a block of its own; on the odd grid they are one block, and (255, 255) is its upper left cell.
-#[test]
-fn places_in_blocks(rt: HostRuntime) -> Result<(), Fail> {
-    let mut planes = blank_planes(rt.alloc())?;
+fn check_in_blocks(rt: &impl Abort, planes: &mut Planes) {
     for (rotation, even, odd) in [
         (
             Rotation::Clockwise,
@@ -144,16 +134,22 @@ fn places_in_blocks(rt: HostRuntime) -> Result<(), Fail> {
             [(0, 255), (0, 0), (255, 255), (255, 0)],
         ),
     ] {
-        check_names(&rt, &mut planes, Grid::Even, rotated(rotation), even);
-        check_names(&rt, &mut planes, Grid::Odd, rotated(rotation), odd);
+        check_names(rt, planes, Grid::Even, rotated(rotation), even);
+        check_names(rt, planes, Grid::Odd, rotated(rotation), odd);
+    }
+}
+
+#[test]
+fn places_in_blocks(rt: HostRuntime) -> Result<(), NoMemory> {
+    for side in SIDES {
+        let mut planes = Planes::blank(rt.alloc(), side)?;
+        check_in_blocks(&rt, &mut planes);
     }
     Ok(())
 }
 
 // &CENTER of half A is in plane 2, of half B in plane 0; with a prime, one plane further up.
-#[test]
-fn centres_of_the_other_half(rt: HostRuntime) -> Result<(), Fail> {
-    let mut planes = blank_planes(rt.alloc())?;
+fn check_centres(rt: &impl Abort, planes: &mut Planes) {
     for (half, level, plane) in [
         (Half::A, Level::Lower, 2),
         (Half::A, Level::Upper, 3),
@@ -162,18 +158,33 @@ fn centres_of_the_other_half(rt: HostRuntime) -> Result<(), Fail> {
     ] {
         let (grid, phase) = (Grid::Odd, Phase::P3);
         let setting = Setting { half, grid, phase };
-        for planes in planes.iter_mut() {
-            let name = Name::MinorCenter(level);
-            check_places(&rt, planes, setting, name, plane, CELLS);
-        }
+        let name = Name::MinorCenter(level);
+        check_places(rt, planes, setting, name, plane, CELLS);
+    }
+}
+
+#[test]
+fn centres_of_the_other_half(rt: HostRuntime) -> Result<(), NoMemory> {
+    for side in SIDES {
+        let mut planes = Planes::blank(rt.alloc(), side)?;
+        check_centres(&rt, &mut planes);
     }
     Ok(())
 }
 
-/// The bits that the cells see of blank planes, in either half.
+/// The bits that the cells see of blank planes.
+fn check_bits(rt: &impl Abort, planes: &Planes, setting: Setting, name: Name, bits: [u8; 4]) {
+    for (cell, bit) in CELLS.into_iter().zip(bits) {
+        let looking = on_side(planes.side(), cell);
+        let got = u8::from(seen_at(rt, planes, setting, name, looking));
+        assert_eq!(rt; got, bit, "{setting:?} {name:?} {looking:?}");
+    }
+}
+
+/// So it is under both names, in either half.
 fn check_blank(
     rt: &impl Abort,
-    planes: &[Planes; 3],
+    planes: &Planes,
     grid: Grid,
     phase: Phase,
     names: [Name; 2],
@@ -182,28 +193,20 @@ fn check_blank(
     for half in [Half::A, Half::B] {
         let setting = Setting { half, grid, phase };
         for name in names {
-            for planes in planes {
-                for (cell, bit) in CELLS.into_iter().zip(bits) {
-                    let looking = on_side(planes.side(), cell);
-                    let got = u8::from(seen_at(rt, planes, setting, name, looking));
-                    assert_eq!(rt; got, bit, "{setting:?} {name:?} {looking:?}");
-                }
-            }
+            check_bits(rt, planes, setting, name, bits);
         }
     }
 }
 
 // By hand: HORZ is 1 in a block's right column, VERT in its lower row; PHASE is the low bit.
-#[test]
-fn names_that_read_no_plane(rt: HostRuntime) -> Result<(), Fail> {
-    let planes = blank_planes(rt.alloc())?;
+fn check_blank_names(rt: &impl Abort, planes: &Planes) {
     let horz = [Name::Horz, Name::MinorHorz];
     let vert = [Name::Vert, Name::MinorVert];
     for phase in [Phase::P0, Phase::P3] {
-        check_blank(&rt, &planes, Grid::Even, phase, horz, [0, 1, 0, 1]);
-        check_blank(&rt, &planes, Grid::Even, phase, vert, [0, 0, 1, 1]);
-        check_blank(&rt, &planes, Grid::Odd, phase, horz, [1, 0, 1, 0]);
-        check_blank(&rt, &planes, Grid::Odd, phase, vert, [1, 1, 0, 0]);
+        check_blank(rt, planes, Grid::Even, phase, horz, [0, 1, 0, 1]);
+        check_blank(rt, planes, Grid::Even, phase, vert, [0, 0, 1, 1]);
+        check_blank(rt, planes, Grid::Odd, phase, horz, [1, 0, 1, 0]);
+        check_blank(rt, planes, Grid::Odd, phase, vert, [1, 1, 0, 0]);
     }
     let low = [Name::Phase(Level::Lower), Name::MinorPhase(Level::Lower)];
     let high = [Name::Phase(Level::Upper), Name::MinorPhase(Level::Upper)];
@@ -214,9 +217,17 @@ fn names_that_read_no_plane(rt: HostRuntime) -> Result<(), Fail> {
             (Phase::P2, 0, 1),
             (Phase::P3, 1, 1),
         ] {
-            check_blank(&rt, &planes, grid, phase, low, [low_bit; 4]);
-            check_blank(&rt, &planes, grid, phase, high, [high_bit; 4]);
+            check_blank(rt, planes, grid, phase, low, [low_bit; 4]);
+            check_blank(rt, planes, grid, phase, high, [high_bit; 4]);
         }
+    }
+}
+
+#[test]
+fn names_that_read_no_plane(rt: HostRuntime) -> Result<(), NoMemory> {
+    for side in SIDES {
+        let planes = Planes::blank(rt.alloc(), side)?;
+        check_blank_names(&rt, &planes);
     }
     Ok(())
 }

@@ -114,12 +114,10 @@ impl Write for Ones {
     }
 }
 
-/// What is written for one line.
-pub(crate) fn answer(alloc: Global, machine: &mut Machine, line: &str) -> Vec<u8> {
+/// Whether all of a session of one line is served, and this is written for it.
+pub(crate) fn is_answered(alloc: Global, machine: &mut Machine, line: &str, want: &[u8]) -> bool {
     let mut reader = line.as_bytes();
     let mut writer = Vec::new(alloc);
-    match serve(alloc, &mut reader, &mut writer, machine, 100) {
-        End::EndOfInput => writer,
-        _ => Vec::new(alloc),
-    }
+    let end = serve(alloc, &mut reader, &mut writer, machine, 100);
+    end == End::EndOfInput && writer.as_slice() == want
 }

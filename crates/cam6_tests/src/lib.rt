@@ -8,8 +8,8 @@
 //!
 //! Read next: `ample_memory`, each call that takes memory; `planes` and `rows`; `blocks`,
 //! `corners`, `addresses` and `lines`, what a cell sees; `bands`, a step that is moved or given up;
-//! `steps`, those of a run and of a rule; then `failing`, readers, writers and desks that fail,
-//! with the sessions over them in `sessions`.
+//! `steps`, those of a run and of a rule; `desks`, one of the hand-off table; then `failing`,
+//! readers, writers and desks that fail, with the sessions over them in `sessions`.
 #![tactic(auto)]
 
 #[cfg(test)]
@@ -22,6 +22,8 @@ mod bands;
 mod blocks;
 #[cfg(test)]
 mod corners;
+#[cfg(test)]
+mod desks;
 #[cfg(test)]
 mod failing;
 #[cfg(test)]

@@ -1,7 +1,8 @@
 //! Rows of planes: one is written, and all others stay.
 
 use crate::within::{row_of, set_row};
-use cam6_planes::{DIGITS, Planes, Row, Side, WORDS};
+use cam6_planes::{DIGITS, NoMemory, Planes, Row, Side, WORDS};
+use std::process::Abort;
 use std::test::Fail;
 
 // Columns 0, 131, 132 and 255: the bytes 80, 18 and 01 at 0, 16 and 31.
@@ -19,22 +20,23 @@ const ROW: Row = [
 // By hand, four columns to a digit from column 0 on.
 const TEXT: &[u8] = b"8000000000000000000000000000000018000000000000000000000000000001";
 
-#[test]
-fn writes_one_row(rt: HostRuntime) -> Result<(), Fail> {
-    let mut bits = [0; 32];
-    bits[0] = 0x80;
-    bits[16] = 0x18;
-    bits[31] = 0x01;
-    let mut planes = Planes::blank(rt.alloc(), Side::S256)?;
-    planes.put_row(2, 10, &bits);
+fn check_columns(rt: &impl Abort, planes: &Planes) {
+    assert!(rt; planes.side().number() == 256);
     for x in 0..256 {
         let want = x == 0 || x == 131 || x == 132 || x == 255;
         assert_eq!(rt; planes.bit(2, x, 10), want, "column {x}");
     }
+}
+
+fn check_digits(rt: &impl Abort, planes: &Planes) {
+    assert!(rt; planes.side().number() == 256);
     let mut text = [b'-'; DIGITS];
     assert_eq!(rt; planes.row_hex(2, 10, &mut text), 64);
     assert_eq!(rt; &text[..64], TEXT);
     assert_eq!(rt; &text[64..], [b'-'; 64].as_slice());
+}
+
+fn check_rows(rt: &impl Abort, planes: &Planes) {
     for plane in 0..4 {
         for row in 0..256 {
             let want = if plane == 2 && row == 10 {
@@ -42,13 +44,23 @@ fn writes_one_row(rt: HostRuntime) -> Result<(), Fail> {
             } else {
                 [0; WORDS]
             };
-            assert_eq!(rt;
-                planes.row_words(plane, row),
-                want,
-                "row {row} of plane {plane}"
-            );
+            let got = row_of(rt, planes, plane, row);
+            assert_eq!(rt; got, want, "row {row} of plane {plane}");
         }
     }
+}
+
+#[test]
+fn writes_one_row(rt: HostRuntime) -> Result<(), NoMemory> {
+    let mut bits = [0; 32];
+    bits[0] = 0x80;
+    bits[16] = 0x18;
+    bits[31] = 0x01;
+    let mut planes = Planes::blank(rt.alloc(), Side::S256)?;
+    planes.put_row(2, 10, &bits);
+    check_columns(&rt, &planes);
+    check_digits(&rt, &planes);
+    check_rows(&rt, &planes);
     Ok(())
 }
 

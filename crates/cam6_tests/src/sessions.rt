@@ -1,10 +1,11 @@
 //! Sessions in which the reader, the writer or the one that is asked fails at each of its calls.
 
-use crate::failing::{Desk, Failure, Ones, Shown, answer};
+use crate::failing::{Desk, Failure, Ones, Shown, is_answered};
 use cam6_machine::Machine;
 use cam6_planes::NoMemory;
 use cam6_session::{End, serve};
 use std::alloc::Global;
+use std::process::Abort;
 use std::test::Fail;
 
 // A session of four lines, the last without its LF, and the answers of the profile: no cycle is
@@ -42,47 +43,68 @@ fn stands_after(alloc: Global, lines: usize, machine: &mut Machine) -> bool {
     } else {
         b"{\"ok\":\"run\",\"position\":0}\n".as_slice()
     };
-    answer(alloc, machine, RUN).as_slice() == want
+    is_answered(alloc, machine, RUN, want)
 }
 
-/// A session with this reader and bound: its end, what was written, and the desk.
-fn session(alloc: Global, mut reader: Shown, turns: u64) -> Result<(End, Vec<u8>, Desk), NoMemory> {
+/// What came of a session: its end, whether what was wanted is what was written, and whether the
+/// desk stands where it was to. A desk is let go by as few functions as may be: each way in which
+/// it can be let go is a proof of its own.
+type Came = (End, bool, bool);
+
+/// A session over a desk, with this reader and bound: its end, and whether this is written.
+fn read_at(
+    alloc: Global,
+    mut reader: Shown,
+    turns: u64,
+    desk: &mut Desk,
+    want: &[u8],
+) -> (End, bool) {
     let mut writer = Vec::new(alloc);
+    let end = serve(alloc, &mut reader, &mut writer, desk, turns);
+    (end, writer.as_slice() == want)
+}
+
+/// What comes of a session with this reader and bound, if so many lines are to be answered.
+fn session(alloc: Global, reader: Shown, turns: u64, lines: usize) -> Result<Came, NoMemory> {
     let mut desk = Desk::new(alloc, 9)?;
-    let end = serve(alloc, &mut reader, &mut writer, &mut desk, turns);
-    Ok((end, writer, desk))
+    let (end, is_written) = read_at(alloc, reader, turns, &mut desk, answers_to_first(lines));
+    let stands = stands_after(alloc, lines, &mut desk.machine);
+    Ok((end, is_written, stands))
+}
+
+/// A reader that fails after so many looks, and a bound of so many turns, end a session behind so
+/// many lines.
+fn check_reader(
+    rt: &impl Abort,
+    alloc: Global,
+    at_once: usize,
+    calls: u16,
+    lines: usize,
+) -> Result<(), NoMemory> {
+    for (looks, turns, end) in [
+        (usize::from(calls), 1_000, End::ReadFault),
+        (1_000, u64::from(calls), End::TurnBound),
+    ] {
+        let reader = Shown {
+            bytes: LINES,
+            at_once,
+            calls: looks,
+        };
+        let want = if lines < 4 { end } else { End::EndOfInput };
+        let got = session(alloc, reader, turns, lines)?;
+        assert_eq!(rt; got, (want, true, true), "{at_once} {calls}");
+    }
+    Ok(())
 }
 
 // By hand: each line takes a look for each of its bytes, or for every three and what is left of
 // them, the LF among them; the last takes one more, which shows the input's end.
 #[test]
 fn readers_fail_at_each_call(rt: HostRuntime) -> Result<(), Fail> {
-    let alloc = rt.alloc();
     for (at_once, marks) in [(1, [19, 24, 93, 112]), (3, [7, 9, 32, 39])] {
         for calls in 0..114 {
-            let lines = reached(&marks, calls);
-            for (looks, turns, end) in [
-                (calls, 1_000, End::ReadFault),
-                (1_000, calls as u64, End::TurnBound),
-            ] {
-                let reader = Shown {
-                    bytes: LINES,
-                    at_once,
-                    calls: looks,
-                };
-                let (got, written, mut desk) = session(alloc, reader, turns)?;
-                let want = if lines < 4 { end } else { End::EndOfInput };
-                assert_eq!(rt; got, want, "{at_once} {calls}");
-                assert_eq!(rt;
-                    written.as_slice(),
-                    answers_to_first(lines),
-                    "{at_once} {calls}"
-                );
-                assert!(rt;
-                    stands_after(alloc, lines, &mut desk.machine),
-                    "{at_once} {calls}"
-                );
-            }
+            let lines = reached(&marks, usize::from(calls));
+            check_reader(&rt, rt.alloc(), at_once, calls, lines)?;
         }
     }
     Ok(())
@@ -100,59 +122,78 @@ fn bytes_of(calls: usize) -> usize {
     }
 }
 
+/// A session over a desk, with a writer that fails after so many calls: its end, and whether this is
+/// written.
+fn written_at(
+    alloc: Global,
+    failure: Failure,
+    calls: usize,
+    desk: &mut Desk,
+    want: &[u8],
+) -> (End, bool) {
+    let mut reader = LINES;
+    let mut writer = Ones {
+        bytes: Vec::new(alloc),
+        calls,
+        failure,
+    };
+    let end = serve(alloc, &mut reader, &mut writer, desk, 100);
+    (end, writer.bytes.as_slice() == want)
+}
+
+/// What comes of a session with a writer that fails after so many calls, if so many lines are to be
+/// answered. The command of the line being answered is done.
+fn written(alloc: Global, failure: Failure, calls: usize, lines: usize) -> Result<Came, NoMemory> {
+    let mut desk = Desk::new(alloc, 9)?;
+    let want = ANSWERS.get(..bytes_of(calls)).unwrap_or(ANSWERS);
+    let (end, is_written) = written_at(alloc, failure, calls, &mut desk, want);
+    let stands = stands_after(alloc, lines.saturating_add(1), &mut desk.machine);
+    Ok((end, is_written, stands))
+}
+
 // The answer to a line takes a call for each byte, and a flush. A flush takes no byte, so where a
-// writer takes nothing more it goes well. The command of the line being answered is done.
+// writer takes nothing more it goes well.
 #[test]
 fn writers_fail_at_each_call(rt: HostRuntime) -> Result<(), Fail> {
-    let alloc = rt.alloc();
     for (failure, marks) in [
         (Failure::Error, [14, 27, 43, 70]),
         (Failure::Interruption, [14, 27, 43, 70]),
         (Failure::TakesNothing, [13, 26, 42, 69]),
     ] {
         for calls in 0..72 {
-            let mut reader = LINES;
-            let mut writer = Ones {
-                bytes: Vec::new(alloc),
-                calls,
-                failure,
-            };
-            let mut desk = Desk::new(alloc, 9)?;
-            let end = serve(alloc, &mut reader, &mut writer, &mut desk, 100);
             let lines = reached(&marks, calls);
             let want = if lines < 4 {
                 End::WriteFault
             } else {
                 End::EndOfInput
             };
-            let written = ANSWERS.get(..bytes_of(calls)).unwrap_or(ANSWERS);
-            assert_eq!(rt; end, want, "{failure:?} {calls}");
-            assert_eq!(rt; writer.bytes.as_slice(), written, "{failure:?} {calls}");
-            let machine = &mut desk.machine;
-            assert!(rt;
-                stands_after(alloc, lines.saturating_add(1), machine),
-                "{failure:?} {calls}"
-            );
+            let got = written(rt.alloc(), failure, calls, lines)?;
+            assert_eq!(rt; got, (want, true, true), "{failure:?} {calls}");
         }
     }
     Ok(())
 }
 
-/// A session over a desk that answers so many commands, then the rest of it from a line on, with
-/// memory: how both end, what the first wrote and left, and what both wrote.
-fn served_again(
-    alloc: Global,
-    answers: usize,
-    line: &'static [u8],
-) -> Result<([End; 2], usize, &'static [u8], Vec<u8>), NoMemory> {
+/// What came of a session that was served twice: how both ended, what the first wrote and left, and
+/// whether both wrote all answers.
+type CameAgain = ([End; 2], usize, &'static [u8], bool);
+
+/// A session over this desk, then the rest of it from a line on, with memory.
+fn served_at(alloc: Global, desk: &mut Desk, line: &'static [u8]) -> CameAgain {
     let (mut reader, mut again) = (LINES, line);
     let mut writer = Vec::new(alloc);
-    let mut desk = Desk::new(alloc, answers)?;
-    let end = serve(alloc, &mut reader, &mut writer, &mut desk, 100);
+    let end = serve(alloc, &mut reader, &mut writer, desk, 100);
     let written = writer.len();
     desk.answers = 9;
-    let last = serve(alloc, &mut again, &mut writer, &mut desk, 100);
-    Ok(([end, last], written, reader, writer))
+    let last = serve(alloc, &mut again, &mut writer, desk, 100);
+    let is_written = writer.as_slice() == ANSWERS;
+    ([end, last], written, reader, is_written)
+}
+
+/// So it is over a desk that answers so many commands.
+fn served_again(alloc: Global, answers: usize, line: &'static [u8]) -> Result<CameAgain, NoMemory> {
+    let mut desk = Desk::new(alloc, answers)?;
+    Ok(served_at(alloc, &mut desk, line))
 }
 
 // A desk that found no memory for a line stands where it stood, and the reader behind that line.
@@ -167,10 +208,8 @@ fn desks_find_no_memory_at_each_call(rt: HostRuntime) -> Result<(), Fail> {
         (3, End::EndOfInput, 66, &LINES[111..], &LINES[111..]),
     ] {
         let got = served_again(rt.alloc(), answers, line)?;
-        assert_eq!(rt; got.0, [want, End::EndOfInput], "{answers}");
-        assert_eq!(rt; got.1, written, "{answers}");
-        assert_eq!(rt; got.2, rest, "{answers}");
-        assert_eq!(rt; got.3.as_slice(), ANSWERS, "{answers}");
+        let want = ([want, End::EndOfInput], written, rest, true);
+        assert_eq!(rt; got, want, "{answers}");
     }
     Ok(())
 }

@@ -3,13 +3,14 @@
 
 use cam6_commands::{Command, Done, NamedEntries, NamedEntry, Reply};
 use cam6_cycle::{Cycle, Entry};
-use cam6_forth::parse;
-use cam6_machine::{Machine, Now};
+use cam6_forth::{Rule, parse};
+use cam6_machine::{Kept, Machine, Now};
 use cam6_planes::{NoMemory, Side};
 use cam6_table::{Code, MAX_TURNS, eval};
 use cam6_wire::LineFault;
 use cam6_wiring::{Grid, Half, Hood, Minor, Phase};
 use std::alloc::{AllocError, Global};
+use std::process::Abort;
 use std::test::Fail;
 
 // A copy has the same entries.
@@ -48,11 +49,11 @@ fn left(machine: &mut Machine, command: Command) -> Result<Option<u16>, NoMemory
     }
 }
 
-/// A machine with that cycle, if a blank one sets it at once.
-fn with_cycle(alloc: Global) -> Result<Option<Machine>, NoMemory> {
-    let mut machine = Machine::new(alloc, Side::S256)?;
-    let is_answered = left(&mut machine, cycle(alloc)?)?.is_none();
-    Ok(if is_answered { Some(machine) } else { None })
+/// The machine is to set that cycle at once.
+fn set_cycle(rt: &impl Abort, alloc: Global, machine: &mut Machine) -> Result<(), NoMemory> {
+    let left = left(machine, cycle(alloc)?)?;
+    assert_eq!(rt; left, None, "a cycle is set at once");
+    Ok(())
 }
 
 /// The position that a run of no steps tells.
@@ -66,43 +67,72 @@ fn position(machine: &mut Machine) -> Result<Option<usize>, NoMemory> {
 // By hand: a run that isn't refused leaves its steps to be done, and any other command is answered.
 // None of them is done here, so the position stays.
 #[test]
-fn steps_are_left(rt: HostRuntime) -> Result<(), Fail> {
-    let mut machine = with_cycle(rt.alloc())?.ok_or("a cycle is set at once")?;
+fn steps_are_left(rt: HostRuntime) -> Result<(), NoMemory> {
+    let mut machine = Machine::new(rt.alloc(), Side::S256)?;
+    check_left(&rt, rt.alloc(), &mut machine)
+}
+
+fn check_left(rt: &impl Abort, alloc: Global, machine: &mut Machine) -> Result<(), NoMemory> {
+    set_cycle(rt, alloc, machine)?;
     for (n, want) in [
         (0, None),
         (1, Some(1)),
         (65_535, Some(65_535)),
         (65_536, None),
     ] {
-        assert_eq!(rt; left(&mut machine, Command::Run { n }), Ok(want), "{n}");
+        assert_eq!(rt; left(machine, Command::Run { n }), Ok(want), "{n}");
     }
-    assert_eq!(rt; position(&mut machine), Ok(Some(0)));
+    assert_eq!(rt; position(machine), Ok(Some(0)));
     Ok(())
 }
 
 // Without a cycle a run is refused, and a plane is shown at once.
 #[test]
-fn no_steps_are_left(rt: HostRuntime) -> Result<(), Fail> {
+fn no_steps_are_left(rt: HostRuntime) -> Result<(), NoMemory> {
     let mut machine = Machine::new(rt.alloc(), Side::S256)?;
-    assert_eq!(rt; left(&mut machine, Command::Run { n: 1 }), Ok(None));
-    assert_eq!(rt; left(&mut machine, Command::Plane { plane: 4 }), Ok(None));
+    check_none_left(&rt, &mut machine);
     Ok(())
+}
+
+fn check_none_left(rt: &impl Abort, machine: &mut Machine) {
+    assert_eq!(rt; left(machine, Command::Run { n: 1 }), Ok(None));
+    assert_eq!(rt; left(machine, Command::Plane { plane: 4 }), Ok(None));
 }
 
 // By hand: behind a step the machine stands at the next entry. It comes apart, lends what it keeps, and
 // is joined where it stood.
 #[test]
-fn machines_come_apart(rt: HostRuntime) -> Result<(), Fail> {
-    let mut machine = with_cycle(rt.alloc())?.ok_or("a cycle is set at once")?;
+fn machines_come_apart(rt: HostRuntime) -> Result<(), NoMemory> {
+    let mut machine = Machine::new(rt.alloc(), Side::S256)?;
+    take_a_step(&rt, rt.alloc(), &mut machine)?;
+    let mut joined = parted(&rt, machine);
+    check_joined(&rt, &mut joined);
+    Ok(())
+}
+
+/// The machine is to set that cycle, and does one step of it.
+fn take_a_step(rt: &impl Abort, alloc: Global, machine: &mut Machine) -> Result<(), NoMemory> {
+    set_cycle(rt, alloc, machine)?;
     let _reply = machine.reply_to(Command::Run { n: 1 })?;
+    Ok(())
+}
+
+/// The machine that is joined of another's parts.
+fn parted(rt: &impl Abort, machine: Machine) -> Machine {
     let (kept, image, spare) = machine.part();
+    check_kept(rt, &kept);
+    let at = kept.position();
+    kept.join(image, spare, at)
+}
+
+fn check_kept(rt: &impl Abort, kept: &Kept) {
     assert_eq!(rt; kept.limit(), Side::S256);
     assert_eq!(rt; kept.rules().len(), 0);
-    let at = kept.position();
-    assert_eq!(rt; at, 1);
-    let mut joined = kept.join(image, spare, at);
-    assert_eq!(rt; position(&mut joined), Ok(Some(1)));
-    Ok(())
+    assert_eq!(rt; kept.position(), 1);
+}
+
+fn check_joined(rt: &impl Abort, joined: &mut Machine) {
+    assert_eq!(rt; position(joined), Ok(Some(1)));
 }
 
 /// A definition A0, and A1 to the last one, each of them twice the one before.
@@ -115,20 +145,30 @@ fn doubled(alloc: Global, first: &str, last: u32) -> Result<String, AllocError> 
     Ok(text)
 }
 
+/// The rule of those definitions.
+fn doubled_rule(alloc: Global, first: &str, last: u32) -> Result<Rule, Fail> {
+    let text = doubled(alloc, first, last)?;
+    let rule = parse(alloc, &text, Half::A, Hood::VonNeumann, Minor::Centers)?;
+    Ok(rule)
+}
+
+/// The code leaves so many turns, wherever it is evaluated.
+fn check_turns(rt: &impl Abort, first: &str, code: &Code, left: u32) {
+    for (address, want) in [(0, 0), (1, 1), (2, 2), (4095, 3)] {
+        let mut turns = MAX_TURNS;
+        let got = eval(code, address, &mut turns);
+        assert_eq!(rt; got, Ok(want), "{first} at {address}");
+        assert_eq!(rt; turns, left, "{first} at {address}");
+    }
+}
+
 // 2,048 times a number that is dropped again, and 4,096 times nothing.
 #[test]
 fn turns_of_the_largest_rules(rt: HostRuntime) -> Result<(), Fail> {
-    let alloc = rt.alloc();
     for (first, last, left) in [(": A0 1 DROP ;", 11, 0), (": A0 ;", 12, MAX_TURNS)] {
-        let text = doubled(alloc, first, last)?;
-        let rule = parse(alloc, &text, Half::A, Hood::VonNeumann, Minor::Centers)?;
-        let code = Code::of(alloc, &rule)?;
-        for (address, want) in [(0, 0), (1, 1), (2, 2), (4095, 3)] {
-            let mut turns = MAX_TURNS;
-            let got = eval(&code, address, &mut turns);
-            assert_eq!(rt; got, Ok(want), "{first} at {address}");
-            assert_eq!(rt; turns, left, "{first} at {address}");
-        }
+        let rule = doubled_rule(rt.alloc(), first, last)?;
+        let code = Code::of(rt.alloc(), &rule)?;
+        check_turns(&rt, first, &code, left);
     }
     Ok(())
 }

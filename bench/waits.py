@@ -1,0 +1,181 @@
+"""How long users wait for a command of one step, over connections to a host: alone on it, beside a machine of their own on
+standard input, and beside another user whose tables are filled without end. It prints medians, 99th percentiles and the
+longest waits, in microseconds.
+
+usage: waits.py PROGRAM [COUNT]     COUNT commands of each kind, 1,000 if it isn't said; a twentieth of it beside the other user
+"""
+
+import argparse
+import os
+import socket
+import subprocess
+import threading
+import time
+
+PARITY = ": P CENTER NORTH XOR SOUTH XOR WEST XOR EAST XOR >PLN0 ;"
+PAUSE = 0.001
+RUN = b'{"do":"run","n":1}\n'
+
+
+def rule_line(name, half, hood, minor, text):
+    return (f'{{"do":"rule","name":"{name}","half":"{half}","hood":"{hood}","minor":"{minor}","text":"{text}"}}\n').encode()
+
+
+def cycle_line(entries):
+    listed = ",".join(f'{{"a":"{a}","b":"{b}","grid":"EVEN","phase":0}}' for a, b in entries)
+    return f'{{"do":"cycle","entries":[{listed}]}}\n'.encode()
+
+
+def parity_lines():
+    return [rule_line("P", "A", "N/VONN", "&/CENTERS", PARITY), cycle_line([("P", "-")])]
+
+
+def largest_text(number, lower, upper):
+    """The text of a rule of 4,096 words that reads all twelve lines, so that its words are done at each address. Each number
+    gives another text."""
+    names = [lower, upper, "CW", "CCW", "OPP", "CW'", "CCW'", "OPP'", "HORZ", "VERT", "&PHASE", "&PHASE'", number, "1", "1", "1"]
+    text = ": S32 " + " ".join(f"{name} DROP" for name in names) + " ;"
+    size = 64
+    while size <= 4096:
+        text += f" : S{size} S{size // 2} S{size // 2} ;"
+        size *= 2
+    return text
+
+
+def largest_lines():
+    """Sixteen of the largest rules, all of half A, and a cycle of them."""
+    lines = [
+        rule_line(f"R{number}", "A", "N/MARG-HV", "&/PHASES", largest_text(number, "CENTER", "CENTER'"))
+        for number in range(1, 17)
+    ]
+    return [*lines, cycle_line([(f"R{number}", "-") for number in range(1, 17)])]
+
+
+class Alone:
+    """A machine of its own, on standard input."""
+
+    def __init__(self, program):
+        how = {"stdin": subprocess.PIPE, "stdout": subprocess.PIPE, "bufsize": 0}
+        self.process = subprocess.Popen([program, "alone"], **how)
+
+    def ask(self, line):
+        self.process.stdin.write(line)
+        return read_line(self.process.stdout.fileno())
+
+    def end(self):
+        self.process.kill()
+        self.process.communicate()
+
+
+def read_line(descriptor):
+    line = b""
+    while not line.endswith(b"\n"):
+        line += os.read(descriptor, 1 << 16)
+    return line
+
+
+class Host:
+    """A host, and users with a connection each."""
+
+    def __init__(self, program, *words):
+        with socket.socket() as free:
+            free.bind(("127.0.0.1", 0))
+            self.port = free.getsockname()[1]
+        command = [program, "serve", "--port", str(self.port), *words]
+        self.process = subprocess.Popen(command, stderr=subprocess.PIPE)
+        self.process.stderr.readline()
+
+    def user(self, number):
+        return User(self.port, number)
+
+    def end(self):
+        self.process.kill()
+        self.process.communicate()
+
+
+class User:
+    def __init__(self, port, number):
+        self.peer = socket.create_connection(("127.0.0.1", port))
+        self.peer.setsockopt(socket.IPPROTO_TCP, socket.TCP_NODELAY, 1)
+        self.ask(b'{"seat":%d}\n' % number)
+
+    def ask(self, line):
+        self.peer.sendall(line)
+        return read_line(self.peer.fileno())
+
+
+def prepare(asked, lines):
+    for line in lines:
+        reply = asked.ask(line)
+        if b'"ok"' not in reply:
+            raise SystemExit(f"waits.py: {line[:60]}: {reply}")
+
+
+def waits(asked, count, pause):
+    """The microseconds of so many commands of one step."""
+    found = []
+    for _ in range(count):
+        time.sleep(pause)
+        began = time.perf_counter()
+        asked.ask(RUN)
+        found.append((time.perf_counter() - began) * 1e6)
+    return sorted(found)
+
+
+def tell(what, found):
+    median, late = found[len(found) // 2], found[min(len(found) - 1, len(found) * 99 // 100)]
+    print(f"| {what} | {median:.0f} | {late:.0f} | {found[-1]:.0f} |", flush=True)
+    return median
+
+
+def lone(program, count):
+    """A user alone on a host of four users and two boards, beside a machine alone."""
+    machine, host = Alone(program), Host(program, "--users", "4", "--boards", "2")
+    user = host.user(1)
+    prepare(machine, parity_lines())
+    prepare(user, parity_lines())
+    # Both by turns, so that a bad minute is no one's.
+    of_machine, of_user = [], []
+    for _ in range(10):
+        of_machine += waits(machine, count // 10, PAUSE)
+        of_user += waits(user, count // 10, PAUSE)
+    alone, on_host = tell("a machine alone", sorted(of_machine)), tell("a lone user of a host", sorted(of_user))
+    print(f"| more on the host | {on_host - alone:.0f} | | |")
+    machine.end()
+    host.end()
+
+
+def bothered(program, count):
+    """A user beside another one, each of whose steps has sixteen tables filled, on a cache that holds one."""
+    host = Host(program, "--users", "2", "--boards", "2", "--cache", "1")
+    victim, other = host.user(1), host.user(2)
+    prepare(victim, parity_lines())
+    prepare(other, largest_lines())
+    tell("a step that fills sixteen tables of the largest rules", waits(other, 20, 0))
+    is_over = threading.Event()
+
+    def bother():
+        while not is_over.is_set():
+            other.ask(RUN)
+
+    bothering = threading.Thread(target=bother)
+    bothering.start()
+    tell("beside a user who asks for such steps without end, at once", waits(victim, count, 0))
+    tell("beside such a user, with a pause before each", waits(victim, count, PAUSE))
+    is_over.set()
+    bothering.join()
+    host.end()
+
+
+def main():
+    parser = argparse.ArgumentParser(prog="waits.py", description=__doc__, formatter_class=argparse.RawDescriptionHelpFormatter)
+    parser.add_argument("program")
+    parser.add_argument("count", nargs="?", type=int, default=1000)
+    asked = parser.parse_args()
+    print("| a command of one step, in microseconds | median | 99th percentile | longest |\n|---|---|---|---|")
+    lone(asked.program, asked.count)
+    bothered(asked.program, max(asked.count // 20, 1))
+
+
+if __name__ == "__main__":
+    main()
