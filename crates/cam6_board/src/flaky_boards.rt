@@ -125,7 +125,7 @@ impl Board for FlakyBoard {
             return Err(BoardFault { spare });
         }
         self.tables.copy_from(tables);
-        self.job = Some(job);
+        self.job.insert(job);
         Ok(())
     }
 
@@ -142,8 +142,9 @@ impl Board for FlakyBoard {
     {
         let fails = self.fails();
         if fails {
-            let Some(job) = self.job.take() else {
-                unreachable!()
+            let job = match self.job.take() {
+                Some(job) => job,
+                None => unreachable!(),
             };
             let spare = job.into_image().into_spare();
             return Err(BoardFault { spare });
@@ -166,8 +167,9 @@ impl Board for FlakyBoard {
         ensures spare { IfErr result (λ fault. IsOfLimit self.old.load fault.spare.planes.limit) }
     {
         let fails = self.fails();
-        let Some(job) = self.job.take() else {
-            unreachable!()
+        let job = match self.job.take() {
+            Some(job) => job,
+            None => unreachable!(),
         };
         if fails {
             let spare = job.into_image().into_spare();

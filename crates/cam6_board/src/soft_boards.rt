@@ -57,7 +57,7 @@ impl Board for SoftBoard {
         ensures ok { load_in self.new ≡ loaded job tables.now }
     {
         self.tables.copy_from(tables);
-        self.job = Some(job);
+        self.job.insert(job);
         Ok(())
     }
 
@@ -78,8 +78,9 @@ impl Board for SoftBoard {
         ensures image { IfOk result (λ image. GivesBack (load_in self.old) image) }
         ensures empty { load_in self.new ≡ empty }
     {
-        let Some(job) = self.job.take() else {
-            unreachable!()
+        let job = match self.job.take() {
+            Some(job) => job,
+            None => unreachable!(),
         };
         Ok(job.into_image())
     }

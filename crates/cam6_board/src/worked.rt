@@ -60,8 +60,9 @@ impl Worked {
             IsBehindBand o (step_by s (values_of tables.now) o) self.new }
         ensures goes_on { GoesOn self.old self.new }
     {
-        let Some(image) = self.image.take() else {
-            unreachable!()
+        let image = match self.image.take() {
+            Some(image) => image,
+            None => unreachable!(),
         };
         self.image = Some(image.band(tables));
     }

@@ -37,8 +37,9 @@ impl Core {
         ensures takes { Takes self.old (event.Ask user command) result self.new }
         ensures others { Spares (event.Ask user command) self.old self.new }
     {
-        let Whereabouts::Resting(resting) = self.take_user(user) else {
-            unreachable!()
+        let resting = match self.take_user(user) {
+            Whereabouts::Resting(resting) => resting,
+            _ => unreachable!(),
         };
         match resting.ask(command) {
             Asked::NoMemory(same) => {
@@ -63,8 +64,9 @@ impl Core {
         ensures takes { Takes self.old (event.Lease user board) result self.new }
         ensures others { Spares (event.Lease user board) self.old self.new }
     {
-        let Whereabouts::Queued(queued) = self.take_user(user) else {
-            unreachable!()
+        let queued = match self.take_user(user) {
+            Whereabouts::Queued(queued) => queued,
+            _ => unreachable!(),
         };
         let left = queued.left();
         let (lease, job) = queued.lease(self.board_number(board));
@@ -134,8 +136,9 @@ impl Core {
         ensures takes { Takes self.old (event.Collect user) result self.new }
         ensures others { Spares (event.Collect user) self.old self.new }
     {
-        let Whereabouts::Finished(finished) = self.take_user(user) else {
-            unreachable!()
+        let finished = match self.take_user(user) {
+            Whereabouts::Finished(finished) => finished,
+            _ => unreachable!(),
         };
         let (resting, reply) = finished.collect();
         self.set_user(user, Whereabouts::Resting(resting));

@@ -30,7 +30,7 @@ impl Core {
         requires { IsNumber (length self.old.users) user }
         ensures { self.new ≡ with_user self.old user whereabouts }
     {
-        self.users[(user - 1) as usize] = whereabouts;
+        drop(mem::replace(&mut self.users[(user - 1) as usize], whereabouts));
     }
 
     /// The number of an idle board, as a lease keeps it: boards are few.

@@ -20,9 +20,24 @@ pub fn replies_alone(
         machine_of done.1 ≡ after_all (blank limit) commands.items) }
 {
     let mut machine = Machine::new(alloc, limit)?;
+    let replies = replies_of(alloc, &mut machine, commands)?;
+    Ok((replies, machine))
+}
+
+/// A machine's replies to commands, in order.
+fn replies_of(
+    alloc: Global,
+    machine: &mut Machine,
+    commands: Vec<Command>,
+) -> Result<Vec<Reply>, NoMemory>
+    ensures replies { IfOk result (λ told.
+        told.items ≡ replies (machine_of machine.old) commands.items) }
+    ensures machine { IfOk result (λ _.
+        machine_of machine.new ≡ after_all (machine_of machine.old) commands.items) }
+{
     let mut replies = Vec::with_capacity(alloc, commands.len())?;
     for command in commands {
         replies.push(machine.reply_to(command)?)?;
     }
-    Ok((replies, machine))
+    Ok(replies)
 }

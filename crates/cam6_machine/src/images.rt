@@ -128,8 +128,9 @@ impl Held {
         ensures alike { AreAlike self.old self.new }
         ensures limit { kept.new.limit ≡ kept.old.limit }
     {
-        let Some(image) = self.image.take() else {
-            unreachable!()
+        let image = match self.image.take() {
+            Some(image) => image,
+            None => unreachable!(),
         };
         self.image = Some(kept.go(image, n, direction));
     }

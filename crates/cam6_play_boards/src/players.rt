@@ -115,11 +115,11 @@ impl Player {
         };
         match part(machine, direction, steps, &mut self.room) {
             Ok(parted) => {
-                self.parted = Some(parted);
+                self.parted.insert(parted);
                 Answer::Job
             }
             Err(machine) => {
-                self.machine = Some(machine);
+                self.machine.insert(machine);
                 Answer::Refused
             }
         }
@@ -150,11 +150,11 @@ impl Player {
     fn after(&mut self, joined: Result<Machine, Parted>) -> Answer {
         match joined {
             Ok(machine) => {
-                self.machine = Some(machine);
+                self.machine.insert(machine);
                 Answer::Joined
             }
             Err(parted) => {
-                self.parted = Some(parted);
+                self.parted.insert(parted);
                 Answer::No
             }
         }

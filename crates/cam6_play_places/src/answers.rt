@@ -20,11 +20,45 @@ pub enum Answer {
     Waiting,
     /// It can't be done as things are.
     No,
+    /// Memory was asked for and refused.
+    NoMemory,
     Unread,
 }
 
+/// What comes back, line by line.
+#[derive(Drop)]
+pub struct Answers {
+    bytes: Vec<u8>,
+    /// Whether memory was refused for one of them.
+    wants_memory: bool,
+}
+
+impl Answers {
+    pub fn new(alloc: Global) -> Answers {
+        Answers {
+            bytes: Vec::new(alloc),
+            wants_memory: false,
+        }
+    }
+
+    /// Adds an answer, if there was memory for those before it.
+    pub fn add(&mut self, alloc: Global, answer: Answer) {
+        if !self.wants_memory {
+            self.wants_memory = add_answer(alloc, &mut self.bytes, answer).is_err();
+        }
+    }
+
+    /// All that came back, if there was memory for it.
+    pub fn into_bytes(self) -> io::Result<Vec<u8>> {
+        if self.wants_memory {
+            return Err(no_memory());
+        }
+        Ok(self.bytes)
+    }
+}
+
 /// Adds an answer to what comes back.
-pub fn add_answer(alloc: Global, answers: &mut Vec<u8>, answer: Answer) -> io::Result<()> {
+fn add_answer(alloc: Global, answers: &mut Vec<u8>, answer: Answer) -> io::Result<()> {
     match answer {
         Answer::Reply(reply) => {
             let text = reply_text(alloc, &reply).map_err(|_| no_memory())?;
@@ -35,6 +69,7 @@ pub fn add_answer(alloc: Global, answers: &mut Vec<u8>, answer: Answer) -> io::R
         Answer::Text(text) => add_line(answers, text.as_str()),
         Answer::Waiting => add_line(answers, "waiting"),
         Answer::No => add_line(answers, "no"),
+        Answer::NoMemory => Err(no_memory()),
         Answer::Unread => add_line(answers, "unread"),
     }
 }

@@ -2,7 +2,7 @@
 ghost use Rattle.std.specs.Prelude.{◌≡◌};
 ghost use Rattle.cam6_slot.specs.Lefts.{lease_left};
 
-use crate::answers::{Answer, add_answer};
+use crate::answers::{Answer, Answers};
 use crate::boards::{Idle, Leased, Waiting};
 use crate::lines::{Ask, read_line};
 use crate::rooms::{Room, need_text};
@@ -26,15 +26,19 @@ enum Player {
 
 /// What comes back of each line, from a blank machine of this limit.
 pub fn answered(alloc: Global, limit: Side, sent: &[Sent]) -> io::Result<Vec<u8>> {
-    let mut room = Room::new(alloc).map_err(|_| no_memory())?;
-    let mut player = Player::new(alloc, limit).map_err(|_| no_memory())?;
-    let mut answers = Vec::new(alloc);
-    for line in sent {
-        let (after, answer) = player.after_line(alloc, &mut room, line.bytes.as_slice())?;
-        player = after;
-        add_answer(alloc, &mut answers, answer)?;
+    let mut answers = Answers::new(alloc);
+    match play(alloc, limit, sent, &mut answers) {
+        Ok(()) => answers.into_bytes(),
+        Err(NoMemory) => Err(no_memory()),
     }
-    Ok(answers)
+}
+
+/// Plays the lines to a blank machine of this limit, and adds what comes back of each.
+fn play(alloc: Global, limit: Side, sent: &[Sent], answers: &mut Answers) -> Result<(), NoMemory> {
+    let mut room = Room::new(alloc)?;
+    let player = Player::new(alloc, limit)?;
+    player.after_lines(alloc, &mut room, sent, answers);
+    Ok(())
 }
 
 impl Player {
@@ -44,47 +48,64 @@ impl Player {
         Ok(Player::Resting(Resting::new(machine), idle))
     }
 
-    /// What becomes of the player with a line, and what is told of it.
-    fn after_line(
+    /// What becomes of the player with these lines, whose answers are added. A player is let go by
+    /// `play` alone: each way in which one can be let go is a long proof of its own.
+    fn after_lines(
         self,
         alloc: Global,
         room: &mut Room,
-        line: &[u8],
-    ) -> io::Result<(Player, Answer)> {
+        sent: &[Sent],
+        answers: &mut Answers,
+    ) -> Player {
+        let mut player = self;
+        for line in sent {
+            player = player.answer(alloc, room, line.bytes.as_slice(), answers);
+        }
+        player
+    }
+
+    /// What becomes of the player with a line, whose answer is added.
+    fn answer(self, alloc: Global, room: &mut Room, line: &[u8], answers: &mut Answers) -> Player {
+        let (after, answer) = self.after_line(alloc, room, line);
+        answers.add(alloc, answer);
+        after
+    }
+
+    /// What becomes of the player with a line, and what is told of it.
+    fn after_line(self, alloc: Global, room: &mut Room, line: &[u8]) -> (Player, Answer) {
         match read_line(str::from_utf8(line).unwrap_or("")) {
             Some(Ask::Command) => self.read(alloc, line),
             Some(Ask::Need(index)) => {
-                let answer = self.need(alloc, index)?;
-                Ok((self, answer))
+                let answer = self.need(alloc, index);
+                (self, answer)
             }
-            Some(ask) => Ok(self.after_ask(room, ask)),
-            None => Ok((self, Answer::Unread)),
+            Some(ask) => self.after_ask(room, ask),
+            None => (self, Answer::Unread),
         }
     }
 
     /// Gives a command to the machine at rest, or tells of a line's fault.
-    fn read(self, alloc: Global, line: &[u8]) -> io::Result<(Player, Answer)> {
+    fn read(self, alloc: Global, line: &[u8]) -> (Player, Answer) {
         let Player::Resting(resting, idle) = self else {
-            return Ok((self, Answer::Waiting));
+            return (self, Answer::Waiting);
         };
         match read_command(alloc, line) {
             Ok(command) => begun(resting, idle, command),
-            Err(LineFault::NoMemory) => Err(no_memory()),
-            Err(fault) => {
-                let text = String::from_str(alloc, fault_text(fault))?;
-                Ok((Player::Resting(resting, idle), Answer::Text(text)))
-            }
+            Err(fault) => (Player::Resting(resting, idle), fault_answer(alloc, fault)),
         }
     }
 
     /// What is needed for the table at an index of the lease.
-    fn need(&self, alloc: Global, index: u64) -> io::Result<Answer> {
+    fn need(&self, alloc: Global, index: u64) -> Answer {
         let Player::Out(leased) = self else {
-            return Ok(Answer::No);
+            return Answer::No;
         };
         match leased.need(index) {
-            Some(need) => Ok(Answer::Text(need_text(alloc, &need)?)),
-            None => Ok(Answer::No),
+            Some(need) => match need_text(alloc, &need) {
+                Ok(text) => Answer::Text(text),
+                Err(_) => Answer::NoMemory,
+            },
+            None => Answer::No,
         }
     }
 
@@ -109,19 +130,26 @@ impl Player {
     }
 }
 
+/// What is told of a line's fault.
+fn fault_answer(alloc: Global, fault: LineFault) -> Answer {
+    match fault {
+        LineFault::NoMemory => Answer::NoMemory,
+        fault => match String::from_str(alloc, fault_text(fault)) {
+            Ok(text) => Answer::Text(text),
+            Err(_) => Answer::NoMemory,
+        },
+    }
+}
+
 /// What comes of a command.
-fn begun(
-    resting: Resting,
-    idle: Idle<SoftBoard>,
-    command: Command,
-) -> io::Result<(Player, Answer)> {
+fn begun(resting: Resting, idle: Idle<SoftBoard>, command: Command) -> (Player, Answer) {
     match resting.ask(command) {
         Asked::Finished(finished) => {
             let (resting, reply) = finished.collect();
-            Ok((Player::Resting(resting, idle), Answer::Reply(reply)))
+            (Player::Resting(resting, idle), Answer::Reply(reply))
         }
-        Asked::Queued(queued) => Ok(told(Player::Waiting(Waiting::new(queued, idle)))),
-        Asked::NoMemory(_) => Err(no_memory()),
+        Asked::Queued(queued) => told(Player::Waiting(Waiting::new(queued, idle))),
+        Asked::NoMemory(resting) => (Player::Resting(resting, idle), Answer::NoMemory),
     }
 }
 

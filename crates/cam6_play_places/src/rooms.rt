@@ -13,21 +13,33 @@ use cam6_wiring::Wiring;
 use std::alloc::Global;
 use std::io;
 
-/// Tables that boards are loaded with, and two by way of which they are filled.
+/// Two tables by way of which the others are filled.
 #[derive(Drop)]
-pub struct Room {
+struct Way {
     straight: Table,
     filled: Table,
+}
+
+impl Way {
+    fn new(alloc: Global) -> Result<Way, NoMemory> {
+        let straight = Table::blank(alloc)?;
+        let filled = Table::blank(alloc)?;
+        Ok(Way { straight, filled })
+    }
+}
+
+/// Tables that boards are loaded with, and those by way of which they are filled.
+#[derive(Drop)]
+pub struct Room {
+    way: Way,
     tables: Tables,
 }
 
 impl Room {
     pub fn new(alloc: Global) -> Result<Room, NoMemory> {
-        Ok(Room {
-            straight: Table::blank(alloc)?,
-            filled: Table::blank(alloc)?,
-            tables: Tables::blank(alloc)?,
-        })
+        let way = Way::new(alloc)?;
+        let tables = Tables::blank(alloc)?;
+        Ok(Room { way, tables })
     }
 
     pub fn tables(&self) -> &Tables {
@@ -52,10 +64,10 @@ impl Room {
             need.code,
             wiring_of(&need),
             direction_of(&need),
-            &mut self.straight,
-            &mut self.filled,
+            &mut self.way.straight,
+            &mut self.way.filled,
         );
-        self.tables.put(usize::from(index), &self.filled);
+        self.tables.put(usize::from(index), &self.way.filled);
     }
 }
 

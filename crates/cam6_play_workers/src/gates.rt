@@ -108,21 +108,18 @@ impl Watch {
     pub fn bands(&self, alloc: Global, user: u8) -> io::Result<String> {
         self.checked()?;
         let mut text = String::new(alloc);
-        for asked in self.asked.as_slice() {
-            if asked.user != user {
-                continue;
-            }
-            if !text.is_empty() {
-                text.push(' ')?;
-            }
-            text.push_str(format!(in alloc; "{}", asked.band)?.as_str())?;
-            text.push_str(match asked.turn {
-                Turn::Go => "",
-                Turn::Preempt => " preempt",
-                Turn::Stop => " stop",
-            })?;
-        }
+        self.add_bands(alloc, &mut text, user)?;
         Ok(text)
+    }
+
+    /// Adds the user's bands to a text.
+    fn add_bands(&self, alloc: Global, text: &mut String, user: u8) -> io::Result<()> {
+        for asked in self.asked.as_slice() {
+            if asked.user == user {
+                add_band(alloc, text, *asked)?;
+            }
+        }
+        Ok(())
     }
 
     /// Whether each of two users had a board, and no board did a band of both.
@@ -149,6 +146,21 @@ impl Watch {
         }
         Ok(())
     }
+}
+
+/// Adds a band, and the answer where that wasn't Go, behind the bands of a text.
+fn add_band(alloc: Global, text: &mut String, asked: Asked) -> io::Result<()> {
+    if !text.is_empty() {
+        text.push(' ')?;
+    }
+    let band = format!(in alloc; "{}", asked.band)?;
+    text.push_str(band.as_str())?;
+    text.push_str(match asked.turn {
+        Turn::Go => "",
+        Turn::Preempt => " preempt",
+        Turn::Stop => " stop",
+    })?;
+    Ok(())
 }
 
 /// The next number by chance: never 0, where this one isn't.

@@ -9,7 +9,6 @@ use crate::users::User;
 use crate::ways::{BoardWay, WorkerWay};
 use crate::workers::{IdleSeat, Kind, Worker};
 use cam6_cache::TableCache;
-use cam6_examples::no_memory;
 use cam6_handoff::{BoardSeat, Desk, boot};
 use cam6_planes::{NoMemory, Side};
 use cam6_pool::SlicingGate;
@@ -32,15 +31,24 @@ impl<R: Handle + Send + Sync + 'static> Hall<R> {
         let alloc = rt.alloc();
         let limits = vec![in alloc; way.limit; way.users]?;
         let (desks, seats) = boot(alloc, way.users, way.boards as u8, limits.as_slice())?;
-        let cache = TableCache::new(alloc, way.cached)?;
-        let is_held = matches!(way.gate, GateWay::Hold { .. });
-        let hold = Hold::new(is_held || matches!(way.board, BoardWay::Held));
-        let slices = slices_of(rt, way, seats.as_slice())?;
-        let house = House::new(rt, cache, Watch::new(alloc, way.gate), hold, slices);
+        Hall::of(rt, way, desks, seats)
+    }
+
+    /// A hall of these desks and seats.
+    fn of(
+        rt: R,
+        way: &WorkerWay,
+        desks: Vec<Desk>,
+        seats: Vec<BoardSeat>,
+    ) -> Result<Hall<R>, NoMemory>
+        requires { AreIdle seats.items }
+    {
+        let house = house_of(rt, way, seats.as_slice())?;
+        let (users, workers) = people_at(rt.alloc(), desks, seats)?;
         Ok(Hall {
-            house: Arc::new(alloc, house)?,
-            users: users_at(alloc, desks)?,
-            workers: workers_at(alloc, seats)?,
+            house,
+            users,
+            workers,
             limit: way.limit,
         })
     }
@@ -74,7 +82,8 @@ impl<R: Handle + Send + Sync + 'static> Hall<R> {
         for user in self.users.iter_mut() {
             user.join(&self.house)?;
         }
-        self.end()
+        self.end();
+        Ok(())
     }
 
     /// A worker serves again at each seat whose worker has ended.
@@ -87,13 +96,12 @@ impl<R: Handle + Send + Sync + 'static> Hall<R> {
     }
 
     /// A board that is held goes on, and all workers end.
-    pub fn end(&mut self) -> io::Result<()> {
+    pub fn end(&mut self) {
         self.house.hold.end(&self.house.rt);
         self.house.tell_to_end(true);
         for worker in self.workers.iter_mut() {
             worker.join(&self.house.rt);
         }
-        Ok(())
     }
 
     /// A worker serves again at the seat.
@@ -120,28 +128,24 @@ impl<R: Handle + Send + Sync + 'static> Hall<R> {
         }
     }
 
-    /// The worker that has ended takes the user's command, if it waits, and puts it back.
-    pub fn left(&mut self, board: usize, user: usize) -> Answer {
-        match self.workers.get_mut(board) {
-            Some(Worker::Ended(left)) => match left.seat.left(user) {
-                Some(bands) => Answer::Left(bands),
-                None => Answer::Nothing,
-            },
-            _ => Answer::Is(false),
-        }
-    }
-
-    /// How often the board of a worker that has ended failed.
-    pub fn faults(&mut self, board: usize) -> Answer {
-        match self.workers.get_mut(board) {
-            Some(Worker::Ended(left)) => Answer::Faults(left.faults),
-            _ => Answer::Is(false),
-        }
-    }
-
     pub fn evict(&mut self) -> Answer {
         Answer::Is(self.house.cache.lock(&self.house.rt).evict_oldest())
     }
+}
+
+/// All that the threads at these seats share.
+fn house_of<R: Handle>(
+    rt: R,
+    way: &WorkerWay,
+    seats: &[BoardSeat],
+) -> Result<Arc<House<R>>, NoMemory> {
+    let alloc = rt.alloc();
+    let cache = TableCache::new(alloc, way.cached)?;
+    let slices = slices_of(rt, way, seats)?;
+    let is_held = matches!(way.gate, GateWay::Hold { .. });
+    let hold = Hold::new(is_held || matches!(way.board, BoardWay::Held));
+    let house = House::new(rt, cache, Watch::new(alloc, way.gate), hold, slices);
+    Ok(Arc::new(alloc, house)?)
 }
 
 /// The gate of a host, where the way asks for it.
@@ -158,6 +162,19 @@ fn slices_of<R: Handle>(
         }
         _ => Ok(None),
     }
+}
+
+/// Users at their desks, and seats at which nobody serves.
+fn people_at(
+    alloc: Global,
+    desks: Vec<Desk>,
+    seats: Vec<BoardSeat>,
+) -> Result<(Vec<User>, Vec<Worker>), AllocError>
+    requires { AreIdle seats.items }
+{
+    let users = users_at(alloc, desks)?;
+    let workers = workers_at(alloc, seats)?;
+    Ok((users, workers))
 }
 
 /// Users at their desks, numbered from 1.

@@ -48,22 +48,34 @@ pub fn read_line(line: &str) -> Option<Ask<'_>> {
         return read_word(line);
     };
     let (number, rest) = rest.split_once(' ').unwrap_or((rest, ""));
-    match (verb, rest) {
-        ("user", command) if command.starts_with('{') => {
-            Some(Ask::User(number.parse().ok()?, command))
-        }
-        ("start", command) if command.starts_with('{') => {
-            Some(Ask::Start(number.parse().ok()?, command))
-        }
-        ("join", "") => Some(Ask::Join(number.parse().ok()?)),
-        ("asked", "") => Some(Ask::Asked(number.parse().ok()?)),
-        ("apart", other) => Some(Ask::Apart(number.parse().ok()?, other.parse().ok()?)),
-        ("ended", "") => Some(Ask::Ended(number.parse().ok()?)),
-        ("running", "") => Some(Ask::Running(number.parse().ok()?)),
-        ("left", user) => Some(Ask::Left(number.parse().ok()?, user.parse().ok()?)),
-        ("faults", "") => Some(Ask::Faults(number.parse().ok()?)),
-        ("serve", "") => Some(Ask::Serve(number.parse().ok()?)),
-        ("alone", "") => Some(Ask::Alone(number.parse().ok()?)),
+    if rest.is_empty() {
+        read_number(verb, number)
+    } else {
+        read_more(verb, number, rest)
+    }
+}
+
+/// What a word with a number behind it asks for.
+fn read_number<'a>(verb: &str, number: &str) -> Option<Ask<'a>> {
+    match verb {
+        "join" => Some(Ask::Join(number.parse().ok()?)),
+        "asked" => Some(Ask::Asked(number.parse().ok()?)),
+        "ended" => Some(Ask::Ended(number.parse().ok()?)),
+        "running" => Some(Ask::Running(number.parse().ok()?)),
+        "faults" => Some(Ask::Faults(number.parse().ok()?)),
+        "serve" => Some(Ask::Serve(number.parse().ok()?)),
+        "alone" => Some(Ask::Alone(number.parse().ok()?)),
+        _ => None,
+    }
+}
+
+/// What a word with a number and more behind it asks for.
+fn read_more<'a>(verb: &str, number: &str, rest: &'a str) -> Option<Ask<'a>> {
+    match verb {
+        "user" if rest.starts_with('{') => Some(Ask::User(number.parse().ok()?, rest)),
+        "start" if rest.starts_with('{') => Some(Ask::Start(number.parse().ok()?, rest)),
+        "apart" => Some(Ask::Apart(number.parse().ok()?, rest.parse().ok()?)),
+        "left" => Some(Ask::Left(number.parse().ok()?, rest.parse().ok()?)),
         _ => None,
     }
 }

@@ -1,11 +1,14 @@
 //! Lines of users and workers, answered one by one.
 
 use crate::answers::{Answer, add_answer};
+use crate::gates::Watch;
 use crate::halls::Hall;
 use crate::houses::Handle;
 use crate::lines::{Ask, read_line};
 use crate::ways::WorkerWay;
+use crate::workers::{bands_left, faults};
 use cam6_examples::{Sent, no_memory};
+use std::alloc::Global;
 use std::io;
 
 /// What comes back of each line. A board that fails does so at this call.
@@ -15,31 +18,52 @@ pub fn answered<R: Handle + Send + Sync + 'static>(
     call: u64,
     sent: &[Sent],
 ) -> io::Result<Vec<u8>> {
-    let mut hall = Hall::new(rt, way).map_err(|_| no_memory())?;
-    let answers = match hall.open(way.board, call) {
-        Ok(()) => answers_of(&mut hall, sent),
-        Err(fault) => Err(fault),
-    };
-    hall.close()?;
-    answers
-}
-
-fn answers_of<R: Handle + Send + Sync + 'static>(
-    hall: &mut Hall<R>,
-    sent: &[Sent],
-) -> io::Result<Vec<u8>> {
-    let alloc = hall.house.rt.alloc();
-    let mut answers = Vec::new(alloc);
-    for line in sent {
-        let answer = match read_line(str::from_utf8(line.bytes.as_slice()).unwrap_or("")) {
-            Some(ask) => answer_of(hall, ask)?,
-            None => Answer::Unread,
-        };
-        add_answer(alloc, &mut answers, answer)?;
-    }
+    let mut answers = Vec::new(rt.alloc());
+    play(rt, way, call, sent, &mut answers)?;
     Ok(answers)
 }
 
+/// Plays the lines in a hall, and adds what comes back of each.
+fn play<R: Handle + Send + Sync + 'static>(
+    rt: R,
+    way: &WorkerWay,
+    call: u64,
+    sent: &[Sent],
+    answers: &mut Vec<u8>,
+) -> io::Result<()> {
+    let mut hall = Hall::new(rt, way).map_err(|_| no_memory())?;
+    let played = match hall.open(way.board, call) {
+        Ok(()) => add_answers(&mut hall, sent, answers),
+        Err(fault) => Err(fault),
+    };
+    hall.close().and(played)
+}
+
+/// Adds what comes back of each line.
+fn add_answers<R: Handle + Send + Sync + 'static>(
+    hall: &mut Hall<R>,
+    sent: &[Sent],
+    answers: &mut Vec<u8>,
+) -> io::Result<()> {
+    for line in sent {
+        let answer = answer_to(hall, line.bytes.as_slice())?;
+        add_answer(hall.house.rt.alloc(), answers, answer)?;
+    }
+    Ok(())
+}
+
+/// What is answered of a line.
+fn answer_to<R: Handle + Send + Sync + 'static>(
+    hall: &mut Hall<R>,
+    line: &[u8],
+) -> io::Result<Answer> {
+    match read_line(str::from_utf8(line).unwrap_or("")) {
+        Some(ask) => answer_of(hall, ask),
+        None => Ok(Answer::Unread),
+    }
+}
+
+/// What is answered of what a line asks for.
 fn answer_of<R: Handle + Send + Sync + 'static>(
     hall: &mut Hall<R>,
     ask: Ask<'_>,
@@ -49,24 +73,26 @@ fn answer_of<R: Handle + Send + Sync + 'static>(
         Ask::User(..) | Ask::Start(..) | Ask::Join(_) | Ask::Alone(_) => of_user(hall, ask),
         Ask::Held => Ok(Answer::Is(hall.house.hold.is_holding(&rt))),
         Ask::Release => Ok(Answer::Is(hall.house.hold.release(&rt))),
-        Ask::Asked(user) => {
-            let bands = hall.house.watch.lock(&rt).bands(rt.alloc(), user)?;
-            Ok(Answer::Text(bands))
-        }
-        Ask::Apart(one, other) => {
-            let is = hall.house.watch.lock(&rt).are_apart(one, other)?;
-            Ok(Answer::Is(is))
-        }
+        Ask::Asked(_) | Ask::Apart(..) => of_gate(&hall.house.watch.lock(&rt), rt.alloc(), ask),
         Ask::Ended(board) => Ok(hall.ended(board)),
         Ask::Running(count) => Ok(Answer::Is(hall.house.serving.is_count(&rt, count))),
-        Ask::Left(board, user) => Ok(hall.left(board, user)),
-        Ask::Faults(board) => Ok(hall.faults(board)),
+        Ask::Left(board, user) => Ok(bands_left(&mut hall.workers, board, user)),
+        Ask::Faults(board) => Ok(faults(&mut hall.workers, board)),
         Ask::Serve(board) => hall.serve(board),
         Ask::End => {
-            hall.end()?;
+            hall.end();
             Ok(Answer::AllEnded)
         }
         Ask::Evict => Ok(hall.evict()),
+    }
+}
+
+/// What is answered of a line that asks what the gate was asked.
+fn of_gate(watch: &Watch, alloc: Global, ask: Ask<'_>) -> io::Result<Answer> {
+    match ask {
+        Ask::Asked(user) => Ok(Answer::Text(watch.bands(alloc, user)?)),
+        Ask::Apart(one, other) => Ok(Answer::Is(watch.are_apart(one, other)?)),
+        _ => Ok(Answer::Is(false)),
     }
 }
 

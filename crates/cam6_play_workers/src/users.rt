@@ -15,6 +15,7 @@ use std::alloc::Global;
 use std::io;
 use std::sync::Arc;
 use std::thread::{JoinHandle, spawn};
+use std::time::Clock;
 
 /// What a thread comes back with that asked at a desk.
 #[derive(Drop)]
@@ -24,58 +25,45 @@ pub struct Spoken {
     reply: Option<Reply>,
 }
 
-/// Where a user's desk is.
-#[derive(Drop)]
-enum Place {
-    Here(Desk),
-    Away(JoinHandle<Spoken>),
-    Nowhere,
-}
-
 /// A user, who may ask at his desk.
 #[derive(Drop)]
 pub struct User {
     number: u8,
-    place: Place,
+    /// His desk, unless a thread has it.
+    desk: Option<Desk>,
+    /// The thread that has his desk.
+    thread: Option<JoinHandle<Spoken>>,
     /// All that he asked. The last reply is empty while it isn't there.
     told: Vec<Told>,
-}
-
-/// A command, or what is told in its place.
-#[derive(Drop)]
-enum Heard {
-    Command(Command),
-    Answer(Answer),
 }
 
 impl User {
     pub fn new(alloc: Global, number: u8, desk: Desk) -> User {
         User {
             number,
-            place: Place::Here(desk),
+            desk: Some(desk),
+            thread: None,
             told: Vec::new(alloc),
         }
     }
 
     /// The command is asked at the desk, and waited for.
     pub fn ask<R: Handle>(&mut self, house: &House<R>, line: &str) -> io::Result<Answer> {
-        let alloc = house.rt.alloc();
         let Some(desk) = self.desk() else {
             return Ok(Answer::Is(false));
         };
-        let command = match read(alloc, line)? {
-            Heard::Command(command) => command,
-            Heard::Answer(answer) => return Ok(answer),
-        };
-        let Some(reply) = reply_at(house, desk, command)? else {
-            return Ok(Answer::Is(false));
-        };
-        let text = text_of(alloc, &reply)?;
-        self.told.push(Told {
-            command: String::from_str(alloc, line)?,
-            reply: text.clone()?,
-        })?;
-        Ok(Answer::Text(text))
+        let answer = answer_at(house, desk, line)?;
+        if let Answer::Text(text) = &answer {
+            self.keep(house.rt.alloc(), line, text.as_str())?;
+        }
+        Ok(answer)
+    }
+
+    /// Keeps a command that was asked, and its reply.
+    fn keep(&mut self, alloc: Global, command: &str, reply: &str) -> io::Result<()> {
+        let told = Told::new(alloc, command, reply)?;
+        self.told.push(told)?;
+        Ok(())
     }
 
     /// The command is asked by a thread of its own.
@@ -84,30 +72,30 @@ impl User {
         house: &Arc<House<R>>,
         line: &str,
     ) -> io::Result<Answer> {
-        let alloc = house.rt.alloc();
         if self.desk().is_none() {
             return Ok(Answer::Is(false));
         }
-        let command = match read(alloc, line)? {
-            Heard::Command(command) => command,
-            Heard::Answer(answer) => return Ok(answer),
-        };
-        let theirs = Arc::try_clone(house)?;
-        let command_text = String::from_str(alloc, line)?;
-        self.told.push(Told {
-            command: command_text,
-            reply: String::new(alloc),
-        })?;
-        match std::mem::replace(&mut self.place, Place::Nowhere) {
-            Place::Here(desk) => {
-                self.place = Place::Away(start(theirs, self.number, desk, command)?);
+        match read_command(house.rt.alloc(), line.as_bytes()) {
+            Ok(command) => {
+                self.send(house, command)?;
+                self.keep(house.rt.alloc(), line, "")?;
                 Ok(Answer::Started)
             }
-            other => {
-                self.place = other;
-                Ok(Answer::Is(false))
-            }
+            Err(fault) => fault_answer(fault),
         }
+    }
+
+    /// A thread goes off with the desk, to ask the command there.
+    fn send<R: Handle + Send + Sync + 'static>(
+        &mut self,
+        house: &Arc<House<R>>,
+        command: Command,
+    ) -> io::Result<()> {
+        let theirs = Arc::try_clone(house)?;
+        if let Some(desk) = self.desk.take() {
+            self.thread = Some(start(house, theirs, self.number, desk, command)?);
+        }
+        Ok(())
     }
 
     /// What the thread asked for is waited for.
@@ -115,27 +103,37 @@ impl User {
         if !house.asking.is_gone(&house.rt, self.number) {
             return Ok(Answer::Is(false));
         }
-        match std::mem::replace(&mut self.place, Place::Nowhere) {
-            Place::Away(thread) => {
-                let spoken = thread.join(&house.rt);
-                self.place = Place::Here(spoken.desk);
-                let reply = spoken.reply.ok_or(no_memory())?;
-                let text = text_of(house.rt.alloc(), &reply)?;
-                if let Some(told) = self.told.last_mut() {
-                    told.reply = text.clone()?;
-                }
-                Ok(Answer::Text(text))
+        match self.thread.take() {
+            Some(thread) => {
+                let reply = self.come_back(thread.join(&house.rt));
+                self.hear(house.rt.alloc(), reply)
             }
-            other => {
-                self.place = other;
-                Ok(Answer::Is(false))
-            }
+            None => Ok(Answer::Is(false)),
         }
+    }
+
+    /// Takes the desk back from a thread: the reply that it had there.
+    fn come_back(&mut self, spoken: Spoken) -> Option<Reply> {
+        let Spoken { desk, reply } = spoken;
+        self.desk.insert(desk);
+        reply
+    }
+
+    /// Keeps the reply to the last command, and tells it.
+    fn hear(&mut self, alloc: Global, reply: Option<Reply>) -> io::Result<Answer> {
+        let text = match reply {
+            Some(reply) => text_of(alloc, &reply)?,
+            None => return Err(no_memory()),
+        };
+        if let Some(told) = self.told.last_mut() {
+            told.reply = text.clone()?;
+        }
+        Ok(Answer::Text(text))
     }
 
     /// Whether a machine alone of this limit comes to the same.
     pub fn alone(&mut self, alloc: Global, limit: Side) -> io::Result<Answer> {
-        let Place::Here(desk) = &mut self.place else {
+        let Some(desk) = &mut self.desk else {
             return Ok(Answer::Is(false));
         };
         let is = is_same(alloc, limit, self.told.as_slice(), desk)?;
@@ -144,19 +142,35 @@ impl User {
 
     /// The desk, if it is there and doesn't wait.
     fn desk(&mut self) -> Option<&mut Desk> {
-        match &mut self.place {
-            Place::Here(desk) if !desk.is_waiting() => Some(desk),
+        match &mut self.desk {
+            Some(desk) if !desk.is_waiting() => Some(desk),
             _ => None,
         }
     }
 }
 
-/// The command of a line, or its fault.
-fn read(alloc: Global, line: &str) -> io::Result<Heard> {
+/// What is answered of a line's fault.
+fn fault_answer(fault: LineFault) -> io::Result<Answer> {
+    match fault {
+        LineFault::NoMemory => Err(no_memory()),
+        fault => Ok(Answer::Fault(fault_text(fault))),
+    }
+}
+
+/// What is answered of a line at a desk: the reply to its command, or its fault.
+fn answer_at<R: Handle>(house: &House<R>, desk: &mut Desk, line: &str) -> io::Result<Answer> {
+    let alloc = house.rt.alloc();
     match read_command(alloc, line.as_bytes()) {
-        Ok(command) => Ok(Heard::Command(command)),
-        Err(LineFault::NoMemory) => Err(no_memory()),
-        Err(fault) => Ok(Heard::Answer(Answer::Fault(fault_text(fault)))),
+        Ok(command) => reply_answer(alloc, reply_at(house, desk, command)?),
+        Err(fault) => fault_answer(fault),
+    }
+}
+
+/// What is answered with a reply, or without one.
+fn reply_answer(alloc: Global, reply: Option<Reply>) -> io::Result<Answer> {
+    match reply {
+        Some(reply) => Ok(Answer::Text(text_of(alloc, &reply)?)),
+        None => Ok(Answer::Is(false)),
     }
 }
 
@@ -170,33 +184,39 @@ fn reply_at<R: Handle>(
         return Ok(None);
     }
     match desk.put(command) {
-        Ok(Put::Answered(reply)) => return Ok(Some(reply)),
-        Ok(Put::Waiting) => house.ring(),
-        Err(_) => return Err(no_memory()),
-    }
-    for _ in 0..LOOKS {
-        if let Some(reply) = desk.try_collect() {
-            return Ok(Some(reply));
+        Ok(Put::Answered(reply)) => Ok(Some(reply)),
+        Ok(Put::Waiting) => {
+            house.ring();
+            Ok(collected(&house.rt, desk))
         }
-        pause(&house.rt);
+        Err(_) => Err(no_memory()),
     }
-    Ok(None)
 }
 
-/// A thread that asks at the desk.
+/// The reply that a desk waits for, unless no board has done the command for long.
+fn collected<R: Clock>(rt: &R, desk: &mut Desk) -> Option<Reply> {
+    for _ in 0..LOOKS {
+        if let Some(reply) = desk.try_collect() {
+            return Some(reply);
+        }
+        pause(rt);
+    }
+    None
+}
+
+/// A thread that asks at the desk, with a handle of its own on the house.
 fn start<R: Handle + Send + Sync + 'static>(
-    house: Arc<House<R>>,
+    house: &House<R>,
+    theirs: Arc<House<R>>,
     user: u8,
     desk: Desk,
     command: Command,
 ) -> io::Result<JoinHandle<Spoken>> {
-    let rt = house.rt;
-    let asking = Arc::try_clone(&house)?;
     house.asking.enter(user);
-    match spawn(&rt, move || speak(&house, user, desk, command)) {
+    match spawn(&house.rt, move || speak(&theirs, user, desk, command)) {
         Ok(thread) => Ok(thread),
         Err(_) => {
-            asking.asking.leave(user);
+            house.asking.leave(user);
             Err(no_memory())
         }
     }

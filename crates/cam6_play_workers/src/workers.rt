@@ -3,14 +3,15 @@ ghost use Rattle.std.specs.Prelude.{◌≡◌, ◌<◌, ◌≤◌, IfOk};
 ghost use Rattle.cam6_board.specs.Held.{empty};
 ghost use Rattle.cam6_handoff.specs.Holding.{IsIdle};
 
+use crate::answers::Answer;
 use crate::held_boards::HeldBoard;
 use crate::houses::{Handle, House};
 use cam6_board::{Board, FlakyBoard, SoftBoard};
 use cam6_examples::no_memory;
 use cam6_handoff::BoardSeat;
 use cam6_pool::{Ended, serve_board};
+use std::alloc::Global;
 use std::io;
-use std::mem::replace;
 use std::sync::Arc;
 use std::thread::{JoinHandle, spawn};
 
@@ -80,37 +81,33 @@ fn work<R: Handle, B: Board>(house: &House<R>, seat: IdleSeat, board: EmptyBoard
     left
 }
 
-/// A worker serves at the seat from here on.
-pub fn serve<R: Handle + Send + Sync + 'static>(
-    house: &Arc<House<R>>,
-    seat: IdleSeat,
-    kind: Kind,
-) -> io::Result<JoinHandle<Left>> {
-    let alloc = house.rt.alloc();
-    match kind {
-        Kind::Soft => {
-            let board = SoftBoard::new(alloc).map_err(|_| no_memory())?;
-            start(house, seat, EmptyBoard { board })
-        }
-        Kind::Held => {
-            let board = HeldBoard::new(house).map_err(|_| no_memory())?;
-            start(house, seat, EmptyBoard { board })
-        }
-        Kind::Failing(call) => {
-            let calls = vec![in alloc; call]?;
-            let board = FlakyBoard::new(alloc, calls).map_err(|_| no_memory())?;
-            start(house, seat, EmptyBoard { board })
-        }
-    }
+/// A board that never fails.
+fn soft_board(alloc: Global) -> io::Result<EmptyBoard<SoftBoard>> {
+    let board = SoftBoard::new(alloc).map_err(|_| no_memory())?;
+    Ok(EmptyBoard { board })
 }
 
+/// A board of which the first band is held.
+fn held_board<R: Handle>(house: &Arc<House<R>>) -> io::Result<EmptyBoard<HeldBoard<R>>> {
+    let board = HeldBoard::new(house).map_err(|_| no_memory())?;
+    Ok(EmptyBoard { board })
+}
+
+/// A board that fails at this one of its calls.
+fn failing_board(alloc: Global, call: u64) -> io::Result<EmptyBoard<FlakyBoard>> {
+    let calls = vec![in alloc; call]?;
+    let board = FlakyBoard::new(alloc, calls).map_err(|_| no_memory())?;
+    Ok(EmptyBoard { board })
+}
+
+/// A thread that works at the seat, with a handle of its own on the house.
 fn start<R: Handle + Send + Sync + 'static, B: Board + Send + 'static>(
-    house: &Arc<House<R>>,
+    house: &House<R>,
+    theirs: Arc<House<R>>,
     seat: IdleSeat,
     board: EmptyBoard<B>,
 ) -> io::Result<JoinHandle<Left>> {
     let number = seat.seat.number();
-    let theirs = Arc::try_clone(house)?;
     house.serving.enter(number);
     match spawn(&house.rt, move || work(&theirs, seat, board)) {
         Ok(worker) => Ok(worker),
@@ -121,24 +118,31 @@ fn start<R: Handle + Send + Sync + 'static, B: Board + Send + 'static>(
     }
 }
 
-/// A worker, or what is left of one.
+/// A worker, or what is left of one, or neither where it could not be started.
 #[derive(Drop)]
-pub enum Worker {
-    /// The board's number, and the thread.
-    Serving(u8, JoinHandle<Left>),
-    Ended(Left),
-    /// It could not be started.
-    Nowhere,
+pub struct Worker {
+    /// The board's number.
+    number: u8,
+    /// The thread, while it isn't joined.
+    thread: Option<JoinHandle<Left>>,
+    /// What is left once it is.
+    left: Option<Left>,
 }
 
 impl Worker {
     /// A seat at which nobody has served.
     pub fn new(seat: IdleSeat) -> Worker {
-        Worker::Ended(Left {
+        let number = seat.seat.number();
+        let left = Left {
             seat,
             faults: 0,
             ended: Ended::Stopped,
-        })
+        };
+        Worker {
+            number,
+            thread: None,
+            left: Some(left),
+        }
     }
 
     /// Serves from here on, and says whether it didn't yet.
@@ -147,50 +151,81 @@ impl Worker {
         house: &Arc<House<R>>,
         kind: Kind,
     ) -> io::Result<bool> {
-        match replace(self, Worker::Nowhere) {
-            Worker::Ended(left) => {
-                let number = left.seat.seat.number();
-                *self = Worker::Serving(number, serve(house, left.seat, kind)?);
-                Ok(true)
-            }
-            other => {
-                *self = other;
-                Ok(false)
-            }
+        if self.left.is_none() {
+            return Ok(false);
         }
+        let alloc = house.rt.alloc();
+        match kind {
+            Kind::Soft => self.serve_with(house, soft_board(alloc)?)?,
+            Kind::Held => self.serve_with(house, held_board(house)?)?,
+            Kind::Failing(call) => self.serve_with(house, failing_board(alloc, call)?)?,
+        }
+        Ok(true)
+    }
+
+    /// Serves with a board from here on, at the seat that is left.
+    fn serve_with<R: Handle + Send + Sync + 'static, B: Board + Send + 'static>(
+        &mut self,
+        house: &Arc<House<R>>,
+        board: EmptyBoard<B>,
+    ) -> io::Result<()> {
+        let theirs = Arc::try_clone(house)?;
+        if let Some(left) = self.left.take() {
+            self.thread = Some(start(house, theirs, left.seat, board)?);
+        }
+        Ok(())
     }
 
     /// Joins the thread, if there is one.
     pub fn join<R: Handle>(&mut self, rt: &R) {
-        *self = match replace(self, Worker::Nowhere) {
-            Worker::Serving(_, thread) => Worker::Ended(thread.join(rt)),
-            other => other,
-        };
+        if let Some(thread) = self.thread.take() {
+            self.left = Some(thread.join(rt));
+        }
     }
 
     /// Joins the thread, if it has come to its end.
     pub fn join_ended<R: Handle>(&mut self, house: &House<R>) {
-        let is_over = match self {
-            Worker::Serving(number, _) => !house.serving.has(*number),
-            _ => false,
-        };
-        if is_over {
+        if !house.serving.has(self.number) {
             self.join(&house.rt);
         }
     }
 
     /// Waits for the end of a worker that runs, and says how it ended.
     pub fn wait<R: Handle>(&mut self, house: &House<R>) -> Option<Ended> {
-        let Worker::Serving(number, _) = self else {
-            return None;
-        };
-        if !house.serving.is_gone(&house.rt, *number) {
+        if self.thread.is_none() || !house.serving.is_gone(&house.rt, self.number) {
             return None;
         }
         self.join(&house.rt);
-        match self {
-            Worker::Ended(left) => Some(left.ended),
-            _ => None,
+        match &self.left {
+            Some(left) => Some(left.ended),
+            None => None,
         }
+    }
+}
+
+/// The worker of this board that has ended takes the user's command, if it waits, and puts it back.
+pub fn bands_left(workers: &mut Vec<Worker>, board: usize, user: usize) -> Answer {
+    let Some(left) = left_at(workers, board) else {
+        return Answer::Is(false);
+    };
+    match left.seat.left(user) {
+        Some(bands) => Answer::Left(bands),
+        None => Answer::Nothing,
+    }
+}
+
+/// How often the board of a worker that has ended failed.
+pub fn faults(workers: &mut Vec<Worker>, board: usize) -> Answer {
+    match left_at(workers, board) {
+        Some(left) => Answer::Faults(left.faults),
+        None => Answer::Is(false),
+    }
+}
+
+/// What is left of the worker of a board, if it has ended.
+fn left_at(workers: &mut Vec<Worker>, board: usize) -> Option<&mut Left> {
+    match workers.get_mut(board) {
+        Some(worker) => worker.left.as_mut(),
+        None => None,
     }
 }

@@ -90,9 +90,10 @@ impl Station {
         ensures { self.new ≡ loaded user
             (record { lease = lease; job = job; tables = tables.now }) }
     {
-        let Ok(()) = self.board.load(job, tables) else {
-            unreachable!()
-        };
+        match self.board.load(job, tables) {
+            Ok(()) => (),
+            _ => unreachable!(),
+        }
         self.post = Post::Loaded(user, lease);
     }
 
@@ -104,19 +105,22 @@ impl Station {
         let Post::Loaded(_, lease) = &mut self.post else {
             unreachable!()
         };
-        let Ok(end) = self.board.band() else {
-            unreachable!()
+        let end = match self.board.band() {
+            Ok(end) => end,
+            _ => unreachable!(),
         };
         lease.advance(end);
         let left = lease.left();
         if left > 0 {
             return Banded::More(left);
         }
-        let Post::Loaded(user, lease) = mem::replace(&mut self.post, Post::Idle) else {
-            unreachable!()
+        let (user, lease) = match mem::replace(&mut self.post, Post::Idle) {
+            Post::Loaded(user, lease) => (user, lease),
+            _ => unreachable!(),
         };
-        let Ok(image) = self.board.unload() else {
-            unreachable!()
+        let image = match self.board.unload() {
+            Ok(image) => image,
+            _ => unreachable!(),
         };
         match image.into_rest() {
             Ok(image) => Banded::Last(user, lease.finish(image)),
@@ -133,11 +137,13 @@ impl Station {
         ensures back { PreemptGives self.old result.0 result.1 }
         ensures idle { self.new ≡ idle }
     {
-        let Post::Loaded(user, lease) = mem::replace(&mut self.post, Post::Idle) else {
-            unreachable!()
+        let (user, lease) = match mem::replace(&mut self.post, Post::Idle) {
+            Post::Loaded(user, lease) => (user, lease),
+            _ => unreachable!(),
         };
-        let Ok(image) = self.board.unload() else {
-            unreachable!()
+        let image = match self.board.unload() {
+            Ok(image) => image,
+            _ => unreachable!(),
         };
         (user, lease.preempt(image))
     }
@@ -152,8 +158,9 @@ impl Station {
         let Post::Loaded(user, lease) = mem::replace(&mut self.post, Post::Dead) else {
             return None;
         };
-        let Ok(image) = self.board.unload() else {
-            unreachable!()
+        let image = match self.board.unload() {
+            Ok(image) => image,
+            _ => unreachable!(),
         };
         Some((user, lease.lost(image.into_spare())))
     }

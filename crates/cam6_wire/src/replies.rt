@@ -4,7 +4,7 @@ ghost use Rattle.std.specs.Prelude.{map, take};
 ghost use Rattle.std.specs.Prelude.{codes};
 ghost use Rattle.std.specs.List.{AllByRecursion};
 ghost use Rattle.std.specs.Str.{IsAscii};
-ghost use Rattle.serde_json.specs.Data.{array, string, no_members, member};
+ghost use Rattle.serde_json.specs.Data.{array, object, string, no_members, member};
 ghost use Rattle.serde_json.specs.Read.{read};
 ghost use Rattle.serde_json.specs.View.{view};
 ghost use Rattle.cam6_wire.specs.Replies.{colour_digit, done, reply_data, reply_bytes};
@@ -79,10 +79,7 @@ fn done_value(alloc: Global, done: &Done) -> Result<Value, AllocError>
         Done::Clear => ok_value(alloc, "clear"),
         Done::Rule => ok_value(alloc, "rule"),
         Done::Drop => ok_value(alloc, "drop"),
-        Done::Rules { names } => {
-            let names = names_value(alloc, names)?;
-            json!(in alloc; {"names": names, "ok": "rules"})
-        }
+        Done::Rules { names } => rules_value(alloc, names),
         Done::Cycle => ok_value(alloc, "cycle"),
         Done::Side => ok_value(alloc, "side"),
         Done::Map => ok_value(alloc, "map"),
@@ -92,18 +89,36 @@ fn done_value(alloc: Global, done: &Done) -> Result<Value, AllocError>
             let bits = Value::try_from_str(alloc, digits(bits.as_slice()))?;
             json!(in alloc; {"bits": bits, "ok": "row"})
         }
-        Done::Plane { rows } => {
-            let rows = rows_value(alloc, rows)?;
-            json!(in alloc; {"ok": "plane", "rows": rows})
-        }
-        Done::Colours { colours } => {
-            let colours = colours_value(alloc, colours)?;
-            json!(in alloc; {"colours": colours, "ok": "colours"})
-        }
+        Done::Plane { rows } => plane_value(alloc, rows),
+        Done::Colours { colours } => coloured_value(alloc, colours),
         Done::Count { count } => json!(in alloc; {"count": *count, "ok": "count"}),
         Done::Save { machine } => save_value(alloc, machine),
         Done::Load => ok_value(alloc, "load"),
     }
+}
+
+/// The reply to a command that lists the rules.
+fn rules_value(alloc: Global, names: &Names) -> Result<Value, AllocError>
+    ensures { IfOk result (λ value. view value ≡ done_data (Done.Rules names.now)) }
+{
+    let names = names_value(alloc, names)?;
+    json!(in alloc; {"names": names, "ok": "rules"})
+}
+
+/// The reply to a command that shows all rows of a plane.
+fn plane_value(alloc: Global, rows: &PlaneRows) -> Result<Value, AllocError>
+    ensures { IfOk result (λ value. view value ≡ done_data (Done.Plane rows.now)) }
+{
+    let rows = rows_value(alloc, rows)?;
+    json!(in alloc; {"ok": "plane", "rows": rows})
+}
+
+/// The reply to a command that shows a row in colours.
+fn coloured_value(alloc: Global, colours: &RowColours) -> Result<Value, AllocError>
+    ensures { IfOk result (λ value. view value ≡ done_data (Done.Colours colours.now)) }
+{
+    let colours = colours_value(alloc, colours)?;
+    json!(in alloc; {"colours": colours, "ok": "colours"})
 }
 
 /// The reply to a command that saves the machine.
@@ -147,12 +162,8 @@ fn cause_value(
     let half = half.text();
     let fault = cause.number();
     match cause {
-        NotReversible::Hood => {
-            json!(in alloc; {"cause": "hood", "entry": entry, "fault": fault, "half": half})
-        }
-        NotReversible::Centres => {
-            json!(in alloc; {"cause": "centres", "entry": entry, "fault": fault, "half": half})
-        }
+        NotReversible::Hood => plain_cause(alloc, "hood", entry, fault, half),
+        NotReversible::Centres => plain_cause(alloc, "centres", entry, fault, half),
         NotReversible::Meeting { phase, a, b } => {
             json!(in alloc; {
                 "cause": "meeting",
@@ -164,6 +175,23 @@ fn cause_value(
             })
         }
     }
+}
+
+/// A cause of which nothing more is told.
+fn plain_cause(
+    alloc: Global,
+    word: &str,
+    entry: usize,
+    fault: u8,
+    half: &str,
+) -> Result<Value, AllocError>
+    ensures { IfOk result (λ value. view value ≡ object
+        (member (codes "cause") (string word.now)
+        (member (codes "entry") (natural entry)
+        (member (codes "fault") (natural fault)
+        (member (codes "half") (string half.now) no_members))))) }
+{
+    json!(in alloc; {"cause": word, "entry": entry, "fault": fault, "half": half})
 }
 
 /// The reply to a command of which nothing is told but that it is done.
