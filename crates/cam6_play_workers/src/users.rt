@@ -115,7 +115,7 @@ impl User {
     /// Takes the desk back from a thread: the reply that it had there.
     fn come_back(&mut self, spoken: Spoken) -> Option<Reply> {
         let Spoken { desk, reply } = spoken;
-        self.desk.insert(desk);
+        self.desk = Some(desk);
         reply
     }
 
