@@ -14,7 +14,7 @@ use std::io::{BufRead, Read};
 /// How often one session looks at its lines at most.
 const TURNS: u64 = 1_000_000;
 
-/// What a session answers, by each way in but that over a connection.
+/// What a session answers, by each way in.
 pub fn answered(alloc: Global, limit: Side, sent: &[Sent]) -> io::Result<Vec<Vec<u8>>> {
     let mut all = Vec::new(alloc);
     all.push(served(alloc, limit, sent)?)?;
