@@ -1,5 +1,5 @@
 #!/usr/bin/env python3
-"""Writes failures_after_each_band.example and preempted_after_each_band.example of cam6_play_events/data: three steps
+"""Writes failures_after_each_band.example and preempted_after_each_band.example of cam6_play_sessions/data: three steps
 of a ball, on and back, whose board fails behind each number of bands, or which are taken off it behind each band.
 
 Shares nothing with the program: the outcomes are those of the model in `hosts`.
@@ -35,7 +35,7 @@ class Ball(ToldEvents):
         rows = {f"ROW{number}": f"reply 1 {compact(row(number))}" for number in (0, STEPS)}
         named = {"BALLS": BALLS, "REPLY": '{"ok":"collect","reply":'} | rows
         named |= {word: compact(event) for word, event in events.items()}
-        super().__init__("cam6_play_events", name, *comments, SOURCE, **named)
+        super().__init__("cam6_play_sessions", name, *comments, SOURCE, **named)
 
     def begin(self, title):
         self.part(title, 2, 16, [256])

@@ -1,6 +1,6 @@
 #!/usr/bin/env python3
 """Writes saved_machines.example and saved_and_loaded.example of cam6_play_sessions/data, and saved_by_events.example of
-cam6_play_events/data: machines that are saved, and what is loaded of them.
+cam6_play_sessions/data: machines that are saved, and what is loaded of them.
 
 Shares nothing with the program: replies are those of the machine alone in `hosts`, and faults are told by hand.
 """
@@ -200,7 +200,7 @@ def most(told):
 class Events(ToldEvents):
     def __init__(self, name, *comments):
         zeros = {f"BLANK_{number}": said(blank(number)["planes"]) for number in (128, 256)}
-        super().__init__("cam6_play_events", name, *comments, SOURCE, **zeros)
+        super().__init__("cam6_play_sessions", name, *comments, SOURCE, **zeros)
 
 
 def refused_events(told):

@@ -1,8 +1,8 @@
 """Refuses each request for memory in turn, one in a run, until a run meets none, and looks at what comes back.
 
-usage: scarce.py CAM6 SCARCE REFUSING
+usage: scarce.py CAM6 PLAYER REFUSING
 
-CAM6 and SCARCE are the programs `cam6` and `cam6_scarce`, and REFUSING is what refuses requests (refusing.c), as a
+CAM6 is the program `cam6`, PLAYER the one of cam6_play_sessions, and REFUSING what refuses requests (refusing.c), as a
 library that is loaded into them. What has to come back is said by hand or by the plain machines of `hosts`. Tells of
 each part how many requests were refused, and how that was seen; and what failed. The last line is 'N passed, M failed',
 over the runs in which a request was refused.
@@ -19,7 +19,7 @@ from json import dumps
 
 from hosts import Host, Machine
 
-CAM6, SCARCE, REFUSING = sys.argv[1:] if len(sys.argv) == 4 else ("", "", "")
+CAM6, PLAYER, REFUSING = sys.argv[1:] if len(sys.argv) == 4 else ("", "", "")
 PATIENCE = 60
 
 PARITY = {
@@ -200,7 +200,7 @@ def taken_up(got, want):
 def of_session(commands):
     want = replies(commands)
     def once(number):
-        ran = Ran(number, SCARCE, ["session"], lines(commands))
+        ran = Ran(number, PLAYER, ["scarce", "session"], lines(commands))
         return driven(ran, lambda got: taken_up(got, want))
     return once
 
@@ -223,7 +223,7 @@ def of_loads():
         "the first kept when it was asked for again": "the first not kept",
         "the second kept when it was asked for again": "the second not kept"}
     def once(number):
-        return driven(Ran(number, SCARCE, [], ""), lambda got: ways.get(got[0]) if len(got) == 1 else None)
+        return driven(Ran(number, PLAYER, ["scarce"], ""), lambda got: ways.get(got[0]) if len(got) == 1 else None)
     return once
 
 
@@ -298,7 +298,7 @@ def list_went(events, got):
 
 def of_list(events):
     def once(number):
-        ran = Ran(number, SCARCE, ["events", "2", "1", "1"], lines(events))
+        ran = Ran(number, PLAYER, ["scarce", "events", "2", "1", "1"], lines(events))
         return driven(ran, lambda got: list_went(events, got))
     return once
 

@@ -52,9 +52,9 @@ class Host:
             self.address = ("127.0.0.1", port)
             if self.process.stderr.readline() == b"listening on 127.0.0.1:%d\n" % port:
                 return
-            self.stop()
-            if self.process.returncode != NETWORK_FAILED:
+            if self.ended() != ENDS[NETWORK_FAILED]:
                 break
+            self.is_told = False
         raise SystemExit(f"served.py: no host: {' '.join(command)}")
 
     def ended(self):
@@ -67,7 +67,7 @@ class Host:
         except subprocess.TimeoutExpired:
             return b"not ended"
         said = ENDS.get(self.process.returncode, b"status %d" % self.process.returncode)
-        return said if outputs == (b"", b"") or self.process.returncode else b"ended, and wrote"
+        return said if outputs == (b"", b"") or self.process.returncode else said + b", and wrote"
 
     def stop(self):
         """The host is gone after this, also if it did not end."""

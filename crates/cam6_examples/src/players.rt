@@ -36,17 +36,13 @@ pub fn play_by<
         .skip(1)
         .collect::<Vec<String>>(rt.alloc())?;
     let is_well = match words.as_slice() {
-        [first, name] if first.as_str() == "lines" => send::<W, R>(rt, name.as_str(), "1")?,
+        [first, name] if first.as_str() == "lines" => send::<W, R>(rt, name.as_str(), "1"),
         [first, name, number] if first.as_str() == "lines" => {
-            send::<W, R>(rt, name.as_str(), number.as_str())?
+            send::<W, R>(rt, name.as_str(), number.as_str())
         }
-        names => play_files(rt, names, played)?,
+        names => play_files(rt, names, played),
     };
-    if is_well {
-        Ok(ExitCode::SUCCESS)
-    } else {
-        Ok(ExitCode::FAILURE)
-    }
+    is_well.map(|is_well| if is_well { ExitCode::SUCCESS } else { ExitCode::FAILURE })
 }
 
 /// The parts of an example. None, which is printed, where a line can't be played.
@@ -75,13 +71,24 @@ fn play_files<
 {
     let mut is_well = true;
     for name in names {
-        let name = name.as_str();
-        is_well &= match parts_of::<W, R>(rt, name)? {
-            Some(parts) => show(rt, name, parts.as_slice(), played)? != name.starts_with("wrong_"),
-            None => false,
-        };
+        is_well &= play_file(rt, name.as_str(), played)?;
     }
     Ok(is_well)
+}
+
+/// Plays an example. Whether all came back, unless it is wrong on purpose.
+fn play_file<
+    W: Way,
+    R: Files + Print + AllocGlobal,
+    F: Fn(&W, &[Sent]) -> io::Result<Vec<Vec<u8>>>,
+>(rt: &R, name: &str, played: &F) -> io::Result<bool>
+    requires { F.IsAlwaysCallable played.now }
+{
+    match parts_of::<W, R>(rt, name)? {
+        Some(parts) => show(rt, name, parts.as_slice(), played)
+            .map(|is_well| is_well != name.starts_with("wrong_")),
+        None => Ok(false),
+    }
 }
 
 /// Prints the lines that an example sends in its session of this number, counted from 1, as they
@@ -91,23 +98,37 @@ fn send<W: Way, R: Files + Print + AllocGlobal>(
     name: &str,
     number: &str,
 ) -> io::Result<bool> {
-    let Some(parts) = parts_of::<W, R>(rt, name)? else {
-        return Ok(false);
-    };
-    let number: usize = number.parse().unwrap_or(0);
+    match parts_of::<W, R>(rt, name)? {
+        Some(parts) => send_session(rt, name, parts.as_slice(), number.parse().unwrap_or(0)),
+        None => Ok(false),
+    }
+}
+
+/// The same, of an example that has been read.
+fn send_session<W: Way, R: Print + AllocGlobal>(
+    rt: &R,
+    name: &str,
+    parts: &[Part<W>],
+    number: usize,
+) -> io::Result<bool> {
     let mut sessions: usize = 0;
-    for part in parts.as_slice() {
+    for part in parts {
         if part.way.is_session() && !part.sent.is_empty() {
             sessions = sessions.saturating_add(1);
             if sessions == number {
-                let bytes = bytes_of(rt.alloc(), part.sent.as_slice())?;
-                io::writer(rt).write_all(bytes.as_slice())?;
-                return Ok(true);
+                return write_lines(rt, part.sent.as_slice());
             }
         }
     }
     println!(rt; "{name}: it has sessions 1 to {sessions}")?;
     Ok(false)
+}
+
+/// Prints lines as they are sent.
+fn write_lines<R: Print + AllocGlobal>(rt: &R, sent: &[Sent]) -> io::Result<bool> {
+    let bytes = bytes_of(rt.alloc(), sent)?;
+    io::writer(rt).write_all(bytes.as_slice())?;
+    Ok(true)
 }
 
 /// Plays an example and prints whether all its lines came back.
@@ -122,12 +143,11 @@ fn show<W: Way, R: Print + AllocGlobal, F: Fn(&W, &[Sent]) -> io::Result<Vec<Vec
     let mut lines: usize = 0;
     for part in parts {
         let wanted = part.wanted.as_slice();
-        for answers in played(&part.way, part.sent.as_slice())? {
-            if let Some(line) = first_other(answers.as_slice(), wanted) {
-                let line = line.saturating_add(lines);
-                println!(rt; "{name}: line {line} that came back is another")?;
-                return Ok(false);
-            }
+        let answers = played(&part.way, part.sent.as_slice())?;
+        if let Some(line) = first_other_of_all(answers, wanted) {
+            let line = line.saturating_add(lines);
+            println!(rt; "{name}: line {line} that came back is another")?;
+            return Ok(false);
         }
         lines = lines.saturating_add(lines_of(wanted));
     }
@@ -141,6 +161,16 @@ fn show<W: Way, R: Print + AllocGlobal, F: Fn(&W, &[Sent]) -> io::Result<Vec<Vec
 
 fn lines_of(bytes: &[u8]) -> usize {
     bytes.iter().filter(|byte| **byte == b'\n').count()
+}
+
+/// The first line, from 1, in which one of the answers differs from what is wanted, if one does.
+fn first_other_of_all(answers: Vec<Vec<u8>>, wanted: &[u8]) -> Option<usize> {
+    for answer in answers.as_slice() {
+        if let Some(line) = first_other(answer.as_slice(), wanted) {
+            return Some(line);
+        }
+    }
+    None
 }
 
 /// The first line, from 1, in which two texts differ, if they do.

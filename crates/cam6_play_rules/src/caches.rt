@@ -52,16 +52,26 @@ pub fn loads(alloc: Global, capacity: usize, sent: &[Sent]) -> io::Result<Vec<u8
     let mut asked = Asked::new(alloc, capacity).ok_or(no_memory())?;
     let mut answers = Vec::new(alloc);
     for line in sent {
-        let line = text_of(line.bytes.as_slice())?;
-        match line.split_once(' ').unwrap_or((line, "")) {
-            ("load", rest) => add_load(alloc, &mut answers, &mut asked, rest, false)?,
-            ("undo", rest) => add_load(alloc, &mut answers, &mut asked, rest, true)?,
-            ("table", "") => add_table(&mut answers, &asked.out)?,
-            ("evict", "") => add_truth(&mut answers, asked.cache.evict_oldest())?,
-            _ => add_line(&mut answers, "unread")?,
-        }
+        add_answer(alloc, &mut answers, &mut asked, line.bytes.as_slice())?;
     }
     Ok(answers)
+}
+
+/// Adds what comes back of a line.
+fn add_answer(
+    alloc: Global,
+    answers: &mut Vec<u8>,
+    asked: &mut Asked,
+    line: &[u8],
+) -> io::Result<()> {
+    let line = text_of(line)?;
+    match line.split_once(' ').unwrap_or((line, "")) {
+        ("load", rest) => add_load(alloc, answers, asked, rest, false),
+        ("undo", rest) => add_load(alloc, answers, asked, rest, true),
+        ("table", "") => add_table(answers, &asked.out),
+        ("evict", "") => add_truth(answers, asked.cache.evict_oldest()),
+        _ => add_line(answers, "unread"),
+    }
 }
 
 fn add_truth(answers: &mut Vec<u8>, is_so: bool) -> io::Result<()> {

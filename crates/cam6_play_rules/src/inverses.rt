@@ -8,37 +8,70 @@ use cam6_wiring::Wiring;
 use std::alloc::Global;
 use std::io;
 
+/// Room for a table, and for the one that undoes it.
+#[derive(Drop)]
+struct Room {
+    table: Table,
+    inverse: Table,
+}
+
+impl Room {
+    fn new(alloc: Global) -> io::Result<Room> {
+        let table = Table::blank(alloc).map_err(|_| no_memory())?;
+        let inverse = Table::blank(alloc).map_err(|_| no_memory())?;
+        Ok(Room { table, inverse })
+    }
+}
+
 /// The table that undoes each rule's, in lines of 64 entries, or why there is none.
 pub fn inverses(alloc: Global, wiring: Wiring, sent: &[Sent]) -> io::Result<Vec<u8>> {
+    let mut room = Room::new(alloc)?;
     let mut answers = Vec::new(alloc);
-    let mut table = Table::blank(alloc).map_err(|_| no_memory())?;
-    let mut inverse = Table::blank(alloc).map_err(|_| no_memory())?;
     for text in sent {
-        match inverse_of_text(alloc, wiring, text, &mut table, &mut inverse)? {
-            Ok(()) => add_table(&mut answers, &inverse)?,
-            Err(cause) => add_line(&mut answers, cause.as_str())?,
-        }
+        add_inverse(alloc, &mut answers, wiring, text, &mut room)?;
     }
     Ok(answers)
 }
 
+fn add_inverse(
+    alloc: Global,
+    answers: &mut Vec<u8>,
+    wiring: Wiring,
+    text: &Sent,
+    room: &mut Room,
+) -> io::Result<()> {
+    match inverse_of_text(alloc, wiring, text, &mut room.table, &mut room.inverse)? {
+        Ok(()) => add_table(answers, &room.inverse),
+        Err(cause) => add_line(answers, cause.as_str()),
+    }
+}
+
 /// The table that undoes the one which undoes each rule's, or why there is none.
 pub fn inverses_twice(alloc: Global, wiring: Wiring, sent: &[Sent]) -> io::Result<Vec<u8>> {
+    let mut room = Room::new(alloc)?;
     let mut answers = Vec::new(alloc);
-    let mut table = Table::blank(alloc).map_err(|_| no_memory())?;
-    let mut inverse = Table::blank(alloc).map_err(|_| no_memory())?;
     for text in sent {
-        let first = inverse_of_text(alloc, wiring, text, &mut table, &mut inverse)?;
-        let second = match first {
-            Ok(()) => inverse_of(alloc, wiring, &inverse, &mut table)?,
-            Err(cause) => Err(cause),
-        };
-        match second {
-            Ok(()) => add_table(&mut answers, &table)?,
-            Err(cause) => add_line(&mut answers, cause.as_str())?,
-        }
+        add_inverse_twice(alloc, &mut answers, wiring, text, &mut room)?;
     }
     Ok(answers)
+}
+
+fn add_inverse_twice(
+    alloc: Global,
+    answers: &mut Vec<u8>,
+    wiring: Wiring,
+    text: &Sent,
+    room: &mut Room,
+) -> io::Result<()> {
+    let first = inverse_of_text(alloc, wiring, text, &mut room.table, &mut room.inverse)?;
+    let second = match first {
+        Ok(()) => inverse_of(alloc, wiring, &room.inverse, &mut room.table)?,
+        Err(cause) => Err(cause),
+    };
+    match second {
+        Ok(()) => add_table(answers, &room.table),
+        Err(cause) => add_line(answers, cause.as_str()),
+    }
 }
 
 /// Fills the table of a rule's text, and the one that undoes it.

@@ -139,13 +139,25 @@ fn add_entries(
 pub fn tables(alloc: Global, wiring: Wiring, sent: &[Sent]) -> io::Result<Vec<u8>> {
     let mut answers = Vec::new(alloc);
     let mut table = Table::blank(alloc).map_err(|_| no_memory())?;
+    add_tables(alloc, &mut answers, wiring, sent, &mut table)?;
+    Ok(answers)
+}
+
+/// The same, with room for a table.
+fn add_tables(
+    alloc: Global,
+    answers: &mut Vec<u8>,
+    wiring: Wiring,
+    sent: &[Sent],
+    table: &mut Table,
+) -> io::Result<()> {
     for text in sent {
-        match fill_by_text(alloc, wiring, text, &mut table)? {
-            Ok(()) => add_table(&mut answers, &table)?,
-            Err(fault) => add_line(&mut answers, fault.as_str())?,
+        match fill_by_text(alloc, wiring, text, table)? {
+            Ok(()) => add_table(answers, table)?,
+            Err(fault) => add_line(answers, fault.as_str())?,
         }
     }
-    Ok(answers)
+    Ok(())
 }
 
 /// Makes the table that of a rule's text, or tells the text's fault, or the least address at which

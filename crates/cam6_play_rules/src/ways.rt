@@ -32,19 +32,15 @@ impl Way for RuleWay {
     fn read(alloc: Global, words: &str) -> Result<RuleWay, Unplayable> {
         match words.split_once(' ').unwrap_or((words, "")) {
             ("stacks", "") => Ok(RuleWay::Stacks),
-            ("cache", capacity) => Ok(RuleWay::Cache(capacity_of(capacity)?)),
-            ("texts", wiring) => Ok(RuleWay::Texts(wiring_of(wiring)?)),
-            ("rules", wiring) => Ok(RuleWay::Rules(wiring_of(wiring)?)),
-            ("tables", wiring) => Ok(RuleWay::Tables(wiring_of(wiring)?)),
+            ("cache", capacity) => capacity_of(capacity).map(RuleWay::Cache),
+            ("texts", wiring) => wiring_of(wiring).map(RuleWay::Texts),
+            ("rules", wiring) => wiring_of(wiring).map(RuleWay::Rules),
+            ("tables", wiring) => wiring_of(wiring).map(RuleWay::Tables),
             ("inverses", rest) => match rest.strip_prefix("twice ") {
-                Some(wiring) => Ok(RuleWay::InversesTwice(wiring_of(wiring)?)),
-                None => Ok(RuleWay::Inverses(wiring_of(rest)?)),
+                Some(wiring) => wiring_of(wiring).map(RuleWay::InversesTwice),
+                None => wiring_of(rest).map(RuleWay::Inverses),
             },
-            ("entries", rest) => {
-                let (wiring, addresses) = rest.split_once(" at ").ok_or(Unplayable::Unread)?;
-                let addresses = addresses_of(alloc, addresses)?;
-                Ok(RuleWay::Entries(wiring_of(wiring)?, addresses))
-            }
+            ("entries", rest) => entries_way(alloc, rest),
             _ => Err(Unplayable::Unread),
         }
     }
@@ -57,19 +53,26 @@ impl Way for RuleWay {
 impl Played for RuleWay {
     fn played(&self, alloc: Global, sent: &[Sent]) -> io::Result<Vec<Vec<u8>>> {
         let answers = match self {
-            RuleWay::Texts(wiring) => rules::faults_of_texts(alloc, *wiring, sent)?,
-            RuleWay::Rules(wiring) => rules::kept_rules(alloc, *wiring, sent)?,
+            RuleWay::Texts(wiring) => rules::faults_of_texts(alloc, *wiring, sent),
+            RuleWay::Rules(wiring) => rules::kept_rules(alloc, *wiring, sent),
             RuleWay::Entries(wiring, addresses) => {
-                rules::entries(alloc, *wiring, addresses.as_slice(), sent)?
+                rules::entries(alloc, *wiring, addresses.as_slice(), sent)
             }
-            RuleWay::Tables(wiring) => rules::tables(alloc, *wiring, sent)?,
-            RuleWay::Inverses(wiring) => inverses::inverses(alloc, *wiring, sent)?,
-            RuleWay::InversesTwice(wiring) => inverses::inverses_twice(alloc, *wiring, sent)?,
-            RuleWay::Cache(capacity) => caches::loads(alloc, *capacity, sent)?,
-            RuleWay::Stacks => stacks::stacks(alloc, sent)?,
+            RuleWay::Tables(wiring) => rules::tables(alloc, *wiring, sent),
+            RuleWay::Inverses(wiring) => inverses::inverses(alloc, *wiring, sent),
+            RuleWay::InversesTwice(wiring) => inverses::inverses_twice(alloc, *wiring, sent),
+            RuleWay::Cache(capacity) => caches::loads(alloc, *capacity, sent),
+            RuleWay::Stacks => stacks::stacks(alloc, sent),
         };
-        Ok(vec![in alloc; answers]?)
+        Ok(vec![in alloc; answers?]?)
     }
+}
+
+/// The way of `WIRING at ADDRESS ..`.
+fn entries_way(alloc: Global, text: &str) -> Result<RuleWay, Unplayable> {
+    let (wiring, addresses) = text.split_once(" at ").ok_or(Unplayable::Unread)?;
+    let wiring = wiring_of(wiring)?;
+    Ok(RuleWay::Entries(wiring, addresses_of(alloc, addresses)?))
 }
 
 /// How many tables a cache keeps, 1 to 64.

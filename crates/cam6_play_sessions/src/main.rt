@@ -1,16 +1,26 @@
-//! Plays the worked examples of sessions, and of lines as they are read.
+//! Plays the worked examples of sessions, of lines as they are read, and of events: what happens to
+//! users and boards, and what comes of it.
 //!
 //! The arguments name files of `data/`. `play` of `cam6_examples` says what they ask for, and does all
-//! but the ways. The program makes no claim of its own beyond being safe. `./connections` plays the
-//! same sessions over connections to the program `cam6`.
+//! but the ways. After the argument `scarce` it does what takes memory, for runs in which an allocation
+//! fails (`scarce`). The program makes no claim of its own beyond being safe. `./connections` plays
+//! the same sessions over connections to the program `cam6`.
 //!
-//! Stands on: `cam6_examples`, how files are read and compared; `cam6_session` and all below it.
+//! Stands on: `cam6_examples`, how files are read and compared; `cam6_session` and all below it;
+//! `cam6_cache`.
 //!
-//! Read next: `data/`, the examples; `ways`, how they are played; then `sessions` and
-//! `command_lines`.
+//! Read next: `data/`, the examples; `ways`, how they are played; `sessions` and `command_lines`;
+//! `event_ways`, with what a core begins, `event_lines` and `event_players`; then `scarce`.
 #![tactic(auto)]
 
 mod command_lines;
+mod event_lines;
+mod event_players;
+mod event_ways;
+mod lists;
+mod loads;
+mod resumed;
+mod scarce;
 mod sessions;
 mod ways;
 
@@ -20,5 +30,11 @@ use std::process::ExitCode;
 use ways::LineWay;
 
 fn main(rt: HostRuntime) -> io::Result<ExitCode> {
-    play::<LineWay, HostRuntime>(&rt)
+    let words = std::env::args(&rt)?
+        .skip(1)
+        .collect::<Vec<String>>(rt.alloc())?;
+    match words.as_slice() {
+        [first, words @ ..] if first.as_str() == "scarce" => scarce::work(&rt, words),
+        _ => play::<LineWay, HostRuntime>(&rt),
+    }
 }

@@ -1,5 +1,6 @@
 //! The ways in which lines are played.
 
+use crate::event_ways::EventWay;
 use crate::sessions;
 use cam6_examples::{Played, Sent, Unplayable, Way, limit_of};
 use cam6_planes::Side;
@@ -14,13 +15,16 @@ pub enum LineWay {
     Session(Side),
     /// What each line says, or its fault.
     Readings,
+    /// Lines of events, to a core.
+    Events(EventWay),
 }
 
 impl Way for LineWay {
-    fn read(_alloc: Global, words: &str) -> Result<LineWay, Unplayable> {
+    fn read(alloc: Global, words: &str) -> Result<LineWay, Unplayable> {
         match words.split_once(' ').unwrap_or((words, "")) {
-            ("session", limit) => Ok(LineWay::Session(limit_of(limit)?)),
+            ("session", limit) => limit_of(limit).map(LineWay::Session),
             ("readings", "") => Ok(LineWay::Readings),
+            ("events", sizes) => EventWay::read(alloc, sizes).map(LineWay::Events),
             _ => Err(Unplayable::Unread),
         }
     }
@@ -35,6 +39,7 @@ impl Played for LineWay {
         match self {
             LineWay::Session(limit) => sessions::answered(alloc, *limit, sent),
             LineWay::Readings => Ok(vec![in alloc; sessions::read(alloc, sent)?]?),
+            LineWay::Events(way) => way.played(alloc, sent),
         }
     }
 }

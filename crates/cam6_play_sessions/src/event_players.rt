@@ -1,6 +1,6 @@
 //! Lines of events, answered by a replay: one by one, and all of them at once.
 
-use crate::lines::{Line, number_of, read_line};
+use crate::event_lines::{Line, number_of, read_line};
 use cam6_core::{Core, MAX_BOARDS};
 use cam6_examples::{Sent, Unplayable, add_line, no_memory};
 use cam6_session::{End, replay};

@@ -3,10 +3,10 @@ ghost use Rattle.std.specs.Prelude.{◌≡◌, ◌<◌, ◌≤◌, length, IfOk}
 ghost use Rattle.cam6_cache.specs.Limits.{max_capacity};
 ghost use Rattle.cam6_core.specs.Limits.{max_users, max_boards};
 
-use crate::players::Told;
+use crate::event_players::Told;
 use cam6_cache::MAX_CAPACITY;
 use cam6_core::{Core, MAX_BOARDS, MAX_USERS};
-use cam6_examples::{Played, Sent, Unplayable, Way, no_memory, size_of};
+use cam6_examples::{Sent, Unplayable, no_memory, size_of};
 use cam6_planes::{NoMemory, Side};
 use std::alloc::Global;
 use std::io;
@@ -24,10 +24,10 @@ pub struct EventWay {
     ghost tables_fit: { (0 < cache) × (cache ≤ max_capacity) },
 }
 
-impl Way for EventWay {
-    fn read(alloc: Global, words: &str) -> Result<EventWay, Unplayable> {
+impl EventWay {
+    /// Reads what stands after the word `events`.
+    pub fn read(alloc: Global, words: &str) -> Result<EventWay, Unplayable> {
         let (sizes, limits) = words.split_once(" within ").unwrap_or((words, "256"));
-        let sizes = sizes.strip_prefix("events ").ok_or(Unplayable::Unread)?;
         let (users, sizes) = sizes.split_once(' ').ok_or(Unplayable::Unread)?;
         let (boards, cache) = sizes.split_once(' ').ok_or(Unplayable::Unread)?;
         let users = size_of(users, MAX_USERS)?;
@@ -38,22 +38,15 @@ impl Way for EventWay {
         })
     }
 
-    fn is_session(&self) -> bool {
-        false
-    }
-}
-
-impl Played for EventWay {
-    fn played(&self, alloc: Global, sent: &[Sent]) -> io::Result<Vec<Vec<u8>>> {
+    /// What comes back of the lines, told one by one and all at once.
+    pub fn played(&self, alloc: Global, sent: &[Sent]) -> io::Result<Vec<Vec<u8>>> {
         let core = self.core(alloc).map_err(|_| no_memory())?;
         let other = self.core(alloc).map_err(|_| no_memory())?;
         let mut told = Told::new(alloc, core);
         told.answered(sent)?;
         told.both_ways(other)
     }
-}
 
-impl EventWay {
     /// The core with which it begins.
     fn core(&self, alloc: Global) -> Result<Core, NoMemory> {
         let limits = self.limits.as_slice();
