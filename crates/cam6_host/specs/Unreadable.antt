@@ -2,8 +2,8 @@
 use Rattle.std.specs.Prelude.{◌≡◌, ◌≢◌, codes, string_bytes, ⊤}
 use Rattle.std.specs.declared.io.ErrorKind.{ErrorKind}
 use Rattle.std.specs.declared.io.ErrorKind.TheVariants.{OutOfMemory}
-use Rattle.cam6_host.specs.declared.modes.Refused.{Refused}
-use Rattle.cam6_host.specs.declared.modes.Refused.TheVariants.{Help, Words, NoMemory}
+use Rattle.cam6_modes.specs.declared.modes.Refused.{Refused}
+use Rattle.cam6_modes.specs.declared.modes.Refused.TheVariants.{Help, Words, NoMemory}
 
 -- for want of memory, or because one is no UTF-8
 abbrev pub IsUnreadable : Refused → ErrorKind → Type 0

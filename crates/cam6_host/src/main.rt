@@ -1,44 +1,34 @@
 //! The program `cam6`: command lines on standard input, or lines of events, one line of an answer
 //! for each on standard output; or command lines of many users over connections.
 //!
-//! Contract: `options` reads the words as `clap` takes them (`specs/CommandLine.antt`), and
-//! `failure_of` is each end's exit status (`specs/Statuses.antt`), with which `ended` ends. So are
-//! `fault_of` and `refusal_of` the statuses of a host that can't go on, with which `closed` ends,
-//! and of words that ask for nothing, with which `told` ends. What is written for what is read, and
-//! that turns run out only where as many bytes were read, is the contract of `serve_streams` and of
-//! `replay_streams` (`specs/Replays.antt`): those of `serve_alone` and of `replay` in
-//! `cam6_session`, with the program's turns (`specs/Turns.antt`). What users are answered over
-//! connections, by `serve`, is said in `cam6_server`.
+//! Contract: `told`, `closed` and `ended` end with the exit statuses that `cam6_modes` says of
+//! arguments that ask for nothing, of a host that can't go on, and of each end of a session. What
+//! the arguments ask for, and what is written for what is read, is said in `cam6_modes`. What users
+//! are answered over connections, by `serve_net`, is said in `cam6_server`.
 //!
-//! Stands on: `cam6_planes`, for the sides; `cam6_cache`, for the number of its tables; `cam6_core`,
-//! `cam6_session`, `cam6_server`, `clap`, `thiserror`.
+//! Stands on: `cam6_modes`; `cam6_session`, `cam6_server` and `cam6_planes` for what it hands on.
 //!
-//! Read next: `modes` and `words`, the command line; then `streams` and `statuses`.
+//! Read next: `cam6_modes`.
 #![tactic(auto)]
 
 ghost use Rattle.std.specs.Prelude.{◌≡◌, ◌≢◌, MatchOption};
 ghost use Rattle.std.specs.Process.{exit_status};
-ghost use Rattle.cam6_host.specs.Statuses.{failure, fault as fault_told, refusal};
+ghost use Rattle.cam6_modes.specs.Statuses.{failure, fault as fault_told, refusal};
 ghost use Rattle.cam6_host.specs.Unreadable.{IsUnreadable};
 
-mod modes;
-mod slips;
-mod statuses;
-mod streams;
-mod words;
-
+use cam6_modes::{
+    NO_MEMORY, Options, Refused, Sharing, WRITE_FAILED, failure_of, fault_of, options, refusal_of,
+    replay_streams, serve_streams,
+};
 use cam6_planes::Side;
 use cam6_server::{Fault, Handle, Serving, serve_net};
 use cam6_session::End;
-use modes::{Options, Refused, Sharing};
-use statuses::{NO_MEMORY, WRITE_FAILED, failure_of, fault_of, refusal_of};
 use std::alloc::Global;
 use std::env::Env;
 use std::io;
 use std::io::{BufReader, ErrorKind, IsTerminal};
 use std::net::{Ipv4Addr, Net, TcpListener, TcpStream};
 use std::process::ExitCode;
-use streams::{replay_streams, serve_streams};
 
 /// What is told where commands are typed.
 const COMMANDS_ARE_TYPED: &str = "\
@@ -99,7 +89,7 @@ fn options_given<R: Env + AllocGlobal>(rt: &R) -> Result<Options, Refused> {
     let Ok(words) = args.collect::<Vec<String>>(alloc) else {
         return Err(Refused::NoMemory);
     };
-    words::options(alloc, words.as_slice())
+    options(alloc, words.as_slice())
 }
 
 /// Why the words could not be had.

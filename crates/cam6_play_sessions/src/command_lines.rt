@@ -2,47 +2,62 @@
 
 use cam6_commands::{Command, NamedEntry, SavedMachine, Text};
 use cam6_wire::{Version, machine_value};
+use cam6_wiring::Wiring;
 use serde_json::{Value, json};
 use std::alloc::{AllocError, Global};
 
 /// The line that says a command, without its LF.
 pub fn line_of(alloc: Global, command: &Command) -> Result<String, AllocError> {
-    value_of(alloc, command)?.to_string(alloc)
+    match command {
+        Command::Set { plane, row, bits } => set_line(alloc, *plane, *row, bits.as_slice()),
+        Command::Clear { plane } => format!(in alloc; r#"{{"do":"clear","plane":{plane}}}"#),
+        Command::Rule { name, wiring, text } => line(alloc, rule_value(alloc, name, *wiring, text)),
+        Command::Drop { name } => line(alloc, drop_value(alloc, name)),
+        Command::Rules => String::from_str(alloc, r#"{"do":"rules"}"#),
+        Command::Cycle { entries } => line(alloc, cycle_value(alloc, entries.as_slice())),
+        Command::Run { n } => format!(in alloc; r#"{{"do":"run","n":{n}}}"#),
+        Command::Back { n } => format!(in alloc; r#"{{"do":"back","n":{n}}}"#),
+        Command::Row { plane, row } => {
+            format!(in alloc; r#"{{"do":"row","plane":{plane},"row":{row}}}"#)
+        }
+        Command::Plane { plane } => format!(in alloc; r#"{{"do":"plane","plane":{plane}}}"#),
+        Command::Side { side } => format!(in alloc; r#"{{"do":"side","side":{side}}}"#),
+        Command::Map { colours } => line(alloc, map_value(alloc, colours)),
+        Command::Colours { row } => format!(in alloc; r#"{{"do":"colours","row":{row}}}"#),
+        Command::Count { mask } => format!(in alloc; r#"{{"do":"count","mask":{mask}}}"#),
+        Command::Save => String::from_str(alloc, r#"{"do":"save"}"#),
+        Command::Load { machine } => line(alloc, load_value(alloc, machine)),
+    }
 }
 
-fn value_of(alloc: Global, command: &Command) -> Result<Value, AllocError> {
-    match command {
-        Command::Set { plane, row, bits } => {
-            let bits = hex::encode(alloc, bits.as_slice())?;
-            json!(in alloc; {"bits": bits, "do": "set", "plane": *plane, "row": *row})
-        }
-        Command::Clear { plane } => json!(in alloc; {"do": "clear", "plane": *plane}),
-        Command::Rule { name, wiring, text } => {
-            json!(in alloc; {
-                "do": "rule",
-                "half": wiring.half.text(),
-                "hood": wiring.hood.text(),
-                "minor": wiring.minor.text(),
-                "name": name.as_str(),
-                "text": text.as_str()
-            })
-        }
-        Command::Drop { name } => json!(in alloc; {"do": "drop", "name": name.as_str()}),
-        Command::Rules => json!(in alloc; {"do": "rules"}),
-        Command::Cycle { entries } => cycle_value(alloc, entries.as_slice()),
-        Command::Run { n } => json!(in alloc; {"do": "run", "n": *n}),
-        Command::Back { n } => json!(in alloc; {"do": "back", "n": *n}),
-        Command::Row { plane, row } => {
-            json!(in alloc; {"do": "row", "plane": *plane, "row": *row})
-        }
-        Command::Plane { plane } => json!(in alloc; {"do": "plane", "plane": *plane}),
-        Command::Side { side } => json!(in alloc; {"do": "side", "side": *side}),
-        Command::Map { colours } => map_value(alloc, colours),
-        Command::Colours { row } => json!(in alloc; {"do": "colours", "row": *row}),
-        Command::Count { mask } => json!(in alloc; {"do": "count", "mask": *mask}),
-        Command::Save => json!(in alloc; {"do": "save"}),
-        Command::Load { machine } => load_value(alloc, machine),
-    }
+/// A value as a line.
+fn line(alloc: Global, value: Result<Value, AllocError>) -> Result<String, AllocError> {
+    value?.to_string(alloc)
+}
+
+fn set_line(alloc: Global, plane: u64, row: u64, bits: &[u8]) -> Result<String, AllocError> {
+    let bits = hex::encode(alloc, bits)?;
+    format!(in alloc; r#"{{"bits":"{bits}","do":"set","plane":{plane},"row":{row}}}"#)
+}
+
+fn rule_value(
+    alloc: Global,
+    name: &Text,
+    wiring: Wiring,
+    text: &Text,
+) -> Result<Value, AllocError> {
+    json!(in alloc; {
+        "do": "rule",
+        "half": wiring.half.text(),
+        "hood": wiring.hood.text(),
+        "minor": wiring.minor.text(),
+        "name": name.as_str(),
+        "text": text.as_str()
+    })
+}
+
+fn drop_value(alloc: Global, name: &Text) -> Result<Value, AllocError> {
+    json!(in alloc; {"do": "drop", "name": name.as_str()})
 }
 
 /// A machine is told in the version that is written.

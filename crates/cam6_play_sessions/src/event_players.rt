@@ -63,18 +63,11 @@ impl Told {
         Ok(())
     }
 
-    /// What came back, and what comes back where another core is told the same lines all at once.
-    pub fn both_ways(self, other: Core) -> io::Result<Vec<Vec<u8>>> {
-        let at_once = told_at_once(
-            self.alloc,
-            other,
-            self.lines.as_slice(),
-            self.marks.as_slice(),
-        )?;
-        let mut all = Vec::new(self.alloc);
-        all.push(self.answers)?;
-        all.push(at_once)?;
-        Ok(all)
+    /// What came back, and what comes back if another core is told the same lines all at once.
+    pub fn both_ways(&self, other: Core) -> io::Result<Vec<Vec<u8>>> {
+        let told = told_at_once(self.alloc, other, self.lines.as_slice())?;
+        let at_once = marked(self.alloc, told.as_slice(), self.marks.as_slice())?;
+        Ok(vec![in self.alloc; self.answers.clone()?, at_once]?)
     }
 
     /// Tells a line, whose outcome comes back.
@@ -153,23 +146,27 @@ fn left_in(outcome: &str) -> Option<u64> {
     number_of(left).ok()
 }
 
-/// What comes back where a core is told lines all at once, by their marks.
-fn told_at_once(alloc: Global, core: Core, lines: &[u8], marks: &[Mark]) -> io::Result<Vec<u8>> {
-    let mut core = core;
+/// What a core tells of lines that it is told all at once.
+fn told_at_once(alloc: Global, mut core: Core, lines: &[u8]) -> io::Result<Vec<u8>> {
     let mut told = Vec::new(alloc);
     let mut reader = lines;
-    if replay(alloc, &mut reader, &mut told, &mut core, TURNS) != End::EndOfInput {
-        return Err(no_memory());
+    match replay(alloc, &mut reader, &mut told, &mut core, TURNS) {
+        End::EndOfInput => Ok(told),
+        _ => Err(no_memory()),
     }
-    let mut outcomes = str::from_utf8(told.as_slice()).unwrap_or("").split('\n');
+}
+
+/// What comes back of the outcomes that were told, by the marks of their lines.
+fn marked(alloc: Global, told: &[u8], marks: &[Mark]) -> io::Result<Vec<u8>> {
+    let mut outcomes = str::from_utf8(told).unwrap_or("").split('\n');
     let mut answers = Vec::new(alloc);
     for mark in marks {
-        match mark {
-            Mark::Unread => add_line(&mut answers, "unread")?,
-            Mark::Passed => {
-                outcomes.next();
-            }
-            Mark::Answer => add_line(&mut answers, outcomes.next().unwrap_or("nothing"))?,
+        let line = match mark {
+            Mark::Unread => Some("unread"),
+            _ => outcomes.next(),
+        };
+        if !matches!(mark, Mark::Passed) {
+            add_line(&mut answers, line.unwrap_or("nothing"))?;
         }
     }
     Ok(answers)

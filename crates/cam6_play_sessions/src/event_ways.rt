@@ -41,9 +41,8 @@ impl EventWay {
     /// What comes back of the lines, told one by one and all at once.
     pub fn played(&self, alloc: Global, sent: &[Sent]) -> io::Result<Vec<Vec<u8>>> {
         let core = self.core(alloc).map_err(|_| no_memory())?;
+        let told = told_one_by_one(alloc, core, sent)?;
         let other = self.core(alloc).map_err(|_| no_memory())?;
-        let mut told = Told::new(alloc, core);
-        told.answered(sent)?;
         told.both_ways(other)
     }
 
@@ -51,6 +50,15 @@ impl EventWay {
     fn core(&self, alloc: Global) -> Result<Core, NoMemory> {
         let limits = self.limits.as_slice();
         Core::new(alloc, limits.len(), self.boards, self.cache, limits)
+    }
+}
+
+/// A core that was told lines one by one.
+fn told_one_by_one(alloc: Global, core: Core, sent: &[Sent]) -> io::Result<Told> {
+    let mut told = Told::new(alloc, core);
+    match told.answered(sent) {
+        Ok(()) => Ok(told),
+        Err(fault) => Err(fault),
     }
 }
 

@@ -53,14 +53,18 @@ impl Sizes {
 pub fn do_all<R: Print + AllocGlobal>(rt: &R, sizes: &Sizes, lines: &str) -> io::Result<()> {
     let alloc = rt.alloc();
     let mut core = sizes.core(alloc).map_err(|_| no_memory())?;
+    do_at(rt, &mut core, lines)
+}
+
+/// The same, to a core that is there.
+fn do_at<R: Print + AllocGlobal>(rt: &R, core: &mut Core, lines: &str) -> io::Result<()> {
     for _ in 0..TIMES {
-        let Ok(events) = events_of(alloc, lines) else {
-            println!(rt; "unread")?;
-            continue;
-        };
-        match run(alloc, &mut core, events) {
-            Ok(outcomes) => return tell(rt, outcomes.as_slice()),
-            Err(NoMemory) => println!(rt; "refused")?,
+        match events_of(rt.alloc(), lines) {
+            Ok(events) => match run(rt.alloc(), core, events) {
+                Ok(outcomes) => return tell(rt, outcomes.as_slice()),
+                Err(NoMemory) => println!(rt; "refused")?,
+            },
+            Err(NoMemory) => println!(rt; "unread")?,
         }
     }
     Err(io::Error::from(ErrorKind::Other))
@@ -70,13 +74,18 @@ pub fn do_all<R: Print + AllocGlobal>(rt: &R, sizes: &Sizes, lines: &str) -> io:
 fn events_of(alloc: Global, lines: &str) -> Result<Vec<Event>, NoMemory> {
     let mut events = Vec::new(alloc);
     for line in lines.split('\n') {
-        match read_event(alloc, line.as_bytes()) {
-            Ok(event) => events.push(event)?,
-            Err(LineFault::NoMemory) => return Err(NoMemory),
-            Err(_) => {}
-        }
+        add_event(alloc, &mut events, line)?;
     }
     Ok(events)
+}
+
+/// Adds the event that a line says, if it says one.
+fn add_event(alloc: Global, events: &mut Vec<Event>, line: &str) -> Result<(), NoMemory> {
+    match read_event(alloc, line.as_bytes()) {
+        Ok(event) => events.push(event).map_err(|_| NoMemory),
+        Err(LineFault::NoMemory) => Err(NoMemory),
+        Err(_) => Ok(()),
+    }
 }
 
 fn tell<R: Print + AllocGlobal>(rt: &R, outcomes: &[Outcome]) -> io::Result<()> {

@@ -32,18 +32,37 @@ enum Loaded {
 /// What came of five loads from a cache of two: each rule twice, and the first one again.
 pub fn told(alloc: Global) -> Result<&'static str, NoMemory> {
     let mut cache = TableCache::new(alloc, 2)?;
+    told_by(alloc, &mut cache)
+}
+
+/// The same, of a cache that is there.
+fn told_by(alloc: Global, cache: &mut TableCache) -> Result<&'static str, NoMemory> {
     let mut key = Key::scratch(alloc)?;
     let mut table = Table::blank(alloc)?;
+    let loads = five_loads(alloc, cache, &mut key, &mut table)?;
+    Ok(name_of(loads))
+}
+
+fn five_loads(
+    alloc: Global,
+    cache: &mut TableCache,
+    key: &mut Key,
+    table: &mut Table,
+) -> Result<[Loaded; 5], NoMemory> {
     let keeps = code_for(alloc, WIRING, KEEPS).ok_or(NoMemory)?;
     let clears = code_for(alloc, WIRING, CLEARS).ok_or(NoMemory)?;
-    let loads = [
-        load(&mut cache, &mut key, KEEPS, &keeps, 1, &mut table),
-        load(&mut cache, &mut key, KEEPS, &keeps, 1, &mut table),
-        load(&mut cache, &mut key, CLEARS, &clears, 2, &mut table),
-        load(&mut cache, &mut key, CLEARS, &clears, 2, &mut table),
-        load(&mut cache, &mut key, KEEPS, &keeps, 1, &mut table),
-    ];
-    Ok(match loads {
+    Ok([
+        load(cache, key, KEEPS, &keeps, 1, table),
+        load(cache, key, KEEPS, &keeps, 1, table),
+        load(cache, key, CLEARS, &clears, 2, table),
+        load(cache, key, CLEARS, &clears, 2, table),
+        load(cache, key, KEEPS, &keeps, 1, table),
+    ])
+}
+
+/// Which loads were kept, in words.
+fn name_of(loads: [Loaded; 5]) -> &'static str {
+    match loads {
         [
             Loaded::Miss,
             Loaded::Hit,
@@ -57,16 +76,16 @@ pub fn told(alloc: Global) -> Result<&'static str, NoMemory> {
             Loaded::Miss,
             Loaded::Hit,
             Loaded::Hit,
-        ] => { "the first kept when it was asked for again" }
+        ] => "the first kept when it was asked for again",
         [
             Loaded::Miss,
             Loaded::Hit,
             Loaded::Miss,
             Loaded::Miss,
             Loaded::Hit,
-        ] => { "the second kept when it was asked for again" }
+        ] => "the second kept when it was asked for again",
         _ => "wrong",
-    })
+    }
 }
 
 /// Loads the table of a text, and compares it: at each address stands the multiple of `unit` below

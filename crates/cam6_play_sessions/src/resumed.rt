@@ -41,12 +41,22 @@ impl<W: Write> Write for Counting<'_, W> {
 /// is answered again.
 pub fn answer_all<W: Write>(alloc: Global, lines: &[u8], writer: &mut W) -> io::Result<()> {
     let mut machine = Machine::new(alloc, Side::S256).map_err(|_| no_memory())?;
+    answer_from(alloc, lines, writer, &mut machine)
+}
+
+/// The same, as a machine does from where it is.
+fn answer_from<W: Write>(
+    alloc: Global,
+    lines: &[u8],
+    writer: &mut W,
+    machine: &mut Machine,
+) -> io::Result<()> {
     let mut writer = Counting { writer, lines: 0 };
     let mut rest = lines;
     for _ in 0..TIMES {
         writer.lines = 0;
         let mut reader = rest;
-        match serve(alloc, &mut reader, &mut writer, &mut machine, TURNS) {
+        match serve(alloc, &mut reader, &mut writer, machine, TURNS) {
             End::EndOfInput => return Ok(()),
             End::NoMemory { done } => {
                 rest = behind(rest, writer.lines.saturating_add(usize::from(done)));

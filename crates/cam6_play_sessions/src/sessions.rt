@@ -77,15 +77,26 @@ fn add_end(mut answers: Vec<u8>, end: End) -> io::Result<Vec<u8>> {
 /// The replies of a blank machine to the commands among the lines, and the faults of the others.
 fn answered_one_by_one(alloc: Global, limit: Side, sent: &[Sent]) -> io::Result<Vec<u8>> {
     let bytes = bytes_of(alloc, sent)?;
-    let lines = bytes.strip_suffix(b"\n").unwrap_or(bytes.as_slice());
-    let mut machine = Machine::new(alloc, limit).map_err(|_| no_memory())?;
     let mut answers = Vec::new(alloc);
     if !bytes.is_empty() {
-        for line in lines.split(|byte| *byte == b'\n') {
-            add_answer(alloc, &mut answers, &mut machine, read_command(alloc, line))?;
-        }
+        let mut machine = Machine::new(alloc, limit).map_err(|_| no_memory())?;
+        add_answers(alloc, &mut answers, &mut machine, bytes.as_slice())?;
     }
     Ok(answers)
+}
+
+/// Adds the machine's replies to the commands among lines, and the faults of the others.
+fn add_answers(
+    alloc: Global,
+    answers: &mut Vec<u8>,
+    machine: &mut Machine,
+    bytes: &[u8],
+) -> io::Result<()> {
+    let lines = bytes.strip_suffix(b"\n").unwrap_or(bytes);
+    for line in lines.split(|byte| *byte == b'\n') {
+        add_answer(alloc, answers, machine, read_command(alloc, line))?;
+    }
+    Ok(())
 }
 
 /// What each line says.

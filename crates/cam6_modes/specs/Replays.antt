@@ -1,0 +1,38 @@
+-- What the program does with lines of events.
+use Rattle.std.specs.Prelude.{◌≡◌, ◌⊎◌, ℕ, List, Option, false, replicate}
+use Rattle.cam6_planes.specs.declared.sides.Side.{Side}
+use Rattle.cam6_core.specs.Fresh.{fresh}
+use Rattle.cam6_core.specs.Good.{Good}
+use Rattle.cam6_core.specs.State.{State}
+use Rattle.cam6_session.specs.Events.{by_core}
+use Rattle.cam6_session.specs.Replays.{WritesOutcomes}
+use Rattle.cam6_session.specs.Sessions.{AnswersReader}
+use Rattle.cam6_session.specs.declared.sessions.End.{End}
+use Rattle.cam6_session.specs.declared.sessions.End.TheVariants.{NoMemory}
+use Rattle.cam6_modes.specs.Sharing.{Shared}
+
+-- a new core: each user has this limit
+abbrev pub IsNew : Shared → Side → State → Type 0
+IsNew sharing limit s = Good s (fresh (replicate sharing.users limit) sharing.boards)
+
+-- no memory was found for one, and nothing was read or written
+abbrev pub BeginsNothing : End → Option (List ℕ) → Option (List ℕ) → Option (List ℕ)
+    → Option (List ℕ) → Type 0
+BeginsNothing end read remaining old new =
+    (end ≡ NoMemory false) × (remaining ≡ read) × (new ≡ old)
+
+-- a new core answers the reader's lines
+abbrev pub AnswersReaderShared : Shared → Side → End → Option (List ℕ) → Option (List ℕ)
+    → Option (List ℕ) → Option (List ℕ) → Type 0
+AnswersReaderShared sharing limit end read remaining old new =
+    ((s t : State) × IsNew sharing limit s ×
+    AnswersReader by_core end read remaining old new s t)
+    ⊎ BeginsNothing end read remaining old new
+
+-- what came of the lines' events on a new core was written, or a front of it, and gives each user
+-- the replies of his machine alone
+abbrev pub WritesOutcomesShared : Shared → Side → End → Option (List ℕ) → Option (List ℕ)
+    → Option (List ℕ) → Option (List ℕ) → Type 0
+WritesOutcomesShared sharing limit end read remaining old new =
+    ((s t : State) × IsNew sharing limit s × WritesOutcomes end read old new s t)
+    ⊎ BeginsNothing end read remaining old new

@@ -1,0 +1,29 @@
+-- The exit status of a session that failed, of a host that can't go on, and of words that ask for
+-- nothing, with what is told.
+use Rattle.std.specs.Prelude.{ℕ, List, Option, None, Some, codes, string_bytes}
+use Rattle.cam6_modes.specs.declared.modes.Refused.{Refused}
+use Rattle.cam6_modes.specs.declared.modes.Refused.TheVariants as refused
+use Rattle.cam6_server.specs.declared.serving.Fault.{Fault}
+use Rattle.cam6_server.specs.declared.serving.Fault.TheVariants as host
+use Rattle.cam6_session.specs.declared.sessions.End.{End}
+use Rattle.cam6_session.specs.declared.sessions.End.TheVariants.{EndOfInput, ReadFault, TurnBound}
+use Rattle.cam6_session.specs.declared.sessions.End.TheVariants.{WriteFault, NoMemory}
+
+-- none at the end of input, where the program succeeds
+abbrev pub failure : End → Option (ℕ × List ℕ)
+failure EndOfInput = None
+failure ReadFault = Some (3, codes "cam6: read failed\n")
+failure WriteFault = Some (4, codes "cam6: write failed\n")
+failure (NoMemory done) = Some (5, codes "cam6: no memory\n")
+failure TurnBound = Some (6, codes "cam6: turn bound reached\n")
+
+-- the network is a listener that can't be had, or a connection that can't be accepted
+abbrev pub fault : Fault → ℕ × List ℕ
+fault host.NoMemory = (5, codes "cam6: no memory\n")
+fault host.Network = (7, codes "cam6: network failed\n")
+
+-- help succeeds
+abbrev pub refusal : Refused → ℕ × List ℕ
+refusal (refused.Help text) = (0, string_bytes text)
+refusal (refused.Words text) = (2, string_bytes text)
+refusal refused.NoMemory = (5, codes "cam6: no memory\n")

@@ -1,0 +1,112 @@
+//! Words that are often meant otherwise, and what is told of them.
+ghost use Rattle.std.specs.Prelude.{◌≡◌, map, string_bytes};
+ghost use Rattle.cam6_modes.specs.Slips.{begins, is_of_sharing, is_of_serving, is_plain, reads_lines};
+ghost use Rattle.cam6_modes.specs.Slips.{is_mode, slip, slip_at, slip_at_two, told_of};
+
+/// What words that are refused were meant to say.
+#[derive(Clone, Copy, Debug, PartialEq, Eq)]
+pub enum Slip {
+    /// The side of a machine alone.
+    SideByItself,
+    /// Users, boards or tables.
+    SharingByItself,
+    /// A port or connections.
+    ServingByItself,
+    /// A file of lines.
+    FileAsWord,
+}
+
+/// What the words were meant to say, if it is one of these. The first is the program's name.
+pub fn slip_of(words: &[String]) -> Option<Slip>
+    ensures { result ≡ slip (map string_bytes words.now) }
+{
+    let word = words.get(1)?;
+    match words.get(2) {
+        None => slip_at(word.as_str()),
+        Some(next) => slip_at_two(word.as_str(), next.as_str()),
+    }
+}
+
+fn slip_at_two(word: &str, next: &str) -> Option<Slip>
+    ensures { result ≡ slip_at_two word.now next.now }
+{
+    if reads_lines(word) && is_plain(next) {
+        return Some(Slip::FileAsWord);
+    }
+    slip_at(word)
+}
+
+fn slip_at(word: &str) -> Option<Slip>
+    ensures { result ≡ slip_at word.now }
+{
+    if begins("--side", word) {
+        return Some(Slip::SideByItself);
+    }
+    if is_of_sharing(word) {
+        return Some(Slip::SharingByItself);
+    }
+    if is_of_serving(word) {
+        return Some(Slip::ServingByItself);
+    }
+    if is_plain(word) && !is_mode(word) {
+        return Some(Slip::FileAsWord);
+    }
+    None
+}
+
+fn begins(option: &str, word: &str) -> bool
+    ensures { result ≡ begins option.now word.now }
+{
+    word.as_bytes().starts_with(option.as_bytes())
+}
+
+fn is_of_sharing(word: &str) -> bool
+    ensures { result ≡ is_of_sharing word.now }
+{
+    begins("--users", word) || begins("--boards", word) || begins("--cache", word)
+}
+
+fn is_of_serving(word: &str) -> bool
+    ensures { result ≡ is_of_serving word.now }
+{
+    begins("--port", word) || begins("--connections", word)
+}
+
+fn is_plain(word: &str) -> bool
+    ensures { result ≡ is_plain word.now }
+{
+    !begins("-", word)
+}
+
+fn reads_lines(word: &str) -> bool
+    ensures { result ≡ reads_lines word.now }
+{
+    word == "alone" || word == "replay"
+}
+
+fn is_mode(word: &str) -> bool
+    ensures { result ≡ is_mode word.now }
+{
+    reads_lines(word) || word == "serve" || word == "help"
+}
+
+/// What is told of a slip, behind why the words are refused.
+pub fn told_of(slip: Option<Slip>) -> &'static str
+    ensures { result.now ≡ told_of slip }
+{
+    match slip {
+        None => "",
+        Some(Slip::SideByItself) => {
+            "\ncam6: --side stands behind a word: cam6 alone --side 128\n"
+        }
+        Some(Slip::SharingByItself) => {
+            "\ncam6: what users share stands behind a word: cam6 serve --users 4 --boards 2\n"
+        }
+        Some(Slip::ServingByItself) => {
+            "\ncam6: a port and connections stand behind a word: cam6 serve --port 6006\n"
+        }
+        Some(Slip::FileAsWord) => {
+            "\ncam6: lines are read from standard input: cam6 < FILE, or cam6 replay < FILE\n"
+        }
+    }
+}

@@ -1,0 +1,77 @@
+//! A session or a replay over any reader and writer, with as many turns as the program has.
+ghost use Rattle.std.specs.Prelude.{IfOk};
+ghost use Rattle.cam6_session.specs.Alone.{AnswersReaderAlone};
+ghost use Rattle.cam6_session.specs.Headline.{WritesRepliesAlone};
+ghost use Rattle.cam6_session.specs.Spending.{SpendsItsTurns};
+ghost use Rattle.cam6_modes.specs.Replays.{AnswersReaderShared, IsNew, WritesOutcomesShared};
+ghost use Rattle.cam6_modes.specs.Turns.{max_turns};
+
+use crate::modes::Sharing;
+use cam6_core::Core;
+use cam6_planes::{NoMemory, Side};
+use cam6_session::{End, replay, serve_alone};
+use std::alloc::Global;
+use std::io::{BufRead, Write};
+
+/// How often one session looks at its reader at most.
+const TURNS: u64 = 1_099_511_627_776;
+
+/// Answers each line of the reader by one line, as a blank machine of this limit does that gets all
+/// commands among them.
+pub fn serve_streams<R: BufRead, W: Write>(
+    alloc: Global,
+    limit: Side,
+    reader: &mut R,
+    writer: &mut W,
+) -> End
+    ensures served { AnswersReaderAlone limit result (R.remaining reader.old)
+        (R.remaining reader.new) (W.contents writer.old) (W.contents writer.new) }
+    // The texts of the machine's replies to all commands among the input's lines, and of the faults
+    // of the other lines, in the order of the lines, were written, or a front of them; all of them
+    // where the input's end was met.
+    ensures headline { WritesRepliesAlone limit result (R.remaining reader.old)
+        (W.contents writer.old) (W.contents writer.new) }
+    ensures turns { SpendsItsTurns result max_turns
+        (R.remaining reader.old) (R.remaining reader.new) }
+{
+    serve_alone(alloc, limit, reader, writer, TURNS)
+}
+
+/// Does the event of each line of the reader, and tells what comes of it by one line, where so many
+/// users share so many boards and tables, each with a blank machine of this limit at the beginning.
+pub fn replay_streams<R: BufRead, W: Write>(
+    alloc: Global,
+    sharing: Sharing,
+    limit: Side,
+    reader: &mut R,
+    writer: &mut W,
+) -> End
+    ensures served { AnswersReaderShared sharing limit result (R.remaining reader.old)
+        (R.remaining reader.new) (W.contents writer.old) (W.contents writer.new) }
+    // What came of the events of the input's lines, and the faults of the other lines, in the order
+    // of the lines, were written, or a front of them; and each user was given the replies that his
+    // machine alone gives to his accepted commands.
+    ensures headline { WritesOutcomesShared sharing limit result (R.remaining reader.old)
+        (R.remaining reader.new) (W.contents writer.old) (W.contents writer.new) }
+    ensures turns { SpendsItsTurns result max_turns
+        (R.remaining reader.old) (R.remaining reader.new) }
+{
+    let Ok(mut core) = new_core(alloc, sharing, limit) else {
+        return End::NoMemory { done: false };
+    };
+    replay(alloc, reader, writer, &mut core, TURNS)
+}
+
+/// A core of users who all have this limit.
+fn new_core(alloc: Global, sharing: Sharing, limit: Side) -> Result<Core, NoMemory>
+    ensures { IfOk result (λ core. IsNew sharing limit core) }
+{
+    let limits = vec![in alloc; limit; sharing.users]?;
+    Core::new(
+        alloc,
+        sharing.users,
+        sharing.boards,
+        sharing.cache,
+        limits.as_slice(),
+    )
+}

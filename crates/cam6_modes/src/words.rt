@@ -1,0 +1,355 @@
+//! The words of the command line.
+ghost use Rattle.std.specs.Prelude.{◌≡◌, ◌<◌, ◌≤◌, [], IfOk, IsSome, MatchResult, Some, false};
+ghost use Rattle.std.specs.Prelude.{◌⊎◌, IsErr, IfErr, length, map, string_bytes};
+ghost use Rattle.clap.specs.Words.{App, app_of, fault_of, found_of, kind_of, rows_of, rule_of};
+ghost use Rattle.clap.specs.Words.{subcommand_of, subcommand_rows_of};
+ghost use Rattle.cam6_modes.specs.CommandLine.{AreSides, HasMode, IsOfKind, IsProgram, Refuses};
+ghost use Rattle.cam6_modes.specs.CommandLine.{TextsAt, mode_of, number_at as number_told};
+ghost use Rattle.cam6_modes.specs.CommandLine.{number_option as option_of_numbers};
+ghost use Rattle.cam6_modes.specs.CommandLine.{replay as replay_of, serve as serve_of, served_at};
+ghost use Rattle.cam6_modes.specs.CommandLine.{shared_at, side_at};
+ghost use Rattle.cam6_modes.specs.CommandLine.{side_option as option_of_sides, side_said};
+ghost use Rattle.cam6_modes.specs.CommandLine.{users_option as option_of_users};
+ghost use Rattle.cam6_modes.specs.CommandLine.{boards_option as option_of_boards};
+ghost use Rattle.cam6_modes.specs.CommandLine.{cache_option as option_of_tables};
+ghost use Rattle.cam6_modes.specs.CommandLine.{port_option as option_of_ports};
+ghost use Rattle.cam6_modes.specs.CommandLine.{connections_option as option_of_connections};
+ghost use Rattle.cam6_modes.specs.Slips.{EndsWith, IsTold, slip, told_of as what_is_told};
+
+use crate::modes::{Options, Refused, Sharing};
+use crate::slips::{slip_of, told_of};
+use cam6_cache::MAX_CAPACITY;
+use cam6_core::{MAX_BOARDS, MAX_USERS};
+use cam6_planes::Side;
+use cam6_server::Serving;
+use clap::builder::ValueParser;
+use clap::error::ErrorKind;
+use clap::{Arg, ArgMatches, Command};
+use std::alloc::{AllocError, Global};
+
+/// The sides as words.
+static SIDES: [&str; 3] = ["128", "256", "512"];
+
+/// The last port.
+const MAX_PORT: u64 = 65_535;
+
+/// The program's version, and the toolchain that proves it.
+const VERSION: &str = "1 (Rattle logic dac8208d650f15bf)";
+
+/// What the statuses mean, and where more is said.
+const PROGRAM_TEXT: &str = "\
+Exit statuses: 0 end of input, help or version; 2 refused words; 3 read failed; 4 write failed;
+5 no memory; 6 turn bound reached; 7 network failed. Each but 0 is told on standard error.
+
+A line to try: a blank machine has no rules.
+  echo '{\"do\":\"rules\"}' | cam6
+Commands, rules, events and faults are in docs/MANUAL.md, rules to look at in docs/GALLERY.md.";
+
+/// What `alone` answers.
+const ALONE_TEXT: &str = "\
+Each line is a command as JSON, and is answered by a line. The machine is blank at first. It ends with
+the input; typed at a terminal, by Ctrl-D.
+
+Exit statuses: 0 end of input; 2 refused words; 3 read failed; 4 write failed; 5 no memory; 6 turn
+bound reached.
+
+A line to try: at side 128, what plane 0 has in row 0.
+  echo '{\"do\":\"row\",\"plane\":0,\"row\":0}' | cam6 alone --side 128";
+
+/// What `replay` answers.
+const REPLAY_TEXT: &str = "\
+Each line is an event as JSON: a user asks, a board leases his command, does a band of rows, fails.
+What comes of it is answered by a line. Users are numbered from 1, boards from 0.
+
+Exit statuses: 0 end of input; 2 refused words; 3 read failed; 4 write failed; 5 no memory; 6 turn
+bound reached.
+
+A line to try: user 1 asks which rules he has, and is answered at once.
+  echo '{\"event\":\"ask\",\"user\":1,\"command\":{\"do\":\"rules\"}}' | cam6 replay";
+
+/// What is said on a connection, with a session to try.
+const SEATS_TEXT: &str = "\
+The first line of a connection asks for the machine of a user, who are numbered from 1:
+  {\"seat\":1}
+It is answered by {\"ok\":\"seat\"}, or by {\"fault\":80} where the user has a connection, and by
+{\"fault\":81} where there is no such user. Each line behind it is a command, as of `alone`, and is
+answered by a line.
+
+Exit statuses: 0 as many connections as were to be served; 2 refused words; 5 no memory; 7 network
+failed.
+
+A session to try, with one command, which lists the rules that there are:
+  cam6 serve &
+  printf '{\"seat\":1}\\n{\"do\":\"rules\"}\\n' | nc -N 127.0.0.1 6006";
+
+/// Reads the words, of which the first is the program's name.
+pub fn options(alloc: Global, words: &[String]) -> Result<Options, Refused>
+    // Of a simple command, clap's matches and the kinds of its errors are functions of the words.
+    ensures mode { IfOk result (λ options. (app : App) × IsProgram app
+        × HasMode options (mode_of (subcommand_of app (map string_bytes words.now)))) }
+    ensures refused { (app : App) × IsProgram app × MatchResult result
+        (λ _. fault_of app (map string_bytes words.now) ≡ [])
+        (Refuses (fault_of app (map string_bytes words.now))) }
+    // What is told of words that are often meant otherwise stands at the end.
+    ensures slip { IfErr result
+        (λ refused. EndsWith refused (what_is_told (slip (map string_bytes words.now)))) }
+{
+    let Ok(command) = program(alloc) else {
+        return Err(Refused::NoMemory);
+    };
+    match command.try_get_matches_from(words) {
+        Ok(matches) => Ok(mode_given(&matches)),
+        Err(error) => Err(refusal(alloc, error, told_of(slip_of(words)))),
+    }
+}
+
+/// What clap's matches ask for.
+fn mode_given(matches: &ArgMatches<'_>) -> Options
+    requires { IsSome (mode_of (subcommand_rows_of matches.now)) }
+    ensures { HasMode result (mode_of (subcommand_rows_of matches.now)) }
+{
+    if let Some(alone) = matches.subcommand_matches("alone") {
+        return Options::Alone {
+            limit: side_given(alone),
+        };
+    }
+    if let Some(replay) = matches.subcommand_matches("replay") {
+        return replay_given(replay);
+    }
+    if let Some(serve) = matches.subcommand_matches("serve") {
+        return serve_given(serve);
+    }
+    Options::Alone { limit: Side::S256 }
+}
+
+/// What the options of `replay` ask for.
+fn replay_given(matches: &ArgMatches<'_>) -> Options
+    requires { IsSome (shared_at (rows_of (found_of matches.now))) }
+    ensures { HasMode result (shared_at (rows_of (found_of matches.now))) }
+{
+    Options::Replay {
+        sharing: Sharing {
+            users: number_given(matches, "users", 1, MAX_USERS as u64) as usize,
+            boards: number_given(matches, "boards", 1, MAX_BOARDS as u64) as usize,
+            cache: number_given(matches, "cache", 1, MAX_CAPACITY as u64) as usize,
+        },
+        limit: side_given(matches),
+    }
+}
+
+/// What the options of `serve` ask for.
+fn serve_given(matches: &ArgMatches<'_>) -> Options
+    requires { IsSome (served_at (rows_of (found_of matches.now))) }
+    ensures { HasMode result (served_at (rows_of (found_of matches.now))) }
+{
+    Options::Serve {
+        serving: Serving::new(
+            number_given(matches, "users", 1, MAX_USERS as u64) as usize,
+            number_given(matches, "boards", 1, MAX_BOARDS as u64) as u8,
+            number_given(matches, "cache", 1, MAX_CAPACITY as u64) as usize,
+            side_given(matches),
+            number_given(matches, "connections", 0, u64::MAX),
+        ),
+        port: number_given(matches, "port", 1, MAX_PORT) as u16,
+    }
+}
+
+/// The largest side that a machine may have.
+fn side_given(matches: &ArgMatches<'_>) -> Side
+    requires { IsSome (side_at (rows_of (found_of matches.now))) }
+    ensures { side_at (rows_of (found_of matches.now)) ≡ Some result }
+{
+    let Some(word) = matches.get_str("side") else {
+        unreachable!()
+    };
+    let Some(side) = side_of_word(word) else {
+        unreachable!()
+    };
+    side
+}
+
+/// The number at an option, a least to a most one.
+fn number_given(matches: &ArgMatches<'_>, name: &str, least: u64, most: u64) -> u64
+    requires { IsSome (number_told name.now least most (rows_of (found_of matches.now))) }
+    ensures number { number_told name.now least most (rows_of (found_of matches.now))
+        ≡ Some result }
+    ensures within { (least ≤ result) × (result ≤ most) }
+{
+    let Some(word) = matches.get_str(name) else {
+        unreachable!()
+    };
+    let Ok(number) = word.parse::<u64>() else {
+        unreachable!()
+    };
+    number
+}
+
+/// The side that a word is.
+fn side_of_word(word: &str) -> Option<Side>
+    ensures { result ≡ side_said word.now }
+{
+    match word {
+        "128" => Some(Side::S128),
+        "256" => Some(Side::S256),
+        "512" => Some(Side::S512),
+        _ => None,
+    }
+}
+
+/// The program's command line.
+pub fn program<'a>(alloc: Global) -> Result<Command<'a>, AllocError>
+    ensures { IfOk result (λ command. IsProgram (app_of command)) }
+{
+    let alone = Command::new(alloc, "alone")
+        .about("Answers command lines on standard input")
+        .after_help(ALONE_TEXT)
+        .arg(side_option(alloc))?;
+    Command::new(alloc, "cam6")
+        .about("A CAM-6 cellular automata machine; without words, as `alone`")
+        .after_help(PROGRAM_TEXT)
+        .version(VERSION)
+        .subcommand(alone)?
+        .subcommand(replay(alloc)?)?
+        .subcommand(serve(alloc)?)
+}
+
+/// `replay`.
+fn replay<'a>(alloc: Global) -> Result<Command<'a>, AllocError>
+    ensures { IfOk result (λ command. (sides : TextsAt) × AreSides sides
+        × (app_of command ≡ replay_of sides)) }
+{
+    Command::new(alloc, "replay")
+        .about("Does the events of lines on standard input: users who share boards and tables")
+        .after_help(REPLAY_TEXT)
+        .arg(users_option(alloc))?
+        .arg(boards_option(alloc))?
+        .arg(cache_option(alloc))?
+        .arg(side_option(alloc))
+}
+
+/// `serve`.
+fn serve<'a>(alloc: Global) -> Result<Command<'a>, AllocError>
+    ensures { IfOk result (λ command. (sides : TextsAt) × AreSides sides
+        × (app_of command ≡ serve_of sides)) }
+{
+    Command::new(alloc, "serve")
+        .about(
+            "Answers command lines over connections to 127.0.0.1: users who share boards and tables",
+        )
+        .after_help(SEATS_TEXT)
+        .arg(port_option(alloc))?
+        .arg(users_option(alloc))?
+        .arg(boards_option(alloc))?
+        .arg(cache_option(alloc))?
+        .arg(connections_option(alloc))?
+        .arg(side_option(alloc))
+}
+
+/// `--users`.
+fn users_option<'a>(alloc: Global) -> Arg<'a>
+    ensures rule { rule_of result ≡ option_of_users }
+    ensures global { result.global ≡ false }
+{
+    number_option(alloc, "users", 1, MAX_USERS as u64, "4").help("Users, each with a machine")
+}
+
+/// `--boards`.
+fn boards_option<'a>(alloc: Global) -> Arg<'a>
+    ensures rule { rule_of result ≡ option_of_boards }
+    ensures global { result.global ≡ false }
+{
+    number_option(alloc, "boards", 1, MAX_BOARDS as u64, "2").help("Boards")
+}
+
+/// `--cache`.
+fn cache_option<'a>(alloc: Global) -> Arg<'a>
+    ensures rule { rule_of result ≡ option_of_tables }
+    ensures global { result.global ≡ false }
+{
+    number_option(alloc, "cache", 1, MAX_CAPACITY as u64, "16").help("Tables that are kept")
+}
+
+/// `--port`.
+fn port_option<'a>(alloc: Global) -> Arg<'a>
+    ensures rule { rule_of result ≡ option_of_ports }
+    ensures global { result.global ≡ false }
+{
+    number_option(alloc, "port", 1, MAX_PORT, "6006").help("The port, of 127.0.0.1")
+}
+
+/// `--connections`.
+fn connections_option<'a>(alloc: Global) -> Arg<'a>
+    ensures rule { rule_of result ≡ option_of_connections }
+    ensures global { result.global ≡ false }
+{
+    number_option(alloc, "connections", 0, u64::MAX, "0").help(
+        "Connections that are served before the program ends; 0 for no end",
+    )
+}
+
+/// An option that is a number, a least to a most one.
+fn number_option<'a>(
+    alloc: Global,
+    name: &'a str,
+    least: u64,
+    most: u64,
+    default: &'a str,
+) -> Arg<'a>
+    ensures rule { rule_of result ≡ option_of_numbers name.now least most default.now }
+    ensures global { result.global ≡ false }
+{
+    Arg::new(alloc, name)
+        .long(name)
+        .value_parser(ValueParser::Unsigned(least, most))
+        .default_value(default)
+}
+
+/// `--side`.
+fn side_option<'a>(alloc: Global) -> Arg<'a>
+    ensures rule { (sides : TextsAt) × AreSides sides × (rule_of result ≡ option_of_sides sides) }
+    ensures global { result.global ≡ false }
+{
+    Arg::new(alloc, "side")
+        .long("side")
+        .value_parser(ValueParser::Names(SIDES.as_slice()))
+        .default_value("256")
+        .help("The largest side that a machine may have")
+}
+
+/// What clap's error means for the program; what is told of a slip stands behind its text.
+fn refusal(alloc: Global, error: clap::Error, slip: &str) -> Refused
+    ensures kind { IsOfKind result (kind_of error) }
+    ensures slip { EndsWith result slip.now }
+{
+    let kind = error.kind();
+    refused(kind, error.to_string(alloc), slip)
+}
+
+/// What an error of this kind means for the program, with its text, or none for want of memory.
+fn refused(kind: ErrorKind, text: Result<String, AllocError>, slip: &str) -> Refused
+    ensures kind { IsOfKind result kind }
+    ensures slip { EndsWith result slip.now }
+    // Memory is told to be wanted only where it is.
+    ensures memory { result ≡ Refused.NoMemory →
+        (kind ≡ ErrorKind.OutOfMemory) ⊎ (IsErr text ⊎ (0 < length slip.now)) }
+{
+    let Ok(text) = text else {
+        return Refused::NoMemory;
+    };
+    match kind {
+        ErrorKind::OutOfMemory => Refused::NoMemory,
+        ErrorKind::DisplayHelp | ErrorKind::DisplayVersion => Refused::Help(text),
+        _ => with_slip(text, slip),
+    }
+}
+
+/// Refused words, with what is told of a slip.
+fn with_slip(text: String, slip: &str) -> Refused
+    ensures words { IsTold result (string_bytes text) slip.now }
+{
+    let mut text = text;
+    match text.push_str(slip) {
+        Ok(()) => Refused::Words(text),
+        Err(_) => Refused::NoMemory,
+    }
+}
