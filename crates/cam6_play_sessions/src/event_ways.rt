@@ -43,7 +43,9 @@ impl EventWay {
         let core = self.core(alloc).map_err(|_| no_memory())?;
         let told = told_one_by_one(alloc, core, sent)?;
         let other = self.core(alloc).map_err(|_| no_memory())?;
-        told.both_ways(other)
+        let answers = told.both_ways(other);
+        drop(told);
+        answers
     }
 
     /// The core with which it begins.

@@ -77,26 +77,23 @@ fn add_end(mut answers: Vec<u8>, end: End) -> io::Result<Vec<u8>> {
 /// The replies of a blank machine to the commands among the lines, and the faults of the others.
 fn answered_one_by_one(alloc: Global, limit: Side, sent: &[Sent]) -> io::Result<Vec<u8>> {
     let bytes = bytes_of(alloc, sent)?;
-    let mut answers = Vec::new(alloc);
-    if !bytes.is_empty() {
-        let mut machine = Machine::new(alloc, limit).map_err(|_| no_memory())?;
-        add_answers(alloc, &mut answers, &mut machine, bytes.as_slice())?;
+    if bytes.is_empty() {
+        return Ok(Vec::new(alloc));
     }
-    Ok(answers)
+    let mut machine = Machine::new(alloc, limit).map_err(|_| no_memory())?;
+    let answers = answers_of(alloc, &mut machine, bytes.as_slice());
+    drop(machine);
+    answers
 }
 
-/// Adds the machine's replies to the commands among lines, and the faults of the others.
-fn add_answers(
-    alloc: Global,
-    answers: &mut Vec<u8>,
-    machine: &mut Machine,
-    bytes: &[u8],
-) -> io::Result<()> {
+/// A machine's replies to the commands among lines, and the faults of the others.
+fn answers_of(alloc: Global, machine: &mut Machine, bytes: &[u8]) -> io::Result<Vec<u8>> {
+    let mut answers = Vec::new(alloc);
     let lines = bytes.strip_suffix(b"\n").unwrap_or(bytes);
     for line in lines.split(|byte| *byte == b'\n') {
-        add_answer(alloc, answers, machine, read_command(alloc, line))?;
+        add_answer(alloc, &mut answers, machine, read_command(alloc, line))?;
     }
-    Ok(())
+    Ok(answers)
 }
 
 /// What each line says.
