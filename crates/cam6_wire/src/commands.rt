@@ -1,9 +1,9 @@
 //! A line as a command.
 ghost use Rattle.std.specs.Prelude.{◌≡◌, ◌<◌, ◌≤◌, length, Err, IfErr, IfOk, IfSome, IsOk, Some};
-ghost use Rattle.std.specs.Prelude.{false};
+ghost use Rattle.std.specs.Prelude.{codes, false};
 ghost use Rattle.std.specs.List.{AllByRecursion};
 ghost use Rattle.std.specs.Option.{option_map_or};
-ghost use Rattle.std.specs.Str.{IsUtf8};
+ghost use Rattle.std.specs.Str.{IsUtf8, bytes_eq};
 ghost use Rattle.cam6_wire.specs.declared.faults.LineFault.TheVariants.{NoMemory};
 ghost use Rattle.serde_json.specs.View.{view};
 ghost use Rattle.cam6_commands.specs.RuleTexts.{HasText};
@@ -174,29 +174,42 @@ fn have_texts(rules: &[NamedRule])
     }
 }
 
-#[tactic(auto, unfolding(crate::specs::Commands::clear_of, crate::specs::Commands::run_of, crate::specs::Commands::back_of, crate::specs::Commands::plane_of, crate::specs::Commands::side_of, crate::specs::Commands::colours_of, crate::specs::Commands::count_of))]
+/// The command of this word.
 fn by_word(alloc: Global, word: &str, value: &Value) -> Result<Option<Command>, AllocError>
     ensures command { IfOk result (λ command. command ≡ by_word word.now (view value.now)) }
     ensures memory { option_map_or keeps_text (by_word word.now (view value.now)) false ≡ false
         → IsOk result }
 {
     match word {
-        "set" => Ok(set_of(value)),
-        "clear" => Ok(sole_number(value, "plane").map(|plane| Command::Clear { plane })),
         "rule" => rule_of(alloc, value),
         "drop" => drop_of(alloc, value),
-        "rules" => Ok(listing_of(value)),
         "cycle" => cycle_of(alloc, value),
-        "run" => Ok(sole_number(value, "n").map(|n| Command::Run { n })),
-        "back" => Ok(sole_number(value, "n").map(|n| Command::Back { n })),
-        "row" => Ok(row_of(value)),
-        "plane" => Ok(sole_number(value, "plane").map(|plane| Command::Plane { plane })),
-        "side" => Ok(sole_number(value, "side").map(|side| Command::Side { side })),
-        "map" => Ok(map_of(value)),
-        "colours" => Ok(sole_number(value, "row").map(|row| Command::Colours { row })),
-        "count" => Ok(sole_number(value, "mask").map(|mask| Command::Count { mask })),
-        "save" => Ok(save_of(value)),
-        _ => Ok(None),
+        _ => Ok(textless_by_word(word, value)),
+    }
+}
+
+/// The command of a word other than those of the commands that keep texts.
+#[tactic(auto, unfolding(crate::specs::Commands::clear_of, crate::specs::Commands::run_of, crate::specs::Commands::back_of, crate::specs::Commands::plane_of, crate::specs::Commands::side_of, crate::specs::Commands::colours_of, crate::specs::Commands::count_of))]
+fn textless_by_word(word: &str, value: &Value) -> Option<Command>
+    requires no_rule { bytes_eq word.now (codes "rule") ≡ false }
+    requires no_drop { bytes_eq word.now (codes "drop") ≡ false }
+    requires no_cycle { bytes_eq word.now (codes "cycle") ≡ false }
+    ensures { result ≡ by_word word.now (view value.now) }
+{
+    match word {
+        "set" => set_of(value),
+        "clear" => sole_number(value, "plane").map(|plane| Command::Clear { plane }),
+        "rules" => listing_of(value),
+        "run" => sole_number(value, "n").map(|n| Command::Run { n }),
+        "back" => sole_number(value, "n").map(|n| Command::Back { n }),
+        "row" => row_of(value),
+        "plane" => sole_number(value, "plane").map(|plane| Command::Plane { plane }),
+        "side" => sole_number(value, "side").map(|side| Command::Side { side }),
+        "map" => map_of(value),
+        "colours" => sole_number(value, "row").map(|row| Command::Colours { row }),
+        "count" => sole_number(value, "mask").map(|mask| Command::Count { mask }),
+        "save" => save_of(value),
+        _ => None,
     }
 }
 

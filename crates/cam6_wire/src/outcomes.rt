@@ -2,10 +2,10 @@
 ghost use Rattle.std.specs.Prelude.{◌≡◌, ◌<◌, ◌^◌, ◌++◌, Some, IfOk, codes, decimal, string_bytes};
 ghost use Rattle.serde_json.specs.Read.{read};
 ghost use Rattle.serde_json.specs.View.{view};
-ghost use Rattle.cam6_wire.specs.Outcomes.{left_behind, outcome_bytes, outcome_data};
+ghost use Rattle.cam6_wire.specs.Outcomes.{left_behind, outcome_bytes, outcome_data, refused};
 
-use crate::replies::{ok_value, reply_value};
-use cam6_commands::Outcome;
+use crate::replies::{ok_value, reply_value, told_value};
+use cam6_commands::{Outcome, Reply};
 use cam6_planes::NoMemory;
 use serde_json::{Value, json};
 use std::alloc::{AllocError, Global};
@@ -37,8 +37,8 @@ fn outcome_value(alloc: Global, outcome: &Outcome) -> Result<Value, AllocError>
     ensures { IfOk result (λ value. view value ≡ outcome_data outcome.now) }
 {
     match outcome {
-        Outcome::NoMemory => json!(in alloc; {"refused": 0}),
-        Outcome::Refused(reason) => json!(in alloc; {"refused": reason.number()}),
+        Outcome::NoMemory => refused_value(alloc, 0),
+        Outcome::Refused(reason) => refused_value(alloc, reason.number()),
         Outcome::Asked(left) => left_value(alloc, "ask", *left),
         Outcome::Leased(left) => left_value(alloc, "lease", *left),
         Outcome::Banded(left) => left_value(alloc, "band", *left),
@@ -47,16 +47,28 @@ fn outcome_value(alloc: Global, outcome: &Outcome) -> Result<Value, AllocError>
         Outcome::Failed(None) => ok_value(alloc, "fail"),
         Outcome::Repaired => ok_value(alloc, "repair"),
         Outcome::Evicted => ok_value(alloc, "evict"),
-        Outcome::Collected(reply) => {
-            let reply = reply_value(alloc, reply)?;
-            json!(in alloc; {"ok": "collect", "reply": reply})
-        }
+        Outcome::Collected(reply) => collected_value(alloc, reply),
     }
+}
+
+/// An event that is refused, by the number of the reason.
+fn refused_value(alloc: Global, number: u8) -> Result<Value, AllocError>
+    ensures { IfOk result (λ value. view value ≡ refused number) }
+{
+    json!(in alloc; {"refused": number})
+}
+
+/// An event that collects this reply.
+fn collected_value(alloc: Global, reply: &Reply) -> Result<Value, AllocError>
+    ensures { IfOk result (λ value. view value ≡ outcome_data (Outcome.Collected reply.now)) }
+{
+    let reply = reply_value(alloc, reply)?;
+    told_value(alloc, "collect", "reply", reply)
 }
 
 /// An event that leaves so many bands.
 fn left_value(alloc: Global, word: &str, left: u64) -> Result<Value, AllocError>
     ensures { IfOk result (λ value. view value ≡ left_behind left word.now) }
 {
-    json!(in alloc; {"left": left, "ok": word})
+    told_value(alloc, word, "left", Value::from(left))
 }

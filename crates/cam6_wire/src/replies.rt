@@ -5,6 +5,7 @@ ghost use Rattle.std.specs.Prelude.{codes};
 ghost use Rattle.std.specs.List.{AllByRecursion};
 ghost use Rattle.std.specs.Str.{IsAscii};
 ghost use Rattle.serde_json.specs.Data.{array, object, string, no_members, member};
+ghost use Rattle.serde_json.specs.Data.{put as with_member};
 ghost use Rattle.serde_json.specs.Read.{read};
 ghost use Rattle.serde_json.specs.View.{view};
 ghost use Rattle.cam6_wire.specs.Replies.{colour_digit, done, reply_data, reply_bytes};
@@ -18,7 +19,7 @@ ghost use Rattle.cam6_planes.specs.declared.row.TheConstants.{COLUMNS};
 use crate::faults::LineFault;
 use crate::saved::{Version, machine_value};
 use cam6_block::NotReversible;
-use cam6_commands::{Done, Names, PlaneRows, Refusal, Reply, RowColours, SavedMachine};
+use cam6_commands::{Done, Names, PlaneRows, Refusal, Reply, RowColours, RowText, SavedMachine};
 use cam6_planes::{COLUMNS, NoMemory};
 use cam6_wiring::Half;
 use serde_json::{Value, json};
@@ -85,16 +86,21 @@ fn done_value(alloc: Global, done: &Done) -> Result<Value, AllocError>
         Done::Map => ok_value(alloc, "map"),
         Done::Run { position } => moved(alloc, "run", *position),
         Done::Back { position } => moved(alloc, "back", *position),
-        Done::Row { bits } => {
-            let bits = Value::try_from_str(alloc, digits(bits.as_slice()))?;
-            json!(in alloc; {"bits": bits, "ok": "row"})
-        }
+        Done::Row { bits } => row_value(alloc, bits),
         Done::Plane { rows } => plane_value(alloc, rows),
         Done::Colours { colours } => coloured_value(alloc, colours),
-        Done::Count { count } => json!(in alloc; {"count": *count, "ok": "count"}),
+        Done::Count { count } => told_value(alloc, "count", "count", Value::from(*count)),
         Done::Save { machine } => save_value(alloc, machine),
         Done::Load => ok_value(alloc, "load"),
     }
+}
+
+/// The reply to a command that shows a row.
+fn row_value(alloc: Global, bits: &RowText) -> Result<Value, AllocError>
+    ensures { IfOk result (λ value. view value ≡ done_data (Done.Row bits.now)) }
+{
+    let bits = Value::try_from_str(alloc, digits(bits.as_slice()))?;
+    told_value(alloc, "row", "bits", bits)
 }
 
 /// The reply to a command that lists the rules.
@@ -102,7 +108,7 @@ fn rules_value(alloc: Global, names: &Names) -> Result<Value, AllocError>
     ensures { IfOk result (λ value. view value ≡ done_data (Done.Rules names.now)) }
 {
     let names = names_value(alloc, names)?;
-    json!(in alloc; {"names": names, "ok": "rules"})
+    told_value(alloc, "rules", "names", names)
 }
 
 /// The reply to a command that shows all rows of a plane.
@@ -110,7 +116,7 @@ fn plane_value(alloc: Global, rows: &PlaneRows) -> Result<Value, AllocError>
     ensures { IfOk result (λ value. view value ≡ done_data (Done.Plane rows.now)) }
 {
     let rows = rows_value(alloc, rows)?;
-    json!(in alloc; {"ok": "plane", "rows": rows})
+    told_value(alloc, "plane", "rows", rows)
 }
 
 /// The reply to a command that shows a row in colours.
@@ -118,7 +124,7 @@ fn coloured_value(alloc: Global, colours: &RowColours) -> Result<Value, AllocErr
     ensures { IfOk result (λ value. view value ≡ done_data (Done.Colours colours.now)) }
 {
     let colours = colours_value(alloc, colours)?;
-    json!(in alloc; {"colours": colours, "ok": "colours"})
+    told_value(alloc, "colours", "colours", colours)
 }
 
 /// The reply to a command that saves the machine.
@@ -126,7 +132,7 @@ fn save_value(alloc: Global, machine: &SavedMachine) -> Result<Value, AllocError
     ensures { IfOk result (λ value. view value ≡ done_data (Done.Save machine.now)) }
 {
     let machine = machine_value(alloc, Version::Second, machine)?;
-    json!(in alloc; {"machine": machine, "ok": "save"})
+    told_value(alloc, "save", "machine", machine)
 }
 
 fn refusal_value(alloc: Global, refusal: Refusal) -> Result<Value, AllocError>
@@ -147,7 +153,7 @@ fn moved(alloc: Global, word: &str, position: usize) -> Result<Value, AllocError
     ensures { IfOk result (λ value.
         view value ≡ done word.now (member (codes "position") (natural position) no_members)) }
 {
-    json!(in alloc; {"ok": word, "position": position})
+    told_value(alloc, word, "position", Value::from(position))
 }
 
 /// Why the blocks of a half's rule can't be undone.
@@ -199,6 +205,20 @@ pub(crate) fn ok_value(alloc: Global, word: &str) -> Result<Value, AllocError>
     ensures { IfOk result (λ value. view value ≡ done word.now no_members) }
 {
     json!(in alloc; {"ok": word})
+}
+
+/// The reply to a command of which one thing is told, at this key.
+pub(crate) fn told_value(
+    alloc: Global,
+    word: &str,
+    key: &str,
+    told: Value,
+) -> Result<Value, AllocError>
+    ensures { IfOk result (λ value. view value ≡ object
+        (with_member (codes "ok") (string word.now)
+        (with_member key.now (view told) no_members))) }
+{
+    json!(in alloc; {key: told, "ok": word})
 }
 
 fn rows_value(alloc: Global, rows: &PlaneRows) -> Result<Value, AllocError>

@@ -59,8 +59,7 @@ fn load_text(alloc: Global, version: Version, saved: &SavedMachine) -> Result<St
 fn load_value(alloc: Global, version: Version, saved: &SavedMachine) -> Result<Value, AllocError>
     ensures { IfOk result (λ value. view value ≡ load_data (saved_data version saved.now)) }
 {
-    let machine = machine_value(alloc, version, saved)?;
-    json!(in alloc; {"do": "load", "machine": machine})
+    json!(in alloc; {"do": "load", "machine": machine_value(alloc, version, saved)?})
 }
 
 /// A saved machine as a JSON value, in a version.
@@ -71,29 +70,39 @@ pub fn machine_value(
 ) -> Result<Value, AllocError>
     ensures { IfOk result (λ value. view value ≡ saved_data version saved.now) }
 {
-    let colours = colours_value(alloc, &saved.colours)?;
-    let cycle = cycle_value(alloc, saved.cycle.as_slice())?;
-    let planes = planes_value(alloc, &saved.planes)?;
-    let rules = rules_value(alloc, saved.rules.as_slice())?;
     match version {
-        Version::First => json!(in alloc; {
-            "colours": colours,
-            "cycle": cycle,
-            "planes": planes,
-            "position": saved.position,
-            "rules": rules,
-            "version": 1,
-        }),
-        Version::Second => json!(in alloc; {
-            "colours": colours,
-            "cycle": cycle,
-            "planes": planes,
-            "position": saved.position,
-            "rules": rules,
-            "side": saved.side,
-            "version": 2,
-        }),
+        Version::First => first_value(alloc, saved),
+        Version::Second => second_value(alloc, saved),
     }
+}
+
+/// A saved machine in the first version.
+fn first_value(alloc: Global, saved: &SavedMachine) -> Result<Value, AllocError>
+    ensures { IfOk result (λ value. view value ≡ saved_data Version.First saved.now) }
+{
+    json!(in alloc; {
+        "colours": colours_value(alloc, &saved.colours)?,
+        "cycle": cycle_value(alloc, saved.cycle.as_slice())?,
+        "planes": planes_value(alloc, &saved.planes)?,
+        "position": saved.position,
+        "rules": rules_value(alloc, saved.rules.as_slice())?,
+        "version": 1,
+    })
+}
+
+/// A saved machine in the second version.
+fn second_value(alloc: Global, saved: &SavedMachine) -> Result<Value, AllocError>
+    ensures { IfOk result (λ value. view value ≡ saved_data Version.Second saved.now) }
+{
+    json!(in alloc; {
+        "colours": colours_value(alloc, &saved.colours)?,
+        "cycle": cycle_value(alloc, saved.cycle.as_slice())?,
+        "planes": planes_value(alloc, &saved.planes)?,
+        "position": saved.position,
+        "rules": rules_value(alloc, saved.rules.as_slice())?,
+        "side": saved.side,
+        "version": 2,
+    })
 }
 
 fn colours_value(alloc: Global, colours: &[u64; 16]) -> Result<Value, AllocError>

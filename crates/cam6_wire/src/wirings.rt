@@ -12,8 +12,8 @@ use serde_json::Value;
 pub(crate) fn wiring_in(value: &Value) -> Option<Wiring>
     ensures { result ≡ wiring_in (view value.now) }
 {
-    let half = Half::named(text_at(value, "half")?)?;
-    let hood = Hood::named(text_at(value, "hood")?)?;
-    let minor = Minor::named(text_at(value, "minor")?)?;
+    let half = text_at(value, "half").and_then(Half::named)?;
+    let hood = text_at(value, "hood").and_then(Hood::named)?;
+    let minor = text_at(value, "minor").and_then(Minor::named)?;
     Some(Wiring { half, hood, minor })
 }
