@@ -11,13 +11,7 @@ use Rattle.cam6_wire.specs.declared.seats.Seating.TheVariants.{Taken}
 use Rattle.cam6_server.specs.declared.free_desks.FreeDesk.{FreeDesk}
 use Rattle.cam6_server.specs.Places.{Takes, place_of, stances, with_user}
 
--- past the end nothing is changed
-set_past : {A : Type 0} (xs : List A) (n : ℕ) (x : A) → slice_get xs n ≡ None → slice_set xs n x ≡ xs
-set_past [] n x none = refl
-set_past (y ∷ ys) zero x none = let never : ⊥ = cc in absurd never
-set_past (y ∷ ys) (suc n) x none = ap (λ zs. y ∷ zs) (set_past ys n x none)
-
--- nor by what is there already
+-- nothing is changed by what is there already
 set_same : {A : Type 0} (xs : List A) (n : ℕ) (x : A) → slice_get xs n ≡ Some x → slice_set xs n x ≡ xs
 set_same [] n x is = refl
 set_same (y ∷ ys) zero x is = let same : y ≡ x = cc in ap (λ z. z ∷ ys) (sym same)
@@ -41,11 +35,6 @@ some_there xs long n x is within same = slice_get_read xs long n x is within sam
 pub no_place : (places : List (Option FreeDesk)) (user n : ℕ) → user ≡ suc n →
     slice_get places n ≡ None → place_of places user ≡ None
 no_place places user n is none = ap (place_of places) is ∙ none
-
-pub unchanged : (places : List (Option FreeDesk)) (user n : ℕ) (place : Option FreeDesk) →
-    user ≡ suc n → slice_get places n ≡ None → places ≡ with_user places user place
-unchanged places user n place is none =
-    sym (ap (λ u. with_user places u place) is ∙ set_past places n place none)
 
 by_place : (places : List (Option FreeDesk)) (user n : ℕ) (place : Option FreeDesk) →
     user ≡ suc n → slice_get places n ≡ Some place →

@@ -1,4 +1,6 @@
 //! A host: users at their desks, boards in threads of their own, and a thread for each connection.
+ghost use Rattle.std.specs.Prelude.{◌<◌, length};
+ghost use Rattle.cam6_server.specs.Places.{AreResting};
 
 use crate::boards::{IdleBoard, boards_at};
 use crate::halls::{Hall, Handle};
@@ -6,7 +8,7 @@ use crate::places::Places;
 use crate::serving::{Fault, Serving};
 use crate::sessions::Sessions;
 use cam6_cache::TableCache;
-use cam6_handoff::boot;
+use cam6_handoff::{BoardSeat, Desk, boot};
 use cam6_planes::NoMemory;
 use cam6_pool::SlicingGate;
 use std::net::TcpListener;
@@ -50,17 +52,44 @@ fn open<R: Handle>(rt: R, serving: &Serving) -> Result<(Arc<Hall<R>>, Vec<IdleBo
     let alloc = rt.alloc();
     let limits = vec![in alloc; serving.limit; serving.users]?;
     let (desks, seats) = boot(alloc, serving.users, serving.boards, limits.as_slice())?;
-    let Some(seat) = seats.first() else {
-        unreachable!()
-    };
-    let gate = SlicingGate::new(alloc, rt, seat.queue()?, serving.boards)?;
+    let hall = hall_of(rt, serving, desks, seats.as_slice())?;
+    Ok((hall, boards_at(alloc, seats)?))
+}
+
+/// What the threads of a host share, who has these desks, and boards at these seats.
+fn hall_of<R: Handle>(
+    rt: R,
+    serving: &Serving,
+    desks: Vec<Desk>,
+    seats: &[BoardSeat],
+) -> Result<Arc<Hall<R>>, NoMemory>
+    requires a_seat { 0 < length seats.now }
+    requires desks { AreResting desks.items }
+{
+    let alloc = rt.alloc();
+    let places = Places::new(alloc, desks)?;
+    let cache = TableCache::new(alloc, serving.cache)?;
     let hall = Hall {
         rt,
-        cache: Mutex::new(TableCache::new(alloc, serving.cache)?),
-        gate,
-        places: Mutex::new(Places::new(alloc, desks)?),
+        cache: Mutex::new(cache),
+        gate: gate_of(rt, serving, seats)?,
+        places: Mutex::new(places),
     };
-    Ok((Arc::new(alloc, hall)?, boards_at(alloc, seats)?))
+    Ok(Arc::new(alloc, hall)?)
+}
+
+/// The gate of the boards at these seats.
+fn gate_of<R: Handle>(
+    rt: R,
+    serving: &Serving,
+    seats: &[BoardSeat],
+) -> Result<SlicingGate<R>, NoMemory>
+    requires { 0 < length seats.now }
+{
+    match seats.first() {
+        Some(seat) => SlicingGate::new(rt.alloc(), rt, seat.queue()?, serving.boards),
+        None => unreachable!(),
+    }
 }
 
 /// Starts a thread for each board.
@@ -71,11 +100,21 @@ fn employ<R: Handle + Send + Sync + 'static>(
 ) -> Result<(), NoMemory> {
     workers.try_reserve(boards.len())?;
     for board in boards {
-        let theirs = Arc::try_clone(hall)?;
-        let worker = spawn(&hall.rt, move || board.serve(&theirs)).map_err(|_| NoMemory)?;
-        workers.push(worker)?;
+        workers.push(start(hall, board)?)?;
     }
     Ok(())
+}
+
+/// Starts a thread for a board.
+fn start<R: Handle + Send + Sync + 'static>(
+    hall: &Arc<Hall<R>>,
+    board: IdleBoard,
+) -> Result<JoinHandle<()>, NoMemory> {
+    let theirs = Arc::try_clone(hall)?;
+    match spawn(&hall.rt, move || board.serve(&theirs)) {
+        Ok(worker) => Ok(worker),
+        Err(_) => Err(NoMemory),
+    }
 }
 
 /// Accepts so many connections, or, where none is said, connections without end, and waits until

@@ -43,11 +43,10 @@ impl Places {
     pub fn give_back(&mut self, user: u64, desk: FreeDesk)
         ensures { self.new.desks.items ≡ with_user self.old.desks.items user (Some desk) }
     {
-        let Some(index) = user.checked_sub(1) else {
-            return;
-        };
-        if let Some(place) = self.desks.get_mut(index as usize) {
-            *place = Some(desk);
+        // Nobody's index, that of user 0, is past the end.
+        let index = (user as usize).wrapping_sub(1);
+        if index < self.desks.len() {
+            self.desks[index].insert(desk);
         }
     }
 }

@@ -1,8 +1,8 @@
 use Rattle.cam6_server.proofs.Resting.{blank_desks_rest}
 use Rattle.cam6_server.proofs.hosts.open.Goals as goal
 
-pub new-requires-4 : goal.new-requires-4
-new-requires-4 g c = blank_desks_rest _ _ c.in_ok-desks.ensures.desks
+pub hall_of-requires-clause-desks : goal.hall_of-requires-clause-desks
+hall_of-requires-clause-desks g c = blank_desks_rest _ _ c.in_ok-desks.ensures.desks
 
 pub boards_at-requires : goal.boards_at-requires
 boards_at-requires g c = λ i seat at. (c.in_ok-desks.ensures.seats.each i seat at).idle
