@@ -2,3 +2,5 @@
 
 -- The board of a lease, behind a band.
 pub mod Moving
+-- What a board holds at its seat, before and behind each call.
+pub mod Serving

@@ -1,4 +1,4 @@
-//! What is told of a line.
+//! What is told of a command, in every way.
 
 use cam6_commands::Reply;
 use cam6_examples::{add_line, no_memory};
@@ -6,70 +6,15 @@ use cam6_wire::reply_text;
 use std::alloc::Global;
 use std::io;
 
-#[derive(Drop)]
-pub enum Answer {
-    /// The reply to the command.
-    Reply(Reply),
-    /// So many bands are left of the command.
-    Left(u64),
-    /// So many tables are needed.
-    Needs(u8),
-    /// What is needed for a table, or the text of a line's fault.
-    Text(String),
-    /// The command before waits for a board, or is out on one.
-    Waiting,
-    /// It can't be done as things are.
-    No,
-    /// Memory was asked for and refused.
-    NoMemory,
-    Unread,
-}
-
-/// What comes back, line by line.
-#[derive(Drop)]
-pub struct Answers {
-    bytes: Vec<u8>,
-    /// Whether memory was refused for one of them.
-    wants_memory: bool,
-}
-
-impl Answers {
-    pub fn new(alloc: Global) -> Answers {
-        Answers {
-            bytes: Vec::new(alloc),
-            wants_memory: false,
-        }
-    }
-
-    /// Adds an answer, if there was memory for those before it.
-    pub fn add(&mut self, alloc: Global, answer: Answer) {
-        if !self.wants_memory {
-            self.wants_memory = add_answer(alloc, &mut self.bytes, answer).is_err();
-        }
-    }
-
-    /// All that came back, if there was memory for it.
-    pub fn into_bytes(self) -> io::Result<Vec<u8>> {
-        if self.wants_memory {
-            return Err(no_memory());
-        }
-        Ok(self.bytes)
+/// Adds a reply to what comes back.
+pub fn add_reply(alloc: Global, answers: &mut Vec<u8>, reply: &Reply) -> io::Result<()> {
+    match reply_text(alloc, reply) {
+        Ok(text) => add_line(answers, text.as_str()),
+        Err(_) => Err(no_memory()),
     }
 }
 
-/// Adds an answer to what comes back.
-fn add_answer(alloc: Global, answers: &mut Vec<u8>, answer: Answer) -> io::Result<()> {
-    match answer {
-        Answer::Reply(reply) => {
-            let text = reply_text(alloc, &reply).map_err(|_| no_memory())?;
-            add_line(answers, text.as_str())
-        }
-        Answer::Left(left) => add_line(answers, format!(in alloc; "left {left}")?.as_str()),
-        Answer::Needs(needs) => add_line(answers, format!(in alloc; "needs {needs}")?.as_str()),
-        Answer::Text(text) => add_line(answers, text.as_str()),
-        Answer::Waiting => add_line(answers, "waiting"),
-        Answer::No => add_line(answers, "no"),
-        Answer::NoMemory => Err(no_memory()),
-        Answer::Unread => add_line(answers, "unread"),
-    }
+/// Adds a word and a number.
+pub fn add_number(alloc: Global, answers: &mut Vec<u8>, word: &str, number: u64) -> io::Result<()> {
+    add_line(answers, format!(in alloc; "{word} {number}")?.as_str())
 }

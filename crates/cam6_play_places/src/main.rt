@@ -1,29 +1,28 @@
-//! Plays the worked examples of places: commands of a user, whose steps are done on a board that
-//! changes from band to band as the lines ask for.
+//! Plays the worked examples of boards, of places and of desks: what becomes of a command while it
+//! is out on a board, below the table that hands commands to boards, at the place of one user, and at
+//! the table itself.
 //!
 //! The words name files of `data/`; `play` of `cam6_examples` says what they ask for, and does all
-//! but the way. The program makes no claim of its own beyond being safe.
+//! but the ways. The program makes no claim of its own beyond being safe.
 //!
-//! Stands on: `cam6_examples`, how files are read and compared; `cam6_slot`, what becomes of a
-//! command; `cam6_board`, `cam6_wire` and what they stand on.
+//! Stands on: `cam6_examples`, how files are read and compared; `cam6_board`, `cam6_machine`,
+//! `cam6_slot`, `cam6_station`, `cam6_handoff`, `cam6_wire` and what they stand on.
 //!
-//! Read next: `data/`, the examples; `ways`, how they are played; `lines`, what a line asks for, and
-//! `answers`, what is told; `boards`, a lease with the board that holds its job; `rooms`, the tables
-//! that a board is loaded with; then `players`.
+//! Read next: `data/`, the examples; `ways`, how they are played; then `boards`, `places` and
+//! `desks`, one module for each way.
 #![tactic(auto)]
 
 mod answers;
 mod boards;
-mod lines;
-mod players;
-mod rooms;
+mod desks;
+mod places;
 mod ways;
 
 use cam6_examples::play;
 use std::io;
 use std::process::ExitCode;
-use ways::PlaceWay;
+use ways::AnyWay;
 
 fn main(rt: HostRuntime) -> io::Result<ExitCode> {
-    play::<PlaceWay, HostRuntime>(&rt)
+    play::<AnyWay, HostRuntime>(&rt)
 }

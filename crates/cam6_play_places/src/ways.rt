@@ -1,25 +1,29 @@
-//! The way in which lines of a user are played.
+//! The ways in which lines are played: to boards, at the place of a user, or at desks.
 
-use crate::players::answered;
-use cam6_examples::{Played, Sent, Unplayable, Way, limit_of};
-use cam6_planes::Side;
+use crate::boards::BoardWay;
+use crate::desks::DeskWay;
+use crate::places::PlaceWay;
+use cam6_examples::{Played, Sent, Unplayable, Way};
 use std::alloc::Global;
 use std::io;
 
-/// `places [within LIMIT]`: a blank machine of this limit, and a board that never fails.
+/// Any way of the three, by its first word: `boards ..`, `places ..` or `desks ..`.
 #[derive(Drop)]
-pub struct PlaceWay {
-    limit: Side,
+pub enum AnyWay {
+    Boards(BoardWay),
+    Places(PlaceWay),
+    Desks(DeskWay),
 }
 
-impl Way for PlaceWay {
-    fn read(_alloc: Global, words: &str) -> Result<PlaceWay, Unplayable> {
-        let ("places", rest) = words.split_once(' ').unwrap_or((words, "")) else {
-            return Err(Unplayable::Unread);
-        };
-        Ok(PlaceWay {
-            limit: limit_of(rest)?,
-        })
+impl Way for AnyWay {
+    fn read(alloc: Global, words: &str) -> Result<AnyWay, Unplayable> {
+        let (first, rest) = words.split_once(' ').unwrap_or((words, ""));
+        match first {
+            "boards" => BoardWay::read(alloc, rest).map(AnyWay::Boards),
+            "places" => PlaceWay::read(rest).map(AnyWay::Places),
+            "desks" => DeskWay::read(rest).map(AnyWay::Desks),
+            _ => Err(Unplayable::Unread),
+        }
     }
 
     fn is_session(&self) -> bool {
@@ -27,8 +31,13 @@ impl Way for PlaceWay {
     }
 }
 
-impl Played for PlaceWay {
+impl Played for AnyWay {
     fn played(&self, alloc: Global, sent: &[Sent]) -> io::Result<Vec<Vec<u8>>> {
-        Ok(vec![in alloc; answered(alloc, self.limit, sent)?]?)
+        let answers = match self {
+            AnyWay::Boards(way) => way.answers(alloc, sent),
+            AnyWay::Places(way) => way.answers(alloc, sent),
+            AnyWay::Desks(way) => way.answers(alloc, sent),
+        };
+        Ok(vec![in alloc; answers?]?)
     }
 }

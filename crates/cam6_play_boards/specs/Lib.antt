@@ -1,2 +1,0 @@
--- The steps of the job that a board holds.
-pub mod Steps

@@ -1,2 +1,0 @@
--- What a board holds at its seat.
-pub mod Counters

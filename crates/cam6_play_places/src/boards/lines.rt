@@ -1,0 +1,82 @@
+//! What a line asks for.
+//!
+//! ```text
+//! {..}                  a command to the machine
+//! job run|back STEPS    the machine comes apart, and its image is in hand with so many steps
+//! load BOARD            the job in hand goes to a board, `flaky` or `soft`
+//! band BOARD            one band
+//! bands BOARD NUMBER    so many bands, up to the last of the job and to a fault
+//! done BOARD            the rows of the step under way that are done
+//! faults BOARD          how often the board failed
+//! unload BOARD          the image is in hand again
+//! move LIMIT            the image in hand, in the middle of a step, goes to another of this limit
+//! join                  the machine is whole again, with the image in hand
+//! join blank            the same once the image is lost, with blank planes, where the job began
+//! ```
+
+use cam6_cycle::Direction;
+use cam6_planes::Side;
+
+/// One of the two boards.
+#[derive(Clone, Copy)]
+pub enum Name {
+    Flaky,
+    Soft,
+}
+
+#[derive(Clone, Copy)]
+pub enum Ask {
+    Command,
+    Job(Direction, u16),
+    Load(Name),
+    Band(Name),
+    Bands(Name, u64),
+    Done(Name),
+    Faults(Name),
+    Unload(Name),
+    Move(Side),
+    Join,
+    JoinBlank,
+}
+
+/// What a line asks for, if it can be read.
+pub fn read_line(line: &str) -> Option<Ask> {
+    if line.starts_with('{') {
+        return Some(Ask::Command);
+    }
+    match line.split_once(' ').unwrap_or((line, "")) {
+        ("job", rest) => job_of(rest),
+        ("load", name) => board_named(name).map(Ask::Load),
+        ("band", name) => board_named(name).map(Ask::Band),
+        ("bands", rest) => bands_of(rest),
+        ("done", name) => board_named(name).map(Ask::Done),
+        ("faults", name) => board_named(name).map(Ask::Faults),
+        ("unload", name) => board_named(name).map(Ask::Unload),
+        ("move", limit) => limit.parse().ok().and_then(Side::of).map(Ask::Move),
+        ("join", "") => Some(Ask::Join),
+        ("join", "blank") => Some(Ask::JoinBlank),
+        _ => None,
+    }
+}
+
+fn job_of(text: &str) -> Option<Ask> {
+    let (direction, steps) = match text.split_once(' ')? {
+        ("run", steps) => (Direction::Forward, steps),
+        ("back", steps) => (Direction::Backward, steps),
+        _ => return None,
+    };
+    Some(Ask::Job(direction, steps.parse().ok()?))
+}
+
+fn bands_of(text: &str) -> Option<Ask> {
+    let (name, number) = text.split_once(' ')?;
+    Some(Ask::Bands(board_named(name)?, number.parse().ok()?))
+}
+
+fn board_named(text: &str) -> Option<Name> {
+    match text {
+        "flaky" => Some(Name::Flaky),
+        "soft" => Some(Name::Soft),
+        _ => None,
+    }
+}

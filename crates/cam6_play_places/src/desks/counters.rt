@@ -1,0 +1,114 @@
+//! A board at its seat.
+ghost use Rattle.std.specs.Prelude.{◌≡◌, ◌<◌, ◌≤◌, true, false};
+ghost use Rattle.cam6_handoff.specs.Holding.{IsIdle};
+ghost use Rattle.cam6_station.specs.Held.{is_idle, is_loaded, is_dead};
+
+use cam6_cache::TableCache;
+use cam6_handoff::BoardSeat;
+use cam6_planes::NoMemory;
+use cam6_station::{Banded, Station};
+use std::alloc::Global;
+use std::marker::Model;
+
+/// A board with its seat in the table: it holds a command exactly while the seat holds the place
+/// that it took. Contracts see the number of users, and the board.
+#[derive(Drop)]
+pub struct Counter {
+    seat: BoardSeat,
+    station: Station,
+}
+
+impl Model for Counter {
+    ghost use Rattle.cam6_play_places.specs.Counters.{StoredCounter, Serves};
+
+    ghost Value = { StoredCounter };
+
+    ghost view = { λ c. record { users = c.seat.users; station = c.station } };
+
+    ghost invariant = { λ c. Serves c.seat.holds c.station };
+}
+
+impl Counter {
+    /// An idle board at a seat that holds nothing.
+    pub fn new(alloc: Global, seat: BoardSeat) -> Result<Counter, NoMemory>
+        requires { IsIdle seat }
+    {
+        let station = Station::new(alloc)?;
+        Ok(Counter { seat, station })
+    }
+
+    /// The number of users, who are numbered from 1.
+    pub fn users(&self) -> usize
+        ensures { result ≡ self.now.users }
+    {
+        self.seat.users()
+    }
+
+    pub fn is_idle(&self) -> bool
+        ensures { result ≡ is_idle self.now.station }
+    {
+        self.station.is_idle()
+    }
+
+    pub fn is_loaded(&self) -> bool
+        ensures { result ≡ is_loaded self.now.station }
+    {
+        self.station.is_loaded()
+    }
+
+    pub fn is_dead(&self) -> bool
+        ensures { result ≡ is_dead self.now.station }
+    {
+        self.station.is_dead()
+    }
+
+    /// The board takes the user's command, if it waits, and has so many bands to do.
+    pub fn take(&mut self, user: usize, cache: &mut TableCache) -> Option<u64>
+        requires idle { is_idle self.old.station ≡ true }
+        requires a_user { 0 < user }
+        requires user { user ≤ self.old.users }
+    {
+        let (lease, job) = self.seat.try_take(user)?;
+        let left = lease.left();
+        self.seat.fill(&lease, cache);
+        self.station.load(user, lease, job, self.seat.tables());
+        Some(left)
+    }
+
+    /// One band: so many are left, or the command is done and given to the user's desk.
+    pub fn band(&mut self) -> Option<u64>
+        requires { is_loaded self.old.station ≡ true }
+    {
+        match self.station.band() {
+            Banded::More(left) => Some(left),
+            Banded::Last(_, finished) => {
+                self.seat.put_done(finished);
+                None
+            }
+        }
+    }
+
+    /// The command is taken off the board, and waits again.
+    pub fn back(&mut self)
+        requires { is_loaded self.old.station ≡ true }
+    {
+        let (_, queued) = self.station.preempt();
+        self.seat.put_back(queued);
+    }
+
+    /// The board fails, and what it holds waits again at its home.
+    pub fn fail(&mut self)
+        requires { is_dead self.old.station ≡ false }
+    {
+        if let Some((_, queued)) = self.station.fail() {
+            self.seat.put_back(queued);
+        }
+    }
+
+    /// A board that has failed is idle again.
+    pub fn repair(&mut self)
+        requires { is_dead self.old.station ≡ true }
+    {
+        self.station.repair();
+    }
+}

@@ -1,0 +1,195 @@
+//! Lines of a user, answered one by one.
+ghost use Rattle.std.specs.Prelude.{◌≡◌};
+ghost use Rattle.cam6_slot.specs.Lefts.{lease_left};
+
+use crate::places::answers::{Answer, Answers};
+use crate::places::leased::{Idle, Leased, Waiting};
+use crate::places::lines::{Ask, read_line};
+use crate::places::rooms::{Room, need_text};
+use cam6_board::SoftBoard;
+use cam6_commands::Command;
+use cam6_examples::{Sent, no_memory};
+use cam6_machine::Machine;
+use cam6_planes::{NoMemory, Side};
+use cam6_slot::{Asked, Resting};
+use cam6_wire::{LineFault, fault_text, read_command};
+use std::alloc::Global;
+use std::io;
+
+/// A user's machine at rest, or his command that waits or is out, and the board.
+#[derive(Drop)]
+enum Player {
+    Resting(Resting, Idle<SoftBoard>),
+    Waiting(Waiting<SoftBoard>),
+    Out(Leased<SoftBoard>),
+}
+
+/// What comes back of each line, from a blank machine of this limit.
+pub fn answered(alloc: Global, limit: Side, sent: &[Sent]) -> io::Result<Vec<u8>> {
+    let mut answers = Answers::new(alloc);
+    match play(alloc, limit, sent, &mut answers) {
+        Ok(()) => answers.into_bytes(),
+        Err(NoMemory) => Err(no_memory()),
+    }
+}
+
+/// Plays the lines to a blank machine of this limit, and adds what comes back of each.
+fn play(alloc: Global, limit: Side, sent: &[Sent], answers: &mut Answers) -> Result<(), NoMemory> {
+    let mut room = Room::new(alloc)?;
+    let player = Player::new(alloc, limit)?;
+    player.after_lines(alloc, &mut room, sent, answers);
+    Ok(())
+}
+
+impl Player {
+    fn new(alloc: Global, limit: Side) -> Result<Player, NoMemory> {
+        let idle = Idle::new(SoftBoard::new(alloc)?);
+        let machine = Machine::new(alloc, limit)?;
+        Ok(Player::Resting(Resting::new(machine), idle))
+    }
+
+    /// What becomes of the player with these lines, whose answers are added. A player is let go by
+    /// `play` alone: each way in which one can be let go is a long proof of its own.
+    fn after_lines(
+        self,
+        alloc: Global,
+        room: &mut Room,
+        sent: &[Sent],
+        answers: &mut Answers,
+    ) -> Player {
+        let mut player = self;
+        for line in sent {
+            player = player.answer(alloc, room, line.bytes.as_slice(), answers);
+        }
+        player
+    }
+
+    /// What becomes of the player with a line, whose answer is added.
+    fn answer(self, alloc: Global, room: &mut Room, line: &[u8], answers: &mut Answers) -> Player {
+        let (after, answer) = self.after_line(alloc, room, line);
+        answers.add(alloc, answer);
+        after
+    }
+
+    /// What becomes of the player with a line, and what is told of it.
+    fn after_line(self, alloc: Global, room: &mut Room, line: &[u8]) -> (Player, Answer) {
+        match read_line(str::from_utf8(line).unwrap_or("")) {
+            Some(Ask::Command) => self.read(alloc, line),
+            Some(Ask::Need(index)) => {
+                let answer = self.need(alloc, index);
+                (self, answer)
+            }
+            Some(ask) => self.after_ask(room, ask),
+            None => (self, Answer::Unread),
+        }
+    }
+
+    /// Gives a command to the machine at rest, or tells of a line's fault.
+    fn read(self, alloc: Global, line: &[u8]) -> (Player, Answer) {
+        let Player::Resting(resting, idle) = self else {
+            return (self, Answer::Waiting);
+        };
+        match read_command(alloc, line) {
+            Ok(command) => begun(resting, idle, command),
+            Err(fault) => (Player::Resting(resting, idle), fault_answer(fault)),
+        }
+    }
+
+    /// What is needed for the table at an index of the lease.
+    fn need(&self, alloc: Global, index: u64) -> Answer {
+        let Player::Out(leased) = self else {
+            return Answer::No;
+        };
+        match leased.need(index) {
+            Some(need) => match need_text(alloc, &need) {
+                Ok(text) => Answer::Need(text),
+                Err(_) => Answer::NoMemory,
+            },
+            None => Answer::No,
+        }
+    }
+
+    fn after_ask(self, room: &mut Room, ask: Ask) -> (Player, Answer) {
+        match (self, ask) {
+            (player, Ask::Left) => told(player),
+            (Player::Waiting(waiting), Ask::Lease(number)) => {
+                told(out(waiting.lease(number, room)))
+            }
+            (Player::Out(leased), ask) => out_after(leased, ask),
+            (player, _) => (player, Answer::No),
+        }
+    }
+
+    /// The bands left of the command, if there is one.
+    fn left(&self) -> Option<u64> {
+        match self {
+            Player::Resting(_, _) => None,
+            Player::Waiting(waiting) => Some(waiting.left()),
+            Player::Out(leased) => Some(leased.left()),
+        }
+    }
+}
+
+/// What is told of a line's fault.
+fn fault_answer(fault: LineFault) -> Answer {
+    match fault {
+        LineFault::NoMemory => Answer::NoMemory,
+        fault => Answer::Fault(fault_text(fault)),
+    }
+}
+
+/// What comes of a command.
+fn begun(resting: Resting, idle: Idle<SoftBoard>, command: Command) -> (Player, Answer) {
+    match resting.ask(command) {
+        Asked::Finished(finished) => {
+            let (resting, reply) = finished.collect();
+            (Player::Resting(resting, idle), Answer::Reply(reply))
+        }
+        Asked::Queued(queued) => told(Player::Waiting(Waiting::new(queued, idle))),
+        Asked::NoMemory(resting) => (Player::Resting(resting, idle), Answer::NoMemory),
+    }
+}
+
+/// What comes of a line while the command is out on the board.
+fn out_after(leased: Leased<SoftBoard>, ask: Ask) -> (Player, Answer) {
+    let has_left = leased.left() > 0;
+    match ask {
+        Ask::Needs => {
+            let needs = leased.needs();
+            (Player::Out(leased), Answer::Needs(needs))
+        }
+        Ask::Band if has_left => told(out(leased.band())),
+        Ask::Bands(number) if has_left => told(out(leased.bands(number))),
+        Ask::Preempt if has_left => told(Player::Waiting(leased.preempt())),
+        Ask::Lost => told(Player::Waiting(leased.lose())),
+        Ask::Finish if !has_left => finished(leased),
+        _ => (Player::Out(leased), Answer::No),
+    }
+}
+
+/// The reply, once no band is left.
+fn finished(leased: Leased<SoftBoard>) -> (Player, Answer)
+    requires { lease_left leased ≡ 0 }
+{
+    match leased.finish() {
+        Ok((finished, idle)) => {
+            let (resting, reply) = finished.collect();
+            (Player::Resting(resting, idle), Answer::Reply(reply))
+        }
+        Err(waiting) => told(Player::Waiting(waiting)),
+    }
+}
+
+/// The command is out on the board, or it waits where the board has failed.
+fn out(leased: Result<Leased<SoftBoard>, Waiting<SoftBoard>>) -> Player {
+    match leased {
+        Ok(leased) => Player::Out(leased),
+        Err(waiting) => Player::Waiting(waiting),
+    }
+}
+
+/// The bands left are told of the command, if there is one.
+fn told(player: Player) -> (Player, Answer) {
+    let answer = player.left().map_or(Answer::No, Answer::Left);
+    (player, answer)
+}
