@@ -27,8 +27,10 @@ impl Told {
 /// Whether a blank machine of this limit replies the same to all commands, and ends with the planes
 /// of the desk.
 pub fn is_same(alloc: Global, limit: Side, told: &[Told], desk: &mut Desk) -> io::Result<bool> {
-    let mut machine = Machine::new(alloc, limit).map_err(|_| no_memory())?;
-    comes_to_same(alloc, &mut machine, told, desk)
+    match Machine::new(alloc, limit) {
+        Ok(mut machine) => comes_to_same(alloc, &mut machine, told, desk),
+        Err(_) => Err(no_memory()),
+    }
 }
 
 /// Whether this machine replies the same to all commands, and ends with the planes of the desk.
@@ -90,11 +92,19 @@ pub fn text_of(alloc: Global, reply: &Reply) -> io::Result<String> {
 
 /// The text of the desk's reply to `plane`, unless it waits.
 fn plane_at(alloc: Global, desk: &mut Desk, plane: u64) -> io::Result<Option<String>> {
+    match put_at(desk, Command::Plane { plane })? {
+        Some(reply) => Ok(Some(text_of(alloc, &reply)?)),
+        None => Ok(None),
+    }
+}
+
+/// The reply to a command that is put at a desk. None where the desk waits, for it or for another.
+pub fn put_at(desk: &mut Desk, command: Command) -> io::Result<Option<Reply>> {
     if desk.is_waiting() {
         return Ok(None);
     }
-    match desk.put(Command::Plane { plane }) {
-        Ok(Put::Answered(reply)) => Ok(Some(text_of(alloc, &reply)?)),
+    match desk.put(command) {
+        Ok(Put::Answered(reply)) => Ok(Some(reply)),
         Ok(Put::Waiting) => Ok(None),
         Err(_) => Err(no_memory()),
     }

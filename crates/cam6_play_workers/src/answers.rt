@@ -31,21 +31,35 @@ pub enum Answer {
 }
 
 /// Adds an answer to what comes back.
-pub fn add_answer(alloc: Global, answers: &mut Vec<u8>, answer: Answer) -> io::Result<()> {
+pub fn add_answer(alloc: Global, answers: &mut Vec<u8>, answer: &Answer) -> io::Result<()> {
     match answer {
         Answer::Text(text) => add_line(answers, text.as_str()),
-        Answer::Fault(text) => add_line(answers, text),
-        Answer::Started => add_line(answers, "started"),
-        Answer::Ended(Ended::Stopped) => add_line(answers, "stopped"),
-        Answer::Ended(Ended::Dead) => add_line(answers, "dead"),
-        Answer::AllEnded => add_line(answers, "ended"),
-        Answer::Left(left) => add_line(answers, format!(in alloc; "left {left}")?.as_str()),
-        Answer::Nothing => add_line(answers, "none"),
-        Answer::Faults(faults) => {
-            add_line(answers, format!(in alloc; "faults {faults}")?.as_str())
-        }
-        Answer::Same(is) => add_line(answers, if is { "same" } else { "another" }),
-        Answer::Is(is) => add_line(answers, if is { "yes" } else { "no" }),
-        Answer::Unread => add_line(answers, "unread"),
+        Answer::Left(left) => add_number(alloc, answers, "left", *left),
+        Answer::Faults(faults) => add_number(alloc, answers, "faults", *faults),
+        _ => add_line(answers, words_of(answer)),
+    }
+}
+
+/// Adds a word with a number behind it.
+fn add_number(alloc: Global, answers: &mut Vec<u8>, word: &str, number: u64) -> io::Result<()> {
+    let text = format!(in alloc; "{word} {number}")?;
+    add_line(answers, text.as_str())
+}
+
+/// The words of an answer that has the same ones always, or none.
+fn words_of(answer: &Answer) -> &'static str {
+    match answer {
+        Answer::Fault(text) => text,
+        Answer::Started => "started",
+        Answer::Ended(Ended::Stopped) => "stopped",
+        Answer::Ended(Ended::Dead) => "dead",
+        Answer::AllEnded => "ended",
+        Answer::Nothing => "none",
+        Answer::Same(true) => "same",
+        Answer::Same(false) => "another",
+        Answer::Is(true) => "yes",
+        Answer::Is(false) => "no",
+        Answer::Unread => "unread",
+        Answer::Text(_) | Answer::Left(_) | Answer::Faults(_) => "",
     }
 }

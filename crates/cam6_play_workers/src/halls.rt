@@ -66,30 +66,51 @@ impl<R: Handle + Send + Sync + 'static> Hall<R> {
         Ok(())
     }
 
-    /// All threads end, and are joined. What was asked for is done first.
+    /// All threads end, and are joined. What was asked for is done first. The first fault is told
+    /// once all are joined.
     pub fn close(&mut self) -> io::Result<()> {
+        self.let_go();
+        let served = self.serve_those_who_ask();
+        let joined = self.join_users();
+        self.end();
+        served.and(joined)
+    }
+
+    /// No board is held from here on, and the gate answers Go.
+    fn let_go(&self) {
         let rt = self.house.rt;
         self.house.hold.end(&rt);
         self.house.watch.lock(&rt).open();
         self.house.tell_to_end(false);
+    }
+
+    /// Workers serve until no thread of a user asks. It is looked so many times at most.
+    fn serve_those_who_ask(&mut self) -> io::Result<()> {
         for _ in 0..LOOKS {
             if self.house.asking.count() == 0 {
                 break;
             }
             self.serve_again()?;
-            pause(&rt);
+            pause(&self.house.rt);
         }
-        for user in self.users.iter_mut() {
-            user.join(&self.house)?;
-        }
-        self.end();
         Ok(())
+    }
+
+    /// All users are joined: the first fault of those who join with one.
+    fn join_users(&mut self) -> io::Result<()> {
+        let mut joined = Ok(());
+        for user in self.users.iter_mut() {
+            if let Err(fault) = user.join(&self.house.rt, &self.house.asking) {
+                joined = joined.and(Err(fault));
+            }
+        }
+        joined
     }
 
     /// A worker serves again at each seat whose worker has ended.
     fn serve_again(&mut self) -> io::Result<()> {
         for worker in self.workers.iter_mut() {
-            worker.join_ended(&self.house);
+            worker.join_ended(&self.house.rt, &self.house.serving);
             worker.serve(&self.house, Kind::Soft)?;
         }
         Ok(())
@@ -110,17 +131,17 @@ impl<R: Handle + Send + Sync + 'static> Hall<R> {
             return Ok(Answer::Is(false));
         };
         self.house.tell_to_end(false);
-        if worker.serve(&self.house, Kind::Soft)? {
-            Ok(Answer::Started)
-        } else {
-            Ok(Answer::Is(false))
+        match worker.serve(&self.house, Kind::Soft) {
+            Ok(true) => Ok(Answer::Started),
+            Ok(false) => Ok(Answer::Is(false)),
+            Err(fault) => Err(fault),
         }
     }
 
     /// The worker's end is waited for.
     pub fn ended(&mut self, board: usize) -> Answer {
         match self.workers.get_mut(board) {
-            Some(worker) => match worker.wait(&self.house) {
+            Some(worker) => match worker.wait(&self.house.rt, &self.house.serving) {
                 Some(ended) => Answer::Ended(ended),
                 None => Answer::Is(false),
             },

@@ -58,13 +58,20 @@ pub fn read_line(line: &str) -> Option<Ask<'_>> {
 /// What a word with a number behind it asks for.
 fn read_number<'a>(verb: &str, number: &str) -> Option<Ask<'a>> {
     match verb {
-        "join" => Some(Ask::Join(number.parse().ok()?)),
         "asked" => Some(Ask::Asked(number.parse().ok()?)),
-        "ended" => Some(Ask::Ended(number.parse().ok()?)),
         "running" => Some(Ask::Running(number.parse().ok()?)),
-        "faults" => Some(Ask::Faults(number.parse().ok()?)),
-        "serve" => Some(Ask::Serve(number.parse().ok()?)),
-        "alone" => Some(Ask::Alone(number.parse().ok()?)),
+        _ => read_place(verb, number.parse().ok()?),
+    }
+}
+
+/// What a word with the number of a user or of a board behind it asks for.
+fn read_place<'a>(verb: &str, number: usize) -> Option<Ask<'a>> {
+    match verb {
+        "join" => Some(Ask::Join(number)),
+        "ended" => Some(Ask::Ended(number)),
+        "faults" => Some(Ask::Faults(number)),
+        "serve" => Some(Ask::Serve(number)),
+        "alone" => Some(Ask::Alone(number)),
         _ => None,
     }
 }
@@ -72,10 +79,18 @@ fn read_number<'a>(verb: &str, number: &str) -> Option<Ask<'a>> {
 /// What a word with a number and more behind it asks for.
 fn read_more<'a>(verb: &str, number: &str, rest: &'a str) -> Option<Ask<'a>> {
     match verb {
-        "user" if rest.starts_with('{') => Some(Ask::User(number.parse().ok()?, rest)),
-        "start" if rest.starts_with('{') => Some(Ask::Start(number.parse().ok()?, rest)),
         "apart" => Some(Ask::Apart(number.parse().ok()?, rest.parse().ok()?)),
         "left" => Some(Ask::Left(number.parse().ok()?, rest.parse().ok()?)),
+        _ if rest.starts_with('{') => read_asking(verb, number.parse().ok()?, rest),
+        _ => None,
+    }
+}
+
+/// What a word with a user's number and a command behind it asks for.
+fn read_asking<'a>(verb: &str, user: usize, command: &'a str) -> Option<Ask<'a>> {
+    match verb {
+        "user" => Some(Ask::User(user, command)),
+        "start" => Some(Ask::Start(user, command)),
         _ => None,
     }
 }

@@ -31,12 +31,25 @@ fn play<R: Handle + Send + Sync + 'static>(
     sent: &[Sent],
     answers: &mut Vec<u8>,
 ) -> io::Result<()> {
-    let mut hall = Hall::new(rt, way).map_err(|_| no_memory())?;
-    let played = match hall.open(way.board, call) {
-        Ok(()) => add_answers(&mut hall, sent, answers),
-        Err(fault) => Err(fault),
-    };
-    hall.close().and(played)
+    match Hall::new(rt, way) {
+        Ok(mut hall) => {
+            let played = play_in(&mut hall, way, call, sent, answers);
+            hall.close().and(played)
+        }
+        Err(_) => Err(no_memory()),
+    }
+}
+
+/// Opens the hall, and plays the lines there.
+fn play_in<R: Handle + Send + Sync + 'static>(
+    hall: &mut Hall<R>,
+    way: &WorkerWay,
+    call: u64,
+    sent: &[Sent],
+    answers: &mut Vec<u8>,
+) -> io::Result<()> {
+    hall.open(way.board, call)?;
+    add_answers(hall, sent, answers)
 }
 
 /// Adds what comes back of each line.
@@ -47,7 +60,7 @@ fn add_answers<R: Handle + Send + Sync + 'static>(
 ) -> io::Result<()> {
     for line in sent {
         let answer = answer_to(hall, line.bytes.as_slice())?;
-        add_answer(hall.house.rt.alloc(), answers, answer)?;
+        add_answer(hall.house.rt.alloc(), answers, &answer)?;
     }
     Ok(())
 }
@@ -117,7 +130,7 @@ fn of_user<R: Handle + Send + Sync + 'static>(
     match ask {
         Ask::User(_, command) => user.ask(house, command),
         Ask::Start(_, command) => user.start(house, command),
-        Ask::Join(_) => user.join(house),
+        Ask::Join(_) => user.join(&house.rt, &house.asking),
         Ask::Alone(_) => user.alone(house.rt.alloc(), *limit),
         _ => Ok(Answer::Is(false)),
     }

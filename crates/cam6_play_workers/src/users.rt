@@ -2,20 +2,20 @@
 ghost use Rattle.std.specs.Prelude.{◌≡◌, false};
 ghost use Rattle.cam6_handoff.specs.Standing.{is_waiting};
 
-use crate::alone::{Told, is_same, text_of};
+use crate::alone::{Told, is_same, put_at, text_of};
 use crate::answers::Answer;
 use crate::holds::{LOOKS, pause};
-use crate::houses::{Handle, House};
+use crate::houses::{Handle, House, Present};
 use cam6_commands::{Command, Reply};
 use cam6_examples::no_memory;
-use cam6_handoff::{Desk, Put};
+use cam6_handoff::Desk;
 use cam6_planes::Side;
 use cam6_wire::{LineFault, fault_text, read_command};
 use std::alloc::Global;
-use std::io;
 use std::sync::Arc;
 use std::thread::{JoinHandle, spawn};
 use std::time::Clock;
+use std::{io, mem};
 
 /// What a thread comes back with that asked at a desk.
 #[derive(Drop)]
@@ -23,6 +23,14 @@ pub struct Spoken {
     desk: Desk,
     /// None where there was no memory for it.
     reply: Option<Reply>,
+}
+
+/// What a thread takes along that asks at a desk.
+#[derive(Drop)]
+struct Errand {
+    user: u8,
+    desk: Desk,
+    command: Command,
 }
 
 /// A user, who may ask at his desk.
@@ -93,20 +101,33 @@ impl User {
     ) -> io::Result<()> {
         let theirs = Arc::try_clone(house)?;
         if let Some(desk) = self.desk.take() {
-            self.thread = Some(start(house, theirs, self.number, desk, command)?);
+            let user = self.number;
+            let thread = start(
+                house,
+                theirs,
+                Errand {
+                    user,
+                    desk,
+                    command,
+                },
+            );
+            drop(mem::replace(&mut self.thread, thread));
+        }
+        if self.thread.is_none() {
+            return Err(no_memory());
         }
         Ok(())
     }
 
     /// What the thread asked for is waited for.
-    pub fn join<R: Handle>(&mut self, house: &House<R>) -> io::Result<Answer> {
-        if !house.asking.is_gone(&house.rt, self.number) {
+    pub fn join<R: Handle>(&mut self, rt: &R, asking: &Present) -> io::Result<Answer> {
+        if !asking.is_gone(rt, self.number) {
             return Ok(Answer::Is(false));
         }
         match self.thread.take() {
             Some(thread) => {
-                let reply = self.come_back(thread.join(&house.rt));
-                self.hear(house.rt.alloc(), reply)
+                let reply = self.come_back(thread.join(rt));
+                self.hear(rt.alloc(), reply.as_ref())
             }
             None => Ok(Answer::Is(false)),
         }
@@ -114,21 +135,27 @@ impl User {
 
     /// Takes the desk back from a thread: the reply that it had there.
     fn come_back(&mut self, spoken: Spoken) -> Option<Reply> {
-        let Spoken { desk, reply } = spoken;
-        self.desk = Some(desk);
-        reply
+        self.desk.insert(spoken.desk);
+        spoken.reply
     }
 
     /// Keeps the reply to the last command, and tells it.
-    fn hear(&mut self, alloc: Global, reply: Option<Reply>) -> io::Result<Answer> {
-        let text = match reply {
-            Some(reply) => text_of(alloc, &reply)?,
-            None => return Err(no_memory()),
-        };
-        if let Some(told) = self.told.last_mut() {
-            told.reply = text.clone()?;
+    fn hear(&mut self, alloc: Global, reply: Option<&Reply>) -> io::Result<Answer> {
+        match reply {
+            Some(reply) => {
+                let text = text_of(alloc, reply)?;
+                self.note(text.clone()?);
+                Ok(Answer::Text(text))
+            }
+            None => Err(no_memory()),
         }
-        Ok(Answer::Text(text))
+    }
+
+    /// Notes the reply to the last command.
+    fn note(&mut self, text: String) {
+        if let Some(told) = self.told.last_mut() {
+            drop(mem::replace(&mut told.reply, text));
+        }
     }
 
     /// Whether a machine alone of this limit comes to the same.
@@ -161,35 +188,22 @@ fn fault_answer(fault: LineFault) -> io::Result<Answer> {
 fn answer_at<R: Handle>(house: &House<R>, desk: &mut Desk, line: &str) -> io::Result<Answer> {
     let alloc = house.rt.alloc();
     match read_command(alloc, line.as_bytes()) {
-        Ok(command) => reply_answer(alloc, reply_at(house, desk, command)?),
+        Ok(command) => match put_at(desk, command)? {
+            Some(reply) => reply_answer(alloc, Some(&reply)),
+            None => {
+                house.ring();
+                reply_answer(alloc, collected(&house.rt, desk).as_ref())
+            }
+        },
         Err(fault) => fault_answer(fault),
     }
 }
 
 /// What is answered with a reply, or without one.
-fn reply_answer(alloc: Global, reply: Option<Reply>) -> io::Result<Answer> {
+fn reply_answer(alloc: Global, reply: Option<&Reply>) -> io::Result<Answer> {
     match reply {
-        Some(reply) => Ok(Answer::Text(text_of(alloc, &reply)?)),
+        Some(reply) => Ok(Answer::Text(text_of(alloc, reply)?)),
         None => Ok(Answer::Is(false)),
-    }
-}
-
-/// The reply to a command. None where the desk waits, or no board has done the command for long.
-fn reply_at<R: Handle>(
-    house: &House<R>,
-    desk: &mut Desk,
-    command: Command,
-) -> io::Result<Option<Reply>> {
-    if desk.is_waiting() {
-        return Ok(None);
-    }
-    match desk.put(command) {
-        Ok(Put::Answered(reply)) => Ok(Some(reply)),
-        Ok(Put::Waiting) => {
-            house.ring();
-            Ok(collected(&house.rt, desk))
-        }
-        Err(_) => Err(no_memory()),
     }
 }
 
@@ -204,26 +218,29 @@ fn collected<R: Clock>(rt: &R, desk: &mut Desk) -> Option<Reply> {
     None
 }
 
-/// A thread that asks at the desk, with a handle of its own on the house.
+/// A thread that asks at the desk, with a handle of its own on the house. None where there is no
+/// memory for it.
 fn start<R: Handle + Send + Sync + 'static>(
     house: &House<R>,
     theirs: Arc<House<R>>,
-    user: u8,
-    desk: Desk,
-    command: Command,
-) -> io::Result<JoinHandle<Spoken>> {
+    errand: Errand,
+) -> Option<JoinHandle<Spoken>> {
+    let user = errand.user;
     house.asking.enter(user);
-    match spawn(&house.rt, move || speak(&theirs, user, desk, command)) {
-        Ok(thread) => Ok(thread),
-        Err(_) => {
-            house.asking.leave(user);
-            Err(no_memory())
-        }
+    let thread = spawn(&house.rt, move || speak(&theirs, errand)).ok();
+    if thread.is_none() {
+        house.asking.leave(user);
     }
+    thread
 }
 
 /// What a thread does that asks at a desk.
-fn speak<R: Handle>(house: &House<R>, user: u8, mut desk: Desk, command: Command) -> Spoken {
+fn speak<R: Handle>(house: &House<R>, errand: Errand) -> Spoken {
+    let Errand {
+        user,
+        mut desk,
+        command,
+    } = errand;
     let reply = if desk.is_waiting() {
         None
     } else {

@@ -156,10 +156,7 @@ fn gate_of(words: &mut Words<'_>) -> Result<GateWay, Unplayable> {
         return Ok(GateWay::Open);
     }
     if words.take("hold") {
-        return Ok(GateWay::Hold {
-            user: words.byte()?,
-            band: words.byte()?,
-        });
+        return hold(words);
     }
     if words.take("preempt") {
         return once(Turn::Preempt, words);
@@ -171,11 +168,21 @@ fn gate_of(words: &mut Words<'_>) -> Result<GateWay, Unplayable> {
         return Ok(GateWay::Slices);
     }
     if words.take("chance") {
-        return Ok(GateWay::Chance {
-            number: words.number()?,
-        });
+        return chance(words);
     }
     Ok(GateWay::Open)
+}
+
+fn hold(words: &mut Words<'_>) -> Result<GateWay, Unplayable> {
+    Ok(GateWay::Hold {
+        user: words.byte()?,
+        band: words.byte()?,
+    })
+}
+
+fn chance(words: &mut Words<'_>) -> Result<GateWay, Unplayable> {
+    let number = words.number()?;
+    Ok(GateWay::Chance { number })
 }
 
 fn once(turn: Turn, words: &mut Words<'_>) -> Result<GateWay, Unplayable> {

@@ -5,15 +5,15 @@ ghost use Rattle.cam6_handoff.specs.Holding.{IsIdle};
 
 use crate::answers::Answer;
 use crate::held_boards::HeldBoard;
-use crate::houses::{Handle, House};
+use crate::houses::{Handle, House, Present};
 use cam6_board::{Board, FlakyBoard, SoftBoard};
 use cam6_examples::no_memory;
 use cam6_handoff::BoardSeat;
 use cam6_pool::{Ended, serve_board};
 use std::alloc::Global;
-use std::io;
 use std::sync::Arc;
 use std::thread::{JoinHandle, spawn};
+use std::{io, mem};
 
 /// A seat that holds nothing.
 #[derive(Drop)]
@@ -100,22 +100,21 @@ fn failing_board(alloc: Global, call: u64) -> io::Result<EmptyBoard<FlakyBoard>>
     Ok(EmptyBoard { board })
 }
 
-/// A thread that works at the seat, with a handle of its own on the house.
+/// A thread that works at the seat, with a handle of its own on the house. None where there is no
+/// memory for it.
 fn start<R: Handle + Send + Sync + 'static, B: Board + Send + 'static>(
     house: &House<R>,
     theirs: Arc<House<R>>,
     seat: IdleSeat,
     board: EmptyBoard<B>,
-) -> io::Result<JoinHandle<Left>> {
+) -> Option<JoinHandle<Left>> {
     let number = seat.seat.number();
     house.serving.enter(number);
-    match spawn(&house.rt, move || work(&theirs, seat, board)) {
-        Ok(worker) => Ok(worker),
-        Err(_) => {
-            house.serving.leave(number);
-            Err(no_memory())
-        }
+    let thread = spawn(&house.rt, move || work(&theirs, seat, board)).ok();
+    if thread.is_none() {
+        house.serving.leave(number);
     }
+    thread
 }
 
 /// A worker, or what is left of one, or neither where it could not be started.
@@ -156,46 +155,50 @@ impl Worker {
         }
         let alloc = house.rt.alloc();
         match kind {
-            Kind::Soft => self.serve_with(house, soft_board(alloc)?)?,
-            Kind::Held => self.serve_with(house, held_board(house)?)?,
-            Kind::Failing(call) => self.serve_with(house, failing_board(alloc, call)?)?,
+            Kind::Soft => self.serve_with(house, soft_board(alloc)),
+            Kind::Held => self.serve_with(house, held_board(house)),
+            Kind::Failing(call) => self.serve_with(house, failing_board(alloc, call)),
         }
-        Ok(true)
     }
 
-    /// Serves with a board from here on, at the seat that is left.
+    /// Serves with a board from here on, at the seat that is left, and says so.
     fn serve_with<R: Handle + Send + Sync + 'static, B: Board + Send + 'static>(
         &mut self,
         house: &Arc<House<R>>,
-        board: EmptyBoard<B>,
-    ) -> io::Result<()> {
+        board: io::Result<EmptyBoard<B>>,
+    ) -> io::Result<bool> {
+        let board = board?;
         let theirs = Arc::try_clone(house)?;
         if let Some(left) = self.left.take() {
-            self.thread = Some(start(house, theirs, left.seat, board)?);
+            let thread = start(house, theirs, left.seat, board);
+            drop(mem::replace(&mut self.thread, thread));
         }
-        Ok(())
+        if self.thread.is_none() {
+            return Err(no_memory());
+        }
+        Ok(true)
     }
 
     /// Joins the thread, if there is one.
     pub fn join<R: Handle>(&mut self, rt: &R) {
         if let Some(thread) = self.thread.take() {
-            self.left = Some(thread.join(rt));
+            self.left.insert(thread.join(rt));
         }
     }
 
     /// Joins the thread, if it has come to its end.
-    pub fn join_ended<R: Handle>(&mut self, house: &House<R>) {
-        if !house.serving.has(self.number) {
-            self.join(&house.rt);
+    pub fn join_ended<R: Handle>(&mut self, rt: &R, serving: &Present) {
+        if !serving.has(self.number) {
+            self.join(rt);
         }
     }
 
     /// Waits for the end of a worker that runs, and says how it ended.
-    pub fn wait<R: Handle>(&mut self, house: &House<R>) -> Option<Ended> {
-        if self.thread.is_none() || !house.serving.is_gone(&house.rt, self.number) {
+    pub fn wait<R: Handle>(&mut self, rt: &R, serving: &Present) -> Option<Ended> {
+        if self.thread.is_none() || !serving.is_gone(rt, self.number) {
             return None;
         }
-        self.join(&house.rt);
+        self.join(rt);
         match &self.left {
             Some(left) => Some(left.ended),
             None => None,
