@@ -1,5 +1,5 @@
 //! The table at the beginning, and its seats.
-ghost use Rattle.std.specs.Prelude.{◌≡◌, ◌+◌, ◌<◌, ◌≤◌, [], IfOk, length};
+ghost use Rattle.std.specs.Prelude.{◌≡◌, ◌+◌, ◌<◌, ◌≤◌, [], IfOk, IsOk, length};
 ghost use Rattle.std.specs.Arc.{arc_value};
 ghost use Rattle.cam6_handoff.specs.Standing.{standing};
 ghost use Rattle.cam6_handoff.specs.Limits.{max_users, max_boards};
@@ -79,6 +79,52 @@ fn cut_board(
     seat_of(table, seat, board, users, filling)
 }
 
+/// Cuts a desk for each user, with a blank machine of their limit.
+fn cut_desks(
+    alloc: Global,
+    table: &Arc<HandTable>,
+    first: &mut Chair,
+    limits: &[Side],
+) -> Result<Vec<Desk>, NoMemory>
+    requires of { IsFirstOf (arc_value table.now).shared.table_id
+        (arc_value table.now).shared.key.users first.old.table_id }
+    requires users { (arc_value table.now).shared.key.users ≡ length limits.now }
+    requires next { first.old.me ≡ (First 0 0, []) }
+    ensures of { IsOk result → first.new.table_id ≡ first.old.table_id }
+    ensures next { IsOk result → first.new.me ≡ (First (length limits.now) 0, []) }
+    ensures desks { IfOk result (λ desks. AreBlankDesks limits.now desks.items) }
+{
+    let mut desks = Vec::with_capacity(alloc, limits.len())?;
+    for user in 0..limits.len() {
+        let resting = Resting::new(Machine::new(alloc, limits[user])?);
+        desks.push(cut_desk(Arc::clone(table)?, first, user, resting))?;
+    }
+    Ok(desks)
+}
+
+/// Cuts a seat for each board.
+fn cut_seats(
+    alloc: Global,
+    table: &Arc<HandTable>,
+    first: &mut Chair,
+    users: usize,
+    boards: u8,
+) -> Result<Vec<BoardSeat>, NoMemory>
+    requires of { IsFirstOf (arc_value table.now).shared.table_id users first.old.table_id }
+    requires users { (arc_value table.now).shared.key.users ≡ users }
+    requires a_user { 0 < users }
+    requires few { users ≤ max_users }
+    requires next { first.old.me ≡ (First users 0, []) }
+    ensures { IfOk result (λ seats. AreIdleSeats boards users seats.items) }
+{
+    let mut seats = Vec::with_capacity(alloc, usize::from(boards))?;
+    for board in 0..boards {
+        let filling = Filling::new(alloc)?;
+        seats.push(cut_board(Arc::clone(table)?, first, users, board, filling))?;
+    }
+    Ok(seats)
+}
+
 /// A table for so many users and boards: a desk for each user, with a blank machine of his limit,
 /// and a seat for each board, which holds nothing. All memory of the hand-off is taken here.
 pub fn boot(
@@ -104,15 +150,7 @@ pub fn boot(
     };
     let (table, mut first) = HandTable::vacant(alloc, &words[..users], users, &counts)?;
     let table = Arc::new(alloc, table)?;
-    let mut desks = Vec::with_capacity(alloc, users)?;
-    for user in 0..users {
-        let resting = Resting::new(Machine::new(alloc, limits[user])?);
-        desks.push(cut_desk(Arc::clone(&table)?, &mut first, user, resting))?;
-    }
-    let mut seats = Vec::with_capacity(alloc, usize::from(boards))?;
-    for board in 0..boards {
-        let filling = Filling::new(alloc)?;
-        seats.push(cut_board(Arc::clone(&table)?, &mut first, users, board, filling))?;
-    }
+    let desks = cut_desks(alloc, &table, &mut first, limits)?;
+    let seats = cut_seats(alloc, &table, &mut first, users, boards)?;
     Ok((desks, seats))
 }
