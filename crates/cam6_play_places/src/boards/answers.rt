@@ -6,13 +6,13 @@ use std::alloc::Global;
 use std::io;
 
 /// How a band's call ends.
-#[derive(Clone, Copy, Debug, PartialEq, Eq)]
+#[derive(Clone, Copy)]
 pub enum CallEnd {
     Band(BandEnd),
     Fault,
 }
 
-#[derive(Clone, Copy, Debug, PartialEq, Eq)]
+#[derive(Clone, Copy)]
 pub enum Answer {
     /// The job is in hand, and the machine is away.
     Job,

@@ -29,18 +29,23 @@ struct Player {
 /// calls.
 pub fn answered(alloc: Global, limit: Side, calls: Vec<u64>, sent: &[Sent]) -> io::Result<Vec<u8>> {
     match Player::new(alloc, limit, calls) {
-        Ok(mut player) => player.answers(sent),
+        Ok(mut player) => {
+            let answers = player.answers(sent);
+            drop(player);
+            answers
+        }
         Err(NoMemory) => Err(no_memory()),
     }
 }
 
 impl Player {
     fn new(alloc: Global, limit: Side, calls: Vec<u64>) -> Result<Player, NoMemory> {
-        let (flaky, soft) = boards(alloc, calls)?;
         let room = Room::new(alloc)?;
+        let (flaky, soft) = boards(alloc, calls)?;
+        let machine = Machine::new(alloc, limit)?;
         Ok(Player {
             alloc,
-            machine: Some(Machine::new(alloc, limit)?),
+            machine: Some(machine),
             parted: None,
             room,
             flaky,
@@ -224,7 +229,7 @@ fn bands<B: Board>(parted: &mut Parted, board: &mut Watched<B>, number: u64) -> 
         let Some(end) = band(parted, board) else {
             break;
         };
-        if end == CallEnd::Fault {
+        if matches!(end, CallEnd::Fault) {
             return Answer::Bands(before, end);
         }
         answer = Answer::Bands(before + 1, end);

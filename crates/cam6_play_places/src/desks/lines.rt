@@ -32,7 +32,11 @@ pub enum Ask<'a> {
 pub fn read_line(line: &str) -> Option<Ask<'_>> {
     let (verb, rest) = line.split_once(' ')?;
     let (number, rest) = rest.split_once(' ').unwrap_or((rest, ""));
-    let number = number.parse().ok()?;
+    asked(verb, number.parse().ok()?, rest)
+}
+
+/// What a verb asks for, of the user or the board of a number.
+fn asked<'a>(verb: &str, number: usize, rest: &'a str) -> Option<Ask<'a>> {
     match (verb, rest) {
         ("desk", command) if command.starts_with('{') => Some(Ask::Desk(number, command)),
         ("collect", "") => Some(Ask::Collect(number)),

@@ -37,7 +37,7 @@ pub fn answered(alloc: Global, limit: Side, sent: &[Sent]) -> io::Result<Vec<u8>
 fn play(alloc: Global, limit: Side, sent: &[Sent], answers: &mut Answers) -> Result<(), NoMemory> {
     let mut room = Room::new(alloc)?;
     let player = Player::new(alloc, limit)?;
-    player.after_lines(alloc, &mut room, sent, answers);
+    drop(player.after_lines(alloc, &mut room, sent, answers));
     Ok(())
 }
 
@@ -49,7 +49,7 @@ impl Player {
     }
 
     /// What becomes of the player with these lines, whose answers are added. A player is let go by
-    /// `play` alone: each way in which one can be let go is a long proof of its own.
+    /// `play` alone, in a call of `drop`: each other way to let one go is a long proof of its own.
     fn after_lines(
         self,
         alloc: Global,
