@@ -42,7 +42,11 @@ pub fn play_by<
         }
         names => play_files(rt, names, played),
     };
-    is_well.map(|is_well| if is_well { ExitCode::SUCCESS } else { ExitCode::FAILURE })
+    is_well.map(|is_well| if is_well {
+        ExitCode::SUCCESS
+    } else {
+        ExitCode::FAILURE
+    })
 }
 
 /// The parts of an example. None, which is printed, where a line can't be played.
@@ -85,8 +89,8 @@ fn play_file<
     requires { F.IsAlwaysCallable played.now }
 {
     match parts_of::<W, R>(rt, name)? {
-        Some(parts) => show(rt, name, parts.as_slice(), played)
-            .map(|is_well| is_well != name.starts_with("wrong_")),
+        Some(parts) => show(rt, name, parts.as_slice(), played).map(|is_well| is_well
+            != name.starts_with("wrong_")),
         None => Ok(false),
     }
 }
