@@ -55,3 +55,15 @@ one_more_read f read step values i v had new a within is found pushed all given 
     step (view v) later ∙
     ap (option_and_then (λ x. option_and_then (λ rest. Some (x ∷ rest)) (read later))) found)) ∙
     given
+
+-- one element is none
+pub none_read : {A : Type 0} (f : Data → Option A) (read : Items → Option (List A)) →
+    IsReader f read → (values : List Value) (i : ℕ) (v : Value) (had : List A) →
+    i < length values → v ≡ get_or values i v → f (view v) ≡ None → (all : Option (List A)) →
+    option_map (λ rest. had ++ rest) (read (items_view (drop i values))) ≡ all → None ≡ all
+none_read f read step values i v had within is missing all given =
+    let later = items_view (drop (i + 1) values) in
+    ap (option_map (λ rest. had ++ rest)) (sym (at_next read values i v within is ∙
+    step (view v) later ∙
+    ap (option_and_then (λ x. option_and_then (λ rest. Some (x ∷ rest)) (read later))) missing)) ∙
+    given

@@ -1,5 +1,7 @@
 //! A line as an event.
 ghost use Rattle.std.specs.Prelude.{◌≡◌, ◌<◌, ◌≤◌, length, Ok, Err, IfOk, IsOk, IfSome, false};
+ghost use Rattle.std.specs.Prelude.{codes};
+ghost use Rattle.std.specs.Str.{bytes_eq};
 ghost use Rattle.std.specs.Option.{option_map_or};
 ghost use Rattle.cam6_wire.specs.declared.faults.LineFault.TheVariants.{NoMemory};
 ghost use Rattle.serde_json.specs.View.{view};
@@ -59,7 +61,7 @@ pub fn event_shown(alloc: Global, value: &Value) -> Result<Option<Event>, AllocE
     by_word(alloc, word, value)
 }
 
-#[tactic(auto, unfolding(crate::specs::Events::band_of, crate::specs::Events::preempt_of, crate::specs::Events::fail_of, crate::specs::Events::repair_of, crate::specs::Events::collect_of))]
+/// The event of this word.
 fn by_word(alloc: Global, word: &str, value: &Value) -> Result<Option<Event>, AllocError>
     ensures event { IfOk result (λ event. event ≡ event_by_word word.now (view value.now)) }
     ensures memory { option_map_or keeps_text_of (event_by_word word.now (view value.now)) false
@@ -67,14 +69,25 @@ fn by_word(alloc: Global, word: &str, value: &Value) -> Result<Option<Event>, Al
 {
     match word {
         "ask" => ask_of(alloc, value),
-        "lease" => Ok(lease_of(value)),
-        "band" => Ok(sole_number(value, "board").map(Event::Band)),
-        "preempt" => Ok(sole_number(value, "board").map(Event::Preempt)),
-        "fail" => Ok(sole_number(value, "board").map(Event::Fail)),
-        "repair" => Ok(sole_number(value, "board").map(Event::Repair)),
-        "evict" => Ok(evict_of(value)),
-        "collect" => Ok(sole_number(value, "user").map(Event::Collect)),
-        _ => Ok(None),
+        _ => Ok(askless_by_word(word, value)),
+    }
+}
+
+/// The event of a word other than that of an ask, which alone keeps texts.
+#[tactic(auto, unfolding(crate::specs::Events::band_of, crate::specs::Events::preempt_of, crate::specs::Events::fail_of, crate::specs::Events::repair_of, crate::specs::Events::collect_of))]
+fn askless_by_word(word: &str, value: &Value) -> Option<Event>
+    requires no_ask { bytes_eq word.now (codes "ask") ≡ false }
+    ensures { result ≡ event_by_word word.now (view value.now) }
+{
+    match word {
+        "lease" => lease_of(value),
+        "band" => sole_number(value, "board").map(Event::Band),
+        "preempt" => sole_number(value, "board").map(Event::Preempt),
+        "fail" => sole_number(value, "board").map(Event::Fail),
+        "repair" => sole_number(value, "board").map(Event::Repair),
+        "evict" => evict_of(value),
+        "collect" => sole_number(value, "user").map(Event::Collect),
+        _ => None,
     }
 }
 

@@ -29,7 +29,7 @@
 //! `serde_json` with its grammar in `json`, and `hex`.
 //!
 //! Read next: `faults`, `limits`, `commands` and `replies`; what they read, `fields`, `wirings` and
-//! `entries`; `saved`, a machine as it is written, and `loads`, as it is read; `events`, `outcomes`
+//! `entries`, and what they write, `objects`; `saved`, a machine as it is written, and `loads`, as it is read; `events`, `outcomes`
 //! and `seats`; then `laws`.
 #![tactic(auto)]
 
@@ -41,6 +41,7 @@ mod fields;
 pub mod laws;
 mod limits;
 mod loads;
+mod objects;
 mod outcomes;
 mod replies;
 mod saved;

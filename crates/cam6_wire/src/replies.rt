@@ -5,24 +5,26 @@ ghost use Rattle.std.specs.Prelude.{codes};
 ghost use Rattle.std.specs.List.{AllByRecursion};
 ghost use Rattle.std.specs.Str.{IsAscii};
 ghost use Rattle.serde_json.specs.Data.{array, object, string, no_members, member};
-ghost use Rattle.serde_json.specs.Data.{put as with_member};
+ghost use Rattle.serde_json.specs.Data.{put as put_member};
 ghost use Rattle.serde_json.specs.Read.{read};
-ghost use Rattle.serde_json.specs.View.{view};
+ghost use Rattle.serde_json.specs.View.{view, members_view};
+ghost use Rattle.cam6_wiring.specs.Name.{phase_number};
 ghost use Rattle.cam6_wire.specs.Replies.{colour_digit, done, reply_data, reply_bytes};
 ghost use Rattle.cam6_wire.specs.Numbers.{texts};
 ghost use Rattle.cam6_wire.specs.Replies.{fault_bytes, cause_data};
-ghost use Rattle.cam6_wire.specs.Numbers.{natural};
+ghost use Rattle.cam6_wire.specs.Numbers.{natural, naturals};
 ghost use Rattle.cam6_wire.specs.Replies.{done_data, refusal_data};
 ghost use Rattle.cam6_commands.specs.Limits.{max_colour};
 ghost use Rattle.cam6_planes.specs.declared.row.TheConstants.{COLUMNS};
 
 use crate::faults::LineFault;
+use crate::objects::{with_member, with_text};
 use crate::saved::{Version, machine_value};
 use cam6_block::NotReversible;
 use cam6_commands::{Done, Names, PlaneRows, Refusal, Reply, RowColours, RowText, SavedMachine};
 use cam6_planes::{COLUMNS, NoMemory};
-use cam6_wiring::Half;
-use serde_json::{Value, json};
+use cam6_wiring::{Half, Phase};
+use serde_json::{Map, Value, json};
 use std::alloc::{AllocError, Global};
 
 const HEX_DIGITS: [u8; 16] = *b"0123456789abcdef";
@@ -140,12 +142,20 @@ fn refusal_value(alloc: Global, refusal: Refusal) -> Result<Value, AllocError>
 {
     match refusal {
         Refusal::Fault(fault) => json!(in alloc; {"fault": fault.number()}),
-        Refusal::Text(fault) => json!(in alloc; {"fault": fault.number, "token": fault.token}),
+        Refusal::Text(fault) => fault_value(alloc, fault.number, "token", Value::from(fault.token)),
         Refusal::Stops { address, fault } => {
-            json!(in alloc; {"address": address, "fault": fault.number()})
+            fault_value(alloc, fault.number(), "address", Value::from(address))
         }
         Refusal::NotReversible { entry, half, cause } => cause_value(alloc, entry, half, cause),
     }
+}
+
+/// A fault of which one thing is told, at this key.
+fn fault_value(alloc: Global, fault: u8, key: &str, told: Value) -> Result<Value, AllocError>
+    ensures { IfOk result (λ value. view value ≡ object
+        (put_member (codes "fault") (natural fault) (put_member key.now (view told) no_members))) }
+{
+    json!(in alloc; {key: told, "fault": fault})
 }
 
 /// The reply to a command of steps.
@@ -171,14 +181,8 @@ fn cause_value(
         NotReversible::Hood => plain_cause(alloc, "hood", entry, fault, half),
         NotReversible::Centres => plain_cause(alloc, "centres", entry, fault, half),
         NotReversible::Meeting { phase, a, b } => {
-            json!(in alloc; {
-                "cause": "meeting",
-                "entry": entry,
-                "fault": fault,
-                "half": half,
-                "phase": phase.number(),
-                "states": [a, b],
-            })
+            let members = cause_members(alloc, "meeting", entry, fault, half)?;
+            meeting_value(alloc, members, phase, a, b)
         }
     }
 }
@@ -197,7 +201,47 @@ fn plain_cause(
         (member (codes "fault") (natural fault)
         (member (codes "half") (string half.now) no_members))))) }
 {
-    json!(in alloc; {"cause": word, "entry": entry, "fault": fault, "half": half})
+    let members = cause_members(alloc, word, entry, fault, half)?;
+    Ok(Value::Object(members))
+}
+
+/// What is told of every cause.
+fn cause_members(
+    alloc: Global,
+    word: &str,
+    entry: usize,
+    fault: u8,
+    half: &str,
+) -> Result<Map<String, Value>, AllocError>
+    ensures { IfOk result (λ members. members_view members.entries
+        ≡ member (codes "cause") (string word.now)
+        (member (codes "entry") (natural entry)
+        (member (codes "fault") (natural fault)
+        (member (codes "half") (string half.now) no_members)))) }
+{
+    let members = with_text(alloc, Map::new(alloc), "cause", word)?;
+    let members = with_member(alloc, members, "entry", Value::from(entry))?;
+    let members = with_member(alloc, members, "fault", Value::from(fault))?;
+    with_text(alloc, members, "half", half)
+}
+
+/// What is told of a meeting, beside these members: its phase and its two states.
+fn meeting_value(
+    alloc: Global,
+    members: Map<String, Value>,
+    phase: Phase,
+    a: u8,
+    b: u8,
+) -> Result<Value, AllocError>
+    ensures { IfOk result (λ value. view value ≡ object
+        (put_member (codes "states") (array (naturals (a ∷ b ∷ [])))
+        (put_member (codes "phase") (natural (phase_number phase))
+        (members_view members.entries)))) }
+{
+    let members = with_member(alloc, members, "phase", Value::from(phase.number()))?;
+    let states = json!(in alloc; [a, b])?;
+    let members = with_member(alloc, members, "states", states)?;
+    Ok(Value::Object(members))
 }
 
 /// The reply to a command of which nothing is told but that it is done.
@@ -215,8 +259,8 @@ pub(crate) fn told_value(
     told: Value,
 ) -> Result<Value, AllocError>
     ensures { IfOk result (λ value. view value ≡ object
-        (with_member (codes "ok") (string word.now)
-        (with_member key.now (view told) no_members))) }
+        (put_member (codes "ok") (string word.now)
+        (put_member key.now (view told) no_members))) }
 {
     json!(in alloc; {key: told, "ok": word})
 }

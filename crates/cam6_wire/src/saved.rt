@@ -1,16 +1,17 @@
 //! Saved machines as JSON values, and the lines that load them.
-ghost use Rattle.std.specs.Prelude.{◌≡◌, IfOk, map, string_bytes};
+ghost use Rattle.std.specs.Prelude.{◌≡◌, IfOk, codes, map, string_bytes};
 ghost use Rattle.std.specs.Str.{bytes_eq};
-ghost use Rattle.serde_json.specs.Data.{array};
-ghost use Rattle.serde_json.specs.View.{view, items_of};
-ghost use Rattle.cam6_wire.specs.Numbers.{naturals};
+ghost use Rattle.serde_json.specs.Data.{array, object, member, no_members, put as put_member};
+ghost use Rattle.serde_json.specs.View.{view, items_of, members_view};
+ghost use Rattle.cam6_wire.specs.Numbers.{natural, naturals};
 ghost use Rattle.cam6_wire.specs.Saved.{name_text, entry_data, rule_data, rows_data, saved_data};
 ghost use Rattle.cam6_wire.specs.Saved.{load_data, load_bytes};
 ghost use Rattle.cam6_wire.specs.Commands.{is_load_line};
 
+use crate::objects::{with_member, with_text};
 use cam6_commands::{BitRows, NamedEntry, NamedRule, SavedMachine, Text};
 use cam6_planes::Bits;
-use serde_json::{Value, json};
+use serde_json::{Map, Value, json};
 use std::alloc::{AllocError, Global};
 
 /// The versions in which a saved machine can be spelled. The second alone is written.
@@ -70,39 +71,42 @@ pub fn machine_value(
 ) -> Result<Value, AllocError>
     ensures { IfOk result (λ value. view value ≡ saved_data version saved.now) }
 {
+    let members = shared_members(alloc, saved)?;
     match version {
-        Version::First => first_value(alloc, saved),
-        Version::Second => second_value(alloc, saved),
+        Version::First => versioned(alloc, members, 1),
+        Version::Second => {
+            let members = with_member(alloc, members, "side", Value::from(saved.side))?;
+            versioned(alloc, members, 2)
+        }
     }
 }
 
-/// A saved machine in the first version.
-fn first_value(alloc: Global, saved: &SavedMachine) -> Result<Value, AllocError>
-    ensures { IfOk result (λ value. view value ≡ saved_data Version.First saved.now) }
+/// The members that a saved machine has in both versions.
+fn shared_members(alloc: Global, saved: &SavedMachine) -> Result<Map<String, Value>, AllocError>
+    ensures { IfOk result (λ members. members_view members.entries
+        ≡ member (codes "colours") (array (naturals saved.now.colours))
+        (member (codes "cycle") (array (items_of (map entry_data saved.now.cycle)))
+        (member (codes "planes") (array (items_of (map rows_data saved.now.planes)))
+        (member (codes "position") (natural saved.now.position)
+        (member (codes "rules") (array (items_of (map rule_data saved.now.rules))) no_members))))) }
 {
-    json!(in alloc; {
-        "colours": colours_value(alloc, &saved.colours)?,
-        "cycle": cycle_value(alloc, saved.cycle.as_slice())?,
-        "planes": planes_value(alloc, &saved.planes)?,
-        "position": saved.position,
-        "rules": rules_value(alloc, saved.rules.as_slice())?,
-        "version": 1,
-    })
+    let colours = colours_value(alloc, &saved.colours)?;
+    let members = with_member(alloc, Map::new(alloc), "colours", colours)?;
+    let cycle = cycle_value(alloc, saved.cycle.as_slice())?;
+    let members = with_member(alloc, members, "cycle", cycle)?;
+    let planes = planes_value(alloc, &saved.planes)?;
+    let members = with_member(alloc, members, "planes", planes)?;
+    let members = with_member(alloc, members, "position", Value::from(saved.position))?;
+    let rules = rules_value(alloc, saved.rules.as_slice())?;
+    with_member(alloc, members, "rules", rules)
 }
-
-/// A saved machine in the second version.
-fn second_value(alloc: Global, saved: &SavedMachine) -> Result<Value, AllocError>
-    ensures { IfOk result (λ value. view value ≡ saved_data Version.Second saved.now) }
+/// The value of these members and a version.
+fn versioned(alloc: Global, members: Map<String, Value>, version: u8) -> Result<Value, AllocError>
+    ensures { IfOk result (λ value. view value ≡ object
+        (put_member (codes "version") (natural version) (members_view members.entries))) }
 {
-    json!(in alloc; {
-        "colours": colours_value(alloc, &saved.colours)?,
-        "cycle": cycle_value(alloc, saved.cycle.as_slice())?,
-        "planes": planes_value(alloc, &saved.planes)?,
-        "position": saved.position,
-        "rules": rules_value(alloc, saved.rules.as_slice())?,
-        "side": saved.side,
-        "version": 2,
-    })
+    let members = with_member(alloc, members, "version", Value::from(version))?;
+    Ok(Value::Object(members))
 }
 
 fn colours_value(alloc: Global, colours: &[u64; 16]) -> Result<Value, AllocError>
@@ -128,10 +132,11 @@ fn cycle_value(alloc: Global, entries: &[NamedEntry]) -> Result<Value, AllocErro
 fn entry_value(alloc: Global, entry: &NamedEntry) -> Result<Value, AllocError>
     ensures { IfOk result (λ value. view value ≡ entry_data entry.now) }
 {
-    let a = name_text(&entry.a);
-    let b = name_text(&entry.b);
-    let grid = entry.grid.text();
-    json!(in alloc; {"a": a, "b": b, "grid": grid, "phase": entry.phase})
+    let members = with_text(alloc, Map::new(alloc), "a", name_text(&entry.a))?;
+    let members = with_text(alloc, members, "b", name_text(&entry.b))?;
+    let members = with_text(alloc, members, "grid", entry.grid.text())?;
+    let members = with_member(alloc, members, "phase", Value::from(entry.phase))?;
+    Ok(Value::Object(members))
 }
 
 /// An entry's name for a half; `-` where it has none.
@@ -178,10 +183,10 @@ fn rules_value(alloc: Global, rules: &[NamedRule]) -> Result<Value, AllocError>
 fn rule_value(alloc: Global, rule: &NamedRule) -> Result<Value, AllocError>
     ensures { IfOk result (λ value. view value ≡ rule_data rule.now) }
 {
-    let half = rule.wiring.half.text();
-    let hood = rule.wiring.hood.text();
-    let minor = rule.wiring.minor.text();
-    let name = rule.name.as_str();
-    let text = rule.text.as_str();
-    json!(in alloc; {"half": half, "hood": hood, "minor": minor, "name": name, "text": text})
+    let members = with_text(alloc, Map::new(alloc), "half", rule.wiring.half.text())?;
+    let members = with_text(alloc, members, "hood", rule.wiring.hood.text())?;
+    let members = with_text(alloc, members, "minor", rule.wiring.minor.text())?;
+    let members = with_text(alloc, members, "name", rule.name.as_str())?;
+    let members = with_text(alloc, members, "text", rule.text.as_str())?;
+    Ok(Value::Object(members))
 }
