@@ -29,8 +29,8 @@
 //! `serde_json` with its grammar in `json`, and `hex`.
 //!
 //! Read next: `faults`, `limits`, `commands` and `replies`; what they read, `fields`, `wirings` and
-//! `entries`, and what they write, `objects`; `saved`, a machine as it is written, and `loads`, as it is read; `events`, `outcomes`
-//! and `seats`; then `laws`.
+//! `entries`, and how they write, `objects`; `saved`, a machine as it is written, and `loads`, as it
+//! is read; `events`, `outcomes` and `seats`; then `laws`.
 #![tactic(auto)]
 
 mod commands;
