@@ -47,7 +47,8 @@ fn address_with(lines: &str) -> u16 {
     address
 }
 
-fn check_address(
+/// The cell at this column and row shows this address.
+pub(crate) fn check_address(
     rt: &impl Abort,
     planes: &Planes,
     hood: Hood,

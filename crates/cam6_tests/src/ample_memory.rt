@@ -110,9 +110,13 @@ fn is_refused_at_a_desk(desk: &mut Machine) -> Result<bool, NoMemory> {
 // No cycle is set.
 #[test]
 fn machines_answer_now(rt: HostRuntime) -> Result<(), NoMemory> {
-    let mut machine = Machine::new(rt.alloc(), Side::S256)?;
-    check_refused_now(&rt, &mut machine);
-    Ok(())
+    match Machine::new(rt.alloc(), Side::S256) {
+        Ok(mut machine) => {
+            check_refused_now(&rt, &mut machine);
+            Ok(())
+        }
+        Err(fault) => Err(fault),
+    }
 }
 
 fn check_refused_now(rt: &impl Abort, machine: &mut Machine) {
@@ -128,8 +132,10 @@ fn check_replies_of(rt: &impl Abort, machine: &mut Machine) -> Result<(), NoMemo
 
 #[test]
 fn machines_answer(rt: HostRuntime) -> Result<(), NoMemory> {
-    let mut machine = Machine::new(rt.alloc(), Side::S256)?;
-    check_replies_of(&rt, &mut machine)
+    match Machine::new(rt.alloc(), Side::S256) {
+        Ok(mut machine) => check_replies_of(&rt, &mut machine),
+        Err(fault) => Err(fault),
+    }
 }
 
 /// Commands of several kinds, by their number; a blank machine of 256 columns is asked all of them.
@@ -178,9 +184,13 @@ fn check_replies(rt: &impl Abort, replies: &[Reply]) {
 #[test]
 fn lists_are_answered(rt: HostRuntime) -> Result<(), NoMemory> {
     let commands = commands(rt.alloc())?;
-    let (replies, _machine) = replies_alone(rt.alloc(), Side::S256, commands)?;
-    check_replies(&rt, replies.as_slice());
-    Ok(())
+    match replies_alone(rt.alloc(), Side::S256, commands) {
+        Ok((replies, _machine)) => {
+            check_replies(&rt, replies.as_slice());
+            Ok(())
+        }
+        Err(fault) => Err(fault),
+    }
 }
 
 const NO_STEPS: &str = r#"{"do":"run","n":0}"#;
@@ -244,9 +254,13 @@ fn check_served(rt: &impl Abort, alloc: Global, machine: &mut Machine) {
 
 #[test]
 fn machines_are_served(rt: HostRuntime) -> Result<(), NoMemory> {
-    let mut machine = Machine::new(rt.alloc(), Side::S256)?;
-    check_served(&rt, rt.alloc(), &mut machine);
-    Ok(())
+    match Machine::new(rt.alloc(), Side::S256) {
+        Ok(mut machine) => {
+            check_served(&rt, rt.alloc(), &mut machine);
+            Ok(())
+        }
+        Err(fault) => Err(fault),
+    }
 }
 
 #[test]
@@ -268,8 +282,10 @@ fn asked_for(alloc: Global, command: Command) -> Result<Vec<Event>, AllocError> 
 
 /// What comes of events in a new core of one user, whose machine is of this limit.
 fn outcomes(alloc: Global, limit: Side, events: Vec<Event>) -> Result<Vec<Outcome>, NoMemory> {
-    let mut core = Core::new(alloc, 1, 1, 1, [limit].as_slice())?;
-    run(alloc, &mut core, events)
+    match Core::new(alloc, 1, 1, 1, [limit].as_slice()) {
+        Ok(mut core) => run(alloc, &mut core, events),
+        Err(fault) => Err(fault),
+    }
 }
 
 fn check_counted(rt: &impl Abort, outcomes: &[Outcome]) {
@@ -294,8 +310,10 @@ fn events_run(rt: HostRuntime) -> Result<(), NoMemory> {
 
 /// The reply that saves a blank machine of side 128.
 fn saving_reply(alloc: Global) -> Result<Reply, NoMemory> {
-    let mut machine = Machine::new(alloc, Side::S128)?;
-    machine.reply_to(Command::Save)
+    match Machine::new(alloc, Side::S128) {
+        Ok(mut machine) => machine.reply_to(Command::Save),
+        Err(fault) => Err(fault),
+    }
 }
 
 /// The command that loads what a reply saved.

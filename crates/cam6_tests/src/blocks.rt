@@ -1,5 +1,6 @@
 //! Corners of blocks, rotations in them, and addresses round a lone cell, worked out by hand.
 
+use crate::addresses::check_address;
 use crate::within::{address_of, seen_at};
 use cam6_planes::{NoMemory, Planes, Side};
 use cam6_wiring::{
@@ -80,8 +81,7 @@ fn check_round(rt: &impl Abort, planes: &Planes) {
     ] {
         let phase = Phase::P0;
         let setting = Setting { half, grid, phase };
-        let address = address_of(rt, planes, hood, Minor::Centers, setting, (x, y));
-        assert_eq!(rt; address, want, "{half:?} {hood:?} {grid:?} {x} {y}");
+        check_address(rt, planes, hood, Minor::Centers, setting, (x, y), want);
     }
 }
 

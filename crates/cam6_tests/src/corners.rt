@@ -54,12 +54,23 @@ fn check_places(
         let looking = on_side(planes.side(), cell);
         let (column, row) = on_side(planes.side(), place);
         set_row(rt, planes, plane, row, lone(column));
-        let got = seen_at(rt, planes, setting, name, looking);
-        assert!(rt; got, "{setting:?} {name:?} {looking:?}");
+        check_bit(rt, planes, setting, name, looking, true);
         set_row(rt, planes, plane, row, [0; WORDS]);
-        let got = seen_at(rt, planes, setting, name, looking);
-        assert!(rt; !got, "{setting:?} {name:?} {looking:?}");
+        check_bit(rt, planes, setting, name, looking, false);
     }
+}
+
+/// The cell at this column and row sees this bit.
+fn check_bit(
+    rt: &impl Abort,
+    planes: &Planes,
+    setting: Setting,
+    name: Name,
+    looking: (usize, usize),
+    bit: bool,
+) {
+    let got = seen_at(rt, planes, setting, name, looking);
+    assert_eq!(rt; got, bit, "{setting:?} {name:?} {looking:?}");
 }
 
 /// Unprimed names read planes 0 and 2, primed ones planes 1 and 3.
@@ -176,8 +187,7 @@ fn centres_of_the_other_half(rt: HostRuntime) -> Result<(), NoMemory> {
 fn check_bits(rt: &impl Abort, planes: &Planes, setting: Setting, name: Name, bits: [u8; 4]) {
     for (cell, bit) in CELLS.into_iter().zip(bits) {
         let looking = on_side(planes.side(), cell);
-        let got = u8::from(seen_at(rt, planes, setting, name, looking));
-        assert_eq!(rt; got, bit, "{setting:?} {name:?} {looking:?}");
+        check_bit(rt, planes, setting, name, looking, bit == 1);
     }
 }
 

@@ -1,8 +1,9 @@
 //! The lines of rows against the addresses of their cells, cell by cell, on planes without a
 //! pattern: each neighbourhood with each minor assignment, both halves, both grids, each phase.
 
+use crate::addresses::check_address;
 use crate::corners::SIDES;
-use crate::within::{address_of, lines_of, set_row, shown_at};
+use crate::within::{lines_of, set_row, shown_at};
 use cam6_planes::{NoMemory, Planes, Side, WORDS};
 use cam6_wiring::{Grid, Half, Hood, Minor, Phase, Setting};
 use std::alloc::Global;
@@ -56,8 +57,7 @@ fn check_row(
     let lines = lines_of(rt, planes, hood, minor, setting, y);
     for x in 0..planes.side().number() {
         let shown = shown_at(rt, &lines, x);
-        let address = address_of(rt, planes, hood, minor, setting, (x, y));
-        assert_eq!(rt; shown, address, "{hood:?} {minor:?} {setting:?} {x} {y}");
+        check_address(rt, planes, hood, minor, setting, (x, y), shown);
     }
 }
 

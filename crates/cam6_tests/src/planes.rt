@@ -44,8 +44,7 @@ fn check_rows(rt: &impl Abort, planes: &Planes) {
             } else {
                 [0; WORDS]
             };
-            let got = row_of(rt, planes, plane, row);
-            assert_eq!(rt; got, want, "row {row} of plane {plane}");
+            check_row(rt, planes, plane, row, want);
         }
     }
 }
@@ -72,6 +71,11 @@ fn a_row_takes_the_place_of_one(rt: HostRuntime) -> Result<(), Fail> {
         set_row(&rt, &mut planes, plane, row, ROW);
     }
     set_row(&rt, &mut planes, 2, 255, [0, 7, 0, 0, 0, 0, 0, 0]);
+    check_beside(&rt, &planes);
+    Ok(())
+}
+
+fn check_beside(rt: &impl Abort, planes: &Planes) {
     for (plane, row, want) in [
         (0, 255, [0; WORDS]),
         (1, 255, ROW),
@@ -80,10 +84,13 @@ fn a_row_takes_the_place_of_one(rt: HostRuntime) -> Result<(), Fail> {
         (2, 255, [0, 7, 0, 0, 0, 0, 0, 0]),
         (3, 255, ROW),
     ] {
-        let got = row_of(&rt, &planes, plane, row);
-        assert_eq!(rt; got, want, "row {row} of {plane}");
+        check_row(rt, planes, plane, row, want);
     }
-    Ok(())
+}
+
+fn check_row(rt: &impl Abort, planes: &Planes, plane: usize, row: usize, want: Row) {
+    let got = row_of(rt, planes, plane, row);
+    assert_eq!(rt; got, want, "row {row} of plane {plane}");
 }
 
 #[test]
@@ -95,10 +102,10 @@ fn copies(rt: HostRuntime) -> Result<(), Fail> {
     copy.set_row_words(1, 7, ROW);
     copy.copy_from(&planes);
     planes.set_row_words(0, 0, [0; WORDS]);
-    assert_eq!(rt; copy.row_words(0, 0), ROW);
-    assert_eq!(rt; copy.row_words(3, 255), ROW);
-    assert_eq!(rt; copy.row_words(1, 7), [0; WORDS]);
-    assert_eq!(rt; planes.row_words(0, 0), [0; WORDS]);
+    check_row(&rt, &copy, 0, 0, ROW);
+    check_row(&rt, &copy, 3, 255, ROW);
+    check_row(&rt, &copy, 1, 7, [0; WORDS]);
+    check_row(&rt, &planes, 0, 0, [0; WORDS]);
     Ok(())
 }
 
@@ -107,15 +114,19 @@ fn copies(rt: HostRuntime) -> Result<(), Fail> {
 fn sides_change(rt: HostRuntime) -> Result<(), Fail> {
     let mut planes = Planes::blank(rt.alloc(), Side::S512)?;
     planes.set_row_words(0, 511, [1; WORDS]);
-    assert_eq!(rt; planes.row_words(0, 511), [1; WORDS]);
+    check_row(&rt, &planes, 0, 511, [1; WORDS]);
     planes.set_side(Side::S128);
-    assert_eq!(rt; planes.row_words(0, 127), [0; WORDS]);
+    check_row(&rt, &planes, 0, 127, [0; WORDS]);
     planes.set_row_words(0, 127, [1; WORDS]);
     let want = [1, 1, 0, 0, 0, 0, 0, 0];
-    assert_eq!(rt; planes.row_words(0, 127), want);
+    check_row(&rt, &planes, 0, 127, want);
     let mut copy = Planes::blank(rt.alloc(), Side::S256)?;
     copy.copy_from(&planes);
-    assert!(rt; copy.side() == Side::S128 && copy.limit() == Side::S256);
-    assert_eq!(rt; copy.row_words(0, 127), want);
+    check_sides(&rt, &copy, Side::S128, Side::S256);
+    check_row(&rt, &copy, 0, 127, want);
     Ok(())
+}
+
+fn check_sides(rt: &impl Abort, planes: &Planes, side: Side, limit: Side) {
+    assert!(rt; planes.side() == side && planes.limit() == limit);
 }

@@ -1,6 +1,7 @@
 //! One row of a plane: its columns moved round the torus, and as bytes, words, digits and columns.
 
 use cam6_planes::{COLUMNS, DIGITS, Planes, Row, Side, WORDS, bits_of_digits, east, west};
+use std::process::Abort;
 use std::test::Fail;
 
 /// A row of which one column is set.
@@ -34,9 +35,14 @@ fn lone_columns_move(rt: HostRuntime) {
         (Side::S512, 511, 0, 510),
     ] {
         let row = lone(column);
-        assert_eq!(rt; west(&row, side), lone(its_east), "column {column}");
-        assert_eq!(rt; east(&row, side), lone(its_west), "column {column}");
+        check_lone(&rt, column, west(&row, side), its_east);
+        check_lone(&rt, column, east(&row, side), its_west);
     }
+}
+
+/// A row that came of one with this lone column has the other one alone.
+fn check_lone(rt: &impl Abort, column: usize, moved: Row, want: usize) {
+    assert_eq!(rt; moved, lone(want), "column {column}");
 }
 
 // Every digit, and the first and the last column of the last word.
@@ -73,15 +79,19 @@ fn row_bytes() -> [u8; 32] {
 fn digits_bytes_and_words(rt: HostRuntime) -> Result<(), Fail> {
     let mut planes = Planes::blank(rt.alloc(), Side::S256)?;
     planes.put_row(0, 0, &row_bytes());
-    assert_eq!(rt; planes.row_words(0, 0), ROW);
-    let mut text = [0; DIGITS];
-    assert_eq!(rt; planes.row_hex(0, 0, &mut text), 64);
-    assert_eq!(rt; &text[..64], TEXT);
+    check_row(&rt, &planes, 0, 0);
     planes.set_row_words(3, 255, ROW);
-    let mut text = [0; DIGITS];
-    assert_eq!(rt; planes.row_hex(3, 255, &mut text), 64);
-    assert_eq!(rt; &text[..64], TEXT);
+    check_row(&rt, &planes, 3, 255);
     Ok(())
+}
+
+/// The words and the digits of a row.
+fn check_row(rt: &impl Abort, planes: &Planes, plane: usize, row: usize) {
+    assert!(rt; planes.side().number() == 256 && plane < 4 && row < 256);
+    assert_eq!(rt; planes.row_words(plane, row), ROW);
+    let mut text = [0; DIGITS];
+    assert_eq!(rt; planes.row_hex(plane, row, &mut text), 64);
+    assert_eq!(rt; &text[..64], TEXT);
 }
 
 const UPPER_CASE: &[u8] = b"0123456789ABCDEFFEDCBA987654321000000000000000008000000000000001";

@@ -66,10 +66,17 @@ fn read_at(
 
 /// What comes of a session with this reader and bound, if so many lines are to be answered.
 fn session(alloc: Global, reader: Shown, turns: u64, lines: usize) -> Result<Came, NoMemory> {
-    let mut desk = Desk::new(alloc, 9)?;
-    let (end, is_written) = read_at(alloc, reader, turns, &mut desk, answers_to_first(lines));
+    match Desk::new(alloc, 9) {
+        Ok(mut desk) => Ok(session_at(alloc, reader, turns, lines, &mut desk)),
+        Err(fault) => Err(fault),
+    }
+}
+
+/// So it is over this desk.
+fn session_at(alloc: Global, reader: Shown, turns: u64, lines: usize, desk: &mut Desk) -> Came {
+    let (end, is_written) = read_at(alloc, reader, turns, desk, answers_to_first(lines));
     let stands = stands_after(alloc, lines, &mut desk.machine);
-    Ok((end, is_written, stands))
+    (end, is_written, stands)
 }
 
 /// A reader that fails after so many looks, and a bound of so many turns, end a session behind so
@@ -144,11 +151,24 @@ fn written_at(
 /// What comes of a session with a writer that fails after so many calls, if so many lines are to be
 /// answered. The command of the line being answered is done.
 fn written(alloc: Global, failure: Failure, calls: usize, lines: usize) -> Result<Came, NoMemory> {
-    let mut desk = Desk::new(alloc, 9)?;
+    match Desk::new(alloc, 9) {
+        Ok(mut desk) => Ok(written_over(alloc, failure, calls, lines, &mut desk)),
+        Err(fault) => Err(fault),
+    }
+}
+
+/// So it is over this desk.
+fn written_over(
+    alloc: Global,
+    failure: Failure,
+    calls: usize,
+    lines: usize,
+    desk: &mut Desk,
+) -> Came {
     let want = ANSWERS.get(..bytes_of(calls)).unwrap_or(ANSWERS);
-    let (end, is_written) = written_at(alloc, failure, calls, &mut desk, want);
+    let (end, is_written) = written_at(alloc, failure, calls, desk, want);
     let stands = stands_after(alloc, lines.saturating_add(1), &mut desk.machine);
-    Ok((end, is_written, stands))
+    (end, is_written, stands)
 }
 
 // The answer to a line takes a call for each byte, and a flush. A flush takes no byte, so where a
@@ -192,8 +212,10 @@ fn served_at(alloc: Global, desk: &mut Desk, line: &'static [u8]) -> CameAgain {
 
 /// So it is over a desk that answers so many commands.
 fn served_again(alloc: Global, answers: usize, line: &'static [u8]) -> Result<CameAgain, NoMemory> {
-    let mut desk = Desk::new(alloc, answers)?;
-    Ok(served_at(alloc, &mut desk, line))
+    match Desk::new(alloc, answers) {
+        Ok(mut desk) => Ok(served_at(alloc, &mut desk, line)),
+        Err(fault) => Err(fault),
+    }
 }
 
 // A desk that found no memory for a line stands where it stood, and the reader behind that line.
@@ -207,9 +229,20 @@ fn desks_find_no_memory_at_each_call(rt: HostRuntime) -> Result<(), Fail> {
         (2, not_done, 40, &LINES[93..], &LINES[111..]),
         (3, End::EndOfInput, 66, &LINES[111..], &LINES[111..]),
     ] {
-        let got = served_again(rt.alloc(), answers, line)?;
         let want = ([want, End::EndOfInput], written, rest, true);
-        assert_eq!(rt; got, want, "{answers}");
+        check_served_again(&rt, rt.alloc(), answers, line, want)?;
     }
+    Ok(())
+}
+
+fn check_served_again(
+    rt: &impl Abort,
+    alloc: Global,
+    answers: usize,
+    line: &'static [u8],
+    want: CameAgain,
+) -> Result<(), NoMemory> {
+    let got = served_again(alloc, answers, line)?;
+    assert_eq!(rt; got, want, "{answers}");
     Ok(())
 }

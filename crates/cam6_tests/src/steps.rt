@@ -68,8 +68,10 @@ fn position(machine: &mut Machine) -> Result<Option<usize>, NoMemory> {
 // None of them is done here, so the position stays.
 #[test]
 fn steps_are_left(rt: HostRuntime) -> Result<(), NoMemory> {
-    let mut machine = Machine::new(rt.alloc(), Side::S256)?;
-    check_left(&rt, rt.alloc(), &mut machine)
+    match Machine::new(rt.alloc(), Side::S256) {
+        Ok(mut machine) => check_left(&rt, rt.alloc(), &mut machine),
+        Err(fault) => Err(fault),
+    }
 }
 
 fn check_left(rt: &impl Abort, alloc: Global, machine: &mut Machine) -> Result<(), NoMemory> {
@@ -89,9 +91,13 @@ fn check_left(rt: &impl Abort, alloc: Global, machine: &mut Machine) -> Result<(
 // Without a cycle a run is refused, and a plane is shown at once.
 #[test]
 fn no_steps_are_left(rt: HostRuntime) -> Result<(), NoMemory> {
-    let mut machine = Machine::new(rt.alloc(), Side::S256)?;
-    check_none_left(&rt, &mut machine);
-    Ok(())
+    match Machine::new(rt.alloc(), Side::S256) {
+        Ok(mut machine) => {
+            check_none_left(&rt, &mut machine);
+            Ok(())
+        }
+        Err(fault) => Err(fault),
+    }
 }
 
 fn check_none_left(rt: &impl Abort, machine: &mut Machine) {
@@ -103,10 +109,15 @@ fn check_none_left(rt: &impl Abort, machine: &mut Machine) {
 // is joined where it stood.
 #[test]
 fn machines_come_apart(rt: HostRuntime) -> Result<(), NoMemory> {
-    let mut machine = Machine::new(rt.alloc(), Side::S256)?;
-    take_a_step(&rt, rt.alloc(), &mut machine)?;
-    let mut joined = parted(&rt, machine);
-    check_joined(&rt, &mut joined);
+    match Machine::new(rt.alloc(), Side::S256) {
+        Ok(machine) => check_parts(&rt, rt.alloc(), machine),
+        Err(fault) => Err(fault),
+    }
+}
+
+fn check_parts(rt: &impl Abort, alloc: Global, mut machine: Machine) -> Result<(), NoMemory> {
+    take_a_step(rt, alloc, &mut machine)?;
+    check_joined(rt, &mut parted(rt, machine));
     Ok(())
 }
 
@@ -139,10 +150,16 @@ fn check_joined(rt: &impl Abort, joined: &mut Machine) {
 fn doubled(alloc: Global, first: &str, last: u32) -> Result<String, AllocError> {
     let mut text = String::from_str(alloc, first)?;
     for k in 1..=last {
-        let before = k - 1;
-        text.push_str(&format!(in alloc; " : A{k} A{before} A{before} ;")?)?;
+        add_doubled(alloc, &mut text, k)?;
     }
     Ok(text)
+}
+
+/// Adds the definition of this number.
+fn add_doubled(alloc: Global, text: &mut String, k: u32) -> Result<(), AllocError> {
+    let before = k.saturating_sub(1);
+    let definition = format!(in alloc; " : A{k} A{before} A{before} ;")?;
+    text.push_str(&definition)
 }
 
 /// The rule of those definitions.
