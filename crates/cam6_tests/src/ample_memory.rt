@@ -110,13 +110,10 @@ fn is_refused_at_a_desk(desk: &mut Machine) -> Result<bool, NoMemory> {
 // No cycle is set.
 #[test]
 fn machines_answer_now(rt: HostRuntime) -> Result<(), NoMemory> {
-    match Machine::new(rt.alloc(), Side::S256) {
-        Ok(mut machine) => {
-            check_refused_now(&rt, &mut machine);
-            Ok(())
-        }
-        Err(fault) => Err(fault),
-    }
+    let mut machine = Machine::new(rt.alloc(), Side::S256)?;
+    check_refused_now(&rt, &mut machine);
+    drop(machine);
+    Ok(())
 }
 
 fn check_refused_now(rt: &impl Abort, machine: &mut Machine) {
@@ -132,10 +129,10 @@ fn check_replies_of(rt: &impl Abort, machine: &mut Machine) -> Result<(), NoMemo
 
 #[test]
 fn machines_answer(rt: HostRuntime) -> Result<(), NoMemory> {
-    match Machine::new(rt.alloc(), Side::S256) {
-        Ok(mut machine) => check_replies_of(&rt, &mut machine),
-        Err(fault) => Err(fault),
-    }
+    let mut machine = Machine::new(rt.alloc(), Side::S256)?;
+    let checked = check_replies_of(&rt, &mut machine);
+    drop(machine);
+    checked
 }
 
 /// Commands of several kinds, by their number; a blank machine of 256 columns is asked all of them.
@@ -184,13 +181,9 @@ fn check_replies(rt: &impl Abort, replies: &[Reply]) {
 #[test]
 fn lists_are_answered(rt: HostRuntime) -> Result<(), NoMemory> {
     let commands = commands(rt.alloc())?;
-    match replies_alone(rt.alloc(), Side::S256, commands) {
-        Ok((replies, _machine)) => {
-            check_replies(&rt, replies.as_slice());
-            Ok(())
-        }
-        Err(fault) => Err(fault),
-    }
+    let (replies, _machine) = replies_alone(rt.alloc(), Side::S256, commands)?;
+    check_replies(&rt, replies.as_slice());
+    Ok(())
 }
 
 const NO_STEPS: &str = r#"{"do":"run","n":0}"#;
@@ -254,13 +247,10 @@ fn check_served(rt: &impl Abort, alloc: Global, machine: &mut Machine) {
 
 #[test]
 fn machines_are_served(rt: HostRuntime) -> Result<(), NoMemory> {
-    match Machine::new(rt.alloc(), Side::S256) {
-        Ok(mut machine) => {
-            check_served(&rt, rt.alloc(), &mut machine);
-            Ok(())
-        }
-        Err(fault) => Err(fault),
-    }
+    let mut machine = Machine::new(rt.alloc(), Side::S256)?;
+    check_served(&rt, rt.alloc(), &mut machine);
+    drop(machine);
+    Ok(())
 }
 
 #[test]
@@ -282,10 +272,10 @@ fn asked_for(alloc: Global, command: Command) -> Result<Vec<Event>, AllocError> 
 
 /// What comes of events in a new core of one user, whose machine is of this limit.
 fn outcomes(alloc: Global, limit: Side, events: Vec<Event>) -> Result<Vec<Outcome>, NoMemory> {
-    match Core::new(alloc, 1, 1, 1, [limit].as_slice()) {
-        Ok(mut core) => run(alloc, &mut core, events),
-        Err(fault) => Err(fault),
-    }
+    let mut core = Core::new(alloc, 1, 1, 1, [limit].as_slice())?;
+    let outcomes = run(alloc, &mut core, events);
+    drop(core);
+    outcomes
 }
 
 fn check_counted(rt: &impl Abort, outcomes: &[Outcome]) {
@@ -310,10 +300,10 @@ fn events_run(rt: HostRuntime) -> Result<(), NoMemory> {
 
 /// The reply that saves a blank machine of side 128.
 fn saving_reply(alloc: Global) -> Result<Reply, NoMemory> {
-    match Machine::new(alloc, Side::S128) {
-        Ok(mut machine) => machine.reply_to(Command::Save),
-        Err(fault) => Err(fault),
-    }
+    let mut machine = Machine::new(alloc, Side::S128)?;
+    let reply = machine.reply_to(Command::Save);
+    drop(machine);
+    reply
 }
 
 /// The command that loads what a reply saved.

@@ -66,10 +66,10 @@ fn read_at(
 
 /// What comes of a session with this reader and bound, if so many lines are to be answered.
 fn session(alloc: Global, reader: Shown, turns: u64, lines: usize) -> Result<Came, NoMemory> {
-    match Desk::new(alloc, 9) {
-        Ok(mut desk) => Ok(session_at(alloc, reader, turns, lines, &mut desk)),
-        Err(fault) => Err(fault),
-    }
+    let mut desk = Desk::new(alloc, 9)?;
+    let came = session_at(alloc, reader, turns, lines, &mut desk);
+    drop(desk);
+    Ok(came)
 }
 
 /// So it is over this desk.
@@ -151,10 +151,10 @@ fn written_at(
 /// What comes of a session with a writer that fails after so many calls, if so many lines are to be
 /// answered. The command of the line being answered is done.
 fn written(alloc: Global, failure: Failure, calls: usize, lines: usize) -> Result<Came, NoMemory> {
-    match Desk::new(alloc, 9) {
-        Ok(mut desk) => Ok(written_over(alloc, failure, calls, lines, &mut desk)),
-        Err(fault) => Err(fault),
-    }
+    let mut desk = Desk::new(alloc, 9)?;
+    let came = written_over(alloc, failure, calls, lines, &mut desk);
+    drop(desk);
+    Ok(came)
 }
 
 /// So it is over this desk.
@@ -212,10 +212,10 @@ fn served_at(alloc: Global, desk: &mut Desk, line: &'static [u8]) -> CameAgain {
 
 /// So it is over a desk that answers so many commands.
 fn served_again(alloc: Global, answers: usize, line: &'static [u8]) -> Result<CameAgain, NoMemory> {
-    match Desk::new(alloc, answers) {
-        Ok(mut desk) => Ok(served_at(alloc, &mut desk, line)),
-        Err(fault) => Err(fault),
-    }
+    let mut desk = Desk::new(alloc, answers)?;
+    let came = served_at(alloc, &mut desk, line);
+    drop(desk);
+    Ok(came)
 }
 
 // A desk that found no memory for a line stands where it stood, and the reader behind that line.

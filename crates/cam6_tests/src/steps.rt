@@ -68,10 +68,10 @@ fn position(machine: &mut Machine) -> Result<Option<usize>, NoMemory> {
 // None of them is done here, so the position stays.
 #[test]
 fn steps_are_left(rt: HostRuntime) -> Result<(), NoMemory> {
-    match Machine::new(rt.alloc(), Side::S256) {
-        Ok(mut machine) => check_left(&rt, rt.alloc(), &mut machine),
-        Err(fault) => Err(fault),
-    }
+    let mut machine = Machine::new(rt.alloc(), Side::S256)?;
+    let checked = check_left(&rt, rt.alloc(), &mut machine);
+    drop(machine);
+    checked
 }
 
 fn check_left(rt: &impl Abort, alloc: Global, machine: &mut Machine) -> Result<(), NoMemory> {
@@ -91,13 +91,10 @@ fn check_left(rt: &impl Abort, alloc: Global, machine: &mut Machine) -> Result<(
 // Without a cycle a run is refused, and a plane is shown at once.
 #[test]
 fn no_steps_are_left(rt: HostRuntime) -> Result<(), NoMemory> {
-    match Machine::new(rt.alloc(), Side::S256) {
-        Ok(mut machine) => {
-            check_none_left(&rt, &mut machine);
-            Ok(())
-        }
-        Err(fault) => Err(fault),
-    }
+    let mut machine = Machine::new(rt.alloc(), Side::S256)?;
+    check_none_left(&rt, &mut machine);
+    drop(machine);
+    Ok(())
 }
 
 fn check_none_left(rt: &impl Abort, machine: &mut Machine) {
@@ -109,15 +106,11 @@ fn check_none_left(rt: &impl Abort, machine: &mut Machine) {
 // is joined where it stood.
 #[test]
 fn machines_come_apart(rt: HostRuntime) -> Result<(), NoMemory> {
-    match Machine::new(rt.alloc(), Side::S256) {
-        Ok(machine) => check_parts(&rt, rt.alloc(), machine),
-        Err(fault) => Err(fault),
-    }
-}
-
-fn check_parts(rt: &impl Abort, alloc: Global, mut machine: Machine) -> Result<(), NoMemory> {
-    take_a_step(rt, alloc, &mut machine)?;
-    check_joined(rt, &mut parted(rt, machine));
+    let mut machine = Machine::new(rt.alloc(), Side::S256)?;
+    take_a_step(&rt, rt.alloc(), &mut machine)?;
+    let mut joined = parted(&rt, machine);
+    check_joined(&rt, &mut joined);
+    drop(joined);
     Ok(())
 }
 
