@@ -150,7 +150,8 @@ def limits_of(player, path):
             mark, _, rest = line.partition(" ")
             if mark == "as":
                 way, _, within = rest.partition(" within ")
-                limit, is_begun = int(within or 256), way != "session"
+                is_begun = way != "session"
+                limit = 256 if is_begun else int(within or 256)
             if mark in (">", ">>") and not is_begun:
                 limits.append(limit)
                 is_begun = True
