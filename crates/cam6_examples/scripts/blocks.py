@@ -1,5 +1,5 @@
 #!/usr/bin/env python3
-"""Writes inverses.example of cam6_play_rules/data, and with the word `refused` inverses_refused.example: the tables
+"""Writes inverses.example of cam6_play_sessions/data, and with the word `refused` inverses_refused.example: the tables
 that undo those of rules, and rules for which there is none.
 
 Shares nothing with the program. A rule is a plain formula over what a place of a block sees; each of the 256

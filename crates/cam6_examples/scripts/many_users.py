@@ -1,5 +1,5 @@
 #!/usr/bin/env python3
-"""Writes many_users.example of cam6_play_workers/data: 32 users with rules, pictures and runs of their own, which eight
+"""Writes many_users.example of cam6_play_places/data: 32 users with rules, pictures and runs of their own, which eight
 workers do at once while a gate takes commands off boards by chance.
 
 Shares nothing with the program: what each user is answered is what a machine alone of `hosts` does, in plain steps over

@@ -84,16 +84,26 @@ pub fn read_example<W: Way>(
         side: Side::S256,
         pending: Pending::Nothing,
     };
-    let mut lines: usize = 0;
-    for line in text.split('\n') {
-        lines = lines.saturating_add(1);
-        reading.read_line(alloc, line).map_err(|e| (lines, e))?;
+    match reading.read_lines(alloc, text) {
+        Ok(()) => Ok(reading.parts),
+        Err(fault) => {
+            drop(reading);
+            Err(fault)
+        }
     }
-    reading.end_rows(alloc).map_err(|e| (lines, e))?;
-    Ok(reading.parts)
 }
 
 impl<W: Way> Reading<W> {
+    /// Reads all lines. What can't be played is told with its line, counted from 1.
+    fn read_lines(&mut self, alloc: Global, text: &str) -> Result<(), (usize, Unplayable)> {
+        let mut lines: usize = 0;
+        for line in text.split('\n') {
+            lines = lines.saturating_add(1);
+            self.read_line(alloc, line).map_err(|e| (lines, e))?;
+        }
+        self.end_rows(alloc).map_err(|e| (lines, e))
+    }
+
     fn read_line(&mut self, alloc: Global, line: &str) -> Result<(), Unplayable> {
         let (mark, rest) = line.split_once(' ').unwrap_or((line, ""));
         if let "=" | "@" | "|" = mark {
@@ -192,16 +202,26 @@ impl<W: Way> Reading<W> {
     /// Sends a `set` of each row that was read, and wants each to be done.
     fn send_rows(&mut self, alloc: Global, rows: &Rows, plane: &str) -> Result<(), Unplayable> {
         for y in 0..rows.len() {
-            let Some(digits) = rows.named(y) else {
-                continue;
-            };
-            let bits = str::from_utf8(digits).unwrap_or("");
-            let line = format!(in alloc;
-                r#"{{"do":"set","plane":{plane},"row":{y},"bits":"{bits}"}}"#
-            )?;
-            self.send_text(alloc, line.as_str(), true)?;
-            self.want(alloc, r#"{"ok":"set"}"#)?;
+            if let Some(digits) = rows.named(y) {
+                self.send_row(alloc, y, digits, plane)?;
+            }
         }
         Ok(())
+    }
+
+    /// Sends a `set` of one row.
+    fn send_row(
+        &mut self,
+        alloc: Global,
+        y: usize,
+        digits: &[u8],
+        plane: &str,
+    ) -> Result<(), Unplayable> {
+        let bits = str::from_utf8(digits).unwrap_or("");
+        let line = format!(in alloc;
+            r#"{{"do":"set","plane":{plane},"row":{y},"bits":"{bits}"}}"#
+        )?;
+        self.send_text(alloc, line.as_str(), true)?;
+        self.want(alloc, r#"{"ok":"set"}"#)
     }
 }

@@ -9,7 +9,7 @@
 //!
 //! Read next: `examples`, a file line by line; `repeats` and `rows`, its texts and its planes;
 //! `ways`, what a program has of its own; then `players`, and the programs `cam6_play_sessions` and
-//! `cam6_play_rules`, beside which the examples lie.
+//! `cam6_play_places`, beside which the examples lie.
 #![tactic(auto)]
 
 mod answers;

@@ -115,20 +115,22 @@ impl Rows {
 /// A row's digits, so many, with zeros for its `*`. None where there are too many, or too few
 /// without `*`.
 fn all_digits(text: &str, count: usize) -> Option<[u8; DIGITS]> {
-    let mut digits = [b'0'; DIGITS];
     let (first, last) = text.split_once('*').unwrap_or((text, ""));
     let given = first.len().saturating_add(last.len());
     if given > count || given < count && !text.contains('*') {
         return None;
     }
-    for (digit, byte) in digits.iter_mut().zip(first.bytes()) {
-        *digit = byte;
-    }
-    let zeros = count.saturating_sub(last.len());
-    for (digit, byte) in digits.iter_mut().skip(zeros).zip(last.bytes()) {
-        *digit = byte;
-    }
+    let mut digits = [b'0'; DIGITS];
+    write_over(digits.as_mut_slice(), first);
+    write_over(digits.get_mut(count.saturating_sub(last.len())..)?, last);
     Some(digits)
+}
+
+/// Writes a text over the first digits, as far as these go.
+fn write_over(digits: &mut [u8], text: &str) {
+    for (digit, byte) in digits.iter_mut().zip(text.bytes()) {
+        *digit = byte;
+    }
 }
 
 /// Sets a cell in its row; column 0 is the highest bit of the first digit.

@@ -1,15 +1,15 @@
-//! Plays the worked examples of boards, of places and of desks: what becomes of a command while it
-//! is out on a board, below the table that hands commands to boards, at the place of one user, and at
-//! the table itself.
+//! Plays the worked examples of boards, of places, of desks and of workers: what becomes of a command
+//! while it is out on a board, below the table that hands commands to boards, at the place of one
+//! user, at the table itself, and between threads.
 //!
-//! The words name files of `data/`; `play` of `cam6_examples` says what they ask for, and does all
+//! The words name files of `data/`; `play_by` of `cam6_examples` says what they ask for, and does all
 //! but the ways. The program makes no claim of its own beyond being safe.
 //!
 //! Stands on: `cam6_examples`, how files are read and compared; `cam6_board`, `cam6_machine`,
-//! `cam6_slot`, `cam6_station`, `cam6_handoff`, `cam6_wire` and what they stand on.
+//! `cam6_slot`, `cam6_station`, `cam6_handoff`, `cam6_pool`, `cam6_wire` and what they stand on.
 //!
-//! Read next: `data/`, the examples; `ways`, how they are played; then `boards`, `places` and
-//! `desks`, one module for each way.
+//! Read next: `data/`, the examples; `ways`, how they are played; then `boards`, `places`, `desks`
+//! and `workers`, one module for each way.
 #![tactic(auto)]
 
 mod answers;
@@ -17,12 +17,13 @@ mod boards;
 mod desks;
 mod places;
 mod ways;
+mod workers;
 
-use cam6_examples::play;
+use cam6_examples::{Sent, play_by};
 use std::io;
 use std::process::ExitCode;
 use ways::AnyWay;
 
 fn main(rt: HostRuntime) -> io::Result<ExitCode> {
-    play::<AnyWay, HostRuntime>(&rt)
+    play_by(&rt, &|way: &AnyWay, sent: &[Sent]| way.played(rt, sent))
 }

@@ -1,5 +1,5 @@
-//! Plays the worked examples of sessions, of lines as they are read, and of events: what happens to
-//! users and boards, and what comes of it.
+//! Plays the worked examples of sessions, of lines as they are read, of rules and their tables, and
+//! of events: what happens to users and boards, and what comes of it.
 //!
 //! The arguments name files of `data/`. `play` of `cam6_examples` says what they ask for, and does all
 //! but the ways. After the argument `scarce` it does what takes memory, for runs in which an allocation
@@ -9,8 +9,9 @@
 //! Stands on: `cam6_examples`, how files are read and compared; `cam6_session` and all below it;
 //! `cam6_cache`.
 //!
-//! Read next: `data/`, the examples; `ways`, how they are played; `sessions` and `command_lines`;
-//! `event_ways`, with what a core begins, `event_lines` and `event_players`; then `scarce`.
+//! Read next: `data/`, the examples; `ways`, how they are played; `rules`; `sessions` and
+//! `command_lines`; `event_ways`, with what a core begins, `event_lines` and `event_players`; then
+//! `scarce`.
 #![tactic(auto)]
 
 mod command_lines;
@@ -20,6 +21,7 @@ mod event_ways;
 mod lists;
 mod loads;
 mod resumed;
+mod rules;
 mod scarce;
 mod sessions;
 mod ways;

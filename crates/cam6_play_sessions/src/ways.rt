@@ -1,6 +1,7 @@
-//! The ways in which lines are played.
+//! The ways in which lines are played, texts of rules among them.
 
 use crate::event_ways::EventWay;
+use crate::rules::RuleWay;
 use crate::sessions;
 use cam6_examples::{Played, Sent, Unplayable, Way, limit_of};
 use cam6_planes::Side;
@@ -17,6 +18,8 @@ pub enum LineWay {
     Readings,
     /// Lines of events, to a core.
     Events(EventWay),
+    /// Texts of rules, and what is asked of a cache.
+    Rules(RuleWay),
 }
 
 impl Way for LineWay {
@@ -25,7 +28,7 @@ impl Way for LineWay {
             ("session", limit) => limit_of(limit).map(LineWay::Session),
             ("readings", "") => Ok(LineWay::Readings),
             ("events", sizes) => EventWay::read(alloc, sizes).map(LineWay::Events),
-            _ => Err(Unplayable::Unread),
+            _ => RuleWay::read(alloc, words).map(LineWay::Rules),
         }
     }
 
@@ -40,6 +43,7 @@ impl Played for LineWay {
             LineWay::Session(limit) => sessions::answered(alloc, *limit, sent),
             LineWay::Readings => Ok(vec![in alloc; sessions::read(alloc, sent)?]?),
             LineWay::Events(way) => way.played(alloc, sent),
+            LineWay::Rules(way) => way.played(alloc, sent),
         }
     }
 }

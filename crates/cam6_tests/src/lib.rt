@@ -1,5 +1,5 @@
 //! Tests of what no line, no text of a rule and no list of commands can show. All else that is
-//! tested is a file that `cam6_play_sessions` or `cam6_play_rules` plays.
+//! tested is a file that a player plays, `cam6_play_sessions` or another one.
 //!
 //! They stand above the other crates and call their public functions alone, so that those crates
 //! are proved once. The program has its own, since no crate can call a program.

@@ -1,0 +1,251 @@
+//! Users, each with a desk, or with a thread that asks at it.
+ghost use Rattle.std.specs.Prelude.{◌≡◌, false};
+ghost use Rattle.cam6_handoff.specs.Standing.{is_waiting};
+
+use crate::workers::alone::{Told, is_same, put_at, text_of};
+use crate::workers::answers::Answer;
+use crate::workers::holds::{LOOKS, pause};
+use crate::workers::houses::{Handle, House, Present};
+use cam6_commands::{Command, Reply};
+use cam6_examples::no_memory;
+use cam6_handoff::Desk;
+use cam6_planes::Side;
+use cam6_wire::{LineFault, fault_text, read_command};
+use std::alloc::Global;
+use std::sync::Arc;
+use std::thread::{JoinHandle, spawn};
+use std::time::Clock;
+use std::{io, mem};
+
+/// What a thread comes back with that asked at a desk.
+#[derive(Drop)]
+pub struct Spoken {
+    desk: Desk,
+    /// None where there was no memory for it.
+    reply: Option<Reply>,
+}
+
+/// What a thread takes along that asks at a desk.
+#[derive(Drop)]
+struct Errand {
+    user: u8,
+    desk: Desk,
+    command: Command,
+}
+
+/// A user, who may ask at his desk.
+#[derive(Drop)]
+pub struct User {
+    number: u8,
+    /// His desk, unless a thread has it.
+    desk: Option<Desk>,
+    /// The thread that has his desk.
+    thread: Option<JoinHandle<Spoken>>,
+    /// All that he asked. The last reply is empty while it isn't there.
+    told: Vec<Told>,
+}
+
+impl User {
+    pub fn new(alloc: Global, number: u8, desk: Desk) -> User {
+        User {
+            number,
+            desk: Some(desk),
+            thread: None,
+            told: Vec::new(alloc),
+        }
+    }
+
+    /// The command is asked at the desk, and waited for.
+    pub fn ask<R: Handle>(&mut self, house: &House<R>, line: &str) -> io::Result<Answer> {
+        let Some(desk) = self.desk() else {
+            return Ok(Answer::Is(false));
+        };
+        let answer = answer_at(house, desk, line)?;
+        if let Answer::Text(text) = &answer {
+            self.keep(house.rt.alloc(), line, text.as_str())?;
+        }
+        Ok(answer)
+    }
+
+    /// Keeps a command that was asked, and its reply.
+    fn keep(&mut self, alloc: Global, command: &str, reply: &str) -> io::Result<()> {
+        let told = Told::new(alloc, command, reply)?;
+        self.told.push(told)?;
+        Ok(())
+    }
+
+    /// The command is asked by a thread of its own.
+    pub fn start<R: Handle + Send + Sync + 'static>(
+        &mut self,
+        house: &Arc<House<R>>,
+        line: &str,
+    ) -> io::Result<Answer> {
+        if self.desk().is_none() {
+            return Ok(Answer::Is(false));
+        }
+        match read_command(house.rt.alloc(), line.as_bytes()) {
+            Ok(command) => {
+                self.send(house, command)?;
+                self.keep(house.rt.alloc(), line, "")?;
+                Ok(Answer::Started)
+            }
+            Err(fault) => fault_answer(fault),
+        }
+    }
+
+    /// A thread goes off with the desk, to ask the command there.
+    fn send<R: Handle + Send + Sync + 'static>(
+        &mut self,
+        house: &Arc<House<R>>,
+        command: Command,
+    ) -> io::Result<()> {
+        let theirs = Arc::try_clone(house)?;
+        if let Some(desk) = self.desk.take() {
+            let user = self.number;
+            let thread = start(
+                house,
+                theirs,
+                Errand {
+                    user,
+                    desk,
+                    command,
+                },
+            );
+            drop(mem::replace(&mut self.thread, thread));
+        }
+        if self.thread.is_none() {
+            return Err(no_memory());
+        }
+        Ok(())
+    }
+
+    /// What the thread asked for is waited for.
+    pub fn join<R: Handle>(&mut self, rt: &R, asking: &Present) -> io::Result<Answer> {
+        if !asking.is_gone(rt, self.number) {
+            return Ok(Answer::Is(false));
+        }
+        match self.thread.take() {
+            Some(thread) => {
+                let reply = self.come_back(thread.join(rt));
+                self.hear(rt.alloc(), reply.as_ref())
+            }
+            None => Ok(Answer::Is(false)),
+        }
+    }
+
+    /// Takes the desk back from a thread: the reply that it had there.
+    fn come_back(&mut self, spoken: Spoken) -> Option<Reply> {
+        self.desk.insert(spoken.desk);
+        spoken.reply
+    }
+
+    /// Keeps the reply to the last command, and tells it.
+    fn hear(&mut self, alloc: Global, reply: Option<&Reply>) -> io::Result<Answer> {
+        match reply {
+            Some(reply) => {
+                let text = text_of(alloc, reply)?;
+                self.note(text.clone()?);
+                Ok(Answer::Text(text))
+            }
+            None => Err(no_memory()),
+        }
+    }
+
+    /// Notes the reply to the last command.
+    fn note(&mut self, text: String) {
+        if let Some(told) = self.told.last_mut() {
+            drop(mem::replace(&mut told.reply, text));
+        }
+    }
+
+    /// Whether a machine alone of this limit comes to the same.
+    pub fn alone(&mut self, alloc: Global, limit: Side) -> io::Result<Answer> {
+        let Some(desk) = &mut self.desk else {
+            return Ok(Answer::Is(false));
+        };
+        let is = is_same(alloc, limit, self.told.as_slice(), desk)?;
+        Ok(Answer::Same(is))
+    }
+
+    /// The desk, if it is there and doesn't wait.
+    fn desk(&mut self) -> Option<&mut Desk> {
+        match &mut self.desk {
+            Some(desk) if !desk.is_waiting() => Some(desk),
+            _ => None,
+        }
+    }
+}
+
+/// What is answered of a line's fault.
+fn fault_answer(fault: LineFault) -> io::Result<Answer> {
+    match fault {
+        LineFault::NoMemory => Err(no_memory()),
+        fault => Ok(Answer::Fault(fault_text(fault))),
+    }
+}
+
+/// What is answered of a line at a desk: the reply to its command, or its fault.
+fn answer_at<R: Handle>(house: &House<R>, desk: &mut Desk, line: &str) -> io::Result<Answer> {
+    let alloc = house.rt.alloc();
+    match read_command(alloc, line.as_bytes()) {
+        Ok(command) => match put_at(desk, command)? {
+            Some(reply) => reply_answer(alloc, Some(&reply)),
+            None => {
+                house.ring();
+                reply_answer(alloc, collected(&house.rt, desk).as_ref())
+            }
+        },
+        Err(fault) => fault_answer(fault),
+    }
+}
+
+/// What is answered with a reply, or without one.
+fn reply_answer(alloc: Global, reply: Option<&Reply>) -> io::Result<Answer> {
+    match reply {
+        Some(reply) => Ok(Answer::Text(text_of(alloc, reply)?)),
+        None => Ok(Answer::Is(false)),
+    }
+}
+
+/// The reply that a desk waits for, unless no board has done the command for long.
+fn collected<R: Clock>(rt: &R, desk: &mut Desk) -> Option<Reply> {
+    for _ in 0..LOOKS {
+        if let Some(reply) = desk.try_collect() {
+            return Some(reply);
+        }
+        pause(rt);
+    }
+    None
+}
+
+/// A thread that asks at the desk, with a handle of its own on the house. None where there is no
+/// memory for it.
+fn start<R: Handle + Send + Sync + 'static>(
+    house: &House<R>,
+    theirs: Arc<House<R>>,
+    errand: Errand,
+) -> Option<JoinHandle<Spoken>> {
+    let user = errand.user;
+    house.asking.enter(user);
+    let thread = spawn(&house.rt, move || speak(&theirs, errand)).ok();
+    if thread.is_none() {
+        house.asking.leave(user);
+    }
+    thread
+}
+
+/// What a thread does that asks at a desk.
+fn speak<R: Handle>(house: &House<R>, errand: Errand) -> Spoken {
+    let Errand {
+        user,
+        mut desk,
+        command,
+    } = errand;
+    let reply = if desk.is_waiting() {
+        None
+    } else {
+        house.ask(&mut desk, command)
+    };
+    house.asking.leave(user);
+    Spoken { desk, reply }
+}
