@@ -7,9 +7,12 @@
 //! the machine after the command (`specs/Desks.antt`), whatever other threads do. A board's seat
 //! holds no lease, or one whose place it took (`specs/Seats.antt`): what it puts back stands for
 //! whatever that place stood for, and what it puts as done is that machine after that command.
-//! Between any two steps the table keeps its rule (`specs/Rule.antt`), one row for each word. Each
-//! step is one exchange on one word, and none is tried again but while a desk waits: `Desk::ask` and
-//! `Desk::wait` alone may wait. All memory but that of commands is taken by `boot`.
+//! Between any two steps the table keeps its rule (`specs/Rule.antt`), one row for each word. What
+//! a step tells of the words that it found and left is its type's (`specs/Steps.antt`). `Desk::ask`
+//! and `Desk::wait` alone may wait. All memory but that of commands is taken by `boot`.
+//!
+//! By reading, since no clause counts exchanges: each step is one exchange on one word, in one
+//! function of `steps`, and no call but those that wait tries one again.
 //!
 //! So, of two desks and two boards: desk 1 puts a run of one step and waits. Board 0 takes it, and
 //! board 1 finds nothing of user 1. Behind three bands board 0 puts it back, board 1 takes it, and

@@ -8,11 +8,11 @@ ghost use Rattle.cam6_wire.specs.Seats.{seat};
 ghost use Rattle.cam6_server.specs.Connections.{AnswersOnly, Converses, ReadsFirst};
 ghost use Rattle.cam6_server.specs.Connections.{SitsDown, SitsDownAt, Tells};
 
-use crate::desks::HostDesk;
+use crate::desks::AtGate;
 use crate::free_desks::FreeDesk;
 use crate::halls::{Hall, Handle};
 use crate::streams::Release;
-use cam6_session::{Ask, End, Line, LineBuf, next_line, send, serve};
+use cam6_session::{Ask, AtDesk, End, Line, LineBuf, next_line, send, serve};
 use cam6_wire::{LineFault, Seating, fault_line, read_seat, seating_line};
 use std::alloc::Global;
 use std::io::{BufRead, Write};
@@ -123,16 +123,18 @@ fn seated<H: Handle, R: BufRead, W: Write, O: Release>(
         (R.remaining reader.old) (R.remaining reader.new)
         (W.contents writer.old) (W.contents writer.new) }
 {
-    let mut desk = HostDesk {
+    let waiter = AtGate {
         gate: &hall.gate,
         outbox,
+    };
+    let mut desk = AtDesk {
+        waiter,
         desk: free.sit(),
     };
     let visit = sit_down(hall.rt.alloc(), reader, writer, &mut desk);
     outbox.release();
-    let HostDesk {
-        gate: _,
-        outbox: _,
+    let AtDesk {
+        waiter: AtGate { gate: _, outbox: _ },
         desk,
     } = desk;
     hall.places

@@ -52,15 +52,52 @@ impl Ask for Machine {
     }
 }
 
-/// A user's desk, with a handle by which what is asked is waited for.
-pub struct AtDesk<R> {
+/// Somebody who asks a desk, and waits where boards do the steps of what is asked.
+pub trait Waiter {
+    ghost use Rattle.std.specs.Prelude.{◌≡◌, IfOk, IsOk, OnErr};
+    ghost use Rattle.cam6_handoff.specs.Standing.{IsResting};
+    ghost use Rattle.cam6_handoff.specs.Desks.{AskGives, WantsNone};
+
+    /// The reply to a command, as `Desk::ask` gives it.
+    fn ask(&self, desk: &mut Desk, command: Command) -> Result<Reply, NoMemory>
+        requires { IsResting desk.old }
+        ensures gives { IfOk result (λ reply. AskGives desk.old command reply desk.new) }
+        ensures err { OnErr result (desk.new ≡ desk.old) }
+        // Memory is wanted as by a machine alone.
+        ensures memory { WantsNone desk.old command → IsOk result };
+}
+
+/// Waits by a handle of the runtime, at the desk alone.
+pub struct Unaided<R> {
     /// The handle.
     pub rt: R,
+}
+
+impl<R: Wait> Waiter for Unaided<R> {
+    ghost use Rattle.std.specs.Prelude.{◌≡◌, IfOk, IsOk, OnErr};
+    ghost use Rattle.cam6_handoff.specs.Standing.{IsResting};
+    ghost use Rattle.cam6_handoff.specs.Desks.{AskGives, WantsNone};
+
+    /// The reply to a command, as `Desk::ask` gives it.
+    fn ask(&self, desk: &mut Desk, command: Command) -> Result<Reply, NoMemory>
+        requires { IsResting desk.old }
+        ensures gives { IfOk result (λ reply. AskGives desk.old command reply desk.new) }
+        ensures err { OnErr result (desk.new ≡ desk.old) }
+        ensures memory { WantsNone desk.old command → IsOk result }
+    {
+        desk.ask(&self.rt, command)
+    }
+}
+
+/// A user's desk, with whoever asks it for him.
+pub struct AtDesk<W> {
+    /// Who asks, and waits.
+    pub waiter: W,
     /// The desk.
     pub desk: Desk,
 }
 
-impl<R: Wait> Ask for AtDesk<R> {
+impl<W: Waiter> Ask for AtDesk<W> {
     ghost use Rattle.std.specs.Prelude.{◌≡◌, IfOk, IsOk, OnOk, OnErr};
     ghost use Rattle.cam6_model.specs.Alone.{reply, after};
     ghost use Rattle.cam6_handoff.specs.Standing.{IsResting};
@@ -84,6 +121,6 @@ impl<R: Wait> Ask for AtDesk<R> {
         // Memory is wanted as by a machine alone.
         ensures memory { WantsNone self.old.desk command → IsOk result }
     {
-        self.desk.ask(&self.rt, command)
+        self.waiter.ask(&mut self.desk, command)
     }
 }

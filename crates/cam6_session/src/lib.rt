@@ -44,7 +44,7 @@ mod writers;
 
 pub use alone::serve_alone;
 pub use answerers::Answerer;
-pub use desks::{Ask, AtDesk};
+pub use desks::{Ask, AtDesk, Unaided, Waiter};
 pub use line_buffer::LineBuf;
 pub use lines::{Line, next_line};
 pub use replays::replay;

@@ -1,0 +1,55 @@
+//! Each step of the hand-off table is one event of the core. Each law is the contract of a function
+//! that does nothing.
+ghost use Rattle.cam6_turns.specs.Laws.{WordIsStatus, RowIsSaid, PutIsAsk, TakeIsLease};
+ghost use Rattle.cam6_turns.specs.Laws.{BackIsPreempt, BackFromHomeIsFail, DoneIsLastBand};
+ghost use Rattle.cam6_turns.specs.Laws.{CollectIsCollect, LookIsNoEvent, FirstTakeIsNoEvent};
+
+/// A user's status is that of the word which says where he is.
+pub fn a_word_is_a_status()
+    ensures law { WordIsStatus }
+{}
+
+/// Each row of the table's rule is one that its word says.
+pub fn a_row_is_said()
+    ensures law { RowIsSaid }
+{}
+
+/// A command with bands that is put at a desk is asked.
+pub fn a_put_is_an_ask()
+    ensures law { PutIsAsk }
+{}
+
+/// A command that a board's seat takes is leased.
+pub fn a_take_is_a_lease()
+    ensures law { TakeIsLease }
+{}
+
+/// A place that is put back as it is taken off its board is preempted.
+pub fn a_place_put_back_is_a_preempt()
+    ensures law { BackIsPreempt }
+{}
+
+/// One that is put back from its home was on a board that failed.
+pub fn a_place_put_back_from_its_home_is_a_fail()
+    ensures law { BackFromHomeIsFail }
+{}
+
+/// What is put as done has had its last band, which frees the board.
+pub fn what_is_put_as_done_is_the_last_band()
+    ensures law { DoneIsLastBand }
+{}
+
+/// What a desk collects is collected.
+pub fn a_collect_is_a_collect()
+    ensures law { CollectIsCollect }
+{}
+
+/// A look that finds another word is no event.
+pub fn a_look_is_no_event()
+    ensures law { LookIsNoEvent }
+{}
+
+/// The first take of a desk's slot is no event.
+pub fn a_first_take_is_no_event()
+    ensures law { FirstTakeIsNoEvent }
+{}
