@@ -8,6 +8,7 @@ each part how many requests were refused, and how that was seen; and what failed
 over the runs in which a request was refused.
 """
 
+import functools
 import os
 import socket
 import subprocess
@@ -65,6 +66,21 @@ def reply(machine, command):
     return compact(machine.do(command) if is_known else {"fault": 3})
 
 
+def remembered(function):
+    """The function of JSON values, which works each answer out once: a thousand runs ask for the same ones."""
+    known = {}
+
+    @functools.wraps(function)
+    def asked(*values):
+        key = compact(values)
+        if key not in known:
+            known[key] = function(*values)
+        return known[key]
+
+    return asked
+
+
+@remembered
 def replies(commands):
     machine = Machine(256)
     return [reply(machine, command) for command in commands]
@@ -172,12 +188,14 @@ def of_cam6(words, text, wants):
 
 def of_words(words, status):
     """Runs cam6 on words for which it tells something and ends, by the same text whether or not a request is refused."""
+    ample = functools.cache(lambda: Ran(0, CAM6, words, ""))
+
     def once(number):
-        ran, ample = Ran(number, CAM6, words, ""), Ran(0, CAM6, words, "")
+        ran = Ran(number, CAM6, words, "")
         told = "status %d, %r, %r" % (ran.status, ran.err, ran.out)
         if (ran.status, ran.err, ran.out) == (5, "cam6: no memory\n", ""):
             return ran.was_met, "as no memory", told
-        is_well = ran.status == status and (ran.out, ran.err) == (ample.out, ample.err) and ran.out + ran.err
+        is_well = ran.status == status and (ran.out, ran.err) == (ample().out, ample().err) and ran.out + ran.err
         return ran.was_met, ("unseen" if ran.was_met else "nothing") if is_well else None, told
     return once
 
@@ -263,6 +281,7 @@ TWO_TEXTS = [
     for event in done_at_once(user, {"do": "row", "plane": 0, "row": row})]
 
 
+@remembered
 def outcomes(events, without=None):
     """What comes of events, where one of them is an ask that finds no memory."""
     host = Host([256, 256], 1, 1)
