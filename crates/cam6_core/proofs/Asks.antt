@@ -8,7 +8,7 @@ use Rattle.cam6_model.specs.Machine.{Machine}
 use Rattle.cam6_model.specs.Memory.{may_want_memory}
 use Rattle.cam6_slot.specs.Finished.{StoredFinished, IsDone}
 use Rattle.cam6_slot.specs.Lefts.{bands_of, queued_left, queued_home}
-use Rattle.cam6_slot.specs.Parking.{StoredQueued}
+use Rattle.cam6_slot.specs.Parking.{StoredQueued, IsQueued}
 use Rattle.cam6_slot.specs.Stands.{Stands}
 use Rattle.cam6_core.specs.State.{State, at_number, with_user}
 use Rattle.cam6_core.specs.Model.{Stage, queued, finished, User, user, at_stage, begun, machine_of}
@@ -84,12 +84,12 @@ module _ (s : State) (u : ℕ) (c : Command) (r : StoredMachine)
       Moves s (event.Ask u c) (Asked 0) (with_user s u (whereabouts.Finished f))
   finished_at_once f is none = asked 0 (whereabouts.Finished f) (sym none) is
 
-  pub put_in_queue : (q : StoredQueued) → Stands q (machine_stored r) c →
+  pub put_in_queue : (q : StoredQueued) → IsQueued q → Stands q (machine_stored r) c →
       queued_left q ≡ bands_of (machine_stored r) c →
       queued_home q ≡ bands_of (machine_stored r) c → 0 < bands_of (machine_stored r) c →
       Moves s (event.Ask u c) (Asked (queued_left q)) (with_user s u (whereabouts.Queued q))
-  put_in_queue q stands left home some =
+  put_in_queue q waits stands left home some =
       asked (queued_left q) (whereabouts.Queued q) left
       (subst (UserFits (machine_stored r) (whereabouts.Queued q))
       (sym (begun_with c (queued_left q) (omega (arith, left, some))))
-      (stands, refl, left ∙ sym home))
+      (stands, refl, left ∙ sym home, waits))

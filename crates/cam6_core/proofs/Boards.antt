@@ -8,7 +8,7 @@ use Rattle.cam6_model.specs.Machine.{Machine}
 use Rattle.cam6_slot.specs.Finished.{StoredFinished, IsDone}
 use Rattle.cam6_slot.specs.Laws.{PlacesHaveTheSide}
 use Rattle.cam6_slot.specs.Lefts.{queued_left, queued_home, home_after, bands_of_step}
-use Rattle.cam6_slot.specs.Parking.{StoredQueued}
+use Rattle.cam6_slot.specs.Parking.{StoredQueued, IsQueued}
 use Rattle.cam6_station.specs.Calls.{GoesOn, ComesBack, BandGives, PreemptGives, FailGives}
 use Rattle.cam6_station.specs.declared.stations.Banded.TheVariants.{More, Last}
 use Rattle.cam6_station.specs.Held.{Manned, Held, StandsHeld, held_left, held_home, held_bands}
@@ -94,7 +94,7 @@ module _ (s : State) (b u : ℕ) (h : Held)
               refl,
               sym on.home,
               subst (IsOutWith (machine_of p) b k) (sym work.1.1)
-                  (refl, on.stands (machine_of p) work.1.0 work.1.2),
+                  (refl, on.stands (machine_of p) work.1.0 work.1.2, on.fits, on.board ∙ work.1.3),
             ) (λ v his. subst (IsLoadedFor v) work.0 his),
       )
 
@@ -117,10 +117,11 @@ module _ (s : State) (b u : ℕ) (h : Held)
       )
 
   pub preempted : PlacesHaveTheSide → IsNumber (length s.users) u → (q : StoredQueued) →
+      IsQueued q →
       ComesBack h q (held_left h) (home_after (held_bands h) (held_left h) (held_home h)) →
       Moves s (event.Preempt b) (Preempted (queued_left q))
       (with_user (with_board s b board.idle) u (whereabouts.Queued q))
-  preempted sides is q comes a good =
+  preempted sides is q waits comes a good =
       let p : User = user a.users u in
       let bands = bands_of_step (machine_of p).side in
       let work = at_work a.users b u h (seat a.boards b) (good.boards b (board.loaded u h) at) in
@@ -135,14 +136,15 @@ module _ (s : State) (b u : ℕ) (h : Held)
         ap Preempted comes.left,
         returned a good is (whereabouts.Queued q) board.idle idle
             (back (held_left h) (home_after bands (held_left h) (held_home h)))
-            (λ c st. (comes.stands (machine_of p) c st, sym comes.left, home)) (λ us. tt) (λ c. tt),
+            (λ c st. (comes.stands (machine_of p) c st, sym comes.left, home, waits)) (λ us. tt)
+            (λ c. tt),
       )
 
-  pub failed : IsNumber (length s.users) u → (q : StoredQueued) →
+  pub failed : IsNumber (length s.users) u → (q : StoredQueued) → IsQueued q →
       ComesBack h q (held_home h) (held_home h) →
       Moves s (event.Fail b) (Failed (Some (queued_left q)))
       (with_user (with_board s b board.dead) u (whereabouts.Queued q))
-  failed is q comes a good =
+  failed is q waits comes a good =
       let p : User = user a.users u in
       subst (λ (t : Seat).
       (Failed (Some (queued_left q)) ≡ (fail a b t).1)
@@ -151,7 +153,7 @@ module _ (s : State) (b u : ℕ) (h : Held)
         ap (λ n. Failed (Some n)) comes.left,
         returned a good is (whereabouts.Queued q) board.dead dead
             (back (held_home h) (held_home h))
-            (λ c st. (comes.stands (machine_of p) c st, sym comes.left, sym comes.home))
+            (λ c st. (comes.stands (machine_of p) c st, sym comes.left, sym comes.home, waits))
             (λ us. tt) (λ c. tt),
       )
 
@@ -248,20 +250,20 @@ module _ (s : State) (b : ℕ) where
       ))
 
   -- a preempt
-  pub preempt_goes : PlacesHaveTheSide → (v : ℕ) (q : StoredQueued) →
+  pub preempt_goes : PlacesHaveTheSide → (v : ℕ) (q : StoredQueued) → IsQueued q →
       is_loaded (option_map posture it) ≡ true → PreemptGives (or_dead it) v q →
       IsNumber (length s.users) v →
       Moves s (event.Preempt b) (Preempted (queued_left q))
       (with_user (with_board s b board.idle) v (whereabouts.Queued q))
       × SparesOthers it s (with_user (with_board s b board.idle) v (whereabouts.Queued q))
-  preempt_goes sides v q is gives number =
+  preempt_goes sides v q waits is gives number =
       let (u, h, at) = held_before it is in
       let back = subst (λ (o : Option Manned). PreemptGives (or_dead o) v q) at gives in
       subst (λ n. Moves s (event.Preempt b) (Preempted (queued_left q))
       (with_user (with_board s b board.idle) n (whereabouts.Queued q))
       × SparesOthers it s (with_user (with_board s b board.idle) n (whereabouts.Queued q)))
       (sym back.0) (
-        preempted s b u h at sides (subst (IsNumber (length s.users)) back.0 number) q back.1,
+        preempted s b u h at sides (subst (IsNumber (length s.users)) back.0 number) q waits back.1,
         gives_user s b u h at board.idle (whereabouts.Queued q),
       )
 
@@ -281,14 +283,14 @@ module _ (s : State) (b : ℕ) where
   idle_before (Some board.idle) gives = refl
   idle_before (Some board.dead) gives = absurd gives
 
-  pub fail_goes : (v : ℕ) (q : StoredQueued) → FailGives (or_dead it) (Some (v, q)) →
-      IsNumber (length s.users) v →
+  pub fail_goes : (v : ℕ) (q : StoredQueued) → IsQueued q →
+      FailGives (or_dead it) (Some (v, q)) → IsNumber (length s.users) v →
       Moves s (event.Fail b) (Failed (Some (queued_left q)))
       (with_user (with_board s b board.dead) v (whereabouts.Queued q))
       × SparesOthers it s (with_user (with_board s b board.dead) v (whereabouts.Queued q))
-  fail_goes v q gives number =
+  fail_goes v q waits gives number =
       let (h, at, comes) = loaded_before it v q gives in (
-        failed s b v h at number q comes,
+        failed s b v h at number q waits comes,
         gives_user s b v h at board.dead (whereabouts.Queued q),
       )
 

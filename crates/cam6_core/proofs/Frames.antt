@@ -153,6 +153,7 @@ module _ (s : State) (a : Model) (good : Good s a) where
         (good.boards d z at);
     out = users_out u p a.boards is (rests_anywhere a.boards u p.stage rests)
         (λ v apart. good.out v);
+    tables = good.tables;
   }
 
   -- one board, with the same user if any
@@ -167,6 +168,7 @@ module _ (s : State) (a : Model) (good : Good s a) where
     boards = boards_set a.users b y t is fits (λ d z r apart held. held);
     out = λ v. still_his a.boards b t v (user a.users v).stage
         (omega (arith, is, good.boards_long)) (stays v) (good.out v);
+    tables = good.tables;
   }
 
   -- a user who goes to the board, or comes from it
@@ -188,4 +190,5 @@ module _ (s : State) (a : Model) (good : Good s a) where
         (λ v apart. still_his a.boards b t v (user a.users v).stage
         (omega (arith, there, good.boards_long)) (λ his. absurd (nobody v apart his))
         (good.out v));
+    tables = good.tables;
   }

@@ -33,14 +33,15 @@ at_end m f (finished c) fits = (c, refl, fits)
 at_end m f stage fits = absurd fits
 
 is_out : (m : Machine) (b : ℕ) (h : Held) (stage : Stage) → IsOutWith m b h stage →
-    (c : Command) × (stage ≡ out b c) × StandsHeld h m c
-is_out m b h (out d c) held = (c, ap (λ (k : ℕ). out k c) held.0, held.1)
+    (c : Command) × (stage ≡ out b c) × StandsHeld h m c × (h.lease.board ≡ b)
+is_out m b h (out d c) held = (c, ap (λ (k : ℕ). out k c) held.0, held.1, held.3)
 is_out m b h stage held = absurd held
 
 pub at_work : (us : List User) (b u : ℕ) (h : Held) (t : Seat) →
     BoardFits us b (board.loaded u h) t →
     (t ≡ loaded u (held_left h) (held_home h)) ×
-    ((c : Command) × ((user us u).stage ≡ out b c) × StandsHeld h (machine_of (user us u)) c)
+    ((c : Command) × ((user us u).stage ≡ out b c) × StandsHeld h (machine_of (user us u)) c
+    × (h.lease.board ≡ b))
 at_work us b u h (loaded v left home) fits = (
   ap (λ k. loaded k left home) fits.0 ∙ ap (λ n. loaded u n home) fits.1 ∙
       ap (loaded u (held_left h)) fits.2,

@@ -2,7 +2,7 @@
 use Rattle.std.proofs.Common.{length, arith, ◌≡◌, ◌∙◌, ◌<◌, ◌≤◌, ℕ, true, set, Option, Some, None, sym, refl, ap, subst}
 use Rattle.std.specs.List.{slice_get}
 use Rattle.std.specs.Option.{option_map}
-use Rattle.cam6_cache.specs.Cached.{Cached}
+use Rattle.cam6_cache.specs.Cached.{Cached, AreTrue}
 use Rattle.cam6_commands.specs.declared.commands.Command.{Command}
 use Rattle.cam6_model.specs.Machine.{Machine}
 use Rattle.cam6_board.specs.Jobs.{StoredJob}
@@ -10,7 +10,7 @@ use Rattle.cam6_slot.specs.Leases.{StoredLease}
 use Rattle.cam6_slot.specs.Lefts.{queued_left, queued_home, lease_left, lease_home}
 use Rattle.cam6_slot.specs.Parking.{StoredQueued}
 use Rattle.cam6_slot.specs.Stands.{Stands, StandsOut}
-use Rattle.cam6_station.specs.Held.{Manned, Held, StandsHeld, held_left, held_home}
+use Rattle.cam6_station.specs.Held.{Manned, Held, HeldFits, StandsHeld, held_left, held_home}
 use Rattle.cam6_station.specs.Held as board
 use Rattle.cam6_core.specs.State.{State, at_number, with_number}
 use Rattle.cam6_core.specs.Refusals.{posture, is_idle}
@@ -51,9 +51,10 @@ pub lease_moves : (s : State) (u b : ℕ) (q : StoredQueued) (h : Held) (cache :
     at_number s.users u ≡ Some (whereabouts.Queued q) →
     slice_get s.boards b ≡ Some board.idle →
     ((m : Machine) (c : Command) → Stands q m c → StandsHeld h m c) →
-    held_left h ≡ queued_left q → held_home h ≡ queued_home q →
+    held_left h ≡ queued_left q → held_home h ≡ queued_home q → HeldFits h →
+    h.lease.board ≡ b → AreTrue cache.tables →
     Moves s (event.Lease u b) (Leased (queued_left q)) (leased s u b h cache)
-lease_moves s u b q h cache at free law left home a good =
+lease_moves s u b q h cache at free law left home fits on cached a good =
     let p : User = user a.users u in
     let m = machine_of p in
     let waits = in_queue m q p.stage (good.users u (whereabouts.Queued q) at) in
@@ -71,7 +72,7 @@ lease_moves s u b q h cache at free law left home a good =
       sym left,
       sym home,
       subst (λ (z : User). IsOutWith (machine_of z) b h z.stage) same
-          (refl, law m c waits.2),
+          (refl, law m c waits.2, fits, on),
     ) (subst (IsLoadedFor u) (sym (seat_here a.boards b
     (loaded u (queued_left q) (queued_home q)) there)) refl)
     (λ v apart his. subst (IsLoadedFor v)
@@ -86,27 +87,28 @@ lease_moves s u b q h cache at free law left home a good =
         users = moved.users;
         boards = moved.boards;
         out = moved.out;
+        tables = cached;
       },
     )
 
 -- what a board holds that is loaded with a lease
 is_leased : (y : Manned) (u : ℕ) (lease : StoredLease) (job : StoredJob) →
     IsLoadedWith y u lease job →
-    (h : Held) × (y ≡ board.loaded u h) × (h.lease ≡ lease) × (h.job ≡ job)
+    (h : Held) × (y ≡ board.loaded u h) × (h.lease ≡ lease) × (h.job ≡ job) × HeldFits h
 is_leased (board.loaded v h) u lease job is =
-    (h, ap (λ k. board.loaded k h) is.0, is.1, is.2)
+    (h, ap (λ k. board.loaded k h) is.0, is.1, is.2, is.3)
 is_leased y u lease job is = absurd is
 
 pub lease_goes : (s new : State) (u b : ℕ) (q : StoredQueued) (y : Manned) (lease : StoredLease)
     (job : StoredJob) → at_number s.users u ≡ Some (whereabouts.Queued q) →
     slice_get s.boards b ≡ Some board.idle → IsLoadedWith y u lease job →
     ((m : Machine) (c : Command) → Stands q m c → StandsOut lease job m c) →
-    lease_left lease ≡ queued_left q → lease_home lease ≡ queued_home q →
+    lease_left lease ≡ queued_left q → lease_home lease ≡ queued_home q → lease.board ≡ b →
     new.users ≡ with_number s.users u whereabouts.Out → new.boards ≡ set s.boards b y →
-    new.cache.capacity ≡ s.cache.capacity →
+    AreTrue new.cache.tables → new.cache.capacity ≡ s.cache.capacity →
     Moves s (event.Lease u b) (Leased (queued_left q)) new × Spares (event.Lease u b) s new
-lease_goes s new u b q y lease job at free loads stands left home users boards capacity =
-    let (h, is, grant, work) = is_leased y u lease job loads in
+lease_goes s new u b q y lease job at free loads stands left home on users boards cached capacity =
+    let (h, is, grant, work, fits) = is_leased y u lease job loads in
     let same : new ≡ leased s u b h new.cache =
     ap (λ us. record new { users = us }) users ∙
     ap (λ bs. record new { users = with_number s.users u whereabouts.Out; boards = bs })
@@ -116,6 +118,6 @@ lease_goes s new u b q y lease job at free loads stands left home users boards c
     (subst (λ (j : StoredJob). StandsOut lease j m c) (sym work) (stands m c st))) in (
       subst (Moves s (event.Lease u b) (Leased (queued_left q))) (sym same)
           (lease_moves s u b q h new.cache at free law (ap lease_left grant ∙ left)
-          (ap lease_home grant ∙ home)),
+          (ap lease_home grant ∙ home) fits (ap (λ (l : StoredLease). l.board) grant ∙ on) cached),
       subst (Spares (event.Lease u b) s) (sym same) (lease_spares s u b h new.cache capacity),
     )

@@ -5,6 +5,7 @@ use Rattle.std.specs.List.{slice_get}
 use Rattle.std.specs.Option.{option_map}
 use Rattle.std.proofs.lemmas.List.{length-append, length-map, length-replicate}
 use Rattle.std.proofs.lemmas.Option.{same_Some, slice_get-get_or, slice_get-map, slice_get_within}
+use Rattle.cam6_cache.specs.Cached.{AreTrue}
 use Rattle.cam6_planes.specs.declared.sides.Side.{Side}
 use Rattle.cam6_planes.specs.declared.sides.Side.TheVariants.{S128}
 use Rattle.cam6_machine.specs.Stored.{StoredMachine, machine_of}
@@ -100,8 +101,8 @@ idle_hold_none users n boards idle_boards = (
 
 -- a core of newcomers and idle boards agrees with the model of it
 pub begins_good : (limits : List Side) (n : ℕ) (s : State) → AreNewcomers limits s.users →
-    s.boards ≡ replicate n board.idle → Good s (fresh limits n)
-begins_good limits n s made idle_boards = record {
+    s.boards ≡ replicate n board.idle → s.cache.tables ≡ [] → Good s (fresh limits n)
+begins_good limits n s made idle_boards empty = record {
   users_long = made.long ∙ sym (length-map limits newcomer);
   boards_long = ap length idle_boards ∙ length-replicate n board.idle ∙
       sym (length-replicate n idle);
@@ -112,4 +113,5 @@ begins_good limits n s made idle_boards = record {
       (sym both.0)
       (subst (λ (t : Seat). BoardFits (map newcomer limits) b board.idle t) (sym both.1) tt);
   out = newcomers_rest limits (replicate n idle);
+  tables = subst AreTrue (sym empty) tt;
 }

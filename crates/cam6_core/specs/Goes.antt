@@ -1,21 +1,22 @@
 -- One event.
-use Rattle.std.specs.Prelude.{ℕ, ◌≡◌, ◌≢◌, Option, Some, None, true}
+use Rattle.std.specs.Prelude.{ℕ, ◌≡◌, ◌≢◌, Option, Some, None, true, ⊤}
 use Rattle.std.specs.List.{slice_get}
-use Rattle.cam6_cache.specs.Cached.{without_last}
+use Rattle.cam6_cache.specs.Cached.{Cached, without_last}
 use Rattle.cam6_commands.specs.declared.commands.Command.{Command}
 use Rattle.cam6_machine.specs.Stored.{machine_of}
 use Rattle.cam6_model.specs.Memory.{may_want_memory}
 use Rattle.cam6_station.specs.Held.{Manned, loaded}
+use Rattle.cam6_station.specs.Loading.{IsBehindLoads}
 use Rattle.cam6_core.specs.State.{State, at_number}
 use Rattle.cam6_core.specs.Refusals.{standing, refusal}
 use Rattle.cam6_core.specs.Model.{Model, turn}
 use Rattle.cam6_core.specs.Good.{Good}
 use Rattle.cam6_core.specs.declared.parts.Whereabouts.{Whereabouts}
-use Rattle.cam6_core.specs.declared.parts.Whereabouts.TheVariants.{Resting}
+use Rattle.cam6_core.specs.declared.parts.Whereabouts.TheVariants.{Resting, Queued}
 use Rattle.cam6_commands.specs.declared.events.Event.{Event}
 use Rattle.cam6_commands.specs.declared.events.Event.TheVariants as event
 use Rattle.cam6_commands.specs.declared.outcomes.Outcome.{Outcome}
-use Rattle.cam6_commands.specs.declared.outcomes.Outcome.TheVariants.{NoMemory, Refused}
+use Rattle.cam6_commands.specs.declared.outcomes.Outcome.TheVariants.{NoMemory, Refused, Leased}
 use Rattle.cam6_commands.specs.declared.refused.Refused.{Refused as Reason}
 
 -- memory may be wanted for a command of a user at rest
@@ -48,6 +49,17 @@ Obeys None old e r new = Takes old e r new
 
 abbrev pub Goes : State → Event → Outcome → State → Type 0
 Goes old e r new = Obeys (refusal (standing old) e) old e r new
+
+-- a lease asks for the tables that the user's command needs, in the order of their uses
+abbrev pub LoadsFor : Option Whereabouts → Cached → Cached → Type 0
+LoadsFor (Some (Queued q)) old new = IsBehindLoads q.work old new
+LoadsFor x old new = ⊥
+
+-- and no other event asks for tables
+abbrev pub LoadsTables : Event → Outcome → State → State → Type 0
+LoadsTables (event.Lease u b) (Leased left) old new =
+    LoadsFor (at_number old.users u) old.cache new.cache
+LoadsTables e r old new = ⊤
 
 -- users are as they were, but for one
 abbrev pub SparesUsersBut : ℕ → State → State → Type 0

@@ -1,12 +1,14 @@
 -- When a core agrees with the model.
 use Rattle.std.specs.Prelude.{ℕ, ◌≡◌, List, Some, length, ⊤}
 use Rattle.std.specs.List.{slice_get}
+use Rattle.cam6_cache.specs.Cached.{AreTrue}
 use Rattle.cam6_model.specs.Machine.{Machine}
 use Rattle.cam6_machine.specs.Stored as stored
 use Rattle.cam6_slot.specs.Finished.{IsDone}
 use Rattle.cam6_slot.specs.Lefts.{queued_left, queued_home}
+use Rattle.cam6_slot.specs.Parking.{IsQueued}
 use Rattle.cam6_slot.specs.Stands.{Stands}
-use Rattle.cam6_station.specs.Held.{Manned, Held, StandsHeld, held_left, held_home}
+use Rattle.cam6_station.specs.Held.{Manned, Held, HeldFits, StandsHeld, held_left, held_home}
 use Rattle.cam6_station.specs.Held as board
 use Rattle.cam6_core.specs.State.{State, at_number}
 use Rattle.cam6_core.specs.Model.{Stage, resting, queued, out, finished}
@@ -15,19 +17,21 @@ use Rattle.cam6_core.specs.declared.parts.Whereabouts.{Whereabouts}
 use Rattle.cam6_core.specs.declared.parts.Whereabouts.TheVariants as whereabouts
 
 -- the command of a user whose machine alone is m: at rest it is that machine; what waits for a board
--- stands for the machine and the command, with the bands that are left and those from home; and what
--- is finished is done with them
+-- stands for the machine and the command, with the bands that are left and those from home, and is
+-- what waits always; and what is finished is done with them
 abbrev pub UserFits : Machine → Whereabouts → Stage → Type 0
 UserFits m (whereabouts.Resting r) resting = stored.machine_of r ≡ m
 UserFits m (whereabouts.Queued q) (queued c left home) =
-    Stands q m c × (left ≡ queued_left q) × (home ≡ queued_home q)
+    Stands q m c × (left ≡ queued_left q) × (home ≡ queued_home q) × IsQueued q
 UserFits m whereabouts.Out (out b c) = ⊤
 UserFits m (whereabouts.Finished f) (finished c) = IsDone f m c
 UserFits m x stage = ⊥
 
--- the user is out on this board, and what it holds stands for his machine and his command
+-- the user is out on this board, and what it holds stands for his machine and his command: a lease of
+-- this board, with a job and tables that fit it
 abbrev pub IsOutWith : Machine → ℕ → Held → Stage → Type 0
-IsOutWith m b h (out d c) = (d ≡ b) × StandsHeld h m c
+IsOutWith m b h (out d c) =
+    (d ≡ b) × StandsHeld h m c × HeldFits h × (h.lease.board ≡ b)
 IsOutWith m b h stage = ⊥
 
 -- a board is idle, dead, or holds what its user is out with, and as many bands are left
@@ -49,7 +53,8 @@ abbrev pub IsOnHisBoard : List Seat → ℕ → Stage → Type 0
 IsOnHisBoard bs u (out b c) = IsLoadedFor u (seat bs b)
 IsOnHisBoard bs u stage = ⊤
 
--- as many users and as many boards, each as the model has it; and whoever is out has a board
+-- as many users and as many boards, each as the model has it; whoever is out has a board; and each
+-- cached table is its key's true one
 pub record Good (s : State) (a : Model) : Type 0 where
   pub users_long : length s.users ≡ length a.users
   pub boards_long : length s.boards ≡ length a.boards
@@ -58,3 +63,4 @@ pub record Good (s : State) (a : Model) : Type 0 where
   pub boards : (b : ℕ) (y : Manned) → slice_get s.boards b ≡ Some y →
       BoardFits a.users b y (seat a.boards b)
   pub out : (u : ℕ) → IsOnHisBoard a.boards u (user a.users u).stage
+  pub tables : AreTrue s.cache.tables

@@ -2,7 +2,7 @@
 ghost use Rattle.std.specs.Prelude.{◌≡◌, true, false};
 ghost use Rattle.cam6_core.specs.Refusals.{standing, is_waiting, is_queued, is_finished};
 ghost use Rattle.cam6_core.specs.Refusals.{is_idle, is_loaded, is_dead, is_missing};
-ghost use Rattle.cam6_core.specs.Goes.{Goes, Takes, Spares};
+ghost use Rattle.cam6_core.specs.Goes.{Goes, LoadsTables, Takes, Spares};
 ghost use Rattle.cam6_commands.specs.declared.events.Event.TheVariants as event;
 
 use crate::parts::{Core, Whereabouts};
@@ -15,6 +15,7 @@ impl Core {
     /// Does an event, or refuses it. An ask alone takes memory, but for what is newly cached.
     pub fn apply(&mut self, event: Event) -> Outcome
         ensures goes { Goes self.old event result self.new }
+        ensures loads { LoadsTables event result self.old self.new }
         ensures others { Spares event self.old self.new }
     {
         if let Some(reason) = self.refusal(&event) {
@@ -62,6 +63,7 @@ impl Core {
         requires board { is_idle ((standing self.old).board board) ≡ true }
         requires user { is_queued ((standing self.old).user user) ≡ true }
         ensures takes { Takes self.old (event.Lease user board) result self.new }
+        ensures loads { LoadsTables (event.Lease user board) result self.old self.new }
         ensures others { Spares (event.Lease user board) self.old self.new }
     {
         let queued = match self.take_user(user) {
@@ -128,6 +130,8 @@ impl Core {
         ensures others { Spares event.Evict self.old self.new }
     {
         let _ = self.cache.evict_oldest();
+        // The tables that stay are their keys' true ones.
+        let _tables = self.cache.len();
         Outcome::Evicted
     }
 

@@ -1,10 +1,12 @@
 //! One user's whereabouts or one board, taken or changed in its place.
 ghost use Rattle.std.specs.Prelude.{◌≡◌, ◌<◌, length, slice_set, Some};
 ghost use Rattle.std.specs.List.{slice_get};
+ghost use Rattle.cam6_cache.specs.Cached.{AreTrue};
 ghost use Rattle.cam6_slot.specs.Leases.{JobFits};
 ghost use Rattle.cam6_slot.specs.Lefts.{lease_left};
 ghost use Rattle.cam6_station.specs.Calls.{BandGives, PreemptGives, FailGives};
 ghost use Rattle.cam6_station.specs.Held.{idle, dead, IsLoaded, IsAlive};
+ghost use Rattle.cam6_station.specs.Loading.{IsBehindLoads};
 ghost use Rattle.cam6_core.specs.State.{at_number, with_user, with_board, board_of, IsNumber};
 ghost use Rattle.cam6_core.specs.Internal.Returning.{IsLoadedWith, IsOfUser, IsOfUserIf};
 
@@ -52,9 +54,14 @@ impl Core {
         ensures users { self.new.users ≡ self.old.users }
         ensures others { self.new.boards
             ≡ slice_set self.old.boards board (board_of self.new board) }
+        ensures loads { IsBehindLoads lease.work self.old.cache self.new.cache }
+        ensures tables { AreTrue self.new.cache.tables }
         ensures capacity { self.new.cache.capacity ≡ self.old.cache.capacity }
     {
+        // A lease is what it always is, and so is the cache.
+        let _bands = lease.left();
         self.filling.fill(&mut self.cache, &lease);
+        let _tables = self.cache.len();
         let station = &mut self.boards[board as usize];
         station.load(user as usize, lease, job, self.filling.tables());
     }

@@ -1,5 +1,5 @@
 -- What the program does with lines of events.
-use Rattle.std.specs.Prelude.{◌≡◌, ◌⊎◌, ℕ, List, Option, false, replicate}
+use Rattle.std.specs.Prelude.{◌≡◌, ◌⊎◌, ℕ, List, [], Option, false, replicate}
 use Rattle.cam6_planes.specs.declared.sides.Side.{Side}
 use Rattle.cam6_core.specs.Fresh.{fresh}
 use Rattle.cam6_core.specs.Good.{Good}
@@ -11,9 +11,11 @@ use Rattle.cam6_session.specs.declared.sessions.End.{End}
 use Rattle.cam6_session.specs.declared.sessions.End.TheVariants.{NoMemory}
 use Rattle.cam6_modes.specs.Sharing.{Shared}
 
--- a new core: each user has this limit
+-- a new core: each user has this limit, and the cache is empty and may have so many tables
 abbrev pub IsNew : Shared → Side → State → Type 0
-IsNew sharing limit s = Good s (fresh (replicate sharing.users limit) sharing.boards)
+IsNew sharing limit s =
+    Good s (fresh (replicate sharing.users limit) sharing.boards)
+    × (s.cache ≡ record { tables = []; capacity = sharing.cache })
 
 -- no memory was found for one, and nothing was read or written
 abbrev pub BeginsNothing : End → Option (List ℕ) → Option (List ℕ) → Option (List ℕ)

@@ -41,7 +41,7 @@ impl Model for Lease {
 impl Lease {
     ghost use Rattle.cam6_cycle.specs.Limits.{max_tables};
     ghost use Rattle.cam6_slot.specs.Finished.{IsDone};
-    ghost use Rattle.cam6_slot.specs.Leases.{ImageFits, JobFits, TablesFit};
+    ghost use Rattle.cam6_slot.specs.Leases.{IsLease, ImageFits, JobFits, TablesFit};
     ghost use Rattle.cam6_slot.specs.Lefts.{queued_left, queued_home, lease_left, lease_home};
     ghost use Rattle.cam6_slot.specs.Lefts.{bands_of_lease, home_after};
     ghost use Rattle.cam6_slot.specs.Needs.{needs_of, IsNeed, HasCode, CanBeUndone, IsTableNeeded};
@@ -67,9 +67,10 @@ impl Lease {
     }
 
     /// The bands that are still to be done. While there are some the job has work, and its image is
-    /// at rest where there are none.
+    /// at rest where there are none. Whoever has a lease learns here what it always is.
     pub fn left(&self) -> u64
         ensures left { result ≡ lease_left self.now }
+        ensures always { IsLease self.now }
         ensures work { (job : StoredJob) → JobFits self.now job → 0 < result → 0 < job.steps }
         ensures rest { (job : StoredJob) → JobFits self.now job → result ≡ 0 →
             is_rest job.image ≡ true }

@@ -30,7 +30,7 @@ impl Model for Queued {
 impl Queued {
     ghost use Rattle.cam6_slot.specs.Leases.{JobFits};
     ghost use Rattle.cam6_slot.specs.Lefts.{queued_left, queued_home, lease_left, lease_home};
-    ghost use Rattle.cam6_slot.specs.Parking.{IsBeside};
+    ghost use Rattle.cam6_slot.specs.Parking.{IsBeside, IsQueued};
     ghost use Rattle.cam6_slot.specs.Stands.{Stands, StandsOut};
 
     pub(crate) fn new(work: Work, parked: Parked) -> Queued
@@ -42,10 +42,12 @@ impl Queued {
         Queued { work, parked }
     }
 
-    /// The bands that are still to be done.
+    /// The bands that are still to be done. Whoever has a command that waits learns here what it
+    /// always is.
     pub fn left(&self) -> u64
         ensures left { result ≡ queued_left self.now }
         ensures some { 0 < result }
+        ensures always { IsQueued self.now }
     {
         self.work.left(self.parked.rows())
     }
@@ -61,6 +63,7 @@ impl Queued {
         ensures home { lease_home result.0 ≡ queued_home self }
         ensures some { 0 < lease_left result.0 }
         ensures board { result.0.board ≡ board }
+        ensures work { result.0.work ≡ self.work }
     {
         let Queued { work, parked } = self;
         let rows = parked.rows();

@@ -12,7 +12,7 @@ use Rattle.cam6_board.specs.declared.images.Image.TheVariants as image
 use Rattle.cam6_commands.specs.declared.commands.Command.{Command}
 use Rattle.cam6_model.specs.Machine.{Machine}
 use Rattle.cam6_slot.specs.Finished.{StoredFinished, IsDone}
-use Rattle.cam6_slot.specs.Leases.{StoredLease, JobFits, TablesFit}
+use Rattle.cam6_slot.specs.Leases.{StoredLease, IsLease, JobFits, TablesFit}
 use Rattle.cam6_slot.specs.Lefts.{lease_left, lease_home, queued_left, queued_home, bands_of_lease}
 use Rattle.cam6_slot.specs.Lefts.{home_after}
 use Rattle.cam6_slot.specs.Parking.{StoredQueued}
@@ -36,27 +36,31 @@ module _ (u : ℕ) (l : StoredLease) where
       (end : BandEnd) where
     -- with bands left it is held with its job
     pub keeps : (load after : Load) → IsManned (Loaded u l) load → MovesHeld load end after →
-        0 < lease_left k → IsManned (Loaded u k) after
-    keeps empty after is moves some = absurd is
-    keeps (holds job tables) empty is moves some = absurd moves
-    keeps (holds job tables) (holds later kept) is moves some = record {
+        0 < lease_left k → IsLease k → IsManned (Loaded u k) after
+    keeps empty after is moves some lease = absurd is
+    keeps (holds job tables) empty is moves some lease = absurd moves
+    keeps (holds job tables) (holds later kept) is moves some lease = record {
+      lease = lease;
       job = fits job later end tables is.job moves.0;
       left = some;
       tables = subst (TablesFit k.work) (sym moves.1) (still tables is.tables);
     }
 
     pub goes_on : (load after : Load) (n : ℕ) → IsManned (Loaded u l) load →
-        MovesHeld load end after → n ≡ lease_left k → 0 < lease_left k →
+        MovesHeld load end after → n ≡ lease_left k → 0 < lease_left k → IsLease k →
+        k.board ≡ l.board →
         BandGives (manned (Loaded u l) load) (More n) (manned (Loaded u k) after)
-    goes_on empty after n is moves told some = absurd is
-    goes_on (holds job tables) empty n is moves told some = absurd moves
-    goes_on (holds job tables) (holds later kept) n is moves told some = (
+    goes_on empty after n is moves told some lease board = absurd is
+    goes_on (holds job tables) empty n is moves told some lease board = absurd moves
+    goes_on (holds job tables) (holds later kept) n is moves told some lease board = (
       refl,
       told,
       record {
         left = left;
         some = some;
         home = home;
+        fits = keeps (holds job tables) (holds later kept) is moves some lease;
+        board = board;
         stands = λ m c st. stands m c job later end tables is.tables st moves.0;
       },
     )

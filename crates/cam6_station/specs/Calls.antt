@@ -8,15 +8,17 @@ use Rattle.cam6_slot.specs.Parking.{StoredQueued}
 use Rattle.cam6_slot.specs.Stands.{Stands}
 use Rattle.cam6_station.specs.declared.stations.Banded.{Banded}
 use Rattle.cam6_station.specs.declared.stations.Banded.TheVariants.{More, Last}
-use Rattle.cam6_station.specs.Held.{Held, Manned, idle, loaded, StandsHeld, held_left}
+use Rattle.cam6_station.specs.Held.{Held, HeldFits, Manned, idle, loaded, StandsHeld, held_left}
 use Rattle.cam6_station.specs.Held.{held_home, held_bands}
 
--- one band less is left, and one at least; none is lost from home, and what is held stands for what
--- it stood for
+-- one band less is left, and one at least; none is lost from home. What is held still fits, is on the
+-- same board, and stands for what it stood for
 pub record GoesOn (before after : Held) : Type 0 where
   pub left : held_left after + 1 ≡ held_left before
   pub some : 0 < held_left after
   pub home : held_home after ≡ held_home before
+  pub fits : HeldFits after
+  pub board : after.lease.board ≡ before.lease.board
   pub stands : (m : Machine) (c : Command) → StandsHeld before m c → StandsHeld after m c
 
 -- a band goes on with what is held, and is the last one where one was left: then the board is free,

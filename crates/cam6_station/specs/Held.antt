@@ -3,7 +3,7 @@ use Rattle.std.specs.Prelude.{ℕ, ◌<◌, Bool, true, false, List, ⊤}
 use Rattle.cam6_board.specs.Jobs.{StoredJob}
 use Rattle.cam6_commands.specs.declared.commands.Command.{Command}
 use Rattle.cam6_model.specs.Machine.{Machine}
-use Rattle.cam6_slot.specs.Leases.{StoredLease, JobFits, TablesFit}
+use Rattle.cam6_slot.specs.Leases.{StoredLease, IsLease, JobFits, TablesFit}
 use Rattle.cam6_slot.specs.Lefts.{lease_left, lease_home, bands_of_lease}
 use Rattle.cam6_slot.specs.Stands.{StandsOut}
 
@@ -19,8 +19,9 @@ pub data Manned : Type 0 where
   loaded : ℕ → Held → Manned
   dead : Manned
 
--- the job and the tables fit the lease, of which bands are left
+-- a lease of which bands are left, and the job and the tables fit it
 pub record HeldFits (h : Held) : Type 0 where
+  pub lease : IsLease h.lease
   pub job : JobFits h.lease h.job
   pub left : 0 < lease_left h.lease
   pub tables : TablesFit h.lease.work h.tables

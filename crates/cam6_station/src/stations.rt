@@ -90,6 +90,8 @@ impl Station {
         ensures { self.new ≡ loaded user
             (record { lease = lease; job = job; tables = tables.now }) }
     {
+        // A lease is what it always is.
+        let _bands = lease.left();
         match self.board.load(job, tables) {
             Ok(()) => (),
             _ => unreachable!(),

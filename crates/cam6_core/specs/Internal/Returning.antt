@@ -3,14 +3,15 @@ use Rattle.std.specs.Prelude.{ℕ, ◌≡◌, Option, Some, None, ⊤}
 use Rattle.cam6_board.specs.Jobs.{StoredJob}
 use Rattle.cam6_slot.specs.Leases.{StoredLease}
 use Rattle.cam6_slot.specs.Parking.{StoredQueued}
-use Rattle.cam6_station.specs.Held.{Manned, loaded}
+use Rattle.cam6_station.specs.Held.{Manned, HeldFits, loaded}
 use Rattle.cam6_station.specs.declared.stations.Banded.{Banded}
 use Rattle.cam6_station.specs.declared.stations.Banded.TheVariants.{More, Last}
 use Rattle.cam6_core.specs.State.{IsNumber}
 
--- a board is loaded for a user with this lease and this job
+-- a board is loaded for a user with this lease and this job, which fit
 abbrev pub IsLoadedWith : Manned → ℕ → StoredLease → StoredJob → Type 0
-IsLoadedWith (loaded v h) u lease job = (v ≡ u) × (h.lease ≡ lease) × (h.job ≡ job)
+IsLoadedWith (loaded v h) u lease job =
+    (v ≡ u) × (h.lease ≡ lease) × (h.job ≡ job) × HeldFits h
 IsLoadedWith y u lease job = ⊥
 
 -- what is finished is one of n users'

@@ -65,7 +65,8 @@ returns-in-Queued-clause-takes c =
     (subst (λ n. Moves s (event.Ask u c.args.command) (outcome.Asked n) (with_user s u y))
     (sym c.left-left.ensures.left)
     (put_in_queue s u c.args.command c.in-Resting.resting c.in-Resting.ensures.was
-    c.in-Queued.queued c.in-Queued.ensures.stands c.in-Queued.ensures.left.0
+    c.in-Queued.queued c.left-left.ensures.always c.in-Queued.ensures.stands
+    c.in-Queued.ensures.left.0
     c.in-Queued.ensures.home c.in-Queued.ensures.left.1))
 
 pub returns-in-Queued-clause-others : goal.returns-in-Queued-clause-others

@@ -33,7 +33,7 @@ returns-clause-takes c =
     subst (Moves s (event.Fail b) (outcome.Failed (Some c.left-left.result))) (sym is)
     (subst (λ n. Moves s (event.Fail b) (outcome.Failed (Some n))
     (with_user (with_board s b board.dead) u (whereabouts.Queued q))) (sym c.left-left.ensures.left)
-    (fail_goes s b u q c.in-Some.ensures.back c.in-Some.ensures.user).0)
+    (fail_goes s b u q c.left-left.ensures.always c.in-Some.ensures.back c.in-Some.ensures.user).0)
 
 pub returns-clause-others : goal.returns-clause-others
 returns-clause-others c =
@@ -44,7 +44,7 @@ returns-clause-others c =
     let is = c.set_user.ensures ∙
     ap (λ (z : State). with_user z u (whereabouts.Queued q)) c.in-Some.ensures.dead in
     subst (Spares (event.Fail b) s) (sym is) (
-      (fail_goes s b u q c.in-Some.ensures.back c.in-Some.ensures.user).1,
+      (fail_goes s b u q c.left-left.ensures.always c.in-Some.ensures.back c.in-Some.ensures.user).1,
       spares_boards s b board.dead,
       refl,
     )

@@ -1,5 +1,6 @@
 use Rattle.std.proofs.Common.{◌≡◌, ◌∙◌, Some, refl, sym, ap, subst, arith, length, length-set, set}
 use Rattle.std.specs.List.{slice_get}
+use Rattle.cam6_slot.specs.Leases.{TablesFit}
 use Rattle.cam6_station.specs.Held.{Manned, Held, idle}
 use Rattle.cam6_core.specs.State.{State, IsNumber, IsHeldWithin}
 use Rattle.cam6_core.specs.Internal.Returning.{IsLoadedWith}
@@ -35,7 +36,17 @@ returns-clause-board c =
     c.requires.board in
     let is = stands_there bs b idle c.load.new.self there in
     subst (λ (y : Manned). IsLoadedWith y c.args.user c.args.lease c.args.job)
-    (sym (is ∙ c.load.ensures)) (refl, refl, refl)
+    (sym (is ∙ c.load.ensures)) (
+      refl,
+      refl,
+      refl,
+      record {
+        lease = c.left-bands.ensures.always;
+        job = c.requires.job;
+        left = c.requires.left;
+        tables = subst (TablesFit c.args.lease.work) (sym c.tables.ensures) c.fill.ensures.tables;
+      },
+    )
 
 pub returns-clause-others : goal.returns-clause-others
 returns-clause-others c =

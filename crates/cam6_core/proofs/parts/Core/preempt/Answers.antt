@@ -19,7 +19,7 @@ returns-clause-takes c =
     subst (Moves s (event.Preempt b) (outcome.Preempted c.left-left.result)) (sym is)
     (subst (λ n. Moves s (event.Preempt b) (outcome.Preempted n)
     (with_user (with_board s b board.idle) u (whereabouts.Queued q))) (sym c.left-left.ensures.left)
-    (preempt_goes s b c.places_have_the_side.ensures.law u q c.requires
+    (preempt_goes s b c.places_have_the_side.ensures.law u q c.left-left.ensures.always c.requires
     c.preempt_on-user.ensures.back c.preempt_on-user.ensures.user).0)
 
 pub returns-clause-others : goal.returns-clause-others
@@ -31,7 +31,7 @@ returns-clause-others c =
     let is = c.set_user.ensures ∙
     ap (λ (z : State). with_user z u (whereabouts.Queued q)) c.preempt_on-user.ensures.idle in
     subst (Spares (event.Preempt b) s) (sym is) (
-      (preempt_goes s b c.places_have_the_side.ensures.law u q c.requires
+      (preempt_goes s b c.places_have_the_side.ensures.law u q c.left-left.ensures.always c.requires
           c.preempt_on-user.ensures.back c.preempt_on-user.ensures.user).1,
       spares_boards s b board.idle,
       refl,

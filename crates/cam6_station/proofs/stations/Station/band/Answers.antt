@@ -22,6 +22,7 @@ invariant_of-self c =
     let held = subst (λ (p : Post). IsManned p load) c.in-Loaded.is c.self.invariant in
     keeps u l k by.stands by.fits by.tables by.left by.home c.in-Ok.end load after held
     c.in-Ok.ensures.ok (omega (arith, c.if-left-gt0.true, c.left-left.ensures.left))
+    c.left-left.ensures.always
 
 pub returns-then-left-gt0 : goal.returns-then-left-gt0
 returns-then-left-gt0 c =
@@ -36,7 +37,8 @@ returns-then-left-gt0 c =
     subst (λ (s : Manned). BandGives s (More c.left-left.result) (manned (Loaded u k) after)) is
     (goes_on u l k by.stands by.fits by.tables by.left by.home c.in-Ok.end load after
     c.left-left.result held c.in-Ok.ensures.ok c.left-left.ensures.left
-    (omega (arith, c.if-left-gt0.true, c.left-left.ensures.left)))
+    (omega (arith, c.if-left-gt0.true, c.left-left.ensures.left)) c.left-left.ensures.always
+    by.board)
 
 pub finish-requires-clause-limit : goal.finish-requires-clause-limit
 finish-requires-clause-limit c =
