@@ -1,7 +1,6 @@
 -- A line is answered by what was told, or serving stops where the writer failed.
 use Rattle.std.proofs.Common.{◌≡◌, ℕ, List, [], ◌∷◌, ◌++◌, Option, Result, Ok, Err, sym, ap}
 use Rattle.std.proofs.Common.{◌∙◌, ◌≢◌, refl, subst, true, false, is_ok}
-use Rattle.std.specs.Io.KnownBytes.{Keeps}
 use Rattle.cam6_model.specs.Machine.{Machine}
 use Rattle.cam6_model.specs.Alone.{reply, after}
 use Rattle.cam6_commands.specs.declared.commands.Command.{Command}
@@ -9,6 +8,7 @@ use Rattle.cam6_commands.specs.declared.events.Event.{Event}
 use Rattle.cam6_commands.specs.declared.outcomes.Outcome.{Outcome}
 use Rattle.cam6_core.specs.State.{State}
 use Rattle.cam6_core.specs.Goes.{Goes, Spares}
+use Rattle.cam6_core.specs.Runs.{accepted}
 use Rattle.cam6_wire.specs.declared.faults.LineFault.{LineFault}
 use Rattle.cam6_wire.specs.declared.faults.LineFault.TheVariants as fault
 use Rattle.cam6_wire.specs.Commands.{command, IsFaultOf}
@@ -17,7 +17,7 @@ use Rattle.cam6_wire.specs.Outcomes.{outcome_bytes}
 use Rattle.cam6_wire.specs.Replies.{reply_bytes, fault_bytes}
 use Rattle.cam6_session.specs.Answering.{Answering}
 use Rattle.cam6_session.specs.Answers.{text_to, after_line, by_machine}
-use Rattle.cam6_session.specs.Events.{IsTold, by_core}
+use Rattle.cam6_session.specs.Events.{IsDone, IsTold, by_core}
 use Rattle.cam6_session.specs.Responding.{Responds, TakesMemory, Tells, TellsText}
 use Rattle.cam6_session.specs.Responding.{TellsFault}
 use Rattle.cam6_session.specs.declared.sessions.Stop.{Stop}
@@ -43,12 +43,12 @@ module _ {S : Type 0} (by : Answering S) (line : List ℕ) (old new : Option (Li
   -- a text that is the line's answer was told, or no memory was found for it
   text_told : (result : Result (Unit {0}) Stop) (text : List ℕ) (s t : S)
       → TellsText result text old new → by.answers s line (text ++ 10 ∷ []) t
-      → by.says line ≡ true → Responds by result line old new s t
-  text_told (Ok done) text s t tells answers says = (text ++ 10 ∷ [], answers, tells)
-  text_told (Err WriteFault) text s t tells answers says = (text ++ 10 ∷ [], answers, tells)
-  text_told (Err (NoMemory true)) text s t tells answers says =
-      (text ++ 10 ∷ [], answers, says, tells)
-  text_told (Err (NoMemory false)) text s t tells answers says = absurd tells
+      → (result ≡ Err (NoMemory true) → by.does s line t) → Responds by result line old new s t
+  text_told (Ok done) text s t tells answers does = (text ++ 10 ∷ [], answers, tells)
+  text_told (Err WriteFault) text s t tells answers does = (text ++ 10 ∷ [], answers, tells)
+  text_told (Err (NoMemory true)) text s t tells answers does =
+      (text ++ 10 ∷ [], answers, does refl, tells)
+  text_told (Err (NoMemory false)) text s t tells answers does = absurd tells
 
   -- a fault was told, or memory ran out
   fault_told : (result : Result (Unit {0}) Stop) (f : LineFault) (s : S)
@@ -80,7 +80,7 @@ module _ (result : Result (Unit {0}) Stop) (line : List ℕ) (old new : Option (
         ap (λ l. l ++ 10 ∷ []) (is ∙ ap (text_to m) (sym said)),
         stands ∙ ap (after_line m) (sym said),
       )
-      (ap is_ok said)
+      (λ e. ap is_ok said)
 
   pub fault_told_by_machine : (f : LineFault) (m : Machine) → TellsFault result f old new
       → IsFaultOf f (command line) → (f ≡ fault.NoMemory → TakesMemory line)
@@ -92,13 +92,14 @@ module _ (result : Result (Unit {0}) Stop) (line : List ℕ) (old new : Option (
       (ap (λ x. text_to m x ++ 10 ∷ []) said_is, ap (after_line m) said_is))
 
   -- what came of an event was told
-  pub outcome_told : (e : Event) (r : Outcome) (text : List ℕ) (s t : State)
-      → TellsText result text old new → event line ≡ Ok e → text ≡ outcome_bytes r → Goes s e r t
+  pub outcome_told : (e : Event) (r : Outcome) (s t : State)
+      → TellsText result (outcome_bytes r) old new
+      → (result ≡ Err (NoMemory true) → accepted r ≡ true) → event line ≡ Ok e → Goes s e r t
       → Spares e s t → Responds by_core result line old new s t
-  outcome_told e r text s t tells said is goes spares =
-      text_told by_core line old new result text s t tells
-      (subst (λ x. IsTold s x (text ++ 10 ∷ []) t) (sym said)
-      (r, goes, spares, ap (λ l. l ++ 10 ∷ []) is)) (ap is_ok said)
+  outcome_told e r s t tells done said goes spares =
+      text_told by_core line old new result (outcome_bytes r) s t tells
+      (subst (λ x. IsTold s x (outcome_bytes r ++ 10 ∷ []) t) (sym said) (r, goes, spares, refl))
+      (λ none. subst (λ x. IsDone s x t) (sym said) (r, goes, done none))
 
   pub fault_told_by_core : (f : LineFault) (s : State) → TellsFault result f old new
       → IsFaultOf f (event line) → (f ≡ fault.NoMemory → TakesMemory line)
@@ -107,14 +108,3 @@ module _ (result : Result (Unit {0}) Stop) (line : List ℕ) (old new : Option (
       fault_told by_core line old new result f s tells
       (λ other. subst (λ x. IsTold s x (fault_bytes f ++ 10 ∷ []) s)
       (sym (is_said (event line) f other said)) (refl, refl))
-
--- what came of an event was done, and not told for want of memory
-pub outcome_untold : (line : List ℕ) (old new : Option (List ℕ)) (e : Event) (r : Outcome)
-    (s t : State) → event line ≡ Ok e → Goes s e r t → Spares e s t → Keeps old new
-    → Responds by_core (Err (NoMemory true)) line old new s t
-outcome_untold line old new e r s t said goes spares keeps = (
-  outcome_bytes r ++ 10 ∷ [],
-  subst (λ x. IsTold s x (outcome_bytes r ++ 10 ∷ []) t) (sym said) (r, goes, spares, refl),
-  ap is_ok said,
-  keeps,
-)

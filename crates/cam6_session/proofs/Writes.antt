@@ -1,5 +1,5 @@
 -- Writes one after another make one front.
-use Rattle.std.proofs.Common.{◌≡◌, [], ◌∷◌, ◌++◌, ◌-◌, ◌≤◌, ℕ, List, Option, Result, Ok, Err}
+use Rattle.std.proofs.Common.{◌≡◌, [], ◌++◌, ◌-◌, ◌≤◌, ℕ, List, Option, Result, Ok, Err}
 use Rattle.std.proofs.Common.{length, take, drop, sym, ap, ◌∙◌, append-nil, append_assoc, arith}
 use Rattle.std.proofs.Common.{take-append-drop, take_all, length-drop}
 use Rattle.std.proofs.KnownBytes.{Appends-trans, Appends-kept}

@@ -1,12 +1,12 @@
 -- Ways of answering lines, of which the machine's is one.
-use Rattle.std.specs.Prelude.{◌≡◌, ℕ, List, [], ◌∷◌, ◌++◌, Bool}
+use Rattle.std.specs.Prelude.{◌≡◌, ℕ, List, [], ◌∷◌, ◌++◌}
 
 -- how lines are answered: from where what is asked stands, a line may be answered by these bytes,
--- its LF among them, and then what is asked stands there; and whether a line says something to be
--- done
+-- its LF among them, and then what is asked stands there; and whether what a line says is done, from
+-- the one to the other, so that memory may be taken to tell it
 pub record Answering (S : Type 0) : Type 1 where
   pub answers : S → List ℕ → List ℕ → S → Type 0
-  pub says : List ℕ → Bool
+  pub does : S → List ℕ → S → Type 0
 
 -- lines may be answered by these bytes, one after another, from s on, and then it is t
 abbrev pub AreAnswered : {S : Type 0} → Answering S → S → List (List ℕ) → List ℕ → S → Type 0

@@ -1,5 +1,5 @@
 -- What a machine answers to lines.
-use Rattle.std.specs.Prelude.{◌≡◌, ℕ, List, [], ◌∷◌, ◌++◌, Result, Ok, Err, is_ok}
+use Rattle.std.specs.Prelude.{◌≡◌, ℕ, List, [], ◌∷◌, ◌++◌, Result, Ok, Err, is_ok, true}
 use Rattle.cam6_model.specs.Machine.{Machine}
 use Rattle.cam6_model.specs.Alone.{reply, after}
 use Rattle.cam6_commands.specs.declared.commands.Command.{Command}
@@ -24,7 +24,7 @@ abbrev pub by_machine : Answering Machine
 by_machine = record {
   answers = λ m line text n.
       (text ≡ text_to m (command line) ++ 10 ∷ []) × (n ≡ after_line m (command line));
-  says = λ line. is_ok (command line);
+  does = λ m line n. is_ok (command line) ≡ true;
 }
 
 -- what is said among what lines say

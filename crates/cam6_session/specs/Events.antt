@@ -1,9 +1,10 @@
 -- What a core answers to lines of events.
-use Rattle.std.specs.Prelude.{◌≡◌, ℕ, List, [], ◌∷◌, ◌++◌, Result, Ok, Err, is_ok}
+use Rattle.std.specs.Prelude.{◌≡◌, ℕ, List, [], ◌∷◌, ◌++◌, Result, Ok, Err, true}
 use Rattle.cam6_commands.specs.declared.events.Event.{Event}
 use Rattle.cam6_commands.specs.declared.outcomes.Outcome.{Outcome}
 use Rattle.cam6_core.specs.State.{State}
 use Rattle.cam6_core.specs.Goes.{Goes, Spares}
+use Rattle.cam6_core.specs.Runs.{accepted}
 use Rattle.cam6_wire.specs.declared.faults.LineFault.{LineFault}
 use Rattle.cam6_wire.specs.Events.{event}
 use Rattle.cam6_wire.specs.Outcomes.{outcome_bytes}
@@ -18,11 +19,16 @@ IsTold s (Ok e) text t =
     (r : Outcome) × Goes s e r t × Spares e s t × (text ≡ outcome_bytes r ++ 10 ∷ [])
 IsTold s (Err fault) text t = (text ≡ fault_bytes fault ++ 10 ∷ []) × (t ≡ s)
 
+-- what a line says is an event that is done: it isn't refused, and finds memory
+abbrev pub IsDone : State → Result Event LineFault → State → Type 0
+IsDone s (Ok e) t = (r : Outcome) × Goes s e r t × (accepted r ≡ true)
+IsDone s (Err fault) t = ⊥
+
 -- the core answers what a line says, and does the event that it says
 abbrev pub by_core : Answering State
 by_core = record {
   answers = λ s line text t. IsTold s (event line) text t;
-  says = λ line. is_ok (event line);
+  does = λ s line t. IsDone s (event line) t;
 }
 
 -- the events among what lines say

@@ -51,6 +51,6 @@ Responds by (Ok done) line old new s t =
 Responds by (Err stop.WriteFault) line old new s t =
     (text : List ℕ) × by.answers s line text t × WritesSome old new text
 Responds by (Err (stop.NoMemory true)) line old new s t =
-    (text : List ℕ) × by.answers s line text t × (by.says line ≡ true) × Keeps old new
+    (text : List ℕ) × by.answers s line text t × by.does s line t × Keeps old new
 Responds by (Err (stop.NoMemory false)) line old new s t =
     Keeps old new × (t ≡ s) × TakesMemory line

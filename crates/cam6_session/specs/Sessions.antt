@@ -30,12 +30,12 @@ StopsWriting {S} by s taken unread written t =
     AreAnswered by s stop.done before u × by.answers u stop.line (front ++ rest) t ×
     (written ≡ before ++ front)
 
--- the lines before it were answered, and it says something to be done, which is done
+-- the lines before it were answered, and what it says is done
 abbrev pub StopsDone : {S : Type 0} → Answering S → S → List ℕ → List ℕ → List ℕ → S → Type 0
 StopsDone {S} by s taken unread written t =
     (stop : StopsAt taken unread) × (text : List ℕ) × (u : S) ×
     AreAnswered by s stop.done written u × by.answers u stop.line text t ×
-    (by.says stop.line ≡ true)
+    by.does u stop.line t
 
 -- the lines before it were answered, and memory is taken for it, but what it says isn't done; or no
 -- line was taken; or the lines before one were answered for which room is taken

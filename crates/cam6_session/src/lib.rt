@@ -10,8 +10,9 @@
 //! its own (`Answerer`, `specs/Answering.antt`): for each of its five ends it is exact which lines
 //! were taken, what was written, and where the one that was asked then stands
 //! (`specs/Sessions.antt`), so that a session can be taken up again where it ended. For want of
-//! memory it ends only at a line for which memory is taken, or within one for which room is taken,
-//! and for want of turns only where as many bytes were taken of the reader as there were turns, so
+//! memory it ends only at a line for which memory is taken, or within one for which room is taken.
+//! A replay ends so behind no event that was refused, nor behind an ask that found none. For want of
+//! turns a session ends only where as many bytes were taken of the reader as there were turns, so
 //! not at once (`specs/Spending.antt`). `next_line` takes exactly one line, or says why it stopped,
 //! and counts its turns; room is taken for a line that begins as a load alone, once it is longer
 //! than any other may be, and given back after it (`LineBuf`). The premise is that the reader and

@@ -1,22 +1,25 @@
 //! A stream of event lines, each answered by one line.
-ghost use Rattle.std.specs.Prelude.{◌≡◌, List, ℕ, Ok, Err};
+ghost use Rattle.std.specs.Prelude.{◌≡◌, List, ℕ, Ok, Err, true};
+ghost use Rattle.cam6_core.specs.Runs.{accepted};
 ghost use Rattle.cam6_core.specs.State.{State};
 ghost use Rattle.cam6_wire.specs.Commands.{IsFaultOf, IsSaid};
 ghost use Rattle.cam6_wire.specs.Events.{event as what_happens};
+ghost use Rattle.cam6_wire.specs.Outcomes.{outcome_bytes};
 ghost use Rattle.cam6_wire.specs.declared.faults.LineFault.TheVariants.{NoMemory};
 ghost use Rattle.cam6_session.specs.Events.{by_core};
 ghost use Rattle.cam6_session.specs.Held.{Holds};
 ghost use Rattle.cam6_session.specs.Replays.{WritesOutcomes};
-ghost use Rattle.cam6_session.specs.Responding.{Responds, TakesMemory};
+ghost use Rattle.cam6_session.specs.Responding.{Responds, TakesMemory, TellsText};
 ghost use Rattle.cam6_session.specs.Sessions.{AnswersReader};
 ghost use Rattle.cam6_session.specs.Spending.{SpendsItsTurns};
 
 use crate::answerers::{Answerer, tell, tell_fault};
 use crate::line_buffer::LineBuf;
 use crate::sessions::{End, Stop, answer_lines};
-use cam6_commands::Event;
+use crate::writers::send;
+use cam6_commands::{Event, Outcome};
 use cam6_core::Core;
-use cam6_wire::{LineFault, outcome_text, read_event};
+use cam6_wire::{LineFault, outcome_text, read_event, undone_line};
 use std::alloc::Global;
 use std::io::{BufRead, Write};
 
@@ -97,10 +100,26 @@ fn respond_to<W: Write>(
         (W.contents writer.old) (W.contents writer.new) core.old core.new }
 {
     let outcome = core.apply(event);
-    let Ok(text) = outcome_text(alloc, &outcome) else {
-        return Err(Stop::NoMemory { done: true });
-    };
-    tell(writer, text)
+    tell_outcome(alloc, &outcome, writer)
+}
+
+/// Tells what came of an event. Memory is taken for the text of an event that was done, and for no
+/// other.
+fn tell_outcome<W: Write>(alloc: Global, outcome: &Outcome, writer: &mut W) -> Result<(), Stop>
+    ensures told { TellsText result (outcome_bytes outcome.now)
+        (W.contents writer.old) (W.contents writer.new) }
+    ensures memory { result ≡ Err (Stop.NoMemory true) → accepted outcome.now ≡ true }
+{
+    match undone_line(outcome) {
+        Some(line) => {
+            send(writer, line.as_bytes())?;
+            Ok(())
+        }
+        None => match outcome_text(alloc, outcome) {
+            Ok(text) => tell(writer, text),
+            Err(_) => Err(Stop::NoMemory { done: true }),
+        },
+    }
 }
 
 fn respond_fault<W: Write>(fault: LineFault, writer: &mut W) -> Result<(), Stop>

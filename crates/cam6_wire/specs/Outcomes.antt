@@ -1,5 +1,5 @@
 -- The JSON values that the outcomes of events are, and their texts.
-use Rattle.std.specs.Prelude.{ℕ, List, codes, None, Some}
+use Rattle.std.specs.Prelude.{ℕ, List, codes, None, Some, ⊤}
 use Rattle.serde_json.specs.Data.{Data, string, object, no_members, member}
 use Rattle.serde_json.specs.Written.{compact_text}
 use Rattle.cam6_commands.specs.Numbers.{refused_number}
@@ -39,3 +39,9 @@ outcome_data (Collected reply) =
 -- the compact text of an outcome
 unfoldable pub outcome_bytes : Outcome → List ℕ
 outcome_bytes outcome = compact_text (outcome_data outcome)
+
+-- the event was done: it wasn't refused, and memory was found for it
+abbrev pub WasDone : Outcome → Type 0
+WasDone NoMemory = ⊥
+WasDone (Refused reason) = ⊥
+WasDone outcome = ⊤

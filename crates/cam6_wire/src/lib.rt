@@ -13,9 +13,10 @@
 //! line's fault, `fault_line` the same with its LF, and neither takes memory. `read_event` answers
 //! what a line says of users and boards in the same way (`specs/Events.antt`), a command within an
 //! ask as `command_shown` has it; and `outcome_text` is the compact JSON text of what comes of an
-//! event (`specs/Outcomes.antt`). `read_seat` answers the user whose machine a connection's first
-//! line asks for, again in the same way, and `seating_line` is what is answered to it, with its LF
-//! (`specs/Seats.antt`).
+//! event (`specs/Outcomes.antt`). `undone_line` is the same text with its LF, of an event that is
+//! refused or finds no memory, and takes no memory. `read_seat` answers the user whose machine a
+//! connection's first line asks for, again in the same way, and `seating_line` is what is answered
+//! to it, with its LF (`specs/Seats.antt`).
 //!
 //! The laws: a line says a command, an event, or a seat, exactly where it has no more bytes than it
 //! may and its JSON value shows it, with its keys and no others, and a load where the line has its
@@ -29,8 +30,8 @@
 //! `serde_json` with its grammar in `json`, and `hex`.
 //!
 //! Read next: `faults`, `limits`, `commands` and `replies`; what they read, `fields`, `wirings` and
-//! `entries`, and how they write, `objects`; `saved`, a machine as it is written, and `loads`, as it
-//! is read; `events`, `outcomes` and `seats`; then `laws`.
+//! `entries`, and how they write, `objects`; `saved`, a machine as it is written, and `loads`, as
+//! it is read; `events`, `outcomes` and `seats`; then `laws`.
 #![tactic(auto)]
 
 mod commands;
@@ -52,7 +53,7 @@ pub use commands::{command_shown, read_command};
 pub use events::{event_shown, read_event};
 pub use faults::LineFault;
 pub use limits::{LINE_LIMIT, LOAD_LINE_LIMIT, begins_load_in, line_limit};
-pub use outcomes::outcome_text;
+pub use outcomes::{outcome_text, undone_line};
 pub use replies::{fault_line, fault_text, reply_text};
 pub use saved::{Version, machine_value};
 pub use seats::{Seating, read_seat, seating_line};

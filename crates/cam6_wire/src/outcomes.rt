@@ -1,11 +1,13 @@
 //! What comes of events as lines of JSON.
-ghost use Rattle.std.specs.Prelude.{◌≡◌, ◌<◌, ◌^◌, ◌++◌, Some, IfOk, codes, decimal, string_bytes};
+ghost use Rattle.std.specs.Prelude.{◌≡◌, ◌<◌, ◌^◌, ◌++◌, ◌∷◌, [], None, Some, IfOk, IfSome};
+ghost use Rattle.std.specs.Prelude.{codes, decimal, string_bytes};
 ghost use Rattle.serde_json.specs.Read.{read};
 ghost use Rattle.serde_json.specs.View.{view};
-ghost use Rattle.cam6_wire.specs.Outcomes.{left_behind, outcome_bytes, outcome_data, refused};
+ghost use Rattle.cam6_wire.specs.Outcomes.{WasDone, left_behind, outcome_bytes, outcome_data};
+ghost use Rattle.cam6_wire.specs.Outcomes.{refused};
 
 use crate::replies::{ok_value, reply_value, told_value};
-use cam6_commands::{Outcome, Reply};
+use cam6_commands::{Outcome, Refused, Reply};
 use cam6_planes::NoMemory;
 use serde_json::{Value, json};
 use std::alloc::{AllocError, Global};
@@ -21,6 +23,36 @@ pub fn outcome_text(alloc: Global, outcome: &Outcome) -> Result<String, NoMemory
         // This is told for each band of a run, so its text is made without a value between.
         Outcome::Banded(left) => Ok(band_text(alloc, *left)?),
         _ => Ok(outcome_value(alloc, outcome)?.to_string(alloc)?),
+    }
+}
+
+/// The line that tells an event that wasn't done, with its LF: it was refused, or no memory was
+/// found for it. The line takes no memory. An event that was done has no such line.
+pub fn undone_line(outcome: &Outcome) -> Option<&'static str>
+    ensures line { IfSome result (λ line. line.now ≡ outcome_bytes outcome.now ++ 10 ∷ []) }
+    ensures done { result ≡ None → WasDone outcome.now }
+{
+    match outcome {
+        Outcome::NoMemory => Some("{\"refused\":0}\n"),
+        Outcome::Refused(reason) => Some(refused_line(*reason)),
+        _ => None,
+    }
+}
+
+/// The line that tells why an event is refused, with its LF.
+fn refused_line(reason: Refused) -> &'static str
+    ensures { result.now ≡ outcome_bytes (Outcome.Refused reason) ++ 10 ∷ [] }
+{
+    match reason {
+        Refused::NoSuchNumber => "{\"refused\":101}\n",
+        Refused::UserIsWaiting => "{\"refused\":102}\n",
+        Refused::UserIsNotQueued => "{\"refused\":103}\n",
+        Refused::BoardIsNotIdle => "{\"refused\":104}\n",
+        Refused::BoardHoldsNothing => "{\"refused\":105}\n",
+        Refused::BoardIsDead => "{\"refused\":106}\n",
+        Refused::BoardIsNotDead => "{\"refused\":107}\n",
+        Refused::NothingIsFinished => "{\"refused\":108}\n",
+        Refused::NoTableIsCached => "{\"refused\":109}\n",
     }
 }
 
