@@ -55,7 +55,7 @@ abbrev pub LoadsFor : Option Whereabouts → Cached → Cached → Type 0
 LoadsFor (Some (Queued q)) old new = IsBehindLoads q.work old new
 LoadsFor x old new = ⊥
 
--- and no other event asks for tables
+-- that is so of a lease; of no other event is anything said here
 abbrev pub LoadsTables : Event → Outcome → State → State → Type 0
 LoadsTables (event.Lease u b) (Leased left) old new =
     LoadsFor (at_number old.users u) old.cache new.cache

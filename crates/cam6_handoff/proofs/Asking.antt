@@ -1,5 +1,5 @@
 -- What is put and then collected is asked.
-use Rattle.std.proofs.Common.{◌≡◌, ◌∙◌, Some, ap, subst}
+use Rattle.std.proofs.Common.{◌≡◌, ◌∙◌, ℕ, Some, ap, subst}
 use Rattle.cam6_commands.specs.declared.commands.Command.{Command}
 use Rattle.cam6_commands.specs.declared.replies.Reply.{Reply}
 use Rattle.cam6_machine.specs.Stored.{machine_of}
@@ -18,16 +18,18 @@ asked old between new c put r is given =
   where
     waited : (old between : Stance) → PutGives old c Waiting between →
         CollectGives between (Some r) new → AskGives old c r new
-    waited (waiting q) between given collected = absurd given
+    waited (waiting u q) between given collected = absurd given
     waited nowhere between given collected = absurd given
-    waited (standing s) (standing t) given collected = absurd given.1
-    waited (standing s) nowhere given collected = absurd given.1
-    waited (standing s) (waiting q) given collected =
-        let machine = given.1.0 in
-        let command = given.1.1 in (
+    waited (standing u s) (standing v t) given collected = absurd given.1
+    waited (standing u s) nowhere given collected = absurd given.1
+    waited (standing u s) (waiting v q) given collected =
+        let same = given.1.0 in
+        let machine = given.1.1 in
+        let command = given.1.2 in (
           collected.0 ∙ ap (λ (m : Machine). reply m (asked_command q)) machine ∙
               ap (λ (d : Command). reply (machine_of s) d) command,
-          subst (λ (d : Command). StandsAt (after (machine_of s) d) new) command
-              (subst (λ (m : Machine). StandsAt (after m (asked_command q)) new) machine
-              collected.1),
+          subst (λ (w : ℕ). StandsAt w (after (machine_of s) c) new) same
+              (subst (λ (d : Command). StandsAt v (after (machine_of s) d) new) command
+              (subst (λ (m : Machine). StandsAt v (after m (asked_command q)) new) machine
+              collected.1)),
         )

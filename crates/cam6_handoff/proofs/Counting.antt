@@ -26,17 +26,18 @@ last_or_before (z ∷ xs) x (suc i) y at = elim (last_or_before xs x i y at) [
 pub one_more_desk : (n : ℕ) (limits : List Side) (desks : List Stance) (m : StoredMachine)
     (d : Side) → AreBlankDesksTo n limits desks → n < length limits →
     machine_of m ≡ blank (get_or limits n d) →
-    AreBlankDesksTo (n + 1) limits (desks ++ standing m ∷ [])
+    AreBlankDesksTo (n + 1) limits (desks ++ standing (n + 1) m ∷ [])
 one_more_desk n limits desks m d made some new = record {
-  long = omega (arith, length-append desks (standing m ∷ []), made.long);
-  each = λ i limit x at there. elim (last_or_before desks (standing m) i x there) [
+  long = omega (arith, length-append desks (standing (n + 1) m ∷ []), made.long);
+  each = λ i limit x at there. elim (last_or_before desks (standing (n + 1) m) i x there) [
     | inl before ↦ made.each i limit x at before
     | inr last ↦
         let here : slice_get limits n ≡ Some limit =
         ap (slice_get limits) (sym (last.0 ∙ made.long)) ∙ at in
         let same : get_or limits n d ≡ limit =
         same_Some (get_or limits n d) limit (sym (slice_get-get_or limits n d some) ∙ here) in
-        subst (IsBlankDesk limit) last.1 (new ∙ ap blank same)
+        let user : n + 1 ≡ suc i = omega (arith, last.0, made.long) in
+        subst (IsBlankDesk (suc i) limit) last.1 (user, new ∙ ap blank same)
   ];
 }
 

@@ -1,16 +1,16 @@
 -- Desks and seats at the beginning.
-use Rattle.std.specs.Prelude.{◌≡◌, ℕ, List, length, Some}
+use Rattle.std.specs.Prelude.{◌≡◌, ℕ, suc, List, length, Some}
 use Rattle.std.specs.List.{slice_get}
 use Rattle.cam6_planes.specs.declared.sides.Side.{Side}
 use Rattle.cam6_handoff.specs.Desks.{IsBlankDesk}
 use Rattle.cam6_handoff.specs.Standing.{Stance}
 use Rattle.cam6_handoff.specs.Holding.{BoardStance, IsIdle}
 
--- the first n limits have a desk each, at the blank machine of the limit
+-- the first n users, counted from 1, have a desk each, in order, at the blank machine of their limit
 pub record AreBlankDesksTo (n : ℕ) (limits : List Side) (desks : List Stance) : Type 0 where
   pub long : length desks ≡ n
   pub each : (i : ℕ) (limit : Side) (desk : Stance) → slice_get limits i ≡ Some limit →
-      slice_get desks i ≡ Some desk → IsBlankDesk limit desk
+      slice_get desks i ≡ Some desk → IsBlankDesk (suc i) limit desk
 
 abbrev pub AreBlankDesks : List Side → List Stance → Type 0
 AreBlankDesks limits desks = AreBlankDesksTo (length limits) limits desks

@@ -1,17 +1,18 @@
 -- Where a desk stands.
-use Rattle.std.specs.Prelude.{◌≡◌, Bool, true, false}
+use Rattle.std.specs.Prelude.{◌≡◌, ℕ, Bool, true, false}
 use Rattle.cam6_machine.specs.Stored.{StoredMachine}
 use Rattle.cam6_slot.specs.Parking.{StoredQueued}
 
--- at a machine; or waiting for what was asked; or nowhere, which no desk ever does
+-- the desk of a user, counted from 1, at a machine; or one that waits for what was asked; or nowhere,
+-- which no desk ever does
 pub data Stance : Type 0 where
-  standing : StoredMachine → Stance
-  waiting : StoredQueued → Stance
+  standing : ℕ → StoredMachine → Stance
+  waiting : ℕ → StoredQueued → Stance
   nowhere : Stance
 
 abbrev pub is_waiting : Stance → Bool
-is_waiting (standing m) = false
-is_waiting (waiting asked) = true
+is_waiting (standing u m) = false
+is_waiting (waiting u asked) = true
 is_waiting nowhere = true
 
 abbrev pub IsResting : Stance → Type 0

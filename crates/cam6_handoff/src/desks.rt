@@ -1,5 +1,5 @@
 //! A user's desk.
-ghost use Rattle.std.specs.Prelude.{◌≡◌, [], ◌∷◌, Some, None, true};
+ghost use Rattle.std.specs.Prelude.{◌≡◌, ◌+◌, [], ◌∷◌, Some, None, true};
 ghost use Rattle.std.specs.Arc.{arc_value};
 ghost use Rattle.cam6_handoff.specs.declared.rule.View.TheVariants.{Rests};
 ghost use Rattle.cam6_handoff.specs.Standing.{standing};
@@ -35,7 +35,7 @@ impl Model for Desk {
 
     ghost Value = { Stance };
 
-    ghost view = { λ d. stance_of d.resting d.seat.me.0 };
+    ghost view = { λ d. stance_of d.user d.resting d.seat.me.0 };
 
     ghost invariant = { λ d.
         IsAt (arc_value d.table).shared.table_id (arc_value d.table).shared.key.users
@@ -149,7 +149,7 @@ pub(crate) fn desk_of(table: Arc<HandTable>, seat: Chair, user: usize, resting: 
     requires at { IsAt (arc_value table).shared.table_id (arc_value table).shared.key.users
         seat.table_id user }
     requires rests { seat.me ≡ (Rests user, (user, None) ∷ []) }
-    ensures { result ≡ standing resting }
+    ensures { result ≡ standing (user + 1) resting }
 {
     Desk {
         table,

@@ -1,15 +1,16 @@
 //! The hand-off table: users' commands go between threads, from a desk to whichever board takes
 //! them and back, with one word and one slot for each user.
 //!
-//! Contract: a desk has the machine of its user, or waits for what a command makes of it
-//! (`specs/Standing.antt`). What is put at a desk is answered at once as the machine alone answers
-//! it, or waits for a board; what is collected there is the machine alone's reply, and the desk has
-//! the machine after the command (`specs/Desks.antt`), whatever other threads do. A board's seat
-//! holds no lease, or one whose place it took (`specs/Seats.antt`): what it puts back stands for
-//! whatever that place stood for, and what it puts as done is that machine after that command.
-//! Between any two steps the table keeps its rule (`specs/Rule.antt`), one row for each word. What
-//! a step tells of the words that it found and left is its type's (`specs/Steps.antt`). `Desk::ask`
-//! and `Desk::wait` alone may wait. All memory but that of commands is taken by `boot`.
+//! Contract: each user has a desk (`specs/Boot.antt`). It has his machine, or waits for what a
+//! command makes of it (`specs/Standing.antt`). What is put at a desk is answered at once as the
+//! machine alone answers it, or waits for a board; what is collected there is the machine alone's
+//! reply, and the desk has the machine after the command (`specs/Desks.antt`), whatever other
+//! threads do. A board's seat holds no lease, or one whose place it took (`specs/Seats.antt`): what
+//! it puts back stands for whatever that place stood for, and what it puts as done is that machine
+//! after that command. Between any two steps the table keeps its rule (`specs/Rule.antt`), one row
+//! for each word. What a step tells of the words that it found and left is its type's
+//! (`specs/Steps.antt`). `Desk::ask` and `Desk::wait` alone may wait. All memory but that of
+//! commands is taken by `boot`.
 //!
 //! By reading, since no clause counts exchanges: each step is one exchange on one word, in one
 //! function of `steps`, and no call but those that wait tries one again.

@@ -51,7 +51,7 @@ fn cut_desk(table: Arc<HandTable>, first: &mut Chair, user: usize, resting: Rest
     requires next { first.old.me ≡ (First user 0, []) }
     ensures of { first.new.table_id ≡ first.old.table_id }
     ensures next { first.new.me ≡ (First (user + 1) 0, []) }
-    ensures desk { result ≡ standing resting }
+    ensures desk { result ≡ standing (user + 1) resting }
 {
     let mut seat = table.shared.split_seat::<DeskCut>(first);
     steps::sit(&table.shared, &mut seat, user);

@@ -8,6 +8,6 @@ use Rattle.cam6_handoff.specs.Standing.{Stance, standing, waiting, nowhere}
 -- that which it has; of a desk that waits the machine that it had when it was asked; a desk never
 -- stands nowhere, for which any machine does
 abbrev pub machine_at : Stance → Machine
-machine_at (standing s) = machine_of s
-machine_at (waiting asked) = asked_machine asked
+machine_at (standing u s) = machine_of s
+machine_at (waiting u asked) = asked_machine asked
 machine_at nowhere = blank S256

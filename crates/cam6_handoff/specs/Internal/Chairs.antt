@@ -15,13 +15,13 @@ abbrev pub waits_at : View → Stance
 waits_at (First desks boards) = nowhere
 waits_at (Unseated u) = nowhere
 waits_at (Rests u) = nowhere
-waits_at (Waits u asked) = waiting asked
+waits_at (Waits u asked) = waiting (u + 1) asked
 waits_at (Idle b) = nowhere
 waits_at (Holds b u q) = nowhere
 
-abbrev pub stance_of : Option StoredMachine → View → Stance
-stance_of (Some m) v = standing m
-stance_of None v = waits_at v
+abbrev pub stance_of : ℕ → Option StoredMachine → View → Stance
+stance_of u (Some m) v = standing (u + 1) m
+stance_of u None v = waits_at v
 
 -- a desk with its machine has its slot, with nothing in it; one that waits has none
 abbrev pub DeskChair : ℕ → Option StoredMachine → Seated → Type 0
