@@ -26,6 +26,7 @@ ENDS = [
     ("failure TurnBound", (6, "cam6: turn bound reached")),
     ("fault host.NoMemory", (5, "cam6: no memory")),
     ("fault host.Network", (7, "cam6: network failed")),
+    ("fault host.NoThread", (8, "cam6: no thread")),
 ]
 
 # The tables that a cache holds, by the arguments of a replay.

@@ -1,12 +1,14 @@
 """Serves connections by the program, well-behaved ones and others, and looks at what comes back.
 
-usage: connections.py PROGRAM
+usage: connections.py PROGRAM FAILING
 
+PROGRAM is the program `cam6`, and FAILING what fails calls of its sockets (failing.c), as a library that is loaded into it.
 In all that is tried a user goes on beside it, one line after another, and each of his replies must be the one
 that `cam6 alone` gives to the same lines. Says what passed, a line each, and what failed. The last line is
 'N passed, M failed'.
 """
 
+import errno
 import os
 import resource
 import signal
@@ -17,7 +19,7 @@ import sys
 import threading
 import time
 
-program = sys.argv[1]
+program, failing = sys.argv[1:] if len(sys.argv) == 3 else ("", "")
 passed, failed = 0, 0
 
 # A reply that doesn't come within so many seconds doesn't come at all.
@@ -112,11 +114,14 @@ def afresh(peer):
 class Host:
     """The program, serving."""
 
-    def __init__(self, *words, port=None):
+    def __init__(self, *words, port=None, fails=None):
+        """`fails` is the name of a call, its number and the error, if a call of the host's sockets is to fail."""
         self.port = free_port() if port is None else port
+        call = {} if fails is None else dict(zip(("FAILED", "FAILED_AT", "FAILED_BY"), map(str, fails)))
         self.process = subprocess.Popen(
             [program, "serve", *(["--port", str(self.port)] if port is None else []), *words],
-            stdin=subprocess.DEVNULL, stdout=subprocess.PIPE, stderr=subprocess.PIPE)
+            stdin=subprocess.DEVNULL, stdout=subprocess.PIPE, stderr=subprocess.PIPE,
+            env=os.environ | call | ({"LD_PRELOAD": failing} if call else {}))
         self.first = self.process.stderr.readline().decode()
 
     def status(self):
@@ -168,9 +173,10 @@ class Steady(threading.Thread):
         self.begun.set()
 
     def go_on(self):
-        peer = Peer(self.port, self.user)
-        if peer.said != '{"ok":"seat"}':
-            self.wrong = peer.said
+        # Whoever had the seat before has closed, which the host may not have seen yet.
+        peer = seat_when_free(self.port, self.user)
+        if peer is None:
+            self.wrong = "no seat"
             return
         while not self.wrong and not (self.rounds > 1 and self.enough.is_set()):
             afresh(peer)
@@ -225,6 +231,19 @@ def no_network():
           (said.returncode, said.stdout, said.stderr) == (7, b"", b"cam6: network failed\n"), said)
 
 
+def without_board_threads():
+    """The host has memory, and none for the stack of a thread."""
+    def bound():
+        resource.setrlimit(resource.RLIMIT_STACK, (1 << 40, resource.RLIM_INFINITY))
+        resource.setrlimit(resource.RLIMIT_AS, (1 << 34, resource.RLIM_INFINITY))
+
+    port = free_port()
+    said = subprocess.run([program, "serve", "--port", str(port)], capture_output=True, timeout=PATIENCE, preexec_fn=bound)
+    want = b"listening on 127.0.0.1:%d\ncam6: no thread\n" % port
+    check("a board without a thread ends it with status 8",
+          (said.returncode, said.stdout, said.stderr) == (8, b"", want), said)
+
+
 def words_refused():
     for words in (["--port", "0"], ["--port", "65536"], ["--users", "33"], ["--boards", "9"],
                   ["--cache", "65"], ["--side", "100"], ["--connections", "-1"],
@@ -266,8 +285,8 @@ def closes_within_lines(port):
         peer = Peer(port)
         peer.send('{"sea')
         how(peer)
-        peer = Peer(port, 1)
-        check("the seat is free", peer.said == '{"ok":"seat"}', peer.said)
+        peer = seat_when_free(port, 1)
+        check("the seat is free", peer is not None)
         peer.send('{"do":"ru')
         how(peer)
         peer = seat_when_free(port, 1)
@@ -299,6 +318,71 @@ def closes_within_a_run(port):
         said = [peer.ask(row(6)), peer.ask(row(7))]
         check("the run is done all the same", said == want, said)
         peer.close()
+
+
+def runs_behind_a_reset(port):
+    """A peer asks for so many runs at once, and goes. The command that is under way is done, and those whose answers were
+    sent before it was seen that he is gone; no other is."""
+    peer = seat_when_free(port, 1)
+    for line in [PARITY, CYCLE, cell(7)]:
+        peer.ask(line)
+    begun = time.monotonic()
+    peer.ask(run(2000))
+    one = time.monotonic() - begun
+    peer.send((run(2000) + "\n") * 341)
+    peer.reset()
+    begun = time.monotonic()
+    peer = seat_when_free(port, 1)
+    took = time.monotonic() - begun
+    check("a peer that goes leaves its seat, whatever runs it asked for", peer is not None and took < 10 * one + 2,
+          "%.1f seconds, of %.2f for a run" % (took, one))
+    afresh(peer)
+    peer.close()
+
+
+# Commands that change rows, each with the steps of a run behind it, and what shows all of them.
+CHANGES = [PARITY, CYCLE] + [line for y in range(5) for line in (cell(40 * y), row(40 * y), run(1))]
+SHOWN = '{"do":"plane","plane":0}'
+
+
+def at_once(fails):
+    """What a user is answered who sends all changes at once, and what his plane then is, where a call fails."""
+    host = Host("--users", "1", "--boards", "1", fails=fails)
+    said, plane = [], None
+    try:
+        peer = Peer(host.port, 1)
+        if peer.said == '{"ok":"seat"}':
+            peer.send("".join(line + "\n" for line in CHANGES))
+            peer.socket.shutdown(socket.SHUT_WR)
+            said = list(iter(peer.read, None))
+        peer.close()
+        peer = seat_when_free(host.port, 1)
+        plane = peer.ask(SHOWN)
+        peer.close()
+    except OSError:
+        pass
+    host.kill()
+    return said, plane
+
+
+def calls_that_fail():
+    want = alone(CHANGES)
+    planes = [alone([*CHANGES[:n], SHOWN])[-1] for n in range(len(CHANGES) + 1)]
+    cut = set()
+    # The answer to the first line is one send, those up to each run are another one, and the last ones too.
+    for number in range(1, 8):
+        said, plane = at_once(("send", number, errno.ENOBUFS))
+        # All that was answered is done. What was done unanswered is what one packet's answers and a run may be.
+        done = [n for n in range(len(said), len(CHANGES) + 1) if planes[n] == plane]
+        check("answers break off where a send fails, and none is lost before: %d" % number,
+              said == want[: len(said)] and done != [], (said, plane))
+        cut.add(len(said))
+    check("and break off in several places", len(cut) > 3, cut)
+    for call in ("send", "recv"):
+        for number in range(1, 6):
+            said, plane = at_once((call, number, errno.EINTR))
+            check("a call that is interrupted is made again: %s %d" % (call, number),
+                  (said, plane) == (want, planes[-1]), (said, plane))
 
 
 def never_reads(port):
@@ -459,13 +543,15 @@ def beside(port, user, what, *others):
 def main():
     two_connections()
     no_network()
+    without_board_threads()
+    calls_that_fail()
     words_refused()
     words_taken()
     peers_at_once()
     host = Host("--users", "5", "--connections", "0")
     slow = threading.Thread(target=a_byte_a_second, args=(host.port,))
     slow.start()
-    for what in (closes_within_lines, closes_within_a_run, never_reads, no_lines, many_lines_at_once):
+    for what in (closes_within_lines, closes_within_a_run, runs_behind_a_reset, never_reads, no_lines, many_lines_at_once):
         beside(host.port, 2, what)
         seat_when_free(host.port, 2).close()
     slow.join()

@@ -130,10 +130,11 @@ class Ran:
 
 class Part:
     """What is run with each request refused in turn, or with one of `step`. `look` says how a run went, or that it went
-    wrong, by None."""
+    wrong, by None. `bounds` has the least and the most runs that may go in a way."""
 
-    def __init__(self, name, step=1):
+    def __init__(self, name, step=1, bounds=None):
         self.name, self.step, self.seen, self.wrong = name, step, Counter(), []
+        self.bounds = bounds or {}
 
     def run(self, once):
         """`once` runs with the request of a number refused: whether that was met, how it was seen, and what is told."""
@@ -149,6 +150,9 @@ class Part:
             else:
                 self.seen[how] += 1
             number += self.step
+        for how, (least, most) in self.bounds.items():
+            if not least <= self.seen[how] <= most:
+                self.wrong.append("%d %s, and not %d to %d" % (self.seen[how], how, least, most))
         ways = ", ".join("%d %s" % (times, how) for how, times in sorted(self.seen.items()))
         print("%s: %d refused: %s" % (self.name, sum(self.seen.values()) + len(self.wrong), ways))
         for told in self.wrong[:5]:
@@ -426,6 +430,11 @@ def served_went(got, again, commands):
     return "at a reply, its command done" if got == twice[:again] + twice[again + 1 :] else None
 
 
+AT_A_THREAD = "at the thread of a board"
+# How a host ends before it is there: the status, the line and the way.
+NO_HOST = [(5, "cam6: no memory\n", "before the host was there"), (8, "cam6: no thread\n", AT_A_THREAD)]
+
+
 def of_server(commands):
     def once(number):
         host = Served(number)
@@ -441,8 +450,8 @@ def of_server(commands):
         is_there, err = host.end()
         told = "status %s, %r, %r" % (status, err, got[-1:])
         if not is_seated:
-            is_well = status == 5 and err.endswith("cam6: no memory\n") and not is_there
-            return was_met, "before the host was there" if is_well else None, told
+            ways = [way for end, line, way in NO_HOST if status == end and err.endswith(line) and not is_there]
+            return was_met, ways[0] if ways else None, told
         how = served_went(got, again, commands) if is_there and err == host.first else None
         if how == "unseen" and before:
             how = "at a connection, which is closed"
@@ -468,12 +477,14 @@ PARTS = {
 }
 # A machine's text wants some thousands of requests, of which one of so many is refused.
 STEPS = {"a machine saved and loaded, taken up again": 17, "cam6 serve, a machine saved and loaded": 41}
+# A host of one board starts one thread for it, for which memory is asked once.
+BOUNDS = {"cam6 serve, each command": {AT_A_THREAD: (1, 1)}}
 
 
 def main():
     passed, failed = 0, 0
     for name, once in PARTS.items():
-        well, wrong = Part(name, STEPS.get(name, 1)).run(once)
+        well, wrong = Part(name, STEPS.get(name, 1), BOUNDS.get(name)).run(once)
         passed, failed = passed + well, failed + wrong
     print("%d passed, %d failed" % (passed, failed))
     return 0 if failed == 0 and passed > 500 else 1

@@ -17,10 +17,12 @@ failure WriteFault = Some (4, codes "cam6: write failed\n")
 failure (NoMemory done) = Some (5, codes "cam6: no memory\n")
 failure TurnBound = Some (6, codes "cam6: turn bound reached\n")
 
--- the network is a listener that can't be had, or a connection that can't be accepted
+-- the network is a listener that can't be had, or a connection that can't be accepted; a thread is
+-- one for a board
 abbrev pub fault : Fault → ℕ × List ℕ
 fault host.NoMemory = (5, codes "cam6: no memory\n")
 fault host.Network = (7, codes "cam6: network failed\n")
+fault host.NoThread = (8, codes "cam6: no thread\n")
 
 -- help succeeds
 abbrev pub refusal : Refused → ℕ × List ℕ

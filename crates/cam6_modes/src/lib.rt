@@ -1,12 +1,14 @@
 //! The modes of the program `cam6`: what its arguments ask for, what it does on streams, and how it
 //! ends.
 //!
-//! Contract: `options` reads the arguments as `clap` takes them (`specs/CommandLine.antt`).
-//! `failure_of`, `fault_of` and `refusal_of` are the exit statuses of each end of a session, of a
-//! host that can't go on, and of arguments that ask for nothing (`specs/Statuses.antt`). What is
-//! written for what is read, and that turns run out only if as many bytes were read, is the contract
-//! of `serve_streams` and of `replay_streams` (`specs/Replays.antt`): those of `serve_alone` and of
-//! `replay` in `cam6_session`, with the program's turns (`specs/Turns.antt`).
+//! Contract: `options` reads the arguments as `clap` takes them (`specs/CommandLine.antt`). It
+//! tells an error of `clap`'s by `refused`: as want of memory only if the error is that, or the
+//! text of it or of a slip found none. `failure_of`, `fault_of` and `refusal_of` are the exit
+//! statuses of each end of a session, of a host that can't go on, and of arguments that ask for
+//! nothing (`specs/Statuses.antt`). What is written for what is read, and that turns run out only
+//! if as many bytes were read, is the contract of `serve_streams` and of `replay_streams`
+//! (`specs/Replays.antt`): those of `serve_alone` and of `replay` in `cam6_session`, with the
+//! program's turns (`specs/Turns.antt`).
 //!
 //! Stands on: `cam6_planes`, for the sides; `cam6_cache`, for the number of its tables; `cam6_core`,
 //! `cam6_session`, `cam6_server`, `clap`, `thiserror`.
@@ -23,4 +25,4 @@ mod words;
 pub use modes::{Options, Refused, Sharing};
 pub use statuses::{NO_MEMORY, WRITE_FAILED, failure_of, fault_of, refusal_of};
 pub use streams::{replay_streams, serve_streams};
-pub use words::options;
+pub use words::{options, refused};

@@ -19,6 +19,9 @@ pub const TURN_BOUND_REACHED: u8 = 6;
 
 pub const NETWORK_FAILED: u8 = 7;
 
+/// A thread for a board could not be started.
+pub const NO_THREAD: u8 = 8;
+
 /// The status of a session that failed, with its line for standard error.
 pub fn failure_of(end: End) -> Option<(u8, &'static str)>
     ensures { option_map (λ f. (f.0, f.1.now)) result ≡ failure end }
@@ -39,6 +42,7 @@ pub fn fault_of(fault: Fault) -> (u8, &'static str)
     match fault {
         Fault::NoMemory => (NO_MEMORY, "cam6: no memory\n"),
         Fault::Network => (NETWORK_FAILED, "cam6: network failed\n"),
+        Fault::NoThread => (NO_THREAD, "cam6: no thread\n"),
     }
 }
 

@@ -39,7 +39,8 @@ const VERSION: &str = "1 (Rattle logic dac8208d650f15bf)";
 /// What the statuses mean, and where more is said.
 const PROGRAM_TEXT: &str = "\
 Exit statuses: 0 end of input, help or version; 2 refused words; 3 read failed; 4 write failed;
-5 no memory; 6 turn bound reached; 7 network failed. Each but 0 is told on standard error.
+5 no memory; 6 turn bound reached; 7 network failed; 8 no thread for a board. Each but 0 is told on
+standard error.
 
 A line to try: a blank machine has no rules.
   echo '{\"do\":\"rules\"}' | cam6
@@ -76,7 +77,7 @@ It is answered by {\"ok\":\"seat\"}, or by {\"fault\":80} where the user has a c
 answered by a line.
 
 Exit statuses: 0 as many connections as were to be served; 2 refused words; 5 no memory; 7 network
-failed.
+failed; 8 no thread for a board.
 
 A session to try, with one command, which lists the rules that there are:
   cam6 serve &
@@ -325,8 +326,9 @@ fn refusal(alloc: Global, error: clap::Error, slip: &str) -> Refused
     refused(kind, error.to_string(alloc), slip)
 }
 
-/// What an error of this kind means for the program, with its text, or none for want of memory.
-fn refused(kind: ErrorKind, text: Result<String, AllocError>, slip: &str) -> Refused
+/// What an error of clap's of this kind means for the program, with its text, or none for want of
+/// memory. What is told of a slip stands behind the text.
+pub fn refused(kind: ErrorKind, text: Result<String, AllocError>, slip: &str) -> Refused
     ensures kind { IsOfKind result kind }
     ensures slip { EndsWith result slip.now }
     // Memory is told to be wanted only where it is.

@@ -1,5 +1,6 @@
--- In the order of reading: how much a host has, the desks at which nobody sits, and what is written
--- to a connection for what is read of it.
+-- In the order of reading: how much a host has, the desks at which nobody sits, what is written to
+-- a connection for what is read of it, and answers on their way.
 pub mod Serving
 pub mod Places
 pub mod Connections
+pub mod Outboxes

@@ -38,7 +38,7 @@ pub fn serve_net<R: Handle + Send + Sync + 'static>(
     let mut workers = Vec::new(rt.alloc());
     let served = match employ(&hall, boards, &mut workers) {
         Ok(()) => accept(&hall, listener, serving.connections),
-        Err(no_memory) => Err(Fault::from(no_memory)),
+        Err(fault) => Err(fault),
     };
     hall.gate.stop();
     for worker in workers {
@@ -97,10 +97,15 @@ fn employ<R: Handle + Send + Sync + 'static>(
     hall: &Arc<Hall<R>>,
     boards: Vec<IdleBoard>,
     workers: &mut Vec<JoinHandle<()>>,
-) -> Result<(), NoMemory> {
-    workers.try_reserve(boards.len())?;
+) -> Result<(), Fault> {
+    if workers.try_reserve(boards.len()).is_err() {
+        return Err(Fault::NoMemory);
+    }
     for board in boards {
-        workers.push(start(hall, board)?)?;
+        let worker = start(hall, board)?;
+        if workers.push(worker).is_err() {
+            return Err(Fault::NoMemory);
+        }
     }
     Ok(())
 }
@@ -109,11 +114,13 @@ fn employ<R: Handle + Send + Sync + 'static>(
 fn start<R: Handle + Send + Sync + 'static>(
     hall: &Arc<Hall<R>>,
     board: IdleBoard,
-) -> Result<JoinHandle<()>, NoMemory> {
-    let theirs = Arc::try_clone(hall)?;
+) -> Result<JoinHandle<()>, Fault> {
+    let Ok(theirs) = Arc::try_clone(hall) else {
+        return Err(Fault::NoMemory);
+    };
     match spawn(&hall.rt, move || board.serve(&theirs)) {
         Ok(worker) => Ok(worker),
-        Err(_) => Err(NoMemory),
+        Err(_) => Err(Fault::NoThread),
     }
 }
 

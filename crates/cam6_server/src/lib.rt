@@ -7,9 +7,12 @@
 //! `serve` of `cam6_session` answers them. A desk at which nobody sits doesn't wait (`FreeDesk`), so
 //! none is put back whose reply wasn't collected. A user's desk is taken from his place, or nothing is
 //! changed, as somebody has it or there is no such user; what is given back is at his place
-//! (`specs/Places.antt`). All of this if it returns: it may wait for its peer, for a board, and for a
-//! lock. That boards are stopped and threads joined, and how many connections are accepted, no clause
-//! says.
+//! (`specs/Places.antt`). What is written to an `Outbox` goes to its writer in order, each byte once,
+//! when it is released; after bytes couldn't be sent it takes none, and sends none
+//! (`specs/Outboxes.antt`). All of this if it returns: it may wait for its peer, for a board, and for
+//! a lock. That boards are stopped and threads joined, and how many connections are accepted, no
+//! clause says. Nor does one of a socket's bytes: `converse` and the outbox are proved over readers
+//! and writers that tell theirs, and `streams` joins them to a socket.
 //!
 //! So, of four users: a connection whose first line is `{"seat":1}` is answered `{"ok":"seat"}`, and
 //! from then on as `cam6_session` answers a machine's lines. A second one with that line is answered
@@ -17,11 +20,11 @@
 //!
 //! Stands on: `cam6_session`, what is done for a line, and `cam6_wire`, the first line and its
 //! answers; `cam6_pool`, the workers and their gate; `cam6_handoff`, desks and seats; `cam6_board`,
-//! `cam6_cache`, `cam6_commands` and `cam6_planes`; `thiserror`.
+//! `cam6_cache`, `cam6_commands` and `cam6_planes`.
 //!
 //! Read next: `serving`, how much a host has; `hosts`, all of it; `halls`, what its threads share;
 //! `boards`; `sessions`, a thread for each connection; `connections`, what is said there;
-//! `free_desks`, `places` and `desks`; `streams`, the bytes.
+//! `free_desks`, `places` and `desks`; `outboxes` and `streams`, the bytes.
 #![tactic(auto)]
 
 mod boards;
@@ -30,11 +33,17 @@ mod desks;
 mod free_desks;
 mod halls;
 mod hosts;
+mod outboxes;
 mod places;
 mod serving;
 mod sessions;
 mod streams;
 
-pub use halls::Handle;
+pub use connections::{Visit, converse};
+pub use free_desks::FreeDesk;
+pub use halls::{Hall, Handle};
 pub use hosts::serve_net;
+pub use outboxes::Outbox;
+pub use places::Places;
 pub use serving::{Fault, Serving};
+pub use streams::Release;

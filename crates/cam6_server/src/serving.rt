@@ -5,7 +5,6 @@ ghost use Rattle.cam6_handoff.specs.Limits.{max_users, max_boards};
 
 use cam6_planes::{NoMemory, Side};
 use std::marker::Model;
-use thiserror::Error;
 
 /// Users, boards, and tables that are cached, of each one at least and no more than a host can have;
 /// the largest side that a machine may have; and connections, or 0 for connections without end.
@@ -77,14 +76,14 @@ impl Serving {
 }
 
 /// Why a host can't go on.
-#[derive(Clone, Copy, Debug, PartialEq, Eq, Error)]
+#[derive(Clone, Copy, Debug, PartialEq, Eq)]
 pub enum Fault {
-    /// Memory was asked for and refused, or a thread for a board.
-    #[error("cam6: no memory")]
+    /// Memory was asked for and refused.
     NoMemory,
     /// The network failed.
-    #[error("cam6: network failed")]
     Network,
+    /// A thread for a board could not be started.
+    NoThread,
 }
 
 impl From<NoMemory> for Fault {

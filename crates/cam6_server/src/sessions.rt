@@ -2,7 +2,7 @@
 
 use crate::connections::converse;
 use crate::halls::{Hall, Handle};
-use crate::streams::{Inbox, Outbox, Release};
+use crate::streams::{Link, Release};
 use std::alloc::Global;
 use std::io::BufReader;
 use std::net::TcpStream;
@@ -83,9 +83,9 @@ impl Sessions {
 }
 
 /// Answers the lines of a connection. Where there is no memory for them none is.
-fn talk<R: Handle>(hall: &Hall<R>, outbox: &Outbox<'_>) {
-    if let Ok(mut reader) = BufReader::new(hall.rt.alloc(), Inbox::new(outbox)) {
-        converse(hall, &mut reader, &mut &*outbox, outbox);
+fn talk<R: Handle>(hall: &Hall<R>, link: &Link<'_>) {
+    if let Ok(mut reader) = BufReader::new(hall.rt.alloc(), &*link) {
+        converse(hall, &mut reader, &mut &*link, link);
     }
 }
 
@@ -93,9 +93,9 @@ fn talk<R: Handle>(hall: &Hall<R>, outbox: &Outbox<'_>) {
 fn attend<R: Handle>(hall: &Hall<R>, stream: TcpStream, is_over: &AtomicBool) {
     // Where it can't be told that answers are to be sent at once, they are sent all the same.
     let _ = stream.set_nodelay(true);
-    if let Ok(outbox) = Outbox::new(hall.rt.alloc(), &stream) {
-        talk(hall, &outbox);
-        outbox.release();
+    if let Ok(link) = Link::new(hall.rt.alloc(), &stream) {
+        talk(hall, &link);
+        link.release();
     }
     drop(stream);
     is_over.store(true, Ordering::SeqCst);

@@ -1,13 +1,14 @@
 //! The bytes of a connection. Answers to lines that came together go out together.
 
-use std::alloc::{AllocError, Global};
+use crate::outboxes::Outbox;
+use std::alloc::Global;
 use std::cell::RefCell;
 use std::io;
-use std::io::{ErrorKind, Read, Write};
+use std::io::{Error, ErrorKind, Read, Write};
 use std::net::TcpStream;
 
-/// Bytes of answers that are held back at most.
-const HELD: usize = 16_384;
+/// How often a call of the system is made again that a signal interrupts.
+const TRIES: u32 = 1_000;
 
 /// Something that may hold answers back.
 pub trait Release {
@@ -15,94 +16,97 @@ pub trait Release {
     fn release(&self);
 }
 
-/// The answers of a connection. They are held back until the next bytes are read, so that all of them
-/// go out in one write, or until they are let go.
-#[derive(Drop)]
-pub struct Outbox<'a> {
+/// The socket of a connection. A call that is interrupted is made again.
+#[derive(Clone, Copy, Drop)]
+struct Socket<'a> {
     stream: &'a TcpStream,
-    held: RefCell<Vec<u8>>,
 }
 
-impl<'a> Outbox<'a> {
+impl Read for Socket<'_> {
+    fn read(&mut self, bytes: &mut [u8]) -> io::Result<usize> {
+        let mut stream = self.stream;
+        for _ in 0..TRIES {
+            match stream.read(bytes) {
+                Err(fault) if fault.kind() == ErrorKind::Interrupted => {}
+                read => return read,
+            }
+        }
+        Err(Error::from(ErrorKind::Interrupted))
+    }
+}
+
+impl Write for Socket<'_> {
+    fn write(&mut self, bytes: &[u8]) -> io::Result<usize> {
+        let mut stream = self.stream;
+        for _ in 0..TRIES {
+            match stream.write(bytes) {
+                Err(fault) if fault.kind() == ErrorKind::Interrupted => {}
+                written => return written,
+            }
+        }
+        Err(Error::from(ErrorKind::Interrupted))
+    }
+
+    fn flush(&mut self) -> io::Result<()> {
+        let mut stream = self.stream;
+        stream.flush()
+    }
+}
+
+/// The two sides of a connection: its lines and its answers. Answers are held back until the next
+/// bytes are read, so that all of them go out in one write, or until they are released.
+#[derive(Drop)]
+pub struct Link<'a> {
+    socket: Socket<'a>,
+    outbox: RefCell<Outbox<Socket<'a>>>,
+}
+
+impl<'a> Link<'a> {
     /// Takes the memory of all that is held back.
-    pub fn new(alloc: Global, stream: &'a TcpStream) -> Result<Outbox<'a>, AllocError> {
-        Ok(Outbox {
-            stream,
-            held: RefCell::new(Vec::with_capacity(alloc, HELD)?),
-        })
+    pub fn new(alloc: Global, stream: &'a TcpStream) -> io::Result<Link<'a>> {
+        let socket = Socket { stream };
+        let outbox = RefCell::new(Outbox::new(alloc, socket)?);
+        Ok(Link { socket, outbox })
     }
 
     /// Sends what is held back.
     fn send(&self) -> io::Result<()> {
-        let Ok(mut held) = self.held.try_borrow_mut() else {
-            return Err(io::Error::from(ErrorKind::Other));
-        };
-        let mut stream = self.stream;
-        let sent = stream.write_all(held.as_slice());
-        held.clear();
-        sent
-    }
-
-    /// Holds bytes back, if there is room for them.
-    fn hold(&self, bytes: &[u8]) -> bool {
-        match self.held.try_borrow_mut() {
-            Ok(mut held) => {
-                held.len() <= HELD
-                    && bytes.len() <= HELD - held.len()
-                    && held.extend_from_slice(bytes).is_ok()
-            }
-            Err(_) => false,
+        match self.outbox.try_borrow_mut() {
+            Ok(mut outbox) => outbox.release(),
+            Err(_) => Err(Error::from(ErrorKind::Other)),
         }
     }
 }
 
-impl Release for Outbox<'_> {
+impl Release for Link<'_> {
     fn release(&self) {
-        // Whether it could be sent is seen where the connection is read next.
+        // The outbox is broken if it fails, so the next write and the next read fail too.
         let _ = self.send();
     }
 }
 
-impl Write for &Outbox<'_> {
-    fn write(&mut self, bytes: &[u8]) -> io::Result<usize> {
-        if self.hold(bytes) {
-            return Ok(bytes.len());
-        }
-        self.send()?;
-        if self.hold(bytes) {
-            return Ok(bytes.len());
-        }
-        let mut stream = self.stream;
-        stream.write(bytes)
-    }
-
-    /// What is held back goes out before the next bytes are read.
-    fn flush(&mut self) -> io::Result<()> {
-        Ok(())
-    }
-}
-
-/// The lines of a connection.
-#[derive(Drop)]
-pub struct Inbox<'a> {
-    stream: &'a TcpStream,
-    outbox: &'a Outbox<'a>,
-}
-
-impl<'a> Inbox<'a> {
-    /// Lines of the connection whose answers go there.
-    pub fn new(outbox: &'a Outbox<'a>) -> Inbox<'a> {
-        Inbox {
-            stream: outbox.stream,
-            outbox,
-        }
-    }
-}
-
-impl Read for Inbox<'_> {
+/// What is read of a connection.
+impl Read for &Link<'_> {
     fn read(&mut self, bytes: &mut [u8]) -> io::Result<usize> {
-        self.outbox.send()?;
-        let mut stream = self.stream;
-        stream.read(bytes)
+        self.send()?;
+        let mut socket = self.socket;
+        socket.read(bytes)
+    }
+}
+
+/// What is answered.
+impl Write for &Link<'_> {
+    fn write(&mut self, bytes: &[u8]) -> io::Result<usize> {
+        match self.outbox.try_borrow_mut() {
+            Ok(mut outbox) => outbox.write(bytes),
+            Err(_) => Err(Error::from(ErrorKind::Other)),
+        }
+    }
+
+    fn flush(&mut self) -> io::Result<()> {
+        match self.outbox.try_borrow_mut() {
+            Ok(mut outbox) => outbox.flush(),
+            Err(_) => Err(Error::from(ErrorKind::Other)),
+        }
     }
 }

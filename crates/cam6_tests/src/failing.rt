@@ -114,6 +114,40 @@ impl Write for Ones {
     }
 }
 
+/// Takes one byte at a time. It fails at one of its calls, flushes among them, and at no other.
+#[derive(Drop)]
+pub(crate) struct Once {
+    pub(crate) bytes: Vec<u8>,
+    pub(crate) calls: usize,
+}
+
+impl Once {
+    /// Fails if this call is the one.
+    fn goes_well(&mut self) -> io::Result<()> {
+        let is_due = self.calls == 0;
+        self.calls = self.calls.wrapping_sub(1);
+        if is_due {
+            return Err(io::Error::from(ErrorKind::Other));
+        }
+        Ok(())
+    }
+}
+
+impl Write for Once {
+    fn write(&mut self, buf: &[u8]) -> io::Result<usize> {
+        if buf.is_empty() {
+            return Ok(0);
+        }
+        self.goes_well()?;
+        self.bytes.push(buf[0])?;
+        Ok(1)
+    }
+
+    fn flush(&mut self) -> io::Result<()> {
+        self.goes_well()
+    }
+}
+
 /// Whether all of a session of one line is served, and this is written for it.
 pub(crate) fn is_answered(alloc: Global, machine: &mut Machine, line: &str, want: &[u8]) -> bool {
     let mut reader = line.as_bytes();

@@ -8,8 +8,9 @@
 //!
 //! Read next: `ample_memory`, each call that takes memory; `planes` and `rows`; `blocks`,
 //! `corners`, `addresses` and `lines`, what a cell sees; `bands`, a step that is moved or given up;
-//! `steps`, those of a run and of a rule; `desks`, one of the hand-off table; then `failing`,
-//! readers, writers and desks that fail, with the sessions over them in `sessions`.
+//! `steps`, those of a run and of a rule; `desks`, one of the hand-off table; `connections`, what is
+//! said on one; then `failing`, readers, writers and desks that fail, with the sessions over them in
+//! `sessions` and the answers on their way in `outboxes`.
 #![tactic(auto)]
 
 #[cfg(test)]
@@ -21,6 +22,8 @@ mod bands;
 #[cfg(test)]
 mod blocks;
 #[cfg(test)]
+mod connections;
+#[cfg(test)]
 mod corners;
 #[cfg(test)]
 mod desks;
@@ -28,6 +31,8 @@ mod desks;
 mod failing;
 #[cfg(test)]
 mod lines;
+#[cfg(test)]
+mod outboxes;
 #[cfg(test)]
 mod planes;
 #[cfg(test)]

@@ -1,0 +1,2 @@
+-- Desks that stand at blank machines may be asked.
+pub mod Resting

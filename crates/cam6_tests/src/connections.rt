@@ -1,0 +1,111 @@
+//! What is said on a connection, over a reader and a writer of memory.
+
+use crate::failing::{Failure, Ones};
+use cam6_cache::TableCache;
+use cam6_handoff::boot;
+use cam6_planes::{NoMemory, Side};
+use cam6_pool::SlicingGate;
+use cam6_server::{Hall, Handle, Places, Release, Visit, converse};
+use cam6_session::End;
+use std::alloc::Global;
+use std::process::Abort;
+use std::sync::Mutex;
+
+/// Holds nothing back.
+struct Nothing;
+
+impl Release for Nothing {
+    fn release(&self) {}
+}
+
+/// A hall of two users, whose boards nobody serves.
+fn hall<R: Handle>(rt: R) -> Result<Hall<R>, NoMemory> {
+    let alloc = rt.alloc();
+    let (desks, seats) = boot(alloc, 2, 1, &[Side::S128, Side::S128])?;
+    let Some(seat) = seats.first() else {
+        return Err(NoMemory);
+    };
+    let gate = SlicingGate::new(alloc, rt, seat.queue()?, 1)?;
+    let cache = TableCache::new(alloc, 1)?;
+    let places = Places::new(alloc, desks)?;
+    Ok(Hall {
+        rt,
+        cache: Mutex::new(cache),
+        gate,
+        places: Mutex::new(places),
+    })
+}
+
+/// How a connection goes on which this is said, and whether this is answered.
+fn said<R: Handle>(hall: &Hall<R>, lines: &[u8], want: &[u8]) -> (Visit, bool) {
+    let mut reader = lines;
+    let mut writer = Vec::new(hall.rt.alloc());
+    let visit = converse(hall, &mut reader, &mut writer, &Nothing);
+    (visit, writer.as_slice() == want)
+}
+
+/// The same, where the writer fails after so many bytes.
+fn cut_off<R: Handle>(hall: &Hall<R>, lines: &[u8], calls: usize, want: &[u8]) -> (Visit, bool) {
+    let mut reader = lines;
+    let mut writer = Ones {
+        bytes: Vec::new(hall.rt.alloc()),
+        calls,
+        failure: Failure::Error,
+    };
+    let visit = converse(hall, &mut reader, &mut writer, &Nothing);
+    (visit, writer.bytes.as_slice() == want)
+}
+
+// Of a blank machine no cell has the state 1; the third line is no JSON.
+const LINES: &[u8] = b"{\"seat\":2}\n{\"do\":\"count\",\"mask\":2}\nnope\n";
+
+const ANSWERS: &[u8] = b"{\"ok\":\"seat\"}\n{\"count\":0,\"ok\":\"count\"}\n{\"fault\":2}\n";
+
+// A user has his seat, twice, one after the other; there is no third user; a first line is no JSON;
+// and there is none.
+#[test]
+fn a_connection_is_a_conversation(rt: HostRuntime) -> Result<(), NoMemory> {
+    let hall = hall(rt)?;
+    assert_eq!(rt;
+        said(&hall, LINES, ANSWERS),
+        (Visit::Served(End::EndOfInput), true)
+    );
+    assert_eq!(rt;
+        said(&hall, LINES, ANSWERS),
+        (Visit::Served(End::EndOfInput), true)
+    );
+    let no_user = said(
+        &hall,
+        b"{\"seat\":3}\n{\"do\":\"rules\"}\n",
+        b"{\"fault\":81}\n",
+    );
+    assert_eq!(rt; no_user, (Visit::Refused, true));
+    assert_eq!(rt;
+        said(&hall, b"nope\n", b"{\"fault\":2}\n"),
+        (Visit::Refused, true)
+    );
+    assert_eq!(rt;
+        said(&hall, b"", b""),
+        (Visit::Silent(End::EndOfInput), true)
+    );
+    drop(hall);
+    Ok(())
+}
+
+// `{"ok":"seat"}` and its LF have 14 bytes. The seat is free behind each.
+#[test]
+fn a_connection_is_cut_off(rt: HostRuntime) -> Result<(), NoMemory> {
+    let hall = hall(rt)?;
+    assert_eq!(rt;
+        cut_off(&hall, LINES, 5, &ANSWERS[..5]),
+        (Visit::Unheard, true)
+    );
+    let served = cut_off(&hall, LINES, 20, &ANSWERS[..19]);
+    assert_eq!(rt; served, (Visit::Served(End::WriteFault), true));
+    assert_eq!(rt;
+        said(&hall, LINES, ANSWERS),
+        (Visit::Served(End::EndOfInput), true)
+    );
+    drop(hall);
+    Ok(())
+}
