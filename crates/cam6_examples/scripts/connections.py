@@ -19,7 +19,8 @@ import sys
 import threading
 import time
 
-program, failing = sys.argv[1:] if len(sys.argv) == 3 else ("", "")
+# Other scripts take the hosts and peers of this one; the program is their first word too.
+program, failing = (sys.argv + ["", ""])[1:3]
 passed, failed = 0, 0
 
 # A reply that doesn't come within so many seconds doesn't come at all.
