@@ -1,4 +1,4 @@
-use Rattle.cam6_tests.proofs.Resting.{blank_desks_rest}
+use Rattle.cam6_server.proofs.Resting.{blank_desks_rest}
 use Rattle.cam6_tests.proofs.connections.hall.Goals as goal
 
 pub new-requires-3 : goal.new-requires-3

@@ -1,2 +1,0 @@
--- Desks that stand at blank machines may be asked.
-pub mod Resting
