@@ -247,7 +247,7 @@ def without_board_threads():
 
 def words_refused():
     for words in (["--port", "0"], ["--port", "65536"], ["--users", "33"], ["--boards", "9"],
-                  ["--cache", "65"], ["--side", "100"], ["--connections", "-1"],
+                  ["--cache", "65"], ["--side", "100"], ["--connections", "-1"], ["--idle", "-1"], ["--idle", "4294967296"],
                   ["--connections", "18446744073709551616"], ["alone"]):
         said = subprocess.run([program, "serve", *words], capture_output=True, timeout=PATIENCE)
         check("refused with status 2: %s" % " ".join(words),
@@ -266,7 +266,7 @@ def has(host, users, side):
 
 def words_taken():
     for words, users, side in (
-            ([], 4, 256), (["--connections", "18446744073709551615"], 4, 256),
+            ([], 4, 256), (["--connections", "18446744073709551615"], 4, 256), (["--idle", "4294967295"], 4, 256),
             (["--side", "512", "--connections", "7", "--cache=64", "--boards", "8", "--users", "32"], 32, 512),
             (["--users", "1", "--boards", "3", "--cache", "1", "--side=128"], 1, 128)):
         host = Host(*words)
@@ -407,13 +407,13 @@ def never_reads(port):
     peer.close()
 
 
-def a_byte_a_second(port):
+def byte_by_byte(port):
     peer = Peer(port)
     for byte in '{"seat":4}\n{"do":"rules"}\n':
         peer.send(byte)
-        time.sleep(1)
+        time.sleep(0.5)
     said = [peer.read(), peer.read()]
-    check("a peer that sends a byte a second is served", said == ['{"ok":"seat"}', '{"names":[],"ok":"rules"}'], said)
+    check("a peer that sends two bytes a second is served", said == ['{"ok":"seat"}', '{"names":[],"ok":"rules"}'], said)
     peer.close()
 
 
@@ -550,7 +550,7 @@ def main():
     words_taken()
     peers_at_once()
     host = Host("--users", "5", "--connections", "0")
-    slow = threading.Thread(target=a_byte_a_second, args=(host.port,))
+    slow = threading.Thread(target=byte_by_byte, args=(host.port,))
     slow.start()
     for what in (closes_within_lines, closes_within_a_run, runs_behind_a_reset, never_reads, no_lines, many_lines_at_once):
         beside(host.port, 2, what)

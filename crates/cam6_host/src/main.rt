@@ -154,7 +154,7 @@ fn over_network<
     };
     // Whoever connects from here on is answered. That it can't be told is no fault of the host's.
     let _ = eprintln!(&rt; "listening on 127.0.0.1:{port}");
-    match serve_net(rt, &listener, &serving) {
+    match serve_net(rt, listener, &serving) {
         Ok(()) => ExitCode::SUCCESS,
         Err(fault) => closed(&rt, fault),
     }

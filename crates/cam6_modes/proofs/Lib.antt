@@ -17,3 +17,5 @@ pub mod Subcommands
 pub mod ModesGiven
 -- What the code reads of an option's text is the side or the number there.
 pub mod ValuesRead
+-- The mode of matches that entered `serve`.
+pub mod ServeGiven

@@ -16,7 +16,8 @@ use Rattle.cam6_planes.specs.declared.sides.Side.{Side}
 use Rattle.cam6_planes.specs.declared.sides.Side.TheVariants.{S128, S256, S512}
 use Rattle.cam6_cache.specs.Limits.{max_capacity}
 use Rattle.cam6_core.specs.Limits.{max_users, max_boards}
-use Rattle.cam6_modes.specs.CommandLine.{AreSides, Mode, TextsAt, max_connections, max_port}
+use Rattle.cam6_modes.specs.CommandLine.{AreSides, Mode, TextsAt, max_connections, max_idle}
+use Rattle.cam6_modes.specs.CommandLine.{max_port}
 use Rattle.cam6_modes.specs.CommandLine.{number_at, number_said, served, served_at, shared}
 use Rattle.cam6_modes.specs.CommandLine.{shared_at, side_at, side_said, side_text}
 use Rattle.cam6_modes.proofs.SettingsGiven.{HasValue, Passes, Setting, arguments, value_given}
@@ -44,6 +45,9 @@ port = number (codes "port") 1 max_port (codes "6006")
 abbrev connections : Setting
 connections = number (codes "connections") 0 max_connections (codes "0")
 
+abbrev idle : Setting
+idle = number (codes "idle") 0 max_idle (codes "0")
+
 -- the options of `alone`, of `replay`, and of `serve`
 abbrev pub alone_options : TextsAt → List Setting
 alone_options sides = side sides ∷ []
@@ -52,7 +56,8 @@ abbrev pub replay_options : TextsAt → List Setting
 replay_options sides = users ∷ boards ∷ cache ∷ side sides ∷ []
 
 abbrev pub serve_options : TextsAt → List Setting
-serve_options sides = port ∷ users ∷ boards ∷ cache ∷ connections ∷ side sides ∷ []
+serve_options sides =
+    port ∷ users ∷ boards ∷ cache ∷ connections ∷ idle ∷ side sides ∷ []
 
 -- the rows say a side, a number, what `replay` asks for, and what `serve` asks for
 abbrev pub HasSide : List Row → Type 0
@@ -160,24 +165,35 @@ module _ (sides : TextsAt) (are : AreSides sides) where
   is_served s words is passes =
       let rows = rows_after s.rules [] words in
       let at_port = has_number port.name 1 max_port port.default rows
-      (value_given port [] (users ∷ boards ∷ cache ∷ connections ∷ side sides ∷ []) s words
+      (value_given port [] (users ∷ boards ∷ cache ∷ connections ∷ idle ∷ side sides ∷ []) s words
       refl refl refl is passes) in
       let so_many_users = has_number users.name 1 max_users users.default rows
-      (value_given users (port ∷ []) (boards ∷ cache ∷ connections ∷ side sides ∷ []) s words
+      (value_given users (port ∷ []) (boards ∷ cache ∷ connections ∷ idle ∷ side sides ∷ []) s words
       refl refl refl is passes) in
       let so_many_boards = has_number boards.name 1 max_boards boards.default rows
-      (value_given boards (port ∷ users ∷ []) (cache ∷ connections ∷ side sides ∷ []) s words
+      (value_given boards (port ∷ users ∷ []) (cache ∷ connections ∷ idle ∷ side sides ∷ []) s words
       refl refl refl is passes) in
       let so_many_tables = has_number cache.name 1 max_capacity cache.default rows
-      (value_given cache (port ∷ users ∷ boards ∷ []) (connections ∷ side sides ∷ []) s words
+      (value_given cache (port ∷ users ∷ boards ∷ []) (connections ∷ idle ∷ side sides ∷ []) s words
       refl refl refl is passes) in
       let so_often = has_number connections.name 0 max_connections connections.default rows
-      (value_given connections (port ∷ users ∷ boards ∷ cache ∷ []) (side sides ∷ []) s words
+      (value_given connections (port ∷ users ∷ boards ∷ cache ∷ []) (idle ∷ side sides ∷ []) s words
+      refl refl refl is passes) in
+      let so_long = has_number idle.name 0 max_idle idle.default rows
+      (value_given idle (port ∷ users ∷ boards ∷ cache ∷ connections ∷ []) (side sides ∷ []) s words
       refl refl refl is passes) in
       let limit = has_side rows
-      (value_given (side sides) (port ∷ users ∷ boards ∷ cache ∷ connections ∷ []) [] s words
+      (value_given (side sides) (port ∷ users ∷ boards ∷ cache ∷ connections ∷ idle ∷ []) [] s words
       refl refl default_passes is passes) in (
-        served so_many_users.0 so_many_boards.0 so_many_tables.0 limit.0 so_often.0 at_port.0,
-        rw (so_many_users.1, so_many_boards.1, so_many_tables.1, limit.1, so_often.1, at_port.1)
-            refl,
+        served so_many_users.0 so_many_boards.0 so_many_tables.0 limit.0 so_often.0 so_long.0
+            at_port.0,
+        rw (
+          so_many_users.1,
+          so_many_boards.1,
+          so_many_tables.1,
+          limit.1,
+          so_often.1,
+          so_long.1,
+          at_port.1,
+        ) refl,
       )

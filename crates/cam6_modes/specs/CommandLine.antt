@@ -71,18 +71,25 @@ boards_option = number_option (codes "boards") 1 max_boards (codes "2")
 abbrev pub cache_option : Rule
 cache_option = number_option (codes "cache") 1 max_capacity (codes "16")
 
--- the most ports, and the most connections
+-- the last port, and the most connections
 abbrev pub max_port : ℕ
 max_port = 65535
 
 abbrev pub max_connections : ℕ
 max_connections = 18446744073709551615
 
+-- the most seconds for which a silent client may keep its seat
+abbrev pub max_idle : ℕ
+max_idle = 4294967295
+
 abbrev pub port_option : Rule
 port_option = number_option (codes "port") 1 max_port (codes "6006")
 
 abbrev pub connections_option : Rule
 connections_option = number_option (codes "connections") 0 max_connections (codes "0")
+
+abbrev pub idle_option : Rule
+idle_option = number_option (codes "idle") 0 max_idle (codes "0")
 
 -- `alone`, with its option
 abbrev pub alone : TextsAt → App
@@ -107,11 +114,13 @@ serve sides =
     (with_rule
     (with_rule
     (with_rule
+    (with_rule
     (with_rule (new_app (codes "serve")) port_option)
     users_option)
     boards_option)
     cache_option)
     connections_option)
+    idle_option)
     (side_option sides)
 
 -- a command that has a version
@@ -141,8 +150,8 @@ pub data Mode : Type 0 where
   -- side is at most this
   shared : ℕ → ℕ → ℕ → Side → Mode
   -- serve so many users, boards and cached tables over a network, each user with a machine whose side
-  -- is at most this, for so many connections, at this port
-  served : ℕ → ℕ → ℕ → Side → ℕ → ℕ → Mode
+  -- is at most this, for so many connections, with so many seconds for a silent client, at this port
+  served : ℕ → ℕ → ℕ → Side → ℕ → ℕ → ℕ → Mode
 
 -- the side at the option `--side`, and the number at another one
 abbrev pub side_at : List Row → Option Side
@@ -174,8 +183,9 @@ served_at rows = do
   cache ← number_at (codes "cache") 1 max_capacity rows
   limit ← side_at rows
   connections ← number_at (codes "connections") 0 max_connections rows
+  idle ← number_at (codes "idle") 0 max_idle rows
   port ← number_at (codes "port") 1 max_port rows
-  Some (served users boards cache limit connections port)
+  Some (served users boards cache limit connections idle port)
 
 -- the mode that a subcommand names with its options, or none; any other name is no mode's. Without
 -- a subcommand it is `alone`, without options
@@ -193,7 +203,8 @@ HasMode (Replay sharing limit) said =
     said ≡ Some (shared sharing.users sharing.boards sharing.cache limit)
 HasMode (Serve serving port) said =
     said
-    ≡ Some (served serving.users serving.boards serving.cache serving.limit serving.connections port)
+    ≡ Some (served serving.users serving.boards serving.cache serving.limit serving.connections
+    serving.idle port)
 
 -- help, or the version, is asked for
 abbrev pub IsAsked : ErrorKind → Type 0

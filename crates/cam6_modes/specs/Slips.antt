@@ -20,7 +20,9 @@ is_of_sharing word =
     begins (codes "--users") word || (begins (codes "--boards") word || begins (codes "--cache") word)
 
 abbrev pub is_of_serving : List ℕ → Bool
-is_of_serving word = begins (codes "--port") word || begins (codes "--connections") word
+is_of_serving word =
+    begins (codes "--port") word
+    || (begins (codes "--connections") word || begins (codes "--idle") word)
 
 -- whether a word is no option
 abbrev pub is_plain : List ℕ → Bool
@@ -66,7 +68,7 @@ told_of (Some SideByItself) =
 told_of (Some SharingByItself) =
     codes "\ncam6: what users share stands behind a word: cam6 serve --users 4 --boards 2\n"
 told_of (Some ServingByItself) =
-    codes "\ncam6: a port and connections stand behind a word: cam6 serve --port 6006\n"
+    codes "\ncam6: a port, connections and --idle stand behind a word: cam6 serve --port 6006\n"
 told_of (Some FileAsWord) =
     codes "\ncam6: lines are read from standard input: cam6 < FILE, or cam6 replay < FILE\n"
 

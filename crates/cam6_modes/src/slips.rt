@@ -10,7 +10,7 @@ pub enum Slip {
     SideByItself,
     /// Users, boards or tables.
     SharingByItself,
-    /// A port or connections.
+    /// A port, connections or idle seconds.
     ServingByItself,
     /// A file of lines.
     FileAsWord,
@@ -69,7 +69,7 @@ fn is_of_sharing(word: &str) -> bool
 fn is_of_serving(word: &str) -> bool
     ensures { result ≡ is_of_serving word.now }
 {
-    begins("--port", word) || begins("--connections", word)
+    begins("--port", word) || begins("--connections", word) || begins("--idle", word)
 }
 
 fn is_plain(word: &str) -> bool
@@ -103,7 +103,7 @@ pub fn told_of(slip: Option<Slip>) -> &'static str
             "\ncam6: what users share stands behind a word: cam6 serve --users 4 --boards 2\n"
         }
         Some(Slip::ServingByItself) => {
-            "\ncam6: a port and connections stand behind a word: cam6 serve --port 6006\n"
+            "\ncam6: a port, connections and --idle stand behind a word: cam6 serve --port 6006\n"
         }
         Some(Slip::FileAsWord) => {
             "\ncam6: lines are read from standard input: cam6 < FILE, or cam6 replay < FILE\n"

@@ -14,6 +14,7 @@ ghost use Rattle.cam6_modes.specs.CommandLine.{boards_option as option_of_boards
 ghost use Rattle.cam6_modes.specs.CommandLine.{cache_option as option_of_tables};
 ghost use Rattle.cam6_modes.specs.CommandLine.{port_option as option_of_ports};
 ghost use Rattle.cam6_modes.specs.CommandLine.{connections_option as option_of_connections};
+ghost use Rattle.cam6_modes.specs.CommandLine.{idle_option as option_of_silence};
 ghost use Rattle.cam6_modes.specs.Slips.{EndsWith, IsTold, slip, told_of as what_is_told};
 
 use crate::modes::{Options, Refused, Sharing};
@@ -32,6 +33,9 @@ static SIDES: [&str; 3] = ["128", "256", "512"];
 
 /// The last port.
 const MAX_PORT: u64 = 65_535;
+
+/// The most seconds for which a silent client may keep its seat.
+const MAX_IDLE: u64 = 4_294_967_295;
 
 /// The program's version, and the toolchain that proves it.
 const VERSION: &str = "1 (Rattle logic dac8208d650f15bf)";
@@ -70,7 +74,8 @@ A line to try: user 1 asks which rules he has, and is answered at once.
 
 /// What is said on a connection, with a session to try.
 const SEATS_TEXT: &str = "\
-The first line of a connection asks for the machine of a user, who are numbered from 1:
+The first line of a connection asks, within ten seconds, for the machine of a user, who are numbered
+from 1:
   {\"seat\":1}
 It is answered by {\"ok\":\"seat\"}, or by {\"fault\":80} where the user has a connection, and by
 {\"fault\":81} where there is no such user. Each line behind it is a command, as of `alone`, and is
@@ -150,6 +155,7 @@ fn serve_given(matches: &ArgMatches<'_>) -> Options
             number_given(matches, "cache", 1, MAX_CAPACITY as u64) as usize,
             side_given(matches),
             number_given(matches, "connections", 0, u64::MAX),
+            number_given(matches, "idle", 0, MAX_IDLE) as u32,
         ),
         port: number_given(matches, "port", 1, MAX_PORT) as u16,
     }
@@ -243,6 +249,7 @@ fn serve<'a>(alloc: Global) -> Result<Command<'a>, AllocError>
         .arg(boards_option(alloc))?
         .arg(cache_option(alloc))?
         .arg(connections_option(alloc))?
+        .arg(idle_option(alloc))?
         .arg(side_option(alloc))
 }
 
@@ -285,6 +292,16 @@ fn connections_option<'a>(alloc: Global) -> Arg<'a>
 {
     number_option(alloc, "connections", 0, u64::MAX, "0").help(
         "Connections that are served before the program ends; 0 for no end",
+    )
+}
+
+/// `--idle`.
+fn idle_option<'a>(alloc: Global) -> Arg<'a>
+    ensures rule { rule_of result ≡ option_of_silence }
+    ensures global { result.global ≡ false }
+{
+    number_option(alloc, "idle", 0, MAX_IDLE, "0").help(
+        "Seconds after which a client that sends nothing loses its seat; 0 for never",
     )
 }
 

@@ -8,3 +8,5 @@ pub mod FirstLines
 pub mod Changes
 -- What a first line is refused by.
 pub mod Refusing
+-- What is written for a first line that asks for a seat which is had.
+pub mod Seating

@@ -14,6 +14,7 @@ use Rattle.cam6_wire.specs.OneLine.{HasNoLf}
 use Rattle.cam6_wire.specs.Replies.{fault_bytes}
 use Rattle.cam6_wire.specs.Seats.{seat, seating_bytes}
 use Rattle.cam6_wire.specs.declared.faults.LineFault.{LineFault}
+use Rattle.cam6_wire.specs.declared.faults.LineFault.TheVariants.{TooLong}
 use Rattle.cam6_wire.specs.declared.seats.Seating.{Seating}
 use Rattle.cam6_wire.specs.declared.seats.Seating.TheVariants.{Seated}
 use Rattle.cam6_server.specs.declared.connections.Visit.{Visit}
@@ -58,11 +59,11 @@ IsRefused visit all out new =
     (line unread answer : List ℕ) × IsFirst all line unread × IsRefusal line answer
     × Refuses visit answer out new
 
--- what the first line of a reader's bytes says, and those behind it are unread
+-- what the first line of a reader's bytes says; those behind it are unread, unless it is too long
 abbrev pub FirstSays : Result ℕ LineFault → Option (List ℕ) → Option (List ℕ) → Type 0
 FirstSays said read remaining =
     IfSome read (λ all. (line unread : List ℕ) × IsFirst all line unread
-    × (remaining ≡ Some unread) × IsSaid said (seat line))
+    × ((remaining ≡ Some unread) ⊎ (seat line ≡ Err TooLong)) × IsSaid said (seat line))
 
 -- a part of a line was read, and its LF wasn't
 abbrev pub IsCutShort : List ℕ → Option (List ℕ) → Type 0

@@ -11,8 +11,8 @@ ghost use Rattle.cam6_server.specs.Connections.{SitsDown, SitsDownAt, Tells};
 use crate::desks::AtGate;
 use crate::free_desks::FreeDesk;
 use crate::halls::{Hall, Handle};
-use crate::streams::Release;
-use cam6_session::{Ask, AtDesk, End, Line, LineBuf, next_line, send, serve};
+use crate::streams::Connection;
+use cam6_session::{Ask, AtDesk, End, Line, LineBuf, next_line_within, send, serve};
 use cam6_wire::{LineFault, Seating, fault_line, read_seat, seating_line};
 use std::alloc::Global;
 use std::io::{BufRead, Write};
@@ -34,14 +34,15 @@ pub enum Visit {
     Served(End),
 }
 
-/// Answers the first line, and where it asks for a seat that nobody has the lines behind it too, as
-/// the user's machine does. The user has his seat until then, and it is free when this returns.
-/// Answers that are held back are let go before steps are waited for, and before the seat is free.
-pub fn converse<H: Handle, R: BufRead, W: Write, O: Release>(
+/// Answers the first line. If it asks for a seat that is free, answers the lines after it too, as the
+/// user's machine does. The seat is free again when this returns. Reports to the connection when the
+/// client has its seat, and has it send the answers that it holds back before steps are waited for,
+/// and before the seat is free. Answers a first line that is too long as soon as that is certain.
+pub fn converse<H: Handle, R: BufRead, W: Write, C: Connection>(
     hall: &Hall<H>,
     reader: &mut R,
     writer: &mut W,
-    outbox: &O,
+    connection: &C,
 ) -> Visit
     ensures { Converses result (R.remaining reader.old) (R.remaining reader.new)
         (W.contents writer.old) (W.contents writer.new) }
@@ -53,7 +54,7 @@ pub fn converse<H: Handle, R: BufRead, W: Write, O: Release>(
     };
     let taken = hall.places.lock(&hall.rt).take(user);
     match taken {
-        Ok(desk) => seated(hall, reader, writer, outbox, user, desk),
+        Ok(desk) => seated(hall, reader, writer, connection, user, desk),
         Err(seating) => refuse(writer, seating_line(seating)),
     }
 }
@@ -67,7 +68,7 @@ fn first_line<R: BufRead>(alloc: Global, reader: &mut R) -> Result<Result<u64, L
         return Err(End::NoMemory { done: false });
     };
     let mut turns = TURNS;
-    match next_line(reader, &mut line, &mut turns) {
+    match next_line_within(reader, &mut line, &mut turns) {
         Line::Ended | Line::Last => answerable(alloc, &line),
         Line::EndOfInput => Err(End::EndOfInput),
         Line::ReadFault => Err(End::ReadFault),
@@ -111,11 +112,11 @@ fn refuse<W: Write>(writer: &mut W, answer: &str) -> Visit
 
 /// A session at the user's desk, which is free again behind it.
 /// Where his machine stands then is seen by who takes the desk next.
-fn seated<H: Handle, R: BufRead, W: Write, O: Release>(
+fn seated<H: Handle, R: BufRead, W: Write, C: Connection>(
     hall: &Hall<H>,
     reader: &mut R,
     writer: &mut W,
-    outbox: &O,
+    connection: &C,
     user: u64,
     free: FreeDesk,
 ) -> Visit
@@ -123,18 +124,22 @@ fn seated<H: Handle, R: BufRead, W: Write, O: Release>(
         (R.remaining reader.old) (R.remaining reader.new)
         (W.contents writer.old) (W.contents writer.new) }
 {
+    connection.sit();
     let waiter = AtGate {
         gate: &hall.gate,
-        outbox,
+        connection,
     };
     let mut desk = AtDesk {
         waiter,
         desk: free.sit(),
     };
     let visit = sit_down(hall.rt.alloc(), reader, writer, &mut desk);
-    outbox.release();
+    connection.release();
     let AtDesk {
-        waiter: AtGate { gate: _, outbox: _ },
+        waiter: AtGate {
+            gate: _,
+            connection: _,
+        },
         desk,
     } = desk;
     hall.places

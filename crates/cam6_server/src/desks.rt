@@ -1,6 +1,6 @@
 //! Who waits at the desk of a host's user.
 
-use crate::streams::Release;
+use crate::streams::Connection;
 use cam6_commands::{Command, Reply};
 use cam6_handoff::Desk;
 use cam6_planes::NoMemory;
@@ -9,14 +9,14 @@ use cam6_session::Waiter;
 use std::sync::Wait;
 use std::time::Clock;
 
-/// The gate of the boards, which is rung where steps wait for a board, and what may hold answers
-/// back, which are let go before.
-pub struct AtGate<'a, R, O> {
+/// The gate of the boards, which is rung if steps wait for a board, and the connection, which sends its
+/// answers before.
+pub struct AtGate<'a, R, C> {
     pub gate: &'a SlicingGate<R>,
-    pub outbox: &'a O,
+    pub connection: &'a C,
 }
 
-impl<'a, R: Wait + Clock + Drop, O: Release> Waiter for AtGate<'a, R, O> {
+impl<'a, R: Wait + Clock + Drop, C: Connection> Waiter for AtGate<'a, R, C> {
     ghost use Rattle.std.specs.Prelude.{◌≡◌, IfOk, IsOk, OnErr};
     ghost use Rattle.cam6_handoff.specs.Standing.{IsResting};
     ghost use Rattle.cam6_handoff.specs.Desks.{AskGives, WantsNone};
@@ -29,7 +29,7 @@ impl<'a, R: Wait + Clock + Drop, O: Release> Waiter for AtGate<'a, R, O> {
         ensures memory { WantsNone desk.old command → IsOk result }
     {
         if let Command::Run { .. } | Command::Back { .. } = command {
-            self.outbox.release();
+            self.connection.release();
         }
         self.gate.ask(desk, command)
     }

@@ -1,11 +1,12 @@
 //! What the threads of a host share.
 
+use crate::guests::{Guests, Standing};
 use crate::places::Places;
 use cam6_cache::TableCache;
 use cam6_pool::SlicingGate;
-use std::sync::{Mutex, Wait};
+use std::sync::{Condvar, Mutex, Wait};
 use std::thread::Threads;
-use std::time::Clock;
+use std::time::{Clock, Duration};
 
 /// What a host wants of its runtime.
 pub trait Handle: Threads + Wait + Clock + AllocGlobal + Copy + Drop {}
@@ -19,4 +20,44 @@ pub struct Hall<R: Handle> {
     pub cache: Mutex<TableCache>,
     pub gate: SlicingGate<R>,
     pub places: Mutex<Places>,
+}
+
+/// A hall and its clients.
+#[derive(Drop)]
+pub struct House<R: Handle> {
+    pub hall: Hall<R>,
+    pub guests: Mutex<Guests>,
+    /// Notified when the last client goes.
+    pub left: Condvar,
+    /// How long a client with a seat may be silent; `None` for no limit.
+    pub idle: Option<Duration>,
+}
+
+impl<R: Handle> House<R> {
+    /// Lets one more client wait for a seat, or returns false if there is no room.
+    pub fn enter(&self) -> bool {
+        self.guests.lock(&self.hall.rt).enter()
+    }
+
+    /// Whether any client has ever had a seat.
+    pub fn was_seated(&self) -> bool {
+        self.guests.lock(&self.hall.rt).was_seated()
+    }
+
+    /// Takes away a client that had this.
+    pub fn leave(&self, standing: Standing) {
+        let mut guests = self.guests.lock(&self.hall.rt);
+        guests.leave(standing);
+        if guests.are_none() {
+            self.left.notify_all();
+        }
+    }
+
+    /// Waits until no client is connected.
+    pub fn wait(&self) {
+        let rt = &self.hall.rt;
+        let guests = self.guests.lock(rt);
+        self.left
+            .wait_while(rt, guests, |guests| !guests.are_none());
+    }
 }

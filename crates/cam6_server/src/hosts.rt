@@ -3,44 +3,49 @@ ghost use Rattle.std.specs.Prelude.{◌<◌, length};
 ghost use Rattle.cam6_server.specs.Places.{AreResting};
 
 use crate::boards::{IdleBoard, boards_at};
-use crate::halls::{Hall, Handle};
+use crate::guests::Guests;
+use crate::halls::{Hall, Handle, House};
 use crate::places::Places;
 use crate::serving::{Fault, Serving};
-use crate::sessions::Sessions;
+use crate::sessions::receive;
 use cam6_cache::TableCache;
 use cam6_handoff::{BoardSeat, Desk, boot};
 use cam6_planes::NoMemory;
 use cam6_pool::SlicingGate;
+use std::io::Error;
 use std::net::TcpListener;
-use std::sync::{Arc, Mutex};
+use std::sync::{Arc, Condvar, Mutex};
 use std::thread::{JoinHandle, sleep, spawn};
 use std::time::Duration;
 
 /// Milliseconds between a connection that could not be accepted and the next try.
 const PAUSE: u64 = 20;
 
-/// How often in a row accepting may fail while nobody is served.
+/// How often in a row accepting may fail before any client has had a seat: for a second.
 const TRIES: u32 = 50;
 
-/// Serves the connections of a listener. There is a machine for each user, a thread for each board,
-/// and one for each connection. After as many connections as are served no other is accepted, and once
-/// their sessions are over the boards end too.
+/// How many failures are not reported after one that is: those of a minute.
+const QUIET: u32 = 3_000;
+
+/// Serves the connections of a listener. Each user has a machine, and each board and each connection
+/// has a thread. Closes the listener after the last connection that `serving` allows, waits until all
+/// clients are gone, and then ends the boards.
 ///
-/// Where a connection can't be accepted, as the system has no descriptor left, it is tried again while
-/// there are sessions, since the end of one may help. Where nobody is served and it goes on failing
-/// for a second, that is told.
-pub fn serve_net<R: Handle + Send + Sync + 'static>(
+/// Accepting fails if the system has no file left, for example. The host then tries again without end,
+/// and reports that on standard error once a minute, so that users keep their machines. Before any
+/// client has had a seat, the host gives up after a second.
+pub fn serve_net<R: Handle + Eprint + Send + Sync + 'static>(
     rt: R,
-    listener: &TcpListener,
+    listener: TcpListener,
     serving: &Serving,
 ) -> Result<(), Fault> {
-    let (hall, boards) = open(rt, serving)?;
+    let (house, boards) = open(rt, serving)?;
     let mut workers = Vec::new(rt.alloc());
-    let served = match employ(&hall, boards, &mut workers) {
-        Ok(()) => accept(&hall, listener, serving.connections),
+    let served = match employ(&house, boards, &mut workers) {
+        Ok(()) => accept(rt, &house, listener, serving.connections),
         Err(fault) => Err(fault),
     };
-    hall.gate.stop();
+    house.hall.gate.stop();
     for worker in workers {
         worker.join(&rt);
     }
@@ -48,12 +53,25 @@ pub fn serve_net<R: Handle + Send + Sync + 'static>(
 }
 
 /// What the threads of a host share, and its boards.
-fn open<R: Handle>(rt: R, serving: &Serving) -> Result<(Arc<Hall<R>>, Vec<IdleBoard>), NoMemory> {
+fn open<R: Handle>(rt: R, serving: &Serving) -> Result<(Arc<House<R>>, Vec<IdleBoard>), NoMemory> {
     let alloc = rt.alloc();
     let limits = vec![in alloc; serving.limit; serving.users]?;
     let (desks, seats) = boot(alloc, serving.users, serving.boards, limits.as_slice())?;
-    let hall = hall_of(rt, serving, desks, seats.as_slice())?;
-    Ok((hall, boards_at(alloc, seats)?))
+    let house = House {
+        hall: hall_of(rt, serving, desks, seats.as_slice())?,
+        guests: Mutex::new(Guests::new(serving.users)),
+        left: Condvar::new(),
+        idle: idle_of(serving),
+    };
+    Ok((Arc::new(alloc, house)?, boards_at(alloc, seats)?))
+}
+
+/// How long a client with a seat may be silent.
+fn idle_of(serving: &Serving) -> Option<Duration> {
+    match serving.idle {
+        0 => None,
+        seconds => Some(Duration::from_secs(u64::from(seconds))),
+    }
 }
 
 /// What the threads of a host share, who has these desks, and boards at these seats.
@@ -62,20 +80,19 @@ fn hall_of<R: Handle>(
     serving: &Serving,
     desks: Vec<Desk>,
     seats: &[BoardSeat],
-) -> Result<Arc<Hall<R>>, NoMemory>
+) -> Result<Hall<R>, NoMemory>
     requires a_seat { 0 < length seats.now }
     requires desks { AreResting desks.items }
 {
     let alloc = rt.alloc();
     let places = Places::new(alloc, desks)?;
     let cache = TableCache::new(alloc, serving.cache)?;
-    let hall = Hall {
+    Ok(Hall {
         rt,
         cache: Mutex::new(cache),
         gate: gate_of(rt, serving, seats)?,
         places: Mutex::new(places),
-    };
-    Ok(Arc::new(alloc, hall)?)
+    })
 }
 
 /// The gate of the boards at these seats.
@@ -94,7 +111,7 @@ fn gate_of<R: Handle>(
 
 /// Starts a thread for each board.
 fn employ<R: Handle + Send + Sync + 'static>(
-    hall: &Arc<Hall<R>>,
+    house: &Arc<House<R>>,
     boards: Vec<IdleBoard>,
     workers: &mut Vec<JoinHandle<()>>,
 ) -> Result<(), Fault> {
@@ -102,7 +119,7 @@ fn employ<R: Handle + Send + Sync + 'static>(
         return Err(Fault::NoMemory);
     }
     for board in boards {
-        let worker = start(hall, board)?;
+        let worker = start(house, board)?;
         if workers.push(worker).is_err() {
             return Err(Fault::NoMemory);
         }
@@ -112,44 +129,71 @@ fn employ<R: Handle + Send + Sync + 'static>(
 
 /// Starts a thread for a board.
 fn start<R: Handle + Send + Sync + 'static>(
-    hall: &Arc<Hall<R>>,
+    house: &Arc<House<R>>,
     board: IdleBoard,
 ) -> Result<JoinHandle<()>, Fault> {
-    let Ok(theirs) = Arc::try_clone(hall) else {
+    let Ok(theirs) = Arc::try_clone(house) else {
         return Err(Fault::NoMemory);
     };
-    match spawn(&hall.rt, move || board.serve(&theirs)) {
+    match spawn(&house.hall.rt, move || board.serve(&theirs.hall)) {
         Ok(worker) => Ok(worker),
         Err(_) => Err(Fault::NoThread),
     }
 }
 
-/// Accepts so many connections, or, where none is said, connections without end, and waits until
-/// their sessions are over. What can't be accepted is tried again while there are sessions, and so
-/// often where there is none.
-fn accept<R: Handle + Send + Sync + 'static>(
-    hall: &Arc<Hall<R>>,
-    listener: &TcpListener,
+/// Accepts so many connections, or connections without end if the number is 0. Then closes the
+/// listener, and waits until no client is connected.
+fn accept<R: Handle + Eprint + Send + Sync + 'static>(
+    rt: R,
+    house: &Arc<House<R>>,
+    listener: TcpListener,
     connections: u64,
 ) -> Result<(), Fault> {
-    let mut sessions = Sessions::new(hall.rt.alloc());
     let mut accepted: u64 = 0;
-    let mut tries = TRIES;
+    let mut failures = Failures { row: 0, quiet: 0 };
     for stream in listener.incoming() {
-        if let Ok(stream) = stream {
-            tries = TRIES;
-            sessions.start(hall, stream);
-            accepted = accepted.wrapping_add(1);
-            if accepted == connections {
-                break;
+        match stream {
+            Ok(stream) => {
+                failures.row = 0;
+                receive(house, stream);
+                accepted = accepted.wrapping_add(1);
+                if accepted == connections {
+                    break;
+                }
             }
-        } else if tries == 0 && sessions.are_over(&hall.rt) {
-            return Err(Fault::Network);
-        } else {
-            tries = tries.saturating_sub(1);
-            sleep(&hall.rt, Duration::from_millis(PAUSE));
+            Err(error) => {
+                failures.one_more(&rt, &error);
+                if failures.row > TRIES && !house.was_seated() {
+                    return Err(Fault::Network);
+                }
+                sleep(&rt, Duration::from_millis(PAUSE));
+            }
         }
     }
-    sessions.join(&hall.rt);
+    drop(listener);
+    house.wait();
     Ok(())
+}
+
+/// Failures to accept a connection.
+#[derive(Drop)]
+struct Failures {
+    /// How many in a row.
+    row: u32,
+    /// How many more are not reported.
+    quiet: u32,
+}
+
+impl Failures {
+    /// Counts one more, and reports it unless one was reported within a minute.
+    fn one_more(&mut self, rt: &impl Eprint, error: &Error) {
+        self.row = self.row.saturating_add(1);
+        if self.quiet > 0 {
+            self.quiet -= 1;
+            return;
+        }
+        self.quiet = QUIET;
+        // The host goes on if standard error fails.
+        let _ = eprintln!(rt; "cam6: cannot accept a connection, trying again: {error}");
+    }
 }

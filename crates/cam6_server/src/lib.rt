@@ -9,10 +9,13 @@
 //! changed, as somebody has it or there is no such user; what is given back is at his place
 //! (`specs/Places.antt`). What is written to an `Outbox` goes to its writer in order, each byte once,
 //! when it is released; after bytes couldn't be sent it takes none, and sends none
-//! (`specs/Outboxes.antt`). All of this if it returns: it may wait for its peer, for a board, and for
-//! a lock. That boards are stopped and threads joined, and how many connections are accepted, no
-//! clause says. Nor does one of a socket's bytes: `converse` and the outbox are proved over readers
-//! and writers that tell theirs, and `streams` joins them to a socket.
+//! (`specs/Outboxes.antt`). All of this if it returns: it may wait for its client, for a board, and
+//! for a lock. No more clients wait for a seat than there is room for (`specs/Guests.antt`, an
+//! invariant of the counts behind a lock).
+//!
+//! No clause says that boards are stopped and threads joined, how many connections are accepted, how
+//! long anything may wait, or which bytes a socket has: `converse` and the outbox are proved over
+//! readers and writers that tell their bytes, and `streams` joins them to a socket.
 //!
 //! So, of four users: a connection whose first line is `{"seat":1}` is answered `{"ok":"seat"}`, and
 //! from then on as `cam6_session` answers a machine's lines. A second one with that line is answered
@@ -23,14 +26,16 @@
 //! `cam6_cache`, `cam6_commands` and `cam6_planes`.
 //!
 //! Read next: `serving`, how much a host has; `hosts`, all of it; `halls`, what its threads share;
-//! `boards`; `sessions`, a thread for each connection; `connections`, what is said there;
-//! `free_desks`, `places` and `desks`; `outboxes` and `streams`, the bytes.
+//! `boards`; `guests`, the counts of clients; `sessions`, a thread for each connection;
+//! `connections`, what is said there; `free_desks`, `places` and `desks`; `outboxes`, `terms` and
+//! `streams`, the bytes and their limits.
 #![tactic(auto)]
 
 mod boards;
 mod connections;
 mod desks;
 mod free_desks;
+mod guests;
 mod halls;
 mod hosts;
 mod outboxes;
@@ -38,6 +43,7 @@ mod places;
 mod serving;
 mod sessions;
 mod streams;
+mod terms;
 
 pub use connections::{Visit, converse};
 pub use free_desks::FreeDesk;
@@ -46,4 +52,4 @@ pub use hosts::serve_net;
 pub use outboxes::Outbox;
 pub use places::Places;
 pub use serving::{Fault, Serving};
-pub use streams::Release;
+pub use streams::Connection;

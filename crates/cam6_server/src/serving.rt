@@ -7,7 +7,8 @@ use cam6_planes::{NoMemory, Side};
 use std::marker::Model;
 
 /// Users, boards, and tables that are cached, of each one at least and no more than a host can have;
-/// the largest side that a machine may have; and connections, or 0 for connections without end.
+/// the largest side that a machine may have; connections, or 0 for connections without end; and how
+/// many seconds a client with a seat may be silent, or 0 for no limit.
 #[derive(Clone, Copy, Debug, PartialEq, Eq)]
 pub struct Serving {
     pub(crate) users: usize,
@@ -15,6 +16,7 @@ pub struct Serving {
     pub(crate) cache: usize,
     pub(crate) limit: Side,
     pub(crate) connections: u64,
+    pub(crate) idle: u32,
 }
 
 impl Model for Serving {
@@ -28,6 +30,7 @@ impl Model for Serving {
       cache = s.cache;
       limit = s.limit;
       connections = s.connections;
+      idle = s.idle;
     } };
 
     ghost inverse = { λ s. record {
@@ -36,6 +39,7 @@ impl Model for Serving {
       cache = s.cache;
       limit = s.limit;
       connections = s.connections;
+      idle = s.idle;
     } };
 
     ghost invariant = { λ s. IsWithin (record {
@@ -44,13 +48,21 @@ impl Model for Serving {
       cache = s.cache;
       limit = s.limit;
       connections = s.connections;
+      idle = s.idle;
     }) };
 }
 
 impl Serving {
-    /// So many users, boards and tables, with machines up to this side, and so many connections, or 0
-    /// for connections without end.
-    pub fn new(users: usize, boards: u8, cache: usize, limit: Side, connections: u64) -> Serving
+    /// So many users, boards and tables, with machines up to this side; so many connections, or 0 for
+    /// connections without end; and so many seconds for a silent client, or 0 for no limit.
+    pub fn new(
+        users: usize,
+        boards: u8,
+        cache: usize,
+        limit: Side,
+        connections: u64,
+        idle: u32,
+    ) -> Serving
         requires a_user { 0 < users }
         requires users { users ≤ max_users }
         requires a_board { 0 < boards }
@@ -63,6 +75,7 @@ impl Serving {
           cache = cache;
           limit = limit;
           connections = connections;
+          idle = idle;
         } }
     {
         Serving {
@@ -71,6 +84,7 @@ impl Serving {
             cache,
             limit,
             connections,
+            idle,
         }
     }
 }

@@ -1,102 +1,71 @@
 //! Connections, each in a thread of its own.
 
-use crate::connections::converse;
-use crate::halls::{Hall, Handle};
-use crate::streams::{Link, Release};
-use std::alloc::Global;
+use crate::connections::{Visit, converse};
+use crate::guests::Standing;
+use crate::halls::{Hall, Handle, House};
+use crate::streams::{Connection, Link};
+use cam6_session::End;
+use std::io;
 use std::io::BufReader;
 use std::net::TcpStream;
 use std::sync::Arc;
-use std::sync::atomic::{AtomicBool, Ordering};
-use std::thread::{JoinHandle, Threads, spawn};
+use std::thread::spawn;
 
-/// A connection that was accepted.
-#[derive(Drop)]
-struct Session {
-    thread: JoinHandle<()>,
-    is_over: Arc<AtomicBool>,
-}
-
-/// The connections whose threads aren't joined yet.
-#[derive(Drop)]
-pub struct Sessions {
-    sessions: Vec<Session>,
-}
-
-impl Sessions {
-    pub fn new(alloc: Global) -> Sessions {
-        Sessions {
-            sessions: Vec::new(alloc),
-        }
+/// Serves a connection in a thread of its own. Closes it at once if too many clients wait for a seat,
+/// or if there is no thread or no memory for it.
+pub fn receive<R: Handle + Send + Sync + 'static>(house: &Arc<House<R>>, stream: TcpStream) {
+    if !house.enter() {
+        return;
     }
-
-    /// Serves a connection in a thread of its own, and joins the threads of those that are over. Where
-    /// there is no thread for it, or no memory, it is closed without an answer.
-    pub fn start<R: Handle + Send + Sync + 'static>(
-        &mut self,
-        hall: &Arc<Hall<R>>,
-        stream: TcpStream,
-    ) {
-        self.join_over(&hall.rt);
-        if self.sessions.try_reserve(1).is_err() {
-            return;
-        }
-        let Ok(theirs) = Arc::try_clone(hall) else {
-            return;
-        };
-        let Ok(is_over) = Arc::new(hall.rt.alloc(), AtomicBool::new(false)) else {
-            return;
-        };
-        let Ok(tells) = Arc::try_clone(&is_over) else {
-            return;
-        };
-        let attended = spawn(&hall.rt, move || attend(&theirs, stream, &tells));
-        if let Ok(thread) = attended {
-            self.sessions.push_reserved(Session { thread, is_over });
-        }
-    }
-
-    /// Whether none goes on. The threads of those that are over are joined.
-    pub fn are_over<R: Threads>(&mut self, rt: &R) -> bool {
-        self.join_over(rt);
-        self.sessions.is_empty()
-    }
-
-    /// Joins the threads of connections that are over.
-    fn join_over<R: Threads>(&mut self, rt: &R) {
-        let mut index = 0;
-        while index < self.sessions.len() {
-            if self.sessions[index].is_over.load(Ordering::SeqCst) {
-                self.sessions.swap_remove(index).thread.join(rt);
-            } else {
-                index += 1;
-            }
-        }
-    }
-
-    /// Waits until all are over.
-    pub fn join<R: Threads>(self, rt: &R) {
-        for session in self.sessions {
-            session.thread.join(rt);
-        }
+    if begin(house, stream).is_none() {
+        house.leave(Standing::Waiting);
     }
 }
 
-/// Answers the lines of a connection. Where there is no memory for them none is.
-fn talk<R: Handle>(hall: &Hall<R>, link: &Link<'_>) {
-    if let Ok(mut reader) = BufReader::new(hall.rt.alloc(), &*link) {
-        converse(hall, &mut reader, &mut &*link, link);
-    }
+/// Starts the thread of a connection. Nobody joins it.
+fn begin<R: Handle + Send + Sync + 'static>(
+    house: &Arc<House<R>>,
+    stream: TcpStream,
+) -> Option<()> {
+    let theirs = Arc::try_clone(house).ok()?;
+    let thread = spawn(&house.hall.rt, move || attend(&theirs, stream)).ok()?;
+    // Its memory is freed when it ends.
+    drop(thread);
+    Some(())
 }
 
-/// Serves a connection, and then closes it.
-fn attend<R: Handle>(hall: &Hall<R>, stream: TcpStream, is_over: &AtomicBool) {
-    // Where it can't be told that answers are to be sent at once, they are sent all the same.
-    let _ = stream.set_nodelay(true);
-    if let Ok(link) = Link::new(hall.rt.alloc(), &stream) {
-        talk(hall, &link);
+/// Serves a connection, closes it, and then makes its place free.
+fn attend<R: Handle>(house: &House<R>, stream: TcpStream) {
+    let standing = visit(house, &stream).unwrap_or(Standing::Waiting);
+    drop(stream);
+    house.leave(standing);
+}
+
+/// Serves a connection. Returns what the client had at the end, or fails before anything is read.
+fn visit<'a, R: Handle>(house: &'a House<R>, stream: &'a TcpStream) -> io::Result<Standing> {
+    let link = Link::new(house.hall.rt.alloc(), house, stream)?;
+    let visit = talk(&house.hall, &link)?;
+    if leaves_lines(visit) {
+        // The connection is closed next, so a failure here changes nothing.
+        let _ = link.part();
+    } else {
         link.release();
     }
-    drop(stream);
-    is_over.store(true, Ordering::SeqCst);
+    Ok(link.standing())
+}
+
+/// Answers the lines of a connection. Fails if there is no memory to read any.
+fn talk<R: Handle>(hall: &Hall<R>, link: &Link<'_, R>) -> io::Result<Visit> {
+    let mut reader = BufReader::new(hall.rt.alloc(), &*link)?;
+    Ok(converse(hall, &mut reader, &mut &*link, link))
+}
+
+/// Whether lines may be left unread after the last answer.
+fn leaves_lines(visit: Visit) -> bool {
+    match visit {
+        Visit::Refused => true,
+        Visit::Served(End::NoMemory { .. } | End::TurnBound) => true,
+        Visit::Served(End::EndOfInput | End::ReadFault | End::WriteFault) => false,
+        Visit::Silent(_) | Visit::Unheard => false,
+    }
 }

@@ -1,28 +1,76 @@
 //! The bytes of a connection. Answers to lines that came together go out together.
 
+use crate::guests::Standing;
+use crate::halls::{Handle, House};
 use crate::outboxes::Outbox;
+use crate::terms::{Terms, after, left_until};
 use std::alloc::Global;
 use std::cell::RefCell;
 use std::io;
 use std::io::{Error, ErrorKind, Read, Write};
-use std::net::TcpStream;
+use std::net::{Shutdown, TcpStream};
+use std::time::{Duration, Instant};
 
 /// How often a call of the system is made again that a signal interrupts.
 const TRIES: u32 = 1_000;
 
-/// Something that may hold answers back.
-pub trait Release {
-    /// Lets go of what is held back: something may take a while.
+/// Seconds for which a client may take none of the bytes that it is sent.
+const SEND_SECONDS: u64 = 60;
+
+/// Seconds after which a write looks how long it has waited.
+const LOOK_SECONDS: u64 = 1;
+
+/// Bytes that are read and dropped, at most, after the last answer.
+const DRAINED: usize = 1_048_576;
+
+/// Seconds for which they are, at most.
+const DRAIN_SECONDS: u64 = 2;
+
+/// What `converse` reports to the connection.
+pub trait Connection {
+    /// The client has its seat from now on.
+    fn sit(&self);
+
+    /// The next command may take a while, so answers that are held back are to be sent.
     fn release(&self);
 }
 
-/// The socket of a connection. A call that is interrupted is made again.
+/// The socket of a connection. A call that is interrupted is made again, and a write that waits fails
+/// after a minute.
 #[derive(Clone, Copy, Drop)]
-struct Socket<'a> {
+struct Socket<'a, R: Handle> {
+    clock: &'a R,
     stream: &'a TcpStream,
 }
 
-impl Read for Socket<'_> {
+impl<R: Handle> Socket<'_, R> {
+    /// Whether a write that failed so is made again.
+    fn goes_on(&self, fault: &Error, until: Instant) -> bool {
+        match fault.kind() {
+            ErrorKind::Interrupted => true,
+            ErrorKind::WouldBlock => left_until(self.clock, until).is_ok(),
+            _ => false,
+        }
+    }
+
+    /// Reads and drops bytes until the client has shut its sending side, has sent 1 MiB, or the time is
+    /// over.
+    fn drain(mut self, until: Instant) -> io::Result<()> {
+        let mut bytes = [0; 4_096];
+        let mut drained = 0;
+        while drained < DRAINED {
+            self.stream
+                .set_read_timeout(Some(left_until(self.clock, until)?))?;
+            match self.read(&mut bytes)? {
+                0 => break,
+                count => drained += count,
+            }
+        }
+        Ok(())
+    }
+}
+
+impl<R: Handle> Read for Socket<'_, R> {
     fn read(&mut self, bytes: &mut [u8]) -> io::Result<usize> {
         let mut stream = self.stream;
         for _ in 0..TRIES {
@@ -35,16 +83,17 @@ impl Read for Socket<'_> {
     }
 }
 
-impl Write for Socket<'_> {
+impl<R: Handle> Write for Socket<'_, R> {
     fn write(&mut self, bytes: &[u8]) -> io::Result<usize> {
         let mut stream = self.stream;
+        let until = after(self.clock, SEND_SECONDS)?;
         for _ in 0..TRIES {
             match stream.write(bytes) {
-                Err(fault) if fault.kind() == ErrorKind::Interrupted => {}
+                Err(fault) if self.goes_on(&fault, until) => {}
                 written => return written,
             }
         }
-        Err(Error::from(ErrorKind::Interrupted))
+        Err(Error::from(ErrorKind::TimedOut))
     }
 
     fn flush(&mut self) -> io::Result<()> {
@@ -56,17 +105,36 @@ impl Write for Socket<'_> {
 /// The two sides of a connection: its lines and its answers. Answers are held back until the next
 /// bytes are read, so that all of them go out in one write, or until they are released.
 #[derive(Drop)]
-pub struct Link<'a> {
-    socket: Socket<'a>,
-    outbox: RefCell<Outbox<Socket<'a>>>,
+pub struct Link<'a, R: Handle> {
+    terms: Terms<'a, R>,
+    socket: Socket<'a, R>,
+    outbox: RefCell<Outbox<Socket<'a, R>>>,
 }
 
-impl<'a> Link<'a> {
-    /// Takes the memory of all that is held back.
-    pub fn new(alloc: Global, stream: &'a TcpStream) -> io::Result<Link<'a>> {
-        let socket = Socket { stream };
-        let outbox = RefCell::new(Outbox::new(alloc, socket)?);
-        Ok(Link { socket, outbox })
+impl<'a, R: Handle> Link<'a, R> {
+    /// Allocates the room of the outbox, and sets how long a write may wait.
+    pub fn new(
+        alloc: Global,
+        house: &'a House<R>,
+        stream: &'a TcpStream,
+    ) -> io::Result<Link<'a, R>> {
+        // Answers are sent even if the socket can't be told to send them at once.
+        let _ = stream.set_nodelay(true);
+        stream.set_write_timeout(Some(Duration::from_secs(LOOK_SECONDS)))?;
+        let socket = Socket {
+            clock: &house.hall.rt,
+            stream,
+        };
+        Ok(Link {
+            terms: Terms::new(house)?,
+            socket,
+            outbox: RefCell::new(Outbox::new(alloc, socket)?),
+        })
+    }
+
+    /// What the client has.
+    pub fn standing(&self) -> Standing {
+        self.terms.standing()
     }
 
     /// Sends what is held back.
@@ -76,9 +144,22 @@ impl<'a> Link<'a> {
             Err(_) => Err(Error::from(ErrorKind::Other)),
         }
     }
+
+    /// Shuts the sending side, and drops what the client still sends for a while. A socket that is
+    /// closed with unread bytes resets the connection, and the client may lose its last answer.
+    pub fn part(&self) -> io::Result<()> {
+        self.send()?;
+        self.socket.stream.shutdown(Shutdown::Write)?;
+        let until = after(self.socket.clock, DRAIN_SECONDS)?;
+        self.socket.drain(until)
+    }
 }
 
-impl Release for Link<'_> {
+impl<R: Handle> Connection for Link<'_, R> {
+    fn sit(&self) {
+        self.terms.sit();
+    }
+
     fn release(&self) {
         // The outbox is broken if it fails, so the next write and the next read fail too.
         let _ = self.send();
@@ -86,16 +167,19 @@ impl Release for Link<'_> {
 }
 
 /// What is read of a connection.
-impl Read for &Link<'_> {
+impl<R: Handle> Read for &Link<'_, R> {
     fn read(&mut self, bytes: &mut [u8]) -> io::Result<usize> {
         self.send()?;
         let mut socket = self.socket;
-        socket.read(bytes)
+        self.terms.allow(socket.stream)?;
+        let count = socket.read(bytes)?;
+        self.terms.came(count);
+        Ok(count)
     }
 }
 
 /// What is answered.
-impl Write for &Link<'_> {
+impl<R: Handle> Write for &Link<'_, R> {
     fn write(&mut self, bytes: &[u8]) -> io::Result<usize> {
         match self.outbox.try_borrow_mut() {
             Ok(mut outbox) => outbox.write(bytes),

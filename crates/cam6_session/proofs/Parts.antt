@@ -1,13 +1,16 @@
 -- A line is read in parts, one a look, until its LF, the input's end or a fault.
 use Rattle.std.proofs.Common.{◌≡◌, ◌≢◌, ℕ, List, [], ◌∷◌, ◌++◌, length, Option, None, Some}
 use Rattle.std.proofs.Common.{Bool, true, false, cond, refl, sym, ap, subst, ◌∙◌, arith, true≢false}
-use Rattle.std.proofs.Common.{append-nil, append_assoc, ne_eqb}
+use Rattle.std.proofs.Common.{append-nil, append_assoc, ne_eqb, inl, inr}
 use Rattle.std.proofs.lemmas.List.Elements.{All-append}
 use Rattle.std.proofs.KnownBytes.{Consumes-trans}
 use Rattle.std.specs.Io.KnownBytes.{Consumes}
 use Rattle.cam6_session.specs.Held.{Held, Holds, is_empty}
 use Rattle.cam6_wire.specs.OneLine.{HasNoLf}
-use Rattle.cam6_session.specs.Reading.{Reads, ReadsLine, TakesPart}
+use Rattle.cam6_session.specs.Reading.{Reads, ReadsLine, ReadsTo, ReadsWithin, TakesPart}
+use Rattle.cam6_session.specs.declared.lines.Extent.{Extent}
+use Rattle.cam6_session.specs.declared.lines.Extent.TheVariants.{ToItsEnd, UntilTooLong}
+use Rattle.cam6_session.specs.declared.lines.Line.{Line}
 use Rattle.cam6_session.specs.declared.lines.Line.TheVariants.{Ended, Last, EndOfInput, ReadFault}
 use Rattle.cam6_session.specs.declared.lines.Line.TheVariants as line_end
 use Rattle.cam6_session.specs.declared.lines.Part.TheVariants.{More, Newline, AtEnd, Fault}
@@ -62,6 +65,27 @@ more_is_read old now new held kept read look = record {
   taken = Consumes-trans old now new _ _ read.taken
       (subst (Consumes now new) (append-nil look.part) look.taken);
 }
+
+-- a line that was read to its end was read as far as was wanted
+pub reads_to : (extent : Extent) (result : Line) (old new : Option (List ℕ)) (held : Held)
+    → Reads result old new held → ReadsTo extent result old new held
+reads_to ToItsEnd result old new held reads = reads
+reads_to UntilTooLong result None new held reads = tt
+reads_to UntilTooLong result (Some all) new held (unread, left, line) = (unread, left, inl line)
+
+by_excess : (old new : Option (List ℕ)) (held : Held) → HasRead old new held
+    → held.is_long ≡ true → ReadsWithin Ended old new held
+by_excess None new held read long = tt
+by_excess (Some all) None held read long = absurd read.taken
+by_excess (Some all) (Some unread) held read long =
+    (unread, refl, inr (read.part, refl, read.free, read.taken, long, read.holds))
+
+-- and so was one that is too long
+pub line_exceeds : (extent : Extent) (old new : Option (List ℕ)) (held : Held)
+    → HasRead old new held → (extent ≡ UntilTooLong) × (held.is_long ≡ true)
+    → ReadsTo extent Ended old new held
+line_exceeds extent old new held read (is, long) =
+    subst (λ (e : Extent). ReadsTo e Ended old new held) (sym is) (by_excess old new held read long)
 
 pub line_is_ended : (old now new : Option (List ℕ)) (held kept : Held) → HasRead old now held
     → TakesPart Newline now new held kept → Reads Ended old new kept

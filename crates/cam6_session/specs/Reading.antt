@@ -1,5 +1,5 @@
 -- What reading a line takes from a reader, whose bytes may not be known, and what it keeps.
-use Rattle.std.specs.Prelude.{◌≡◌, ◌≢◌, ◌<◌, ℕ, List, [], ◌∷◌, ◌++◌, length, true}
+use Rattle.std.specs.Prelude.{◌≡◌, ◌≢◌, ◌<◌, ◌⊎◌, ℕ, List, [], ◌∷◌, ◌++◌, length, true}
 use Rattle.std.specs.Prelude.{Option, Some, IfSome}
 use Rattle.std.specs.Io.KnownBytes.{Consumes, IsAtEnd}
 use Rattle.cam6_wire.specs.Limits.{max_line, begins_load}
@@ -8,6 +8,8 @@ use Rattle.cam6_session.specs.Held.{Held, Holds, Grows}
 use Rattle.cam6_session.specs.declared.lines.Part.{Part}
 use Rattle.cam6_session.specs.declared.lines.Part.TheVariants.{More, Newline, AtEnd, Fault}
 use Rattle.cam6_session.specs.declared.lines.Part.TheVariants as look
+use Rattle.cam6_session.specs.declared.lines.Extent.{Extent}
+use Rattle.cam6_session.specs.declared.lines.Extent.TheVariants.{ToItsEnd, UntilTooLong}
 use Rattle.cam6_session.specs.declared.lines.Line.{Line}
 use Rattle.cam6_session.specs.declared.lines.Line.TheVariants.{Ended, Last, EndOfInput}
 use Rattle.cam6_session.specs.declared.lines.Line.TheVariants.{ReadFault, TurnBound, NoMemory}
@@ -62,6 +64,23 @@ ReadsLine NoMemory all unread held =
 abbrev pub Reads : Line → Option (List ℕ) → Option (List ℕ) → Held → Type 0
 Reads result old new held =
     IfSome old (λ all. (unread : List ℕ) × (new ≡ Some unread) × ReadsLine result all unread held)
+
+-- so much of a line was taken that it is too long, however it goes on, and its rest is unread
+abbrev pub Exceeds : Line → List ℕ → List ℕ → Held → Type 0
+Exceeds result all unread held =
+    (part : List ℕ) × (result ≡ Ended) × HasNoLf part × (all ≡ part ++ unread)
+    × (held.is_long ≡ true) × Holds held part
+
+-- of these bytes a line was taken, or a part of one, or enough of one that is too long
+abbrev pub ReadsWithin : Line → Option (List ℕ) → Option (List ℕ) → Held → Type 0
+ReadsWithin result old new held =
+    IfSome old (λ all. (unread : List ℕ) × (new ≡ Some unread)
+    × (ReadsLine result all unread held ⊎ Exceeds result all unread held))
+
+-- the same by how far a line is read
+abbrev pub ReadsTo : Extent → Line → Option (List ℕ) → Option (List ℕ) → Held → Type 0
+ReadsTo ToItsEnd result old new held = Reads result old new held
+ReadsTo UntilTooLong result old new held = ReadsWithin result old new held
 
 -- a line takes a turn or more, and the bound is met where none is left
 abbrev pub Turns : Line → ℕ → ℕ → Type 0

@@ -47,7 +47,7 @@ pub use alone::serve_alone;
 pub use answerers::Answerer;
 pub use desks::{Ask, AtDesk, Unaided, Waiter};
 pub use line_buffer::LineBuf;
-pub use lines::{Line, next_line};
+pub use lines::{Line, next_line, next_line_within};
 pub use replays::replay;
 pub use sessions::{End, Stop, answer_lines, serve};
 pub use writers::{WriteFault, send};

@@ -81,6 +81,13 @@ impl LineBuf {
         !self.is_long && self.bytes.is_empty()
     }
 
+    /// Whether the line is above its limit.
+    pub fn is_long(&self) -> bool
+        ensures { result ≡ self.now.is_long }
+    {
+        self.is_long
+    }
+
     /// The line, unless it is above the limit.
     pub fn bytes(&self) -> Option<&[u8]>
         ensures { option_map (λ bytes. bytes.now) result

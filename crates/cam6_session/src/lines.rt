@@ -2,7 +2,7 @@
 ghost use Rattle.std.specs.Prelude.{◌≡◌, ◌<◌, ◌≤◌, if◌then◌else◌, length, take, slice_index};
 ghost use Rattle.cam6_session.specs.Held.{is_empty};
 ghost use Rattle.cam6_wire.specs.OneLine.{HasNoLf};
-ghost use Rattle.cam6_session.specs.Reading.{Reads, TakesPart, Turns};
+ghost use Rattle.cam6_session.specs.Reading.{Reads, ReadsTo, ReadsWithin, TakesPart, Turns};
 ghost use Rattle.cam6_session.specs.Spending.{TakesAByteEach};
 
 use crate::line_buffer::LineBuf;
@@ -42,11 +42,64 @@ pub fn next_line<R: BufRead>(reader: &mut R, line: &mut LineBuf, turns: &mut u64
     ensures bytes { TakesAByteEach result turns.old turns.new
         (R.remaining reader.old) (R.remaining reader.new) }
 {
+    read_line(reader, line, turns, Extent::ToItsEnd)
+}
+
+/// Reads one line, and no more of one that is too long than it takes to know that: then the line has
+/// ended for who reads it, and its rest is unread. Each look at the reader takes a turn.
+pub fn next_line_within<R: BufRead>(reader: &mut R, line: &mut LineBuf, turns: &mut u64) -> Line
+    ensures line { ReadsWithin result (R.remaining reader.old) (R.remaining reader.new) line.new }
+    ensures turns { Turns result turns.old turns.new }
+    ensures bytes { TakesAByteEach result turns.old turns.new
+        (R.remaining reader.old) (R.remaining reader.new) }
+{
+    read_line(reader, line, turns, Extent::UntilTooLong)
+}
+
+/// How far a line is read.
+#[derive(Clone, Copy)]
+enum Extent {
+    ToItsEnd,
+    UntilTooLong,
+}
+
+impl Extent {
+    ghost use Rattle.std.specs.Prelude.{true};
+    ghost use Rattle.cam6_session.specs.declared.lines.Extent.TheVariants.{UntilTooLong};
+
+    /// Whether so much of a line has been read that no more of it is wanted.
+    fn is_met(self, line: &LineBuf) -> bool
+        ensures { result ≡ true → (self ≡ UntilTooLong) × (line.now.is_long ≡ true) }
+    {
+        match self {
+            Extent::ToItsEnd => false,
+            Extent::UntilTooLong => line.is_long(),
+        }
+    }
+}
+
+/// Reads one line, to its end or until it is too long.
+fn read_line<R: BufRead>(
+    reader: &mut R,
+    line: &mut LineBuf,
+    turns: &mut u64,
+    extent: Extent,
+) -> Line
+    ensures line { ReadsTo extent result
+        (R.remaining reader.old) (R.remaining reader.new) line.new }
+    ensures turns { Turns result turns.old turns.new }
+    ensures bytes { TakesAByteEach result turns.old turns.new
+        (R.remaining reader.old) (R.remaining reader.new) }
+{
     line.clear();
     while *turns > 0 {
         *turns -= 1;
         match take_part(reader, line) {
-            Part::More => {}
+            Part::More => {
+                if extent.is_met(line) {
+                    return Line::Ended;
+                }
+            }
             Part::Newline => return Line::Ended,
             Part::AtEnd => return last(line),
             Part::Fault => return Line::ReadFault,

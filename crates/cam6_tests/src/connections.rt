@@ -5,16 +5,18 @@ use cam6_cache::TableCache;
 use cam6_handoff::boot;
 use cam6_planes::{NoMemory, Side};
 use cam6_pool::SlicingGate;
-use cam6_server::{Hall, Handle, Places, Release, Visit, converse};
+use cam6_server::{Connection, Hall, Handle, Places, Visit, converse};
 use cam6_session::End;
 use std::alloc::Global;
 use std::process::Abort;
 use std::sync::Mutex;
 
-/// Holds nothing back.
-struct Nothing;
+/// A connection that holds nothing back.
+struct Plain;
 
-impl Release for Nothing {
+impl Connection for Plain {
+    fn sit(&self) {}
+
     fn release(&self) {}
 }
 
@@ -40,7 +42,7 @@ fn hall<R: Handle>(rt: R) -> Result<Hall<R>, NoMemory> {
 fn said<R: Handle>(hall: &Hall<R>, lines: &[u8], want: &[u8]) -> (Visit, bool) {
     let mut reader = lines;
     let mut writer = Vec::new(hall.rt.alloc());
-    let visit = converse(hall, &mut reader, &mut writer, &Nothing);
+    let visit = converse(hall, &mut reader, &mut writer, &Plain);
     (visit, writer.as_slice() == want)
 }
 
@@ -52,7 +54,7 @@ fn cut_off<R: Handle>(hall: &Hall<R>, lines: &[u8], calls: usize, want: &[u8]) -
         calls,
         failure: Failure::Error,
     };
-    let visit = converse(hall, &mut reader, &mut writer, &Nothing);
+    let visit = converse(hall, &mut reader, &mut writer, &Plain);
     (visit, writer.bytes.as_slice() == want)
 }
 

@@ -19,8 +19,10 @@ returns c =
     ∙ ap₂ with_rule boards c.cache_option.ensures.rule in
     let connections = c.in_ok-arg-5.ensures.shape c.connections_option.ensures.global
     ∙ ap₂ with_rule cache c.connections_option.ensures.rule in
-    IfOk-weaker c.arg-6.result _ _ (λ command adds. (
+    let idle = c.in_ok-arg-6.ensures.shape c.idle_option.ensures.global
+    ∙ ap₂ with_rule connections c.idle_option.ensures.rule in
+    IfOk-weaker c.arg-7.result _ _ (λ command adds. (
       sides.0,
       sides.1,
-      adds.shape c.side_option.ensures.global ∙ ap₂ with_rule connections sides.2,
-    )) c.arg-6.ensures
+      adds.shape c.side_option.ensures.global ∙ ap₂ with_rule idle sides.2,
+    )) c.arg-7.ensures

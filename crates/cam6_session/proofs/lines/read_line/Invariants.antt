@@ -1,7 +1,7 @@
 use Rattle.std.proofs.Common.{◌≤◌}
 use Rattle.cam6_session.proofs.Parts.{HasRead}
 use Rattle.cam6_session.specs.Spending.{TookAsMany}
-use Rattle.cam6_session.proofs.lines.next_line.Given as goal
+use Rattle.cam6_session.proofs.lines.read_line.Given as goal
 
 abbrev pub invariant-loop-turns : goal.invariant-loop-turns
 invariant-loop-turns g l = record {

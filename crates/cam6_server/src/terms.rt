@@ -1,0 +1,108 @@
+//! The limits of one client: how soon it needs a seat, how much it may send before that, and how long
+//! it may be silent after that.
+
+use crate::guests::{Guests, Standing};
+use crate::halls::{Handle, House};
+use cam6_wire::LINE_LIMIT;
+use std::cell::Cell;
+use std::io;
+use std::io::{Error, ErrorKind};
+use std::net::TcpStream;
+use std::sync::Mutex;
+use std::time::{Clock, Duration, Instant};
+
+/// Seconds within which a client needs a seat.
+const SEAT_SECONDS: u64 = 10;
+
+/// The limits of one client.
+#[derive(Drop)]
+pub struct Terms<'a, R: Handle> {
+    rt: R,
+    guests: &'a Mutex<Guests>,
+    idle: Option<Duration>,
+    standing: Cell<Standing>,
+    /// When the wait for a seat is over.
+    until: Instant,
+    /// How many bytes have been read.
+    came: Cell<usize>,
+    /// Whether the socket has the timeout of a client with a seat.
+    is_told: Cell<bool>,
+}
+
+impl<'a, R: Handle> Terms<'a, R> {
+    /// The limits of a client that has just connected.
+    pub fn new(house: &'a House<R>) -> io::Result<Terms<'a, R>> {
+        let rt = house.hall.rt;
+        Ok(Terms {
+            rt,
+            guests: &house.guests,
+            idle: house.idle,
+            standing: Cell::new(Standing::Waiting),
+            until: after(&rt, SEAT_SECONDS)?,
+            came: Cell::new(0),
+            is_told: Cell::new(false),
+        })
+    }
+
+    /// What the client has.
+    pub fn standing(&self) -> Standing {
+        self.standing.get()
+    }
+
+    /// Gives the client its seat.
+    pub fn sit(&self) {
+        self.guests.lock(&self.rt).sit();
+        self.standing.set(Standing::Seated);
+    }
+
+    /// Sets how long the next read may wait. Fails if the client may send nothing more.
+    pub fn allow(&self, stream: &TcpStream) -> io::Result<()> {
+        if self.standing.get() == Standing::Seated {
+            return self.allow_seated(stream);
+        }
+        if self.standing.get() == Standing::Waiting && self.came.get() > LINE_LIMIT {
+            self.lengthen()?;
+        }
+        stream.set_read_timeout(Some(left_until(&self.rt, self.until)?))
+    }
+
+    /// The same for a client with a seat. The timeout is set once.
+    fn allow_seated(&self, stream: &TcpStream) -> io::Result<()> {
+        if self.is_told.replace(true) {
+            return Ok(());
+        }
+        stream.set_read_timeout(self.idle)
+    }
+
+    /// Lets the first line go on although it is longer than any line but a load. Few clients may do
+    /// that at a time, because the host holds what each has sent.
+    fn lengthen(&self) -> io::Result<()> {
+        if !self.guests.lock(&self.rt).lengthen() {
+            return Err(Error::from(ErrorKind::OutOfMemory));
+        }
+        self.standing.set(Standing::Long);
+        Ok(())
+    }
+
+    /// Counts bytes that were read.
+    pub fn came(&self, count: usize) {
+        self.came.set(self.came.get().saturating_add(count));
+    }
+}
+
+/// So many seconds from now.
+pub fn after(clock: &impl Clock, seconds: u64) -> io::Result<Instant> {
+    match Instant::now(clock)?.checked_add(Duration::from_secs(seconds)) {
+        Some(until) => Ok(until),
+        None => Err(Error::from(ErrorKind::TimedOut)),
+    }
+}
+
+/// The time until `until`. Fails with `TimedOut` if none is left.
+pub fn left_until(clock: &impl Clock, until: Instant) -> io::Result<Duration> {
+    let left = until.saturating_duration_since(Instant::now(clock)?);
+    if left.is_zero() {
+        return Err(Error::from(ErrorKind::TimedOut));
+    }
+    Ok(left)
+}
