@@ -42,7 +42,17 @@ pub mod KeptPlanes
 pub mod ComputedBits
 -- What holds of the value in each lane so far holds in one lane more.
 pub mod EachLane
+-- Masks of 16 bits, of which all are 1 or all are 0, choose values.
+pub mod ChosenValues
+-- What a lane's stack is, after a row was written.
+pub mod Columns
+-- What a stack word leaves of a lane's stack.
+pub mod LaneWords
+-- What an output word makes of a lane's state.
+pub mod LaneOutputs
 -- A table is filled: an entry that is put where it is the result makes no other wrong.
 pub mod RightEntries
--- Code comes to the same from a place and from the place after its next instruction.
+-- In a lane there is left to do the same after its next instruction.
 pub mod Outcomes
+-- Lanes part at an IF and at a case: which of them are where afterwards.
+pub mod Parting

@@ -1,29 +1,46 @@
--- Code comes to the same from a place and from the place after its next instruction.
-use Rattle.std.proofs.Common.{◌≡◌, ◌∙◌, ◌+◌, ◌-◌, ◌<◌, ◌≤◌, ℕ, List, Ok, ◌∷◌, length, sym, ap}
-use Rattle.std.proofs.Common.{refl, arith}
+-- In a lane there is left to do the same after its next instruction.
+use Rattle.std.proofs.Common.{◌≡◌, ◌∙◌, ◌+◌, ◌-◌, ◌<◌, ◌≤◌, ℕ, List, length}
+use Rattle.std.proofs.Common.{None, Some, Ok, sym, arith}
 use Rattle.cam6_wiring.specs.Seen.{shown}
 use Rattle.cam6_table.specs.declared.codes.Instruction.{Instruction}
-use Rattle.cam6_table.specs.declared.evaluation.Next.{Next}
-use Rattle.cam6_table.specs.declared.evaluation.Place.{Place}
-use Rattle.cam6_table.specs.declared.outputs.State.{State}
-use Rattle.cam6_table.specs.Codes.{act, last_of}
-use Rattle.cam6_table.specs.Internal.Lanes.{outcome_from}
+use Rattle.cam6_table.specs.declared.lanes.Lanes.{Lanes}
+use Rattle.cam6_table.specs.Limits.{max_values}
+use Rattle.cam6_table.specs.Codes.{act, go}
+use Rattle.cam6_table.specs.Internal.Lanes.{state_at, IsNext, LeadsTo, IsLeft}
 use Rattle.cam6_table.proofs.Jumps.{exec-goes_on}
 
-module _ (code : List Instruction) (from to : Place) (i : Instruction) (next : Next)
-    (some : 0 < from.behind) (within : from.behind ≤ length code)
-    (front : last_of (from.behind - 1 + 1) code ≡ i ∷ last_of (from.behind - 1) code)
-    (is : to ≡ record { behind = from.behind - 1 - next.passed; word = next.word }) where
-  pub fewer_left : to.behind ≤ length code
-  fewer_left =
-      let same : to.behind ≡ from.behind - 1 - next.passed = ap (λ place. place.behind) is in
-      omega arith
+module _ (address : ℕ) (code : List Instruction) (i : Instruction) (behind to height after : ℕ)
+    (lanes new : Lanes) (lane : ℕ) (some : 0 < behind) (next : IsNext code behind i)
+    (high : after ≤ max_values) where
+  -- after an instruction
+  pub still_left : (passed : ℕ) → to ≡ behind - 1 - passed →
+      act (shown address) None i (state_at lane height lanes)
+      ≡ Ok (state_at lane after new, go passed None) →
+      IsLeft address code behind height lanes lane → IsLeft address code to after new lane
+  still_left passed is done left =
+      let place = left.place in
+      let one : behind ≡ behind - 1 + 1 = omega arith in
+      record {
+        place = omega arith;
+        high = high;
+        left = sym (exec-goes_on (shown address) code behind (behind - 1) to None i
+            (state_at lane height lanes) (state_at lane after new) (go passed None) one
+            (omega arith) is next done) ∙ left.left;
+      }
 
-  pub same_outcome : (address : ℕ) (s new : State) →
-      act (shown address) from.word i s ≡ Ok (new, next) →
-      outcome_from address code to new ≡ outcome_from address code from s
-  same_outcome address s new done =
-      let one : from.behind ≡ from.behind - 1 + 1 = omega arith in
-      ap (λ place. outcome_from address code place new) is ∙
-      sym (exec-goes_on (shown address) code from.behind (from.behind - 1)
-      (from.behind - 1 - next.passed) from.word i s new next one (omega arith) refl front done)
+  -- after the head of a case, at the word that is looked for
+  pub left_at_word : (word : ℕ) → to ≤ length code → LeadsTo code (behind - 1) word to →
+      act (shown address) None i (state_at lane height lanes)
+      ≡ Ok (state_at lane after new, go 0 (Some word)) →
+      IsLeft address code behind height lanes lane → IsLeft address code to after new lane
+  left_at_word word within leads done left =
+      let place = left.place in
+      let one : behind ≡ behind - 1 + 1 = omega arith in
+      record {
+        place = within;
+        high = high;
+        left = leads address (state_at lane after new) ∙
+            sym (exec-goes_on (shown address) code behind (behind - 1) (behind - 1) None i
+            (state_at lane height lanes) (state_at lane after new) (go 0 (Some word)) one
+            (omega arith) (omega arith) next done) ∙ left.left;
+      }

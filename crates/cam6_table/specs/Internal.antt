@@ -3,4 +3,6 @@
 pub mod Emitting
 pub mod LinesRead
 pub mod Filling
+pub mod LaneValues
+pub mod Sets
 pub mod Lanes

@@ -1,27 +1,26 @@
 //! A table is filled: the code runs at the addresses at which the lines that it reads differ, many
 //! at once, and all other entries are copies of theirs.
 ghost use Rattle.std.specs.Prelude.{◌≡◌, ◌<◌, ◌≤◌, ℕ, Ok, Err, IfOk, IfErr, IsOk, length};
-ghost use Rattle.std.specs.Prelude.{None, slice_index, bit_and};
+ghost use Rattle.std.specs.Prelude.{slice_index, bit_and};
 ghost use Rattle.cam6_table.specs.declared.lane_values.TheConstants.{LANES};
 ghost use Rattle.cam6_table.specs.declared.tables.TheConstants.{ENTRIES};
 ghost use Rattle.cam6_table.specs.Tables.{AreEntries, IsLeastStop};
 ghost use Rattle.cam6_table.specs.Limits.{addresses};
-ghost use Rattle.cam6_table.specs.Codes.{exec, result_at};
-ghost use Rattle.cam6_wiring.specs.Seen.{shown};
-ghost use Rattle.cam6_table.specs.Outputs.{untouched};
-ghost use Rattle.cam6_table.specs.Internal.Lanes.{state_in, outcome_from, IsLeftInEach, AreKnown};
+ghost use Rattle.cam6_table.specs.Codes.{result_at};
+ghost use Rattle.cam6_table.specs.Internal.Lanes.{IsLeft, AreLeft};
 ghost use Rattle.cam6_table.specs.Internal.LinesRead.{IsMaskFor};
 ghost use Rattle.cam6_table.specs.Internal.Filling.{IsRight, AreNext, IsStopFrom};
 
 use crate::codes::Code;
-use crate::evaluation::{MAX_TURNS, Place, run, start};
+use crate::evaluation::{MAX_TURNS, Place, run};
 use crate::faults::RuleFault;
+use crate::flows::{Places, all_at_start};
 use crate::lane_values::{LANES, LaneValues};
-use crate::lanes::{Lanes, all_untouched, clear, copy_lanes, entry_at_end, state_of};
+use crate::lanes::{Lanes, all_untouched, clear, entry_at_end, state_of};
 use crate::lines_read::lines_read;
 use crate::outputs::entry_of;
 use crate::tables::{ENTRIES, Table};
-use crate::together::{run_group, run_together};
+use crate::together::run_together;
 
 /// Makes the table that of a rule, or names the least address at which it stops, and the fault
 /// there, also if no cell shows the address. After a fault nothing is promised of the table's
@@ -57,7 +56,7 @@ fn fill_where_lines_differ(
     ensures fault { IfErr result (λ refused. IsLeastStop (result_at code.now) refused.0 refused.1) }
 {
     let last = mask.min(ENTRIES - 1);
-    let mut room = new_room();
+    let mut room = new_room(code);
     let mut from = 0;
     while from <= last {
         let batch = next_batch(mask, from, last);
@@ -108,20 +107,17 @@ fn next_batch(mask: u16, from: u16, last: u16) -> Batch
     }
 }
 
-/// Room for a batch: the states of all lanes and those of a group, and the results that are known.
+/// Room for a batch: where each lane is, and its state.
 #[derive(Drop)]
 struct Room {
+    places: Places,
     lanes: Lanes,
-    group: Lanes,
-    known: [Option<Result<u8, RuleFault>>; LANES],
 }
 
-fn new_room() -> Room {
-    let known = [None; LANES];
+fn new_room(code: &Code) -> Room {
     Room {
+        places: all_at_start(code.instructions()),
         lanes: all_untouched(),
-        group: all_untouched(),
-        known,
     }
 }
 
@@ -145,9 +141,9 @@ fn fill_batch(
     ensures fault { IfErr result (λ refused.
         IsStopFrom mask batch.now.from (result_at code.now) refused.0 refused.1) }
 {
-    let place = run_all(code, &batch.addresses, room);
+    run_all(code, &batch.addresses, room);
     for lane in 0..batch.count {
-        match result_in(code, batch, place, lane, room) {
+        match entry_in(code, room, lane, batch.addresses[lane]) {
             Ok(entry) => table.put(batch.addresses[lane], entry),
             Err(fault) => return Err((batch.addresses[lane], fault)),
         }
@@ -155,96 +151,30 @@ fn fill_batch(
     Ok(())
 }
 
-/// Runs the code from its start in all lanes, as far as they go together. No results are known.
-fn run_all(code: &Code, addresses: &LaneValues, room: &mut Room) -> Place
-    ensures place { result.behind ≤ length code.now }
-    ensures left { IsLeftInEach addresses.now code.now result room.new.lanes }
-    ensures known { AreKnown code.now addresses.now room.new.known }
+/// Runs the code from its start in all lanes, as far as they go together.
+fn run_all(code: &Code, addresses: &LaneValues, room: &mut Room)
+    ensures left { AreLeft addresses.now code.now room.new.places room.new.lanes }
 {
-    let known = [None; LANES];
-    room.known = known;
+    let instructions = code.instructions();
+    room.places = all_at_start(instructions);
     clear(&mut room.lanes);
-    let instructions = code.instructions();
-    run_together(
-        instructions,
-        start(instructions),
-        addresses,
-        &mut room.lanes,
-    )
+    run_together(instructions, addresses, &mut room.places, &mut room.lanes);
 }
 
-/// The result of a lane. It goes on with those that go its way, and from where these part alone.
-fn result_in(
-    code: &Code,
-    batch: &Batch,
-    place: Place,
-    lane: usize,
-    room: &mut Room,
-) -> Result<u8, RuleFault>
-    requires place { place.behind ≤ length code.now }
+/// The code's entry at an address, or its fault there. Up to where its lane is the code was run.
+fn entry_in(code: &Code, room: &Room, lane: usize, address: u16) -> Result<u8, RuleFault>
     requires lane { lane < LANES }
-    requires lanes { batch.now.count ≤ LANES }
-    requires left { IsLeftInEach batch.now.addresses code.now place room.old.lanes }
-    requires known { AreKnown code.now batch.now.addresses room.old.known }
-    ensures left { room.new.lanes ≡ room.old.lanes }
-    ensures known { AreKnown code.now batch.now.addresses room.new.known }
-    ensures result { result ≡ result_at code.now (slice_index batch.now.addresses lane) }
-{
-    settle_group(code, batch, place, lane, room);
-    match room.known[lane] {
-        Some(result) => result,
-        None => entry_in(code, place, &room.lanes, lane, batch.addresses[lane]),
-    }
-}
-
-/// Finds the results of a lane and of those that go its way, if they aren't known and the lanes
-/// stopped because they part.
-fn settle_group(code: &Code, batch: &Batch, place: Place, leader: usize, room: &mut Room)
-    requires place { place.behind ≤ length code.now }
-    requires lane { leader < LANES }
-    requires lanes { batch.now.count ≤ LANES }
-    requires left { IsLeftInEach batch.now.addresses code.now place room.old.lanes }
-    requires known { AreKnown code.now batch.now.addresses room.old.known }
-    ensures left { room.new.lanes ≡ room.old.lanes }
-    ensures known { AreKnown code.now batch.now.addresses room.new.known }
-{
-    if place.behind == 0 || room.known[leader].is_some() {
-        return;
-    }
-    copy_lanes(&room.lanes, &mut room.group);
-    let instructions = code.instructions();
-    let addresses = &batch.addresses;
-    let states = &mut room.group;
-    let Some(group) = run_group(instructions, place, leader, addresses, states) else {
-        return;
-    };
-    for lane in leader..batch.count {
-        if group.members[lane] {
-            let result = entry_in(code, group.place, &room.group, lane, addresses[lane]);
-            room.known[lane] = Some(result);
-        }
-    }
-}
-
-/// The code's entry at an address, or its fault there. Up to a place the code was run in a lane.
-fn entry_in(
-    code: &Code,
-    place: Place,
-    lanes: &Lanes,
-    lane: usize,
-    address: u16,
-) -> Result<u8, RuleFault>
-    requires place { place.behind ≤ length code.now }
-    requires lane { lane < LANES }
-    requires left { outcome_from address code.now place (state_in lane lanes.now)
-        ≡ exec (shown address) code.now 0 None untouched }
+    requires left { IsLeft address code.now (slice_index room.now.places.behinds lane)
+        (slice_index room.now.places.heights lane) room.now.lanes lane }
     ensures { result ≡ result_at code.now address }
 {
-    if place.behind == 0 {
-        return Ok(entry_at_end(lanes, lane, address));
+    let behind = usize::from(room.places.behinds[lane]);
+    if behind == 0 {
+        return Ok(entry_at_end(&room.lanes, lane, address));
     }
-    let mut state = state_of(lanes, lane);
+    let mut state = state_of(&room.lanes, lane, usize::from(room.places.heights[lane]));
     let mut turns = MAX_TURNS;
+    let place = Place { behind, word: None };
     run(code.instructions(), place, address, &mut state, &mut turns)?;
     Ok(entry_of(&state, address))
 }

@@ -1,13 +1,15 @@
 //! One value for each lane, and what a word makes of two of them in every lane at once.
-ghost use Rattle.std.specs.Prelude.{◌≡◌, ◌==◌, ◌<◌, ◌∷◌, ◌/◌, ℕ, List, Ok, IsTrue, IfSome};
-ghost use Rattle.std.specs.Prelude.{slice_index, slice_index_or, true, false};
+ghost use Rattle.std.specs.Prelude.{◌≡◌, ◌==◌, ◌<◌, ◌∷◌, ◌/◌, ◌%◌, ℕ, List, Ok, IsTrue};
+ghost use Rattle.std.specs.Prelude.{slice_index};
 ghost use Rattle.cam6_planes.specs.Row.{bit_number};
 ghost use Rattle.cam6_wiring.specs.Seen.{shown};
 ghost use Rattle.cam6_table.specs.declared.lane_values.TheConstants.{LANES};
 ghost use Rattle.cam6_table.specs.Words.{on_stack};
-ghost use Rattle.cam6_table.specs.Internal.Lanes.{Fits, stack_word};
+ghost use Rattle.cam6_table.specs.Internal.LaneValues.{Fits, stack_word};
+ghost use Rattle.cam6_table.specs.Internal.Sets.{IsIn};
 
 use crate::evaluation::bit_of;
+use crate::sets::LaneSet;
 
 /// Addresses at which code runs at once.
 pub const LANES: usize = 64;
@@ -63,15 +65,15 @@ impl Merge {
         }
     }
 
-    /// Whether the word stops in no lane.
+    /// Whether the word stops in no lane of a set.
     #[inline(always)]
-    pub fn fits_in_all(self, a: &LaneValues, b: &LaneValues) -> bool
-        ensures { IsTrue result → (lane : ℕ) → lane < LANES →
+    pub fn fits_in(self, set: &LaneSet, a: &LaneValues, b: &LaneValues) -> bool
+        ensures { IsTrue result → (lane : ℕ) → lane < LANES → IsIn set.now.mask lane →
             Fits self (slice_index a.now lane) (slice_index b.now lane) }
     {
         let mut fits = true;
         for lane in 0..LANES {
-            fits &= self.fits(a[lane], b[lane]);
+            fits &= (set.mask[lane] == 0) | self.fits(a[lane], b[lane]);
         }
         fits
     }
@@ -93,6 +95,7 @@ impl Merge {
 }
 
 /// One value in all lanes.
+#[inline(always)]
 pub fn in_all(value: u16) -> LaneValues
     ensures { (lane : ℕ) → lane < LANES → slice_index result lane ≡ value }
 {
@@ -100,6 +103,7 @@ pub fn in_all(value: u16) -> LaneValues
 }
 
 /// 1 in the lanes in which the value is 0, and 0 in the others.
+#[inline(always)]
 pub fn zeros(values: &LaneValues) -> LaneValues
     ensures { (lane : ℕ) → lane < LANES →
         slice_index result lane ≡ bit_number (slice_index values.now lane == 0) }
@@ -112,6 +116,7 @@ pub fn zeros(values: &LaneValues) -> LaneValues
 }
 
 /// The bit of an address line in each lane.
+#[inline(always)]
 pub fn bits_of(addresses: &LaneValues, line: u8) -> LaneValues
     ensures { (lane : ℕ) → lane < LANES →
         slice_index result lane ≡ bit_number (shown (slice_index addresses.now lane) line) }
@@ -123,7 +128,21 @@ pub fn bits_of(addresses: &LaneValues, line: u8) -> LaneValues
     bits
 }
 
+/// The lowest bits of the values.
+#[inline(always)]
+pub fn lowest_bits(values: &LaneValues) -> LaneValues
+    ensures { (lane : ℕ) → lane < LANES →
+        slice_index result lane ≡ slice_index values.now lane % 2 }
+{
+    let mut bits = [0; LANES];
+    for lane in 0..LANES {
+        bits[lane] = values[lane] % 2;
+    }
+    bits
+}
+
 /// The values' halves, rounded down.
+#[inline(always)]
 pub fn halves(values: &LaneValues) -> LaneValues
     ensures { (lane : ℕ) → lane < LANES →
         slice_index result lane ≡ slice_index values.now lane / 2 }
@@ -133,38 +152,4 @@ pub fn halves(values: &LaneValues) -> LaneValues
         halves[lane] = values[lane] / 2;
     }
     halves
-}
-
-/// The value of all lanes, if it is one.
-pub fn common(values: &LaneValues) -> Option<u16>
-    ensures { IfSome result (λ value. (lane : ℕ) → lane < LANES →
-        slice_index values.now lane ≡ value) }
-{
-    let first = values[0];
-    let mut same = true;
-    for lane in 0..LANES {
-        same &= values[lane] == first;
-    }
-    if same { Some(first) } else { None }
-}
-
-/// The lanes in which the value is this one.
-pub fn alike(values: &LaneValues, value: u16) -> [bool; LANES]
-    ensures { (lane : ℕ) → lane < LANES → slice_index_or result lane false ≡ true →
-        slice_index values.now lane ≡ value }
-{
-    let mut alike = [false; LANES];
-    for lane in 0..LANES {
-        alike[lane] = values[lane] == value;
-    }
-    alike
-}
-
-/// How many lanes these are.
-pub fn number_of(members: &[bool; LANES]) -> usize {
-    let mut number = 0;
-    for lane in 0..LANES {
-        number += usize::from(members[lane]);
-    }
-    number
 }

@@ -17,9 +17,9 @@
 //! Stands on: `cam6_planes`, `cam6_wiring`, `cam6_lookup` and `cam6_forth`.
 //!
 //! Read next: `stacks`, what a word does; `outputs`; `codes`, the instructions; `emitter`, how a
-//! rule becomes code; `evaluation`; `lane_values`, `lanes` and `together`, how code runs at many
-//! addresses at once; `lines_read`, on which lines its results hang; `tables`; `filling`;
-//! `compiling`; then `laws`.
+//! rule becomes code; `evaluation`; `lane_values`, `sets`, `lane_stacks`, `lanes`, `flows` and
+//! `together`, how code runs at many addresses at once; `lines_read`, on which lines its results
+//! hang; `tables`; `filling`; `compiling`; then `laws`.
 #![tactic(auto)]
 
 mod bands;
@@ -29,11 +29,14 @@ mod emitter;
 mod evaluation;
 mod faults;
 mod filling;
+mod flows;
+mod lane_stacks;
 mod lane_values;
 mod lanes;
 pub mod laws;
 mod lines_read;
 mod outputs;
+mod sets;
 mod stacks;
 mod tables;
 mod together;

@@ -1,103 +1,141 @@
--- What code does at many addresses at once, each in a lane of its own. The flow is one for all; a
--- lane's state is that column of the stacks, and its part of what was written.
-use Rattle.std.specs.Prelude.{◌≡◌, ◌<◌, ◌≤◌, ◌+◌, ◌*◌, MatchResult, ℕ, List, map, slice_index, ⊤}
-use Rattle.std.specs.Prelude.{Bool, Option, Some, None, Result, Ok, slice_index_or, true, false}
+-- What code does at many addresses at once, each in a lane of its own. Lanes that are at one place of
+-- the code and have equally high stacks are a flow, and go on together.
+use Rattle.std.specs.Prelude.{◌≡◌, ◌<◌, ◌≤◌, ◌-◌, ◌+◌, ◌⊎◌, ◌==◌, if◌then◌else◌, MatchResult}
+use Rattle.std.specs.Prelude.{ℕ, zero, suc, List, [], ◌∷◌, length, slice_index, slice_index_or}
+use Rattle.std.specs.Prelude.{Bool, Option, Some, None, Result, Ok}
 use Rattle.cam6_wiring.specs.Seen.{shown}
 use Rattle.cam6_forth.specs.declared.words.StackWord.{StackWord}
-use Rattle.cam6_forth.specs.declared.words.StackWord.TheVariants as word
+use Rattle.cam6_forth.specs.declared.words.Target.{Target}
 use Rattle.cam6_table.specs.declared.codes.Instruction.{Instruction}
-use Rattle.cam6_table.specs.declared.evaluation.Next.{Next}
 use Rattle.cam6_table.specs.declared.evaluation.Place.{Place}
 use Rattle.cam6_table.specs.declared.faults.RuleFault.{RuleFault}
-use Rattle.cam6_table.specs.declared.lanes.Apart.{Apart}
+use Rattle.cam6_table.specs.declared.flows.Flow.{Flow}
+use Rattle.cam6_table.specs.declared.flows.Places.{Places}
+use Rattle.cam6_table.specs.declared.lane_stacks.Apart.{Apart}
 use Rattle.cam6_table.specs.declared.lanes.Lanes.{Lanes}
-use Rattle.cam6_table.specs.declared.lane_values.Merge.{Merge}
-use Rattle.cam6_table.specs.declared.lane_values.Merge.TheVariants as merge
+use Rattle.cam6_table.specs.declared.lane_stacks.Stacks.{Stacks}
 use Rattle.cam6_table.specs.declared.lane_values.TheConstants.{LANES}
 use Rattle.cam6_table.specs.declared.outputs.State.{State}
-use Rattle.cam6_table.specs.declared.together.Way.{Way}
-use Rattle.cam6_table.specs.Limits.{max_value}
+use Rattle.cam6_table.specs.Limits.{max_values}
 use Rattle.cam6_table.specs.Words.{Values, on_stack}
-use Rattle.cam6_table.specs.Outputs.{untouched, is_odd}
-use Rattle.cam6_table.specs.Codes.{act, exec, last_of, result_at}
+use Rattle.cam6_table.specs.Outputs.{untouched, written}
+use Rattle.cam6_table.specs.Codes.{act, exec, go, last_of}
+use Rattle.cam6_table.specs.Internal.Sets.{IsIn, IsOut}
 
--- of two values, the lower one first, a word leaves one that is in range
-abbrev pub Fits : Merge → ℕ → ℕ → Type 0
-Fits merge.Plus a b = a + b ≤ max_value
-Fits merge.Minus a b = b ≤ a
-Fits merge.Times a b = a * b ≤ max_value
-Fits merge.And a b = ⊤
-Fits merge.Or a b = ⊤
-Fits merge.Xor a b = ⊤
-Fits merge.Equal a b = ⊤
-Fits merge.Less a b = ⊤
-Fits merge.Greater a b = ⊤
+-- a lane's stack of a height: its value in each row below that height
+abbrev pub column : ℕ → ℕ → List (List ℕ) → Values
+column lane zero rows = []
+column lane (suc height) rows =
+    slice_index (slice_index_or rows height []) lane ∷ column lane height rows
 
--- the stack word
-abbrev pub stack_word : Merge → StackWord
-stack_word merge.Plus = word.Plus
-stack_word merge.Minus = word.Minus
-stack_word merge.Times = word.Times
-stack_word merge.And = word.And
-stack_word merge.Or = word.Or
-stack_word merge.Xor = word.Xor
-stack_word merge.Equal = word.Equal
-stack_word merge.Less = word.Less
-stack_word merge.Greater = word.Greater
+-- the bit that a value stands for, if any
+abbrev pub bit_written : ℕ → Option Bool
+bit_written v = if v == 2 then None else Some (v == 1)
 
--- a lane's stack
-abbrev pub column : ℕ → List (List ℕ) → Values
-column lane stacks = map (λ values. slice_index values lane) stacks
-
--- the bit that a lane wrote to a plane, if the plane is written
-abbrev pub written_in : ℕ → Option (List ℕ) → Option Bool
-written_in lane None = None
-written_in lane (Some values) = Some (is_odd (slice_index values lane))
-
--- a lane's state
-abbrev pub state_in : ℕ → Lanes → State
-state_in lane lanes = record {
-  stack = column lane lanes.stacks;
-  lower = written_in lane lanes.lower;
-  upper = written_in lane lanes.upper;
+-- a lane's state, if its stack is so high
+abbrev pub state_at : ℕ → ℕ → Lanes → State
+state_at lane height lanes = record {
+  stack = column lane height lanes.stacks.rows;
+  lower = bit_written (slice_index lanes.lower lane);
+  upper = bit_written (slice_index lanes.upper lane);
 }
 
--- in each lane a stack word left the new stack, or nothing was done
-abbrev pub LeavesInEach :
-    StackWord → List (List ℕ) → List (List ℕ) → Result (Unit {0}) Apart → Type 0
-LeavesInEach said old new result = MatchResult result
-    (λ _. (lane : ℕ) → lane < LANES → on_stack said (column lane old) ≡ Ok (column lane new))
-    (λ _. new ≡ old)
+-- in each lane of a set a value comes on top
+abbrev pub Pushes : (set values : List ℕ) → Stacks → Stacks → Type 0
+Pushes set values old new = (lane : ℕ) → lane < LANES → IsIn set lane →
+    column lane new.len new.rows ≡ slice_index values lane ∷ column lane old.len old.rows
 
--- in each lane an instruction made the new state, and the code goes on in one way, or nothing was
--- done
-abbrev pub ActsInEach :
-    List ℕ → Option ℕ → Instruction → Lanes → Lanes → Result Next Apart → Type 0
-ActsInEach addresses index instruction old new result = MatchResult result
-    (λ next. (lane : ℕ) → lane < LANES →
-    act (shown (slice_index addresses lane)) index instruction (state_in lane old)
-    ≡ Ok (state_in lane new, next))
-    (λ _. new ≡ old)
+-- in each lane that is not in a set every stack stays
+abbrev pub StayOut : List ℕ → Stacks → Stacks → Type 0
+StayOut set old new = (lane : ℕ) → lane < LANES → IsOut set lane → (height : ℕ) →
+    column lane height new.rows ≡ column lane height old.rows
 
--- in each lane that goes this way an instruction made the new state, and so the code goes on
-abbrev pub ActsOnWay : Instruction → Lanes → Lanes → Way → Type 0
-ActsOnWay instruction old new way = (lane : ℕ) → lane < LANES →
-    slice_index_or way.members lane false ≡ true → (address : ℕ) (index : Option ℕ) →
-    act (shown address) index instruction (state_in lane old) ≡ Ok (state_in lane new, way.next)
+-- in each lane of a set a stack word left the new stack, or nothing was done; the other lanes stay
+pub record LeavesIn (set : List ℕ) (said : StackWord) (old new : Stacks)
+    (result : Result (Unit {0}) Apart) : Type 0 where
+  pub limit : new.len ≤ max_values
+  pub each : MatchResult result
+      (λ _. (lane : ℕ) → lane < LANES → IsIn set lane →
+      on_stack said (column lane old.len old.rows) ≡ Ok (column lane new.len new.rows))
+      (λ _. new ≡ old)
+  pub others : StayOut set old new
+
+-- in each lane of a set an output word made the new state, or nothing was done; the other lanes stay
+pub record WritesIn (set : List ℕ) (target : Target) (old new : Lanes)
+    (result : Result (Unit {0}) Apart) : Type 0 where
+  pub limit : new.stacks.len ≤ max_values
+  pub each : MatchResult result
+      (λ _. (lane : ℕ) → lane < LANES → IsIn set lane →
+      written target (state_at lane old.stacks.len old) ≡ Ok (state_at lane new.stacks.len new))
+      (λ _. new ≡ old)
+  pub others : (lane : ℕ) → lane < LANES → IsOut set lane → (height : ℕ) →
+      state_at lane height new ≡ state_at lane height old
+
+-- in each lane of a set an instruction made the new state, and the code passes so many instructions,
+-- or nothing was done; the other lanes stay
+pub record ActsIn (set addresses : List ℕ) (instruction : Instruction) (old new : Lanes)
+    (result : Result ℕ Apart) : Type 0 where
+  pub limit : new.stacks.len ≤ max_values
+  pub each : MatchResult result
+      (λ passed. (lane : ℕ) → lane < LANES → IsIn set lane →
+      act (shown (slice_index addresses lane)) None instruction (state_at lane old.stacks.len old)
+      ≡ Ok (state_at lane new.stacks.len new, go passed None))
+      (λ _. new ≡ old)
+  pub others : (lane : ℕ) → lane < LANES → IsOut set lane → (height : ℕ) →
+      state_at lane height new ≡ state_at lane height old
 
 -- what code comes to from a place and a state on
 abbrev pub outcome_from : ℕ → List Instruction → Place → State → Result State RuleFault
 outcome_from address code place s =
     exec (shown address) (last_of place.behind code) 0 place.word s
 
--- in each lane there is left to do what the code does from its start
-abbrev pub IsLeftInEach : List ℕ → List Instruction → Place → Lanes → Type 0
-IsLeftInEach addresses code place lanes = (lane : ℕ) → lane < LANES →
-    outcome_from (slice_index addresses lane) code place (state_in lane lanes)
-    ≡ exec (shown (slice_index addresses lane)) code 0 None untouched
+-- an instruction is the next one, where so many are left
+abbrev pub IsNext : List Instruction → ℕ → Instruction → Type 0
+IsNext code behind instruction =
+    last_of (behind - 1 + 1) code ≡ instruction ∷ last_of (behind - 1) code
 
--- what is known of lanes is the result at their addresses
-abbrev pub AreKnown : List Instruction → List ℕ → List (Option (Result ℕ RuleFault)) → Type 0
-AreKnown code addresses known = (lane : ℕ) → lane < LANES → (result : Result ℕ RuleFault) →
-    slice_index_or known lane None ≡ Some result →
-    result ≡ result_at code (slice_index addresses lane)
+-- the search for a word of a case leads to where so many instructions are left
+abbrev pub LeadsTo : List Instruction → (from word behind : ℕ) → Type 0
+LeadsTo code from word behind = (address : ℕ) (s : State) →
+    outcome_from address code (record { behind = behind; word = None }) s
+    ≡ outcome_from address code (record { behind = from; word = Some word }) s
+
+-- each lane of a set has the index of a word of a case, and so many instructions are left at its
+-- word, as the search from the case's first head finds it; those of other lanes stay
+pub record AreFound (code : List Instruction) (from count : ℕ) (set indices old behinds : List ℕ)
+    : Type 0 where
+  pub below : (lane : ℕ) → lane < LANES → IsIn set lane → slice_index indices lane < count
+  pub within : (lane : ℕ) → lane < LANES → IsIn set lane → slice_index behinds lane ≤ length code
+  pub found : (lane : ℕ) → lane < LANES → IsIn set lane →
+      LeadsTo code from (slice_index indices lane) (slice_index behinds lane)
+  pub others : (lane : ℕ) → lane < LANES → IsOut set lane →
+      slice_index behinds lane ≡ slice_index old lane
+
+-- where so many instructions are left to a lane and its stack is so high, there is left to do what
+-- the code does from its start
+pub record IsLeft (address : ℕ) (code : List Instruction) (behind height : ℕ) (lanes : Lanes)
+    (lane : ℕ) : Type 0 where
+  pub place : behind ≤ length code
+  pub high : height ≤ max_values
+  pub left : outcome_from address code (record { behind = behind; word = None })
+      (state_at lane height lanes) ≡ exec (shown address) code 0 None untouched
+
+-- so it is in each lane, where it waits
+abbrev pub AreLeft : List ℕ → List Instruction → Places → Lanes → Type 0
+AreLeft addresses code places lanes = (lane : ℕ) → lane < LANES →
+    IsLeft (slice_index addresses lane) code (slice_index places.behinds lane)
+    (slice_index places.heights lane) lanes lane
+
+-- so it is in each lane of a flow, and in each other one, where it waits
+pub record AreLeftWith (addresses : List ℕ) (code : List Instruction) (flow : Flow)
+    (places : Places) (lanes : Lanes) : Type 0 where
+  pub within : flow.behind ≤ length code
+  pub limit : lanes.stacks.len ≤ max_values
+  pub each : (lane : ℕ) → lane < LANES → IsIn flow.set.mask lane ⊎ IsOut flow.set.mask lane
+  pub heights : (lane : ℕ) → lane < LANES → IsIn flow.set.mask lane →
+      slice_index places.heights lane ≡ flow.height
+  pub inside : (lane : ℕ) → lane < LANES → IsIn flow.set.mask lane →
+      IsLeft (slice_index addresses lane) code flow.behind lanes.stacks.len lanes lane
+  pub outside : (lane : ℕ) → lane < LANES → IsOut flow.set.mask lane →
+      IsLeft (slice_index addresses lane) code (slice_index places.behinds lane)
+      (slice_index places.heights lane) lanes lane

@@ -1,6 +1,6 @@
 use Rattle.std.proofs.Common.{◌≡◌, ◌<◌, ℕ, length, slice_index}
 use Rattle.cam6_table.specs.Codes.{result_at}
-use Rattle.cam6_table.specs.Internal.Lanes.{IsLeftInEach, AreKnown}
+use Rattle.cam6_table.specs.Internal.Lanes.{AreLeft}
 use Rattle.cam6_table.specs.Internal.Filling.{IsRight}
 use Rattle.cam6_table.proofs.filling.fill_batch.Given as goal
 
@@ -8,8 +8,7 @@ use Rattle.cam6_table.proofs.filling.fill_batch.Given as goal
 abbrev pub invariant-loop-lane : goal.invariant-loop-lane
 invariant-loop-lane l = record {
   all : length l.table ≡ 4096;
-  left : IsLeftInEach l.batch.addresses l.code l.place l.room.lanes;
-  known : AreKnown l.code l.batch.addresses l.room.known;
+  left : AreLeft l.batch.addresses l.code l.room.places l.room.lanes;
   kept : (a : ℕ) → a < 4096 → IsRight (result_at l.code) l.fn.table a →
       IsRight (result_at l.code) l.table a;
   filled : (k : ℕ) → k < l.lane →

@@ -1,7 +1,7 @@
 use Rattle.std.proofs.Common.{◌≡◌, ◌∙◌, ◌∷◌, ℕ, List, Ok, slice_index, arith}
 use Rattle.std.proofs.lemmas.List.{length-set}
 use Rattle.cam6_table.specs.Words.{on_stack}
-use Rattle.cam6_table.specs.Internal.Lanes.{Fits, stack_word}
+use Rattle.cam6_table.specs.Internal.LaneValues.{Fits, stack_word}
 use Rattle.cam6_table.proofs.EachLane.{one_lane_more}
 use Rattle.cam6_table.proofs.lane_values.Merge.of_all.Goals as goal
 

@@ -1,6 +1,6 @@
 use Rattle.std.proofs.Common.{length, ◌≡◌, ◌<◌, ◌∷◌, ℕ, List, Ok, slice_index}
 use Rattle.cam6_table.specs.Words.{on_stack}
-use Rattle.cam6_table.specs.Internal.Lanes.{Fits, stack_word}
+use Rattle.cam6_table.specs.Internal.LaneValues.{Fits, stack_word}
 use Rattle.cam6_table.specs.declared.lane_values.TheConstants.{LANES}
 use Rattle.cam6_table.proofs.lane_values.Merge.of_all.Given as goal
 

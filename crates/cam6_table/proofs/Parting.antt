@@ -1,0 +1,163 @@
+-- Lanes part at an IF and at a case: what is left in each of them.
+use Rattle.std.proofs.Common.{◌≡◌, ◌≢◌, ◌∙◌, ◌⊎◌, ◌<◌, ◌≤◌, ◌+◌, ◌-◌, ◌==◌, ℕ, zero, suc}
+use Rattle.std.proofs.Common.{None, Some, Ok, Err, ap, sym, subst, refl, arith, inl, inr}
+use Rattle.std.proofs.Common.{if◌then◌else◌, nat_lt, Result, Bool, true, false, List, ◌∷◌, length}
+use Rattle.std.proofs.lemmas.Bool.{cases_eq}
+use Rattle.std.proofs.lemmas.Bool.Decides.{nat_tests}
+use Rattle.cam6_wiring.specs.Seen.{shown}
+use Rattle.cam6_table.specs.declared.codes.Instruction.{Instruction}
+use Rattle.cam6_table.specs.declared.codes.Instruction.TheVariants.{SkipIfZero, Case}
+use Rattle.cam6_table.specs.declared.codes.Instruction.TheVariants.{CaseWord}
+use Rattle.cam6_table.specs.declared.evaluation.Next.{Next}
+use Rattle.cam6_table.specs.declared.faults.RuleFault.{RuleFault}
+use Rattle.cam6_table.specs.declared.faults.RuleFault.TheVariants.{CaseIndex}
+use Rattle.cam6_table.specs.declared.lanes.Lanes.{Lanes}
+use Rattle.cam6_table.specs.declared.outputs.State.{State}
+use Rattle.cam6_table.specs.Words.{Values}
+use Rattle.cam6_table.specs.Meaning.{at_zero, with_top}
+use Rattle.cam6_table.specs.Codes.{act, go}
+use Rattle.cam6_table.specs.Internal.Lanes.{column, state_at, outcome_from, IsNext, LeadsTo, IsLeft}
+use Rattle.cam6_table.proofs.Columns.{column_at}
+use Rattle.cam6_table.proofs.Jumps.{exec-goes_on}
+use Rattle.cam6_table.proofs.LaneWords.{at_row}
+use Rattle.cam6_table.proofs.Outcomes.{still_left, left_at_word}
+
+-- a mask, those of it where a value is 0, and the others
+module _ (set top zeros others : ℕ) (zeros_are : zeros ≡ (if top == 0 then set else 0))
+    (others_are : others ≡ (if top == 0 then 0 else set)) where
+  pub not_zero : set ≡ 65535 → zeros ≡ 0 → top ≢ 0
+  not_zero inside none = grind (arith, nat_tests)
+
+  pub is_zero : set ≡ 65535 → others ≡ 0 → top ≡ 0
+  is_zero inside none = grind (arith, nat_tests)
+
+  pub set_of_others : others ≡ 65535 → set ≡ 65535
+  set_of_others inside = grind (arith, nat_tests)
+
+  pub value_of_others : others ≡ 65535 → top ≢ 0
+  value_of_others inside = grind (arith, nat_tests)
+
+  pub no_zero : top ≢ 0 → zeros ≡ 0
+  no_zero other = grind (arith, nat_tests)
+
+  pub all_zero : top ≡ 0 → zeros ≡ set
+  all_zero same = grind (arith, nat_tests)
+
+  pub set_of_zeros : zeros ≡ 65535 → set ≡ 65535
+  set_of_zeros inside = grind (arith, nat_tests)
+
+  pub none_of_none : set ≡ 0 → zeros ≡ 0
+  none_of_none none = grind (arith, nat_tests)
+
+  pub each_other : (set ≡ 65535) ⊎ (set ≡ 0) → (others ≡ 65535) ⊎ (others ≡ 0)
+  each_other each =
+      elim (cases_eq top 0) [
+        | inl same ↦ inr (grind (arith, nat_tests))
+        | inr other ↦ (let is : others ≡ set = grind (arith, nat_tests) in
+            elim each [
+              | inl inside ↦ inl (is ∙ inside)
+              | inr outside ↦ inr (is ∙ outside)
+            ])
+      ]
+
+abbrev done_so : State → Next → Result (State × Next) RuleFault
+done_so s next = Ok (s, next)
+
+-- what is left to a lane stays where its state does
+pub same_left : (address : ℕ) (code : List Instruction) (behind height : ℕ) (lanes new : Lanes)
+    (lane : ℕ) → state_at lane height new ≡ state_at lane height lanes →
+    IsLeft address code behind height lanes lane → IsLeft address code behind height new lane
+same_left address code behind height lanes new lane same left = record {
+  place = left.place;
+  high = left.high;
+  left = ap (outcome_from address code (record { behind = behind; word = None })) same ∙ left.left;
+}
+
+pub left_there : (address : ℕ) (code : List Instruction) (behind height to after : ℕ)
+    (lanes : Lanes) (lane : ℕ) → to ≡ behind → after ≡ height →
+    IsLeft address code behind height lanes lane → IsLeft address code to after lanes lane
+left_there address code behind height to after lanes lane to_is after_is left =
+    subst (λ b. IsLeft address code b after lanes lane) (sym to_is)
+    (subst (λ h. IsLeft address code behind h lanes lane) (sym after_is) left)
+
+pub never_passes : (v distance : ℕ) → distance ≡ 0 → at_zero v distance 0 ≡ 0
+never_passes zero distance is = is
+never_passes (suc v) distance is = refl
+
+pub goes_in : (v distance : ℕ) → v ≢ 0 → at_zero v distance 0 ≡ 0
+goes_in zero distance other = absurd (other refl)
+goes_in (suc v) distance other = refl
+
+pub goes_past : (v distance : ℕ) → v ≡ 0 → at_zero v distance 0 ≡ distance
+goes_past zero distance is = refl
+goes_past (suc v) distance is = cc is
+
+module _ (address : ℕ) (code : List Instruction) (behind to len : ℕ) (lanes new : Lanes)
+    (lane : ℕ) (some : 0 < behind) (full : 0 < len)
+    (same : state_at lane (len - 1) new ≡ state_at lane (len - 1) lanes)
+    (left : IsLeft address code behind len lanes lane) where
+  top : column lane len lanes.stacks.rows
+      ≡ at_row lane lanes.stacks.rows (len - 1) ∷ column lane (len - 1) lanes.stacks.rows
+  top = column_at lane len (len - 1) lanes.stacks.rows (omega arith)
+
+  -- after an IF
+  pub left_after_if : (distance passed : ℕ) → IsNext code behind (SkipIfZero distance) →
+      at_zero (at_row lane lanes.stacks.rows (len - 1)) distance 0 ≡ passed →
+      to ≡ behind - 1 - passed → IsLeft address code to (len - 1) new lane
+  left_after_if distance passed next passes is =
+      let high = left.high in
+      still_left address code (SkipIfZero distance) behind to len (len - 1) lanes new lane some next
+      (omega arith) passed is
+      (ap (λ (stack : Values). with_top stack (state_at lane len lanes)
+      (λ v below. done_so below (go (at_zero v distance 0) None))) top ∙
+      ap (λ n. done_so (state_at lane (len - 1) lanes) (go n None)) passes ∙
+      ap (λ (s : State). done_so s (go passed None)) (sym same)) left
+
+  -- at a word of a case
+  pub left_in_case : (count : ℕ) → IsNext code behind (Case count) →
+      at_row lane lanes.stacks.rows (len - 1) < count → to ≤ length code →
+      LeadsTo code (behind - 1) (at_row lane lanes.stacks.rows (len - 1)) to →
+      IsLeft address code to (len - 1) new lane
+  left_in_case count next below within leads =
+      let high = left.high in
+      let i = at_row lane lanes.stacks.rows (len - 1) in
+      let index : nat_lt i count ≡ true = grind (arith, nat_tests) in
+      left_at_word address code (Case count) behind to len (len - 1) lanes new lane some next
+      (omega arith) i within leads
+      (ap (λ (stack : Values). with_top stack (state_at lane len lanes)
+      (λ j below. if nat_lt j count then done_so below (go 0 (Some j)) else Err CaseIndex)) top ∙
+      ap (λ b. if b then done_so (state_at lane (len - 1) lanes) (go 0 (Some i)) else Err CaseIndex)
+      index ∙
+      ap (λ (s : State). done_so s (go 0 (Some i))) (sym same)) left
+
+-- at the head of a word that is looked for
+module _ (address : ℕ) (code : List Instruction) (i : Instruction) (behind len after : ℕ)
+    (s : State) (some : 0 < behind) (within : behind ≤ length code) (next : IsNext code behind i)
+    (is : i ≡ CaseWord len after) where
+  one : behind ≡ behind - 1 + 1
+  one = omega arith
+
+  pub word_found : outcome_from address code (record { behind = behind - 1; word = None }) s
+      ≡ outcome_from address code (record { behind = behind; word = Some 0 }) s
+  word_found =
+      sym (exec-goes_on (shown address) code behind (behind - 1) (behind - 1) (Some 0) i s s
+      (go 0 None) one (omega arith) (omega arith) next
+      (ap (λ (j : Instruction). act (shown address) (Some 0) j s) is))
+
+  pub word_passed : (to word : ℕ) → to ≡ behind - 1 - len →
+      outcome_from address code (record { behind = to; word = Some word }) s
+      ≡ outcome_from address code (record { behind = behind; word = Some (suc word) }) s
+  word_passed to word there =
+      sym (exec-goes_on (shown address) code behind (behind - 1) to (Some (suc word)) i s s
+      (go len (Some word)) one (omega arith) there next
+      (ap (λ (j : Instruction). act (shown address) (Some (suc word)) j s) is))
+
+pub if_same : (a b x y : ℕ) → a ≡ b → (if a == b then x else y) ≡ x
+if_same a b x y same = grind (arith, nat_tests)
+
+pub if_other : (a b x y : ℕ) → a ≢ b → (if a == b then x else y) ≡ y
+if_other a b x y other = grind (arith, nat_tests)
+
+pub if_none : (test : Bool) (x : ℕ) → x ≡ 0 → (if test then x else 0) ≡ 0
+if_none true x none = none
+if_none false x none = refl

@@ -1,0 +1,16 @@
+use Rattle.std.proofs.Common.{◌+◌, slice_index, refl, arith}
+use Rattle.cam6_table.proofs.Columns.{column_kept, column_more}
+use Rattle.cam6_table.proofs.lane_stacks.Stacks.put.Goals as goal
+
+pub returns-clause-put : goal.returns-clause-put
+returns-clause-put c = λ lane below inside.
+    let s = c.args.self.now in
+    column_more lane s.rows s.len c.chosen.result (s.len + 1)
+    (slice_index c.args.values.now lane) (omega arith) refl
+    (c.chosen.ensures.inside lane below inside)
+
+pub returns-clause-others : goal.returns-clause-others
+returns-clause-others c = λ lane below outside height.
+    let s = c.args.self.now in
+    column_kept lane s.rows s.len c.chosen.result (omega arith)
+    (c.chosen.ensures.outside lane below outside) height
