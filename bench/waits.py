@@ -1,12 +1,14 @@
 """How long users wait for a command of one step, over connections to a host: alone on it, beside a machine of their own on
-standard input, and beside another user whose tables are filled without end. It prints medians, 99th percentiles and the
-longest waits, in microseconds.
+standard input, beside another user whose tables are filled without end, and beside users who do what they can to keep others
+waiting. It prints medians, 99th percentiles and the longest waits, in microseconds.
 
-usage: waits.py PROGRAM [COUNT]     COUNT commands of each kind, 1,000 if it isn't said; a twentieth of it beside the other user
+usage: waits.py PROGRAM [COUNT]     COUNT commands of each kind, 1,000 if it isn't said; a twentieth of it beside a user whose
+                                    tables are filled without end, and five seconds beside hostile users
 """
 
 import argparse
 import os
+import random
 import socket
 import subprocess
 import threading
@@ -14,7 +16,10 @@ import time
 
 PARITY = ": P CENTER NORTH XOR SOUTH XOR WEST XOR EAST XOR >PLN0 ;"
 PAUSE = 0.001
+MOST_PAUSE = 0.02
+SECONDS = 5
 RUN = b'{"do":"run","n":1}\n'
+BACK = b'{"do":"back","n":1}\n'
 
 
 def rule_line(name, half, hood, minor, text):
@@ -30,24 +35,40 @@ def parity_lines():
     return [rule_line("P", "A", "N/VONN", "&/CENTERS", PARITY), cycle_line([("P", "-")])]
 
 
-def largest_text(number, lower, upper):
-    """The text of a rule of 4,096 words that reads all twelve lines, so that its words are done at each address. Each number
-    gives another text."""
-    names = [lower, upper, "CW", "CCW", "OPP", "CW'", "CCW'", "OPP'", "HORZ", "VERT", "&PHASE", "&PHASE'", number, "1", "1", "1"]
-    text = ": S32 " + " ".join(f"{name} DROP" for name in names) + " ;"
-    size = 64
-    while size <= 4096:
-        text += f" : S{size} S{size // 2} S{size // 2} ;"
-        size *= 2
-    return text
+LINES = ["CENTER", "CENTER'", "CW", "CCW", "OPP", "CW'", "CCW'", "OPP'", "HORZ", "VERT", "&PHASE", "&PHASE'"]
 
 
-def largest_lines():
-    """Sixteen of the largest rules, all of half A, and a cycle of them."""
-    lines = [
-        rule_line(f"R{number}", "A", "N/MARG-HV", "&/PHASES", largest_text(number, "CENTER", "CENTER'"))
-        for number in range(1, 17)
-    ]
+def repeated(number, start, unit, size):
+    """The text of a rule of some 4,096 words: the words of the start, and then a unit of so many words again and again. Each
+    number gives another text."""
+    times = (4096 - len(start.split()) - 2) // size
+    names = [f"W{i}" for i in range(times.bit_length())]
+    text = f": W0 {unit} ;" + "".join(f" : {name} {below} {below} ;" for below, name in zip(names, names[1:]))
+    chosen = [name for i, name in enumerate(names) if times >> i & 1]
+    return f"{text} : R {number} DROP {start} {' '.join(chosen)} ;"
+
+
+def largest_text(number):
+    """Each line is read and dropped, again and again, so that the words are done at each address."""
+    return repeated(number, "1", " ".join(f"{name} DROP" for name in LINES), 2 * len(LINES))
+
+
+def choosing_text(number):
+    """Equal heights: an IF for each line, again and again."""
+    return repeated(number, "1", " ".join(f"{name} IF 1 XOR THEN" for name in LINES), 4 * len(LINES))
+
+
+def uneven_text(number):
+    """Unequal heights: an IF for each line puts a value more, and others drop them again in another order. So addresses have
+    stacks of up to thirteen heights."""
+    grows = " ".join(f"{name} IF 0 THEN" for name in LINES)
+    shrinks = " ".join(f"{name} IF DROP THEN" for name in reversed(LINES))
+    return repeated(number, "1", f"{grows} {shrinks}", 6 * len(LINES))
+
+
+def lines_of(text_of):
+    """Sixteen such rules, all of half A, and a cycle of them."""
+    lines = [rule_line(f"R{number}", "A", "N/MARG-HV", "&/PHASES", text_of(number)) for number in range(1, 17)]
     return [*lines, cycle_line([(f"R{number}", "-") for number in range(1, 17)])]
 
 
@@ -122,6 +143,17 @@ def waits(asked, count, pause):
     return sorted(found)
 
 
+def waits_for(asked, seconds):
+    """The microseconds of commands of one step that are asked at random times for so many seconds."""
+    found, until, times = [], time.perf_counter() + seconds, random.Random(1)
+    while time.perf_counter() < until:
+        time.sleep(times.uniform(0, MOST_PAUSE))
+        began = time.perf_counter()
+        asked.ask(RUN)
+        found.append((time.perf_counter() - began) * 1e6)
+    return sorted(found)
+
+
 def tell(what, found):
     median, late = found[len(found) // 2], found[min(len(found) - 1, len(found) * 99 // 100)]
     print(f"| {what} | {median:.0f} | {late:.0f} | {found[-1]:.0f} |", flush=True)
@@ -150,7 +182,7 @@ def bothered(program, count):
     host = Host(program, "--users", "2", "--boards", "2", "--cache", "1")
     victim, other = host.user(1), host.user(2)
     prepare(victim, parity_lines())
-    prepare(other, largest_lines())
+    prepare(other, lines_of(largest_text))
     tell("a step that fills sixteen tables of the largest rules", waits(other, 20, 0))
     is_over = threading.Event()
 
@@ -167,6 +199,44 @@ def bothered(program, count):
     host.end()
 
 
+class Hostile:
+    """A user with sixteen dear rules, who does a step and undoes it without end. A cache of sixteen tables never has the next."""
+
+    def __init__(self, host, number, lines):
+        self.user = host.user(number)
+        prepare(self.user, lines)
+        self.steps = []
+        self.is_over = threading.Event()
+        self.thread = threading.Thread(target=self.go_on)
+
+    def go_on(self):
+        while not self.is_over.is_set():
+            for line in [RUN, BACK]:
+                began = time.perf_counter()
+                reply = self.user.ask(line)
+                self.steps.append((time.perf_counter() - began) * 1e6)
+                if b'"ok"' not in reply:
+                    raise SystemExit(f"waits.py: {reply}")
+
+
+def beside(program, text_of, hostile, *words):
+    """A user beside so many hostile ones."""
+    host = Host(program, *words)
+    user = host.user(1)
+    prepare(user, parity_lines())
+    others = [Hostile(host, number, lines_of(text_of)) for number in range(2, 2 + hostile)]
+    for other in others:
+        other.thread.start()
+    what = f"beside {hostile} hostile, {text_of.__doc__.split(':')[0].lower()}"
+    tell(what, waits_for(user, SECONDS))
+    for other in others:
+        other.is_over.set()
+    for other in others:
+        other.thread.join()
+    tell("    a step of theirs", sorted(step for other in others for step in other.steps))
+    host.end()
+
+
 def main():
     parser = argparse.ArgumentParser(prog="waits.py", description=__doc__, formatter_class=argparse.RawDescriptionHelpFormatter)
     parser.add_argument("program")
@@ -175,6 +245,9 @@ def main():
     print("| a command of one step, in microseconds | median | 99th percentile | longest |\n|---|---|---|---|")
     lone(asked.program, asked.count)
     bothered(asked.program, max(asked.count // 20, 1))
+    for text_of in [choosing_text, uneven_text]:
+        beside(asked.program, text_of, 1)
+        beside(asked.program, text_of, 8, "--users", "9", "--boards", "8")
 
 
 if __name__ == "__main__":

@@ -8,11 +8,11 @@
 //! the board holds nothing, and the fault carries planes of the limit of those that were lost, on
 //! whose bits nothing is said.
 //!
-//! Stands on: `cam6_planes`, `cam6_wiring`, `cam6_table`, `cam6_band` and `cam6_cycle`.
+//! Stands on: `cam6_planes`, `cam6_table`, `cam6_band`, `cam6_cycle`, `cam6_model` and `cam6_rules`.
 //!
 //! Read next: `images`, `jobs` and `tables`, what a board is loaded with; `boards`, what every board
-//! does; `soft_boards`, those that never fail, and `flaky_boards`, those that fail at the calls of a
-//! list.
+//! does; `soft_boards`, those that never fail, with `worked`, the image that is worked on;
+//! `flaky_boards`, those that fail at the calls of a list; then `laws`.
 #![tactic(auto)]
 
 mod boards;

@@ -12,8 +12,7 @@
 //! So, of a cache of two: loads of the keys K, L, K, M, K and L miss, miss, hit, miss, hit and
 //! miss, for M comes instead of L. What is cached then is of L and K.
 //!
-//! Stands on: `cam6_planes`, `cam6_wiring`, `cam6_forth`, `cam6_table`, `cam6_block` and
-//! `cam6_cycle`.
+//! Stands on: `cam6_planes`, `cam6_wiring`, `cam6_table`, `cam6_block`, `cam6_cycle` and `lru`.
 //!
 //! Read next: `keys`, what a table is asked for by; `caches`; then `laws`.
 #![tactic(auto)]

@@ -1,5 +1,6 @@
 """Holds the program `cam6`, serving, to its bounds: how long a seat may be waited for, by how many and with how much, how
-long a peer may be silent or read nothing, what happens when no connection can be accepted, and how it ends. In the host of
+long a peer may be silent or read nothing, how long a user waits beside others whose tables are filled without end, what happens
+when no connection can be accepted, and how it ends. In the host of
 each a user goes on, one line after another, and each of his replies must be the one that `cam6 alone` gives to the same
 lines.
 
@@ -19,6 +20,7 @@ import time
 
 import connections
 from connections import CYCLE, PARITY, Host, Peer, Steady, alone, cell, check, row, run, seat_when_free
+from rule_texts import doubled
 
 # How many may wait for a seat, beside one for each user; how many of them with a long line.
 MORE, LONG = 64, 8
@@ -225,6 +227,89 @@ def idle_seats():
     host.kill()
 
 
+def dear_lines():
+    """Sixteen rules of 3,840 words with an IF for each line, all of half A, and a cycle of them."""
+    lines = ["CENTER", "CENTER'", "CW", "CCW", "OPP", "CW'", "CCW'", "OPP'", "HORZ", "VERT", "&PHASE", "&PHASE'"]
+    words = doubled("W", " ".join(f"{line} IF 1 XOR THEN" for line in lines), 6)
+    rules = [
+        '{"do":"rule","name":"R%d","half":"A","hood":"N/MARG-HV","minor":"&/PHASES","text":"%s : R %d W6 W4 ;"}' % (k, words, k)
+        for k in range(16)
+    ]
+    entries = ",".join('{"a":"R%d","b":"-","grid":"EVEN","phase":0}' % k for k in range(16))
+    return [*rules, '{"do":"cycle","entries":[%s]}' % entries]
+
+
+def median(numbers):
+    return sorted(numbers)[len(numbers) // 2]
+
+
+def seconds(peer, line):
+    """How long the answer to a line takes."""
+    begun = time.monotonic()
+    peer.ask(line)
+    return time.monotonic() - begun
+
+
+class Dear(threading.Thread):
+    """A user with sixteen dear rules, who does a step and undoes it without end. A cache of sixteen tables never has the next."""
+
+    def __init__(self, host, user):
+        super().__init__()
+        self.peer = Peer(host.port, user)
+        self.said = [self.peer.ask(line) for line in dear_lines()]
+        self.enough = threading.Event()
+        self.took = []
+
+    def run(self):
+        while not self.enough.is_set():
+            self.took.append(seconds(self.peer, run(1)))
+            self.took.append(seconds(self.peer, '{"do":"back","n":1}'))
+
+    def is_well(self):
+        return set(self.said) == {'{"ok":"rule"}', '{"ok":"cycle"}'} and self.took
+
+
+def beside_dear_tables():
+    """Each table is filled under the cache's lock, and others may have it in between."""
+    host = Host()
+    steady, user, dear = Steady(host.port, 1), Peer(host.port, 2), Dear(host, 3)
+    user.ask(PARITY), user.ask(CYCLE)
+    dear.start()
+    waited = []
+    for _ in range(40):
+        time.sleep(0.01)
+        waited.append(seconds(user, run(1)))
+    dear.enough.set()
+    dear.join()
+    told = "%.4f of %.4f" % (median(waited), median(dear.took))
+    check("beside a user with sixteen dear tables another waits for a few of them at most",
+          dear.is_well() and median(waited) < median(dear.took) / 3, told)
+    close(user, dear.peer)
+    check("another goes on beside them", steady.is_well(), steady.wrong)
+    host.kill()
+
+
+def long_fillings():
+    """Filling tables is a part of the time for which a command has its board, and no reason to have it longer."""
+    host = Host("--users", "2", "--boards", "1")
+    user, dear = Peer(host.port, 1), Dear(host, 2)
+    user.ask(PARITY), user.ask(CYCLE)
+    dear.start()
+    time.sleep(2)
+    dear.enough.set()
+    dear.join()
+    filling = median(dear.took)
+    dear.peer.send(run(65535) + "\n")
+    waited = []
+    for _ in range(9):
+        time.sleep(0.01)
+        waited.append(seconds(user, run(1)))
+    told = "%.4f, %.4f" % (median(waited), filling)
+    check("beside a long run by such tables another waits for one filling of them", dear.is_well() and median(waited) < 3 * filling, told)
+    close(user)
+    host.kill()
+
+
 def without_files(host):
     """From here on the host can open no file. Returns how many it could."""
     process = host.process.pid
@@ -320,8 +405,8 @@ def last_connections():
 
 
 def main():
-    parts = [reads_nothing, silent_peers, closed_connections, slow_first_line, endless_first_lines, unfinished_loads, idle_seats, never_gives_up,
-             last_words, last_connections]
+    parts = [reads_nothing, silent_peers, closed_connections, slow_first_line, endless_first_lines, unfinished_loads, idle_seats,
+             beside_dear_tables, long_fillings, never_gives_up, last_words, last_connections]
 
     def tried(part):
         try:

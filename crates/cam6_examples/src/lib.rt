@@ -8,8 +8,8 @@
 //! Stands on: `cam6_planes`, for rows and sides, and `cam6_wiring`, for the words of a wiring.
 //!
 //! Read next: `examples`, a file line by line; `repeats` and `rows`, its texts and its planes;
-//! `ways`, what a program has of its own; then `players`, and the programs `cam6_play_sessions` and
-//! `cam6_play_places`, beside which the examples lie.
+//! `ways`, what a program has of its own; `settings` and `answers`; `faults`; then `players`, and the
+//! programs `cam6_play_sessions` and `cam6_play_places`, beside which the examples lie.
 #![tactic(auto)]
 
 mod answers;

@@ -1,6 +1,6 @@
 -- In the order of reading: the rule of the table, with what its steps tell; where a desk stands and
 -- what its calls give; what a board's seat holds and what its calls give; the limits, and the
--- beginning.
+-- beginning, with what follows of it.
 pub mod Rule
 pub mod Steps
 pub mod Standing
@@ -9,4 +9,5 @@ pub mod Holding
 pub mod Seats
 pub mod Limits
 pub mod Boot
+pub mod Laws
 pub mod Internal

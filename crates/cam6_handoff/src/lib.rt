@@ -20,18 +20,20 @@
 //! behind the rest puts it as done. Desk 1 collects the reply that its machine alone would give.
 //!
 //! Stands on: `cam6_slot`, `cam6_station`, `cam6_board`, `cam6_cache`, `cam6_machine`,
-//! `cam6_commands` and `cam6_planes`, and `atomic_table`.
+//! `cam6_commands`, `cam6_model` and `cam6_planes`, and `atomic_table`.
 //!
 //! Read next: `rule`; `steps`, one function for each kind; `start`, with the cutting of seats;
-//! `desks` and `seats`; then `queues`.
+//! `desks`; `seats`, with `turns`; then `queues`; and `laws`.
 #![tactic(auto)]
 
 mod desks;
+pub mod laws;
 mod queues;
 mod rule;
 mod seats;
 mod start;
 mod steps;
+mod turns;
 
 pub use desks::{Desk, Put};
 pub use queues::Queue;

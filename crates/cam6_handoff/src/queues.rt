@@ -4,6 +4,7 @@ ghost use Rattle.std.specs.Arc.{arc_value};
 
 use crate::desks::HandTable;
 use crate::steps;
+use crate::turns::Turns;
 use std::sync::Arc;
 
 /// A look at the words of a table, by any thread. What it tells may have changed by the time that it
@@ -12,14 +13,17 @@ use std::sync::Arc;
 pub struct Queue {
     table: Arc<HandTable>,
     users: usize,
+    turns: Arc<Turns>,
     ghost words: { (arc_value table).shared.table_id.words ≡ users },
 }
 
 impl Queue {
-    /// Whether the command of another user than this one, who are numbered from 1, waits for a board.
+    /// Whether the command of another user than this one, who are numbered from 1, waits for a board
+    /// and may have one. It may not while a seat makes many tables, if the user's last one made many.
     pub fn has_other(&self, user: usize) -> bool {
         for word in 0..self.users {
-            if word + 1 != user && self.table.shared.peek(word) == steps::READY {
+            let is_ready = self.table.shared.peek(word) == steps::READY;
+            if word + 1 != user && is_ready && !self.turns.holds_back(word) {
                 return true;
             }
         }
@@ -28,8 +32,12 @@ impl Queue {
 }
 
 /// A look at a table of so many users.
-pub(crate) fn queue_of(table: Arc<HandTable>, users: usize) -> Queue
+pub(crate) fn queue_of(table: Arc<HandTable>, users: usize, turns: Arc<Turns>) -> Queue
     requires { (arc_value table).shared.table_id.words ≡ users }
 {
-    Queue { table, users }
+    Queue {
+        table,
+        users,
+        turns,
+    }
 }

@@ -1,6 +1,9 @@
 //! A board's seat.
 ghost use Rattle.std.specs.Prelude.{◌≡◌, ◌<◌, ◌≤◌, [], None};
 ghost use Rattle.std.specs.Arc.{arc_value};
+ghost use Rattle.cam6_slot.specs.Leases.{TablesFit};
+ghost use Rattle.cam6_slot.specs.Needs.{needs_of};
+ghost use Rattle.cam6_station.specs.Loading.{FillsOne, FitUpTo};
 ghost use Rattle.cam6_handoff.specs.declared.rule.View.TheVariants.{Idle};
 ghost use Rattle.cam6_handoff.specs.Holding.{nothing};
 ghost use Rattle.cam6_handoff.specs.Internal.Chairs.{BoardChair};
@@ -9,13 +12,14 @@ use crate::desks::HandTable;
 use crate::queues::{Queue, queue_of};
 use crate::steps;
 use crate::steps::Chair;
+use crate::turns::Turns;
 use cam6_board::{Job, Tables};
 use cam6_cache::TableCache;
 use cam6_planes::NoMemory;
 use cam6_slot::{Finished, Lease, Queued};
 use cam6_station::Filling;
 use std::marker::Model;
-use std::sync::Arc;
+use std::sync::{Arc, Mutex, Wait};
 
 /// The seat of a board: it holds nothing, or has taken the place of a user.
 #[derive(Drop)]
@@ -27,7 +31,11 @@ pub struct BoardSeat {
     /// The word of the user whose place was taken.
     taken: Option<usize>,
     filling: Filling,
+    turns: Arc<Turns>,
 }
+
+/// A command makes so many tables without a turn.
+const FEW: u8 = 2;
 
 impl Model for BoardSeat {
     ghost use Rattle.std.specs.Arc.{arc_value};
@@ -68,7 +76,8 @@ impl BoardSeat {
     /// A look at whose commands wait, for whatever decides when a board's command makes way.
     pub fn queue(&self) -> Result<Queue, NoMemory> {
         let table = Arc::clone(&self.table)?;
-        Ok(queue_of(table, self.users))
+        let turns = Arc::clone(&self.turns)?;
+        Ok(queue_of(table, self.users, turns))
     }
 
     /// Takes the user's command onto this board, if it waits there.
@@ -115,12 +124,107 @@ impl BoardSeat {
         self.filling.fill(cache, lease);
     }
 
+    /// Fills the tables that a lease needs, each under the cache's lock, which others may have in
+    /// between. If more than a few of them aren't kept, the seat waits for its turn to make the others:
+    /// seats make many tables one after the other.
+    pub fn fill_each<R: Wait>(&mut self, rt: &R, lease: &Lease, cache: &Mutex<TableCache>)
+        ensures tables { TablesFit lease.now.work self.new.tables }
+        ensures others { self.new ≡ record self.old { tables = self.new.tables } }
+    {
+        let word = self.taken.unwrap_or(0);
+        let is_dear = self.turns.is_dear(word);
+        let next = if is_dear {
+            0
+        } else {
+            fill_few(rt, &self.turns, &mut self.filling, lease, cache)
+        };
+        if next < lease.needs() {
+            let turn = self.turns.turn.lock(rt);
+            self.turns.take(true);
+            let made = fill_rest(rt, &self.turns, &mut self.filling, lease, next, cache);
+            self.turns.take(false);
+            drop(turn);
+            self.turns.note(word, made > if is_dear { FEW } else { 0 });
+        }
+    }
+
+    /// Whether the user's command, if it waits, is to wait on: another seat makes many tables, and the
+    /// user's last command made many too.
+    pub fn is_held_back(&self, user: usize) -> bool
+        requires { 0 < user }
+    {
+        self.turns.holds_back(user - 1)
+    }
+
     /// The tables that were filled last.
     pub fn tables(&self) -> &Tables
         ensures { result.now ≡ self.now.tables }
     {
         self.filling.tables()
     }
+}
+
+/// Fills one table under the cache's lock: whether it was there. Who waits for the lock has it before
+/// another one who has had it already.
+fn fill_next<R: Wait>(
+    rt: &R,
+    turns: &Turns,
+    filling: &mut Filling,
+    lease: &Lease,
+    index: u8,
+    cache: &Mutex<TableCache>,
+) -> bool
+    requires { index < needs_of lease.now.work }
+    ensures { FillsOne lease.now.work index filling.old filling.new }
+{
+    let next = turns.next.lock(rt);
+    let mut cache = cache.lock(rt);
+    drop(next);
+    filling.fill_one(&mut cache, lease, index)
+}
+
+/// Fills tables of a lease, the first ones, until a few of them weren't there: how many it filled.
+fn fill_few<R: Wait>(
+    rt: &R,
+    turns: &Turns,
+    filling: &mut Filling,
+    lease: &Lease,
+    cache: &Mutex<TableCache>,
+) -> u8
+    ensures within { result ≤ needs_of lease.now.work }
+    ensures filled { FitUpTo lease.now.work result filling.new }
+{
+    let mut made = 0;
+    for index in 0..lease.needs() {
+        if made == FEW {
+            return index;
+        }
+        if !fill_next(rt, turns, filling, lease, index, cache) {
+            made += 1;
+        }
+    }
+    lease.needs()
+}
+
+/// Fills the tables of a lease from an index on: how many of them weren't there.
+fn fill_rest<R: Wait>(
+    rt: &R,
+    turns: &Turns,
+    filling: &mut Filling,
+    lease: &Lease,
+    from: u8,
+    cache: &Mutex<TableCache>,
+) -> u8
+    requires { FitUpTo lease.now.work from filling.old }
+    ensures { TablesFit lease.now.work filling.new }
+{
+    let mut made: u8 = 0;
+    for index in from..lease.needs() {
+        if !fill_next(rt, turns, filling, lease, index, cache) {
+            made = made.saturating_add(1);
+        }
+    }
+    made
 }
 
 /// The seat of an idle board.
@@ -130,6 +234,7 @@ pub(crate) fn seat_of(
     board: u8,
     users: usize,
     filling: Filling,
+    turns: Arc<Turns>,
 ) -> BoardSeat
     requires { BoardChair (arc_value table).shared.table_id (arc_value table).shared.key.users
         users seat.table_id board None seat.me }
@@ -142,5 +247,6 @@ pub(crate) fn seat_of(
         users,
         taken: None,
         filling,
+        turns,
     }
 }

@@ -13,6 +13,7 @@ use crate::rule::{Counts, View};
 use crate::seats::{BoardSeat, seat_of};
 use crate::steps;
 use crate::steps::Chair;
+use crate::turns::Turns;
 use atomic_table::{Split, Table};
 use cam6_machine::Machine;
 use cam6_planes::{NoMemory, Side};
@@ -65,6 +66,7 @@ fn cut_board(
     users: usize,
     board: u8,
     filling: Filling,
+    turns: Arc<Turns>,
 ) -> BoardSeat
     requires of { IsFirstOf (arc_value table).shared.table_id users first.old.table_id }
     requires users { (arc_value table).shared.key.users ≡ users }
@@ -76,7 +78,7 @@ fn cut_board(
     ensures seat { IsSeatOf board users result }
 {
     let seat = table.shared.split_seat::<BoardCut>(first);
-    seat_of(table, seat, board, users, filling)
+    seat_of(table, seat, board, users, filling, turns)
 }
 
 /// Cuts a desk for each user, with a blank machine of their limit.
@@ -118,9 +120,12 @@ fn cut_seats(
     ensures { IfOk result (λ seats. AreIdleSeats boards users seats.items) }
 {
     let mut seats = Vec::with_capacity(alloc, usize::from(boards))?;
+    let turns = Arc::new(alloc, Turns::new())?;
     for board in 0..boards {
         let filling = Filling::new(alloc)?;
-        seats.push(cut_board(Arc::clone(table)?, first, users, board, filling))?;
+        let (table, turns) = (Arc::clone(table)?, Arc::clone(&turns)?);
+        let seat = cut_board(table, first, users, board, filling, turns);
+        seats.push(seat)?;
     }
     Ok(seats)
 }

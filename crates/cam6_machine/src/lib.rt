@@ -29,12 +29,12 @@
 //! spare one, and `Kept::join` makes a machine of such parts, at whatever position of the cycle; the
 //! law: that is the machine that was parted, but for the cells and the position.
 //!
-//! Stands on: `cam6_planes`, `cam6_wiring`, `cam6_forth`, `cam6_table`, `cam6_block`, `cam6_band`,
-//! `cam6_view`, `cam6_cycle`, `cam6_commands`, `cam6_model` and `cam6_rules`.
+//! Stands on: `cam6_planes`, `cam6_wiring`, `cam6_table`, `cam6_band`, `cam6_view`, `cam6_cycle`,
+//! `cam6_commands`, `cam6_model` and `cam6_rules`.
 //!
-//! Read next: `replies`, what is said at once; `refusals`, when a number of a command is refused;
-//! `kept`, what a machine keeps beside its planes and what commands do to it; `saving` and
-//! `loading`, a machine as it is saved and on its way back; `steps`, one step, and
+//! Read next: `replies`, `answers` and `rows`, what is said at once; `refusals`, when a number of a
+//! command is refused; `kept`, what a machine keeps beside its planes and what commands do to it;
+//! `saving` and `loading`, a machine as it is saved and on its way back; `steps`, one step, and
 //! `runs`, steps along a cycle, forward and backward; `images`; then `machines` and `alone`; and
 //! `laws`.
 #![tactic(auto)]

@@ -13,7 +13,7 @@
 //! Stands on: `cam6_planes`, for the sides; `cam6_cache`, for the number of its tables; `cam6_core`,
 //! `cam6_session`, `cam6_server`, `clap`, `thiserror`.
 //!
-//! Read next: `modes` and `words`, the command line; then `streams` and `statuses`.
+//! Read next: `modes`, `words` and `slips`, the command line; then `streams` and `statuses`.
 #![tactic(auto)]
 
 mod modes;

@@ -8,8 +8,8 @@
 //! Stands on: `cam6_examples`, how files are read and compared; `cam6_board`, `cam6_machine`,
 //! `cam6_slot`, `cam6_station`, `cam6_handoff`, `cam6_pool`, `cam6_wire` and what they stand on.
 //!
-//! Read next: `data/`, the examples; `ways`, how they are played; then `boards`, `places`, `desks`
-//! and `workers`, one module for each way.
+//! Read next: `data/`, the examples; `ways` and `answers`, how they are played; then `boards`,
+//! `places`, `desks` and `workers`, one module for each way.
 #![tactic(auto)]
 
 mod answers;

@@ -6,12 +6,12 @@
 //! fails (`scarce`). The program makes no claim of its own beyond being safe. `./connections` plays
 //! the same sessions over connections to the program `cam6`.
 //!
-//! Stands on: `cam6_examples`, how files are read and compared; `cam6_session` and all below it;
-//! `cam6_cache`.
+//! Stands on: `cam6_examples`, how files are read and compared; `cam6_session`, `cam6_cache` and what
+//! they stand on.
 //!
-//! Read next: `data/`, the examples; `ways`, how they are played; `rules`; `sessions` and
-//! `command_lines`; `event_ways`, with what a core begins, `event_lines` and `event_players`; then
-//! `scarce`.
+//! Read next: `data/`, the examples; `ways`, how they are played; `rules`; `sessions`, `resumed` and
+//! `command_lines`; `event_ways`, with what a core begins, `event_lines` and `event_players`; `loads`
+//! and `lists`; then `scarce`.
 #![tactic(auto)]
 
 mod command_lines;

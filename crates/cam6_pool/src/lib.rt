@@ -11,7 +11,8 @@
 //! instead, all steps since the home are put back.
 //!
 //! Stands on: `cam6_handoff`, the seats; `cam6_board`, the boards; `cam6_cache`, the tables that
-//! workers share, and their lock; `cam6_slot`, leases; `cam6_commands` and `cam6_planes`.
+//! workers share, and their lock; `cam6_slot`, leases; `cam6_band`, `cam6_commands`, `cam6_model` and
+//! `cam6_planes`.
 //!
 //! Read next: `gates`, what a worker asks before it goes on; `workers`; then `slices`, the gate of a
 //! host.

@@ -12,11 +12,8 @@ use std::sync::atomic::{AtomicBool, Ordering};
 use std::sync::{Condvar, Mutex, Wait};
 use std::time::{Clock, Duration, Instant};
 
-/// What a command has of its board at least, in milliseconds, before another one that waits gets it.
+/// What a command has of its board, in milliseconds, before another one that waits gets it.
 const SLICE: u64 = 2;
-
-/// A command has its board at least so many times as long as its tables took to be filled.
-const FILLINGS: u32 = 10;
 
 /// In milliseconds, how long a board sleeps at most where nothing rings.
 const POLL: u64 = 100;
@@ -26,9 +23,8 @@ const POLL: u64 = 100;
 struct Slice {
     /// The user whose command is on the board; 0 where none is.
     user: u8,
-    /// When he got it, and for how long.
+    /// When the worker began with it. First its tables are filled.
     began: Option<Instant>,
-    length: Duration,
     /// When the worker asked last.
     asked: Option<Instant>,
     /// How often it had been rung when the board was idle last.
@@ -48,33 +44,24 @@ impl Slice {
         Slice {
             user: 0,
             began: None,
-            length: Duration::from_millis(SLICE),
             asked: None,
             heard: 0,
         }
     }
 
-    /// For how long a command may have the board that comes onto it now: what has passed since the
-    /// worker asked last is what its tables took to be filled.
-    fn length_from(&self, now: Option<Instant>) -> Duration {
-        let filling = between(self.asked, now).unwrap_or(Duration::from_millis(0));
-        filling
-            .saturating_mul(FILLINGS)
-            .max(Duration::from_millis(SLICE))
-    }
-
     /// A band of a user's command is asked for: whether the command has had its time, of whole steps.
-    /// Where the first band of a step comes late, tables were filled for another command of his.
+    /// Where the worker asks for another user's command than before, its tables were filled since it
+    /// asked last. That is a part of the time, and the command may do one step at least.
     fn ask(&mut self, user: u8, band: u8, now: Option<Instant>) -> bool {
-        let length = self.length_from(now);
+        let last = self.asked;
         self.asked = now;
-        if self.user != user || (band == 0 && length > self.length) {
+        if self.user != user {
             self.user = user;
-            self.began = now;
-            self.length = length;
+            self.began = last;
             return false;
         }
-        band == 0 && between(self.began, now).is_none_or(|had| had >= self.length)
+        let slice = Duration::from_millis(SLICE);
+        band == 0 && between(self.began, now).is_none_or(|had| had >= slice)
     }
 
     /// The board is free.
@@ -84,9 +71,9 @@ impl Slice {
     }
 }
 
-/// A gate that lets a command have its board for about two milliseconds of whole steps, or ten times
-/// as long as its tables took to be filled, where another command waits, and else for as long as it
-/// wants. A board without a command sleeps until a command is put, which has to be told by `ring`.
+/// A gate that lets a command have its board for about two milliseconds, its tables and whole steps, if
+/// another command waits, and else for as long as it wants. A command whose tables take longer does one
+/// step. A board without a command sleeps until a command is put, which has to be told by `ring`.
 #[derive(Drop)]
 pub struct SlicingGate<R> {
     rt: R,
@@ -170,10 +157,15 @@ impl<R: Wait + Clock + Drop> Gate for SlicingGate<R> {
             return Turn::Go;
         };
         let mut slice = slice.lock(&self.rt);
+        let is_new = slice.user != user;
         let is_over = slice.ask(user, band, self.now());
-        if is_over && self.queue.has_other(usize::from(user)) {
-            slice.user = 0;
-            return Turn::Preempt;
+        if (is_new || is_over) && self.queue.has_other(usize::from(user)) {
+            if is_over {
+                slice.user = 0;
+                return Turn::Preempt;
+            }
+            // It may have waited for this one's tables, and boards may sleep.
+            self.ring();
         }
         Turn::Go
     }

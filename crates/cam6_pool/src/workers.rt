@@ -152,6 +152,9 @@ fn take_next(seat: &mut BoardSeat, last: u8) -> Option<(u8, Lease, Job)>
     let users = seat.users();
     for step in 0..users {
         let user = (usize::from(last) + step) % users + 1;
+        if seat.is_held_back(user) {
+            continue;
+        }
         if let Some((lease, job)) = seat.try_take(user) {
             return Some((user as u8, lease, job));
         }
@@ -160,7 +163,7 @@ fn take_next(seat: &mut BoardSeat, last: u8) -> Option<(u8, Lease, Job)>
 }
 
 /// Serves users with a board until the gate ends it, or the board fails. Users take turns: each time
-/// it goes on from the user behind the one whom it served last. Tables are filled under the cache's
+/// it goes on from the user behind the one whom it served last. Each table is filled under the cache's
 /// lock, and no lock is held while bands are done. A lease that it has at its end is put back first:
 /// with its half-done step where the gate stopped it, from its home where the board failed. The seat
 /// can serve again, with this board or another one.
@@ -187,7 +190,7 @@ pub fn serve_board<R: Wait, B: Board, G: Gate>(
             }
             return (seat, board, Ended::Stopped);
         };
-        seat.fill(&lease, &mut cache.lock(rt));
+        seat.fill_each(rt, &lease, cache);
         match serve_lease(&mut seat, &mut board, user, lease, job, gate) {
             Over::Served => last = user,
             Over::Stopped => return (seat, board, Ended::Stopped),

@@ -1,7 +1,5 @@
 -- Lemmas, in the order of reading.
 
--- Desks that stand at blank machines may be asked.
-pub mod Resting
 -- What the first line of a connection says, where an LF or the input's end ends it.
 pub mod FirstLines
 -- What a list has before and behind a change of one item, and so the places of desks.

@@ -9,6 +9,7 @@ use crate::places::Places;
 use crate::serving::{Fault, Serving};
 use crate::sessions::receive;
 use cam6_cache::TableCache;
+use cam6_handoff::laws::blank_desks_rest;
 use cam6_handoff::{BoardSeat, Desk, boot};
 use cam6_planes::NoMemory;
 use cam6_pool::SlicingGate;
@@ -57,6 +58,7 @@ fn open<R: Handle>(rt: R, serving: &Serving) -> Result<(Arc<House<R>>, Vec<IdleB
     let alloc = rt.alloc();
     let limits = vec![in alloc; serving.limit; serving.users]?;
     let (desks, seats) = boot(alloc, serving.users, serving.boards, limits.as_slice())?;
+    blank_desks_rest();
     let house = House {
         hall: hall_of(rt, serving, desks, seats.as_slice())?,
         guests: Mutex::new(Guests::new(serving.users)),

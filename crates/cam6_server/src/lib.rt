@@ -23,7 +23,7 @@
 //!
 //! Stands on: `cam6_session`, what is done for a line, and `cam6_wire`, the first line and its
 //! answers; `cam6_pool`, the workers and their gate; `cam6_handoff`, desks and seats; `cam6_board`,
-//! `cam6_cache`, `cam6_commands` and `cam6_planes`.
+//! `cam6_cache`, `cam6_commands`, `cam6_model` and `cam6_planes`.
 //!
 //! Read next: `serving`, how much a host has; `hosts`, all of it; `halls`, what its threads share;
 //! `boards`; `guests`, the counts of clients; `sessions`, a thread for each connection;

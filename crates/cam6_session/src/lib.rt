@@ -26,8 +26,8 @@
 //! a core's are what came of the events among them; and whatever answers lines goes on from where
 //! lines before left it.
 //!
-//! Stands on: `cam6_planes`, `cam6_commands`, `cam6_machine`, `cam6_core`, `cam6_handoff`,
-//! `cam6_wire`.
+//! Stands on: `cam6_planes`, `cam6_commands`, `cam6_model`, `cam6_machine`, `cam6_core`,
+//! `cam6_handoff`, `cam6_wire`.
 //!
 //! Read next: `sessions` and `alone`, with `replays`; then their parts, `line_buffer`, `lines`,
 //! `answerers`, `desks` and `writers`; and `laws`.

@@ -1,5 +1,5 @@
 //! The tables of a lease, filled through a cache.
-ghost use Rattle.std.specs.Prelude.{◌≡◌};
+ghost use Rattle.std.specs.Prelude.{◌≡◌, ◌<◌};
 
 use cam6_board::Tables;
 use cam6_cache::{Key, TableCache};
@@ -28,7 +28,8 @@ impl Model for Filling {
 
 impl Filling {
     ghost use Rattle.cam6_slot.specs.Leases.{TablesFit};
-    ghost use Rattle.cam6_station.specs.Loading.{IsBehindLoads};
+    ghost use Rattle.cam6_slot.specs.Needs.{needs_of};
+    ghost use Rattle.cam6_station.specs.Loading.{FillsOne, LoadsOne, IsBehindLoads};
 
     /// Tables of which nothing is said.
     pub fn new(alloc: Global) -> Result<Filling, NoMemory> {
@@ -52,14 +53,26 @@ impl Filling {
         ensures loads { IsBehindLoads lease.now.work cache.old cache.new }
         ensures capacity { cache.new.capacity ≡ cache.old.capacity }
     {
-        // There is a place for each.
-        let _places = self.tables.as_slice();
         for index in 0..lease.needs() {
-            let need = lease.need(index);
-            self.key
-                .set(need.half, need.hood, need.minor, need.text, need.inverted);
-            cache.load(&self.key, need.code, &mut self.table);
-            self.tables.put(usize::from(index), &self.table);
+            self.fill_one(cache, lease, index);
         }
+    }
+
+    /// Fills the table of one use of a rule, through the cache: whether it was there. It takes no
+    /// memory but for what is newly cached; if that is refused nobody sees it.
+    pub fn fill_one(&mut self, cache: &mut TableCache, lease: &Lease, index: u8) -> bool
+        requires { index < needs_of lease.now.work }
+        ensures table { FillsOne lease.now.work index self.old self.new }
+        ensures load { LoadsOne lease.now.work index result cache.old cache.new }
+        ensures capacity { cache.new.capacity ≡ cache.old.capacity }
+    {
+        // There is a place for each.
+        let (_places, _needs) = (self.tables.as_slice(), lease.needs());
+        let need = lease.need(index);
+        self.key
+            .set(need.half, need.hood, need.minor, need.text, need.inverted);
+        let hit = cache.load(&self.key, need.code, &mut self.table);
+        self.tables.put(usize::from(index), &self.table);
+        hit
     }
 }

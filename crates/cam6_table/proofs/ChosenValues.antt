@@ -15,6 +15,9 @@ or_none v = let same = or_disjoint v 0 (none v) in omega arith
 none_or : (v : ℕ) → bit_or 0 v ≡ v
 none_or v = or_comm 0 v ∙ or_none v
 
+pub kept_in : (v set : ℕ) → set ≡ 65535 → bit_or v (65535 - set) ≡ v
+kept_in v set is = rw is (or_none v)
+
 pub chosen_new : (set new old : ℕ) → new < 2 ^ 16 → set ≡ 65535 →
     bit_or (bit_and new set) (bit_and old (65535 - set)) ≡ new
 chosen_new set new old fits is = rw (is, all new fits, none old) (or_none new)

@@ -1,53 +1,75 @@
--- What a lane's stack is, after a row was written.
-use Rattle.std.proofs.Common.{◌≡◌, ◌∙◌, ◌<◌, ◌≤◌, ◌+◌, ℕ, zero, suc, List, [], ◌∷◌, length}
-use Rattle.std.proofs.Common.{slice_index, slice_index_or, slice_set, ap, refl, arith, inl, inr}
+-- What a lane's stack is, after rows were written.
+use Rattle.std.proofs.Common.{◌≡◌, ◌∙◌, ◌<◌, ◌≤◌, ◌+◌, ◌-◌, ℕ, zero, suc, List, [], ◌∷◌}
+use Rattle.std.proofs.Common.{length, slice_index, slice_set, ap, refl, arith, inl, inr}
 use Rattle.std.proofs.lemmas.Bool.{cases_eq}
 use Rattle.std.proofs.lemmas.List.{get_or-set_same, get_or-set_other}
 use Rattle.cam6_table.specs.Words.{Values}
-use Rattle.cam6_table.specs.Internal.Lanes.{column}
+use Rattle.cam6_table.specs.Internal.Lanes.{column, value_at, values_from}
+
+-- as many rows with the same values
+pub same_values : (lane floor other : ℕ) (rows others : List (List ℕ)) (count : ℕ) →
+    ((k : ℕ) → k < count → value_at lane rows (floor + k) ≡ value_at lane others (other + k)) →
+    values_from lane rows floor count ≡ values_from lane others other count
+same_values lane floor other rows others zero same = refl
+same_values lane floor other rows others (suc count) same =
+    ap (λ v. v ∷ values_from lane rows floor count) (same count (omega arith)) ∙
+    ap (λ (c : Values). value_at lane others (other + count) ∷ c)
+    (same_values lane floor other rows others count (λ k below. same k (omega (arith, below))))
+
+-- a stack whose rows have the same values
+pub same_column : (lane floor : ℕ) (rows others : List (List ℕ)) (top : ℕ) →
+    ((row : ℕ) → row < top → value_at lane rows row ≡ value_at lane others row) →
+    column lane rows floor top ≡ column lane others floor top
+same_column lane floor rows others top same =
+    same_values lane floor floor rows others (top - floor)
+    (λ k below. same (floor + k) (omega (arith, below)))
+
+-- a stack whose rows were moved
+pub moved_column : (lane floor top after end : ℕ) (rows others : List (List ℕ)) →
+    end - after ≡ top - floor →
+    ((k : ℕ) → k < top - floor → value_at lane rows (after + k) ≡ value_at lane others (floor + k)) →
+    column lane rows after end ≡ column lane others floor top
+moved_column lane floor top after end rows others high same =
+    ap (λ n. values_from lane rows after n) high ∙
+    same_values lane after floor rows others (top - floor) same
 
 -- the top value, and the stack below it
-pub column_at : (lane height below : ℕ) (rows : List (List ℕ)) → height ≡ below + 1 →
-    column lane height rows
-    ≡ slice_index (slice_index_or rows below []) lane ∷ column lane below rows
-column_at lane height below rows is =
-    let next : height ≡ suc below = omega arith in ap (λ h. column lane h rows) next
+pub column_at : (lane : ℕ) (rows : List (List ℕ)) (floor top below : ℕ) → floor ≤ below →
+    top ≡ below + 1 →
+    column lane rows floor top ≡ value_at lane rows below ∷ column lane rows floor below
+column_at lane rows floor top below low is =
+    let next : top - floor ≡ suc (below - floor) = omega arith in
+    let there : floor + (below - floor) ≡ below = omega arith in
+    ap (λ n. values_from lane rows floor n) next ∙
+    ap (λ k. value_at lane rows k ∷ values_from lane rows floor (below - floor)) there
 
 module _ (lane : ℕ) (rows : List (List ℕ)) (k : ℕ) (row : List ℕ) where
   -- a row above it is of no account
-  pub column_below : (height : ℕ) → height ≤ k →
-      column lane height (slice_set rows k row) ≡ column lane height rows
-  column_below zero low = refl
-  column_below (suc height) low =
-      let same : slice_index_or (slice_set rows k row) height [] ≡ slice_index_or rows height [] =
-      get_or-set_other rows k height row [] (omega arith) in
-      ap (λ (r : List ℕ). slice_index r lane ∷ column lane height (slice_set rows k row)) same ∙
-      ap (λ (c : Values). slice_index (slice_index_or rows height []) lane ∷ c)
-      (column_below height (omega (arith, low)))
+  pub column_below : (floor top : ℕ) → top ≤ k →
+      column lane (slice_set rows k row) floor top ≡ column lane rows floor top
+  column_below floor top low =
+      same_column lane floor (slice_set rows k row) rows top (λ j below.
+      ap (λ (r : List ℕ). slice_index r lane)
+      (get_or-set_other rows k j row [] (omega (arith, below, low))))
 
   -- nor is a row that has the same value in the lane
-  pub column_kept : k < length rows →
-      slice_index row lane ≡ slice_index (slice_index_or rows k []) lane →
-      (height : ℕ) → column lane height (slice_set rows k row) ≡ column lane height rows
-  column_kept within same zero = refl
-  column_kept within same (suc height) =
-      let here : slice_index (slice_index_or (slice_set rows k row) height []) lane
-      ≡ slice_index (slice_index_or rows height []) lane =
-      elim (cases_eq height k) [
+  pub column_kept : k < length rows → slice_index row lane ≡ value_at lane rows k →
+      (floor top : ℕ) → column lane (slice_set rows k row) floor top ≡ column lane rows floor top
+  column_kept within same floor top =
+      same_column lane floor (slice_set rows k row) rows top (λ j below.
+      elim (cases_eq j k) [
         | inl is ↦ rw (is, get_or-set_same rows k row [] within) same
         | inr other ↦ ap (λ (r : List ℕ). slice_index r lane)
-            (get_or-set_other rows k height row [] other)
-      ] in
-      ap (λ v. v ∷ column lane height (slice_set rows k row)) here ∙
-      ap (λ (c : Values). slice_index (slice_index_or rows height []) lane ∷ c)
-      (column_kept within same height)
+            (get_or-set_other rows k j row [] other)
+      ])
 
   -- a row on top brings its value
-  pub column_more : (height v : ℕ) → k < length rows → height ≡ k + 1 → slice_index row lane ≡ v →
-      column lane height (slice_set rows k row) ≡ v ∷ column lane k rows
-  column_more height v within is same =
-      column_at lane height k (slice_set rows k row) is ∙
-      ap (λ (r : List ℕ). slice_index r lane ∷ column lane k (slice_set rows k row))
+  pub column_more : (floor top v : ℕ) → k < length rows → floor ≤ k → top ≡ k + 1 →
+      slice_index row lane ≡ v →
+      column lane (slice_set rows k row) floor top ≡ v ∷ column lane rows floor k
+  column_more floor top v within low is same =
+      column_at lane (slice_set rows k row) floor top k low is ∙
+      ap (λ (r : List ℕ). slice_index r lane ∷ column lane (slice_set rows k row) floor k)
       (get_or-set_same rows k row [] within) ∙
-      ap (λ u. u ∷ column lane k (slice_set rows k row)) same ∙
-      ap (λ (c : Values). v ∷ c) (column_below k (omega arith))
+      ap (λ u. u ∷ column lane (slice_set rows k row) floor k) same ∙
+      ap (λ (c : Values). v ∷ c) (column_below floor k (omega arith))

@@ -46,6 +46,8 @@ pub mod EachLane
 pub mod ChosenValues
 -- What a lane's stack is, after a row was written.
 pub mod Columns
+-- Lanes whose stacks were moved have their states.
+pub mod Moving
 -- What a stack word leaves of a lane's stack.
 pub mod LaneWords
 -- What an output word makes of a lane's state.

@@ -4,43 +4,42 @@ use Rattle.std.proofs.Common.{None, Some, Ok, sym, arith}
 use Rattle.cam6_wiring.specs.Seen.{shown}
 use Rattle.cam6_table.specs.declared.codes.Instruction.{Instruction}
 use Rattle.cam6_table.specs.declared.lanes.Lanes.{Lanes}
-use Rattle.cam6_table.specs.Limits.{max_values}
 use Rattle.cam6_table.specs.Codes.{act, go}
-use Rattle.cam6_table.specs.Internal.Lanes.{state_at, IsNext, LeadsTo, IsLeft}
+use Rattle.cam6_table.specs.Internal.Lanes.{state_at, floor_of, Stands, IsNext, LeadsTo, IsLeft}
 use Rattle.cam6_table.proofs.Jumps.{exec-goes_on}
 
-module _ (address : ℕ) (code : List Instruction) (i : Instruction) (behind to height after : ℕ)
+module _ (address : ℕ) (code : List Instruction) (i : Instruction) (behind to top after : ℕ)
     (lanes new : Lanes) (lane : ℕ) (some : 0 < behind) (next : IsNext code behind i)
-    (high : after ≤ max_values) where
+    (stands : Stands (floor_of lane new) after) where
   -- after an instruction
   pub still_left : (passed : ℕ) → to ≡ behind - 1 - passed →
-      act (shown address) None i (state_at lane height lanes)
+      act (shown address) None i (state_at lane top lanes)
       ≡ Ok (state_at lane after new, go passed None) →
-      IsLeft address code behind height lanes lane → IsLeft address code to after new lane
+      IsLeft address code behind top lanes lane → IsLeft address code to after new lane
   still_left passed is done left =
       let place = left.place in
       let one : behind ≡ behind - 1 + 1 = omega arith in
       record {
         place = omega arith;
-        high = high;
+        stands = stands;
         left = sym (exec-goes_on (shown address) code behind (behind - 1) to None i
-            (state_at lane height lanes) (state_at lane after new) (go passed None) one
+            (state_at lane top lanes) (state_at lane after new) (go passed None) one
             (omega arith) is next done) ∙ left.left;
       }
 
   -- after the head of a case, at the word that is looked for
   pub left_at_word : (word : ℕ) → to ≤ length code → LeadsTo code (behind - 1) word to →
-      act (shown address) None i (state_at lane height lanes)
+      act (shown address) None i (state_at lane top lanes)
       ≡ Ok (state_at lane after new, go 0 (Some word)) →
-      IsLeft address code behind height lanes lane → IsLeft address code to after new lane
+      IsLeft address code behind top lanes lane → IsLeft address code to after new lane
   left_at_word word within leads done left =
       let place = left.place in
       let one : behind ≡ behind - 1 + 1 = omega arith in
       record {
         place = within;
-        high = high;
+        stands = stands;
         left = leads address (state_at lane after new) ∙
             sym (exec-goes_on (shown address) code behind (behind - 1) (behind - 1) None i
-            (state_at lane height lanes) (state_at lane after new) (go 0 (Some word)) one
+            (state_at lane top lanes) (state_at lane after new) (go 0 (Some word)) one
             (omega arith) (omega arith) next done) ∙ left.left;
       }

@@ -1,6 +1,6 @@
 -- Lanes part at an IF and at a case: what is left in each of them.
 use Rattle.std.proofs.Common.{◌≡◌, ◌≢◌, ◌∙◌, ◌⊎◌, ◌<◌, ◌≤◌, ◌+◌, ◌-◌, ◌==◌, ℕ, zero, suc}
-use Rattle.std.proofs.Common.{None, Some, Ok, Err, ap, sym, subst, refl, arith, inl, inr}
+use Rattle.std.proofs.Common.{None, Some, Ok, Err, slice_index, ap, sym, subst, refl, arith, inl, inr}
 use Rattle.std.proofs.Common.{if◌then◌else◌, nat_lt, Result, Bool, true, false, List, ◌∷◌, length}
 use Rattle.std.proofs.lemmas.Bool.{cases_eq}
 use Rattle.std.proofs.lemmas.Bool.Decides.{nat_tests}
@@ -16,10 +16,13 @@ use Rattle.cam6_table.specs.declared.outputs.State.{State}
 use Rattle.cam6_table.specs.Words.{Values}
 use Rattle.cam6_table.specs.Meaning.{at_zero, with_top}
 use Rattle.cam6_table.specs.Codes.{act, go}
-use Rattle.cam6_table.specs.Internal.Lanes.{column, state_at, outcome_from, IsNext, LeadsTo, IsLeft}
+use Rattle.cam6_table.specs.Internal.Lanes.{column, value_at, floor_of, state_at}
+use Rattle.cam6_table.specs.Internal.Lanes.{outcome_from, IsNext, LeadsTo, IsLeft, IsKept}
+use Rattle.cam6_table.specs.Internal.Lanes.{Stands, Holds, IsFor}
+use Rattle.cam6_table.specs.declared.floors.Floors.{Floors}
+use Rattle.cam6_table.specs.declared.spans.Span.{Span}
 use Rattle.cam6_table.proofs.Columns.{column_at}
 use Rattle.cam6_table.proofs.Jumps.{exec-goes_on}
-use Rattle.cam6_table.proofs.LaneWords.{at_row}
 use Rattle.cam6_table.proofs.Outcomes.{still_left, left_at_word}
 
 -- a mask, those of it where a value is 0, and the others
@@ -63,20 +66,41 @@ module _ (set top zeros others : ℕ) (zeros_are : zeros ≡ (if top == 0 then s
 abbrev done_so : State → Next → Result (State × Next) RuleFault
 done_so s next = Ok (s, next)
 
--- what is left to a lane stays where its state does
-pub same_left : (address : ℕ) (code : List Instruction) (behind height : ℕ) (lanes new : Lanes)
-    (lane : ℕ) → state_at lane height new ≡ state_at lane height lanes →
-    IsLeft address code behind height lanes lane → IsLeft address code behind height new lane
-same_left address code behind height lanes new lane same left = record {
+-- a stack of a span that ends at a row
+pub stands_in : (span : Span) (len floor : ℕ) → Holds span len → IsFor span floor → Stands floor len
+stands_in span len floor holds is =
+    let low = holds.low in
+    let high = holds.high in
+    let within = holds.within in
+    let under = is.low in
+    let full = is.full in
+    record { low = omega arith; high = omega arith; within = omega arith }
+
+-- what is left to a lane stays if its state is kept
+pub kept_left : (address : ℕ) (code : List Instruction) (behind top : ℕ) (lanes : Lanes)
+    (after : ℕ) (new : Lanes) (lane : ℕ) → IsKept top lanes after new lane →
+    IsLeft address code behind top lanes lane → IsLeft address code behind after new lane
+kept_left address code behind top lanes after new lane kept left = record {
   place = left.place;
-  high = left.high;
+  stands = kept.stands;
+  left = ap (outcome_from address code (record { behind = behind; word = None })) kept.same ∙
+      left.left;
+}
+
+-- what is left to a lane stays where its state does
+pub same_left : (address : ℕ) (code : List Instruction) (behind top : ℕ) (lanes new : Lanes)
+    (lane : ℕ) → new.floors ≡ lanes.floors → state_at lane top new ≡ state_at lane top lanes →
+    IsLeft address code behind top lanes lane → IsLeft address code behind top new lane
+same_left address code behind top lanes new lane floors same left = record {
+  place = left.place;
+  stands = subst (λ (f : Floors). Stands (slice_index f.rows lane) top) (sym floors) left.stands;
   left = ap (outcome_from address code (record { behind = behind; word = None })) same ∙ left.left;
 }
 
-pub left_there : (address : ℕ) (code : List Instruction) (behind height to after : ℕ)
-    (lanes : Lanes) (lane : ℕ) → to ≡ behind → after ≡ height →
-    IsLeft address code behind height lanes lane → IsLeft address code to after lanes lane
-left_there address code behind height to after lanes lane to_is after_is left =
+pub left_there : (address : ℕ) (code : List Instruction) (behind top to after : ℕ)
+    (lanes : Lanes) (lane : ℕ) → to ≡ behind → after ≡ top →
+    IsLeft address code behind top lanes lane → IsLeft address code to after lanes lane
+left_there address code behind top to after lanes lane to_is after_is left =
     subst (λ b. IsLeft address code b after lanes lane) (sym to_is)
     (subst (λ h. IsLeft address code behind h lanes lane) (sym after_is) left)
 
@@ -93,21 +117,30 @@ goes_past zero distance is = refl
 goes_past (suc v) distance is = cc is
 
 module _ (address : ℕ) (code : List Instruction) (behind to len : ℕ) (lanes new : Lanes)
-    (lane : ℕ) (some : 0 < behind) (full : 0 < len)
+    (lane : ℕ) (some : 0 < behind) (full : 1 + floor_of lane lanes ≤ len)
+    (floors : new.floors ≡ lanes.floors)
     (same : state_at lane (len - 1) new ≡ state_at lane (len - 1) lanes)
     (left : IsLeft address code behind len lanes lane) where
-  top : column lane len lanes.stacks.rows
-      ≡ at_row lane lanes.stacks.rows (len - 1) ∷ column lane (len - 1) lanes.stacks.rows
-  top = column_at lane len (len - 1) lanes.stacks.rows (omega arith)
+  top : column lane lanes.stacks.rows (floor_of lane lanes) len
+      ≡ value_at lane lanes.stacks.rows (len - 1) ∷
+      column lane lanes.stacks.rows (floor_of lane lanes) (len - 1)
+  top =
+      column_at lane lanes.stacks.rows (floor_of lane lanes) len (len - 1) (omega arith) (omega arith)
+
+  stands : Stands (floor_of lane new) (len - 1)
+  stands =
+      let high = left.stands.high in
+      let within = left.stands.within in
+      subst (λ (f : Floors). Stands (slice_index f.rows lane) (len - 1)) (sym floors)
+      (record { low = omega arith; high = omega arith; within = omega arith })
 
   -- after an IF
   pub left_after_if : (distance passed : ℕ) → IsNext code behind (SkipIfZero distance) →
-      at_zero (at_row lane lanes.stacks.rows (len - 1)) distance 0 ≡ passed →
+      at_zero (value_at lane lanes.stacks.rows (len - 1)) distance 0 ≡ passed →
       to ≡ behind - 1 - passed → IsLeft address code to (len - 1) new lane
   left_after_if distance passed next passes is =
-      let high = left.high in
       still_left address code (SkipIfZero distance) behind to len (len - 1) lanes new lane some next
-      (omega arith) passed is
+      stands passed is
       (ap (λ (stack : Values). with_top stack (state_at lane len lanes)
       (λ v below. done_so below (go (at_zero v distance 0) None))) top ∙
       ap (λ n. done_so (state_at lane (len - 1) lanes) (go n None)) passes ∙
@@ -115,15 +148,14 @@ module _ (address : ℕ) (code : List Instruction) (behind to len : ℕ) (lanes 
 
   -- at a word of a case
   pub left_in_case : (count : ℕ) → IsNext code behind (Case count) →
-      at_row lane lanes.stacks.rows (len - 1) < count → to ≤ length code →
-      LeadsTo code (behind - 1) (at_row lane lanes.stacks.rows (len - 1)) to →
+      value_at lane lanes.stacks.rows (len - 1) < count → to ≤ length code →
+      LeadsTo code (behind - 1) (value_at lane lanes.stacks.rows (len - 1)) to →
       IsLeft address code to (len - 1) new lane
   left_in_case count next below within leads =
-      let high = left.high in
-      let i = at_row lane lanes.stacks.rows (len - 1) in
+      let i = value_at lane lanes.stacks.rows (len - 1) in
       let index : nat_lt i count ≡ true = grind (arith, nat_tests) in
       left_at_word address code (Case count) behind to len (len - 1) lanes new lane some next
-      (omega arith) i within leads
+      stands i within leads
       (ap (λ (stack : Values). with_top stack (state_at lane len lanes)
       (λ j below. if nat_lt j count then done_so below (go 0 (Some j)) else Err CaseIndex)) top ∙
       ap (λ b. if b then done_so (state_at lane (len - 1) lanes) (go 0 (Some i)) else Err CaseIndex)

@@ -165,14 +165,14 @@ fn run_all(code: &Code, addresses: &LaneValues, room: &mut Room)
 fn entry_in(code: &Code, room: &Room, lane: usize, address: u16) -> Result<u8, RuleFault>
     requires lane { lane < LANES }
     requires left { IsLeft address code.now (slice_index room.now.places.behinds lane)
-        (slice_index room.now.places.heights lane) room.now.lanes lane }
+        (slice_index room.now.places.tops lane) room.now.lanes lane }
     ensures { result ≡ result_at code.now address }
 {
     let behind = usize::from(room.places.behinds[lane]);
     if behind == 0 {
         return Ok(entry_at_end(&room.lanes, lane, address));
     }
-    let mut state = state_of(&room.lanes, lane, usize::from(room.places.heights[lane]));
+    let mut state = state_of(&room.lanes, lane, usize::from(room.places.tops[lane]));
     let mut turns = MAX_TURNS;
     let place = Place { behind, word: None };
     run(code.instructions(), place, address, &mut state, &mut turns)?;

@@ -1,27 +1,29 @@
 //! Where each lane is in the code, and which lanes go on together.
-ghost use Rattle.std.specs.Prelude.{◌≡◌, ◌<◌, ◌≤◌, ℕ, List, OnOk, IfOk, length, slice_index};
+ghost use Rattle.std.specs.Prelude.{◌≡◌, ◌==◌, ◌<◌, ◌≤◌, if◌then◌else◌, ℕ, List, OnOk, IfOk, length, slice_index};
 ghost use Rattle.cam6_table.specs.declared.lane_values.TheConstants.{LANES};
 ghost use Rattle.cam6_table.specs.declared.codes.Instruction.{Instruction};
 ghost use Rattle.cam6_table.specs.declared.codes.Instruction.TheVariants.{SkipIfZero, Case};
-ghost use Rattle.cam6_table.specs.Limits.{max_values, max_turns};
+ghost use Rattle.cam6_table.specs.Limits.{max_turns};
+ghost use Rattle.cam6_table.specs.declared.lane_stacks.TheConstants.{ROWS};
 ghost use Rattle.cam6_table.specs.Internal.Sets.{IsIn, IsOut};
-ghost use Rattle.cam6_table.specs.Internal.Lanes.{state_at, IsNext, AreLeft, AreLeftWith, AreFound};
+ghost use Rattle.cam6_table.specs.Internal.Lanes.{state_at, IsNext, AreFound, Holds};
+ghost use Rattle.cam6_table.specs.Internal.Lanes.{AreLeft, AreLeftWith};
 
 use crate::codes::{Instruction, Instructions};
-use crate::lane_stacks::Apart;
+use crate::lane_stacks::{Apart, ROWS};
 use crate::lane_values::{LaneValues, in_all};
 use crate::lanes::Lanes;
 use crate::sets::{
-    LaneSet, Mask, greatest, greatest_in, greatest_out, is_none, lanes_with, put_in, those_with,
-    those_without,
+    LaneSet, Mask, greatest, greatest_in, greatest_out, is_none, lanes_with, parted, put_in,
+    those_with, those_without,
 };
-use crate::stacks::MAX_VALUES;
+use crate::spans::{Span, span_of};
 
-/// Where each lane waits: so many instructions are left to it, and its stack is so high.
+/// Where each lane waits: so many instructions are left to it, and its stack ends at a row.
 #[derive(Drop)]
 pub struct Places {
     pub behinds: LaneValues,
-    pub heights: LaneValues,
+    pub tops: LaneValues,
 }
 
 /// Lanes that go on together, and how many instructions are left to them. They go on until `until`
@@ -31,8 +33,14 @@ pub struct Flow {
     pub set: LaneSet,
     pub behind: usize,
     pub until: usize,
-    /// How high the stacks of its lanes were when it was made, as their places still say.
-    pub height: usize,
+    /// The row at which the stacks of its lanes ended when it was made, as their places still say.
+    pub top: usize,
+    pub span: Span,
+    /// Whether other lanes waited at the same place, with stacks that end at other rows.
+    pub is_split: bool,
+    /// Whether lanes left it after its span was made. If so, those that are left may have more
+    /// values and more room than the span says.
+    pub was_parted: bool,
 }
 
 /// All lanes wait at the start of code.
@@ -40,73 +48,123 @@ pub fn all_at_start(code: &Instructions) -> Places
     requires { length code.now ≤ max_turns }
     ensures behinds { (lane : ℕ) → lane < LANES →
         slice_index result.behinds lane ≡ length code.now }
-    ensures heights { (lane : ℕ) → lane < LANES → slice_index result.heights lane ≡ 0 }
+    ensures tops { (lane : ℕ) → lane < LANES → slice_index result.tops lane ≡ 0 }
 {
     Places {
         behinds: in_all(code.len() as u16),
-        heights: in_all(0),
+        tops: in_all(0),
     }
 }
 
-/// The lanes that go on next: of those to which the most instructions are left, the ones whose stacks
-/// are as high as the last flow's, or else the highest. So lanes that parted meet again, and those
-/// with equally high stacks go on together.
+/// The lanes that go on next: of those to which the most instructions are left, the ones whose
+/// stacks end where the last flow's do, or else at the topmost row. So lanes that parted meet
+/// again, and those whose stacks end at one row go on together. If others wait at the same place,
+/// the flow stops after a stretch.
 #[inline(always)]
-pub fn next_flow(code: &Instructions, places: &Places, lanes: &mut Lanes) -> Flow
-    requires limit { lanes.old.stacks.len ≤ max_values }
-    ensures limit { lanes.new.stacks.len ≤ max_values }
-    ensures states { (lane height : ℕ) →
-        state_at lane height lanes.new ≡ state_at lane height lanes.old }
+pub fn next_flow(code: &Instructions, stretch: usize, places: &Places, lanes: &mut Lanes) -> Flow
+    requires limit { lanes.old.stacks.len ≤ ROWS }
+    ensures limit { lanes.new.stacks.len ≤ ROWS }
+    ensures floors { lanes.new.floors ≡ lanes.old.floors }
+    ensures states { (lane top : ℕ) →
+        state_at lane top lanes.new ≡ state_at lane top lanes.old }
     ensures left { (addresses : List ℕ) → AreLeft addresses code.now places.now lanes.old →
         AreLeftWith addresses code.now result places.now lanes.new }
 {
     let behind = greatest(&places.behinds);
     let waiting = lanes_with(&places.behinds, behind);
-    let until = greatest_out(&waiting, &places.behinds);
-    let height = next_height(&waiting, places, lanes.stacks.len);
-    let mask = those_with(&waiting, &places.heights, height as u16);
-    lanes.stacks.len = height;
+    let until = usize::from(greatest_out(&waiting, &places.behinds));
+    let next = next_lanes(&waiting, &places.tops, lanes.stacks.len);
+    let top = next.top;
+    let those = next.those;
+    lanes.stacks.len = top;
+    let behind = usize::from(behind).min(code.len());
     Flow {
-        set: LaneSet::of(mask),
-        behind: usize::from(behind).min(code.len()),
-        until: usize::from(until),
-        height,
+        span: span_of(&lanes.floors, &those, top),
+        set: LaneSet::of(those),
+        behind,
+        until: until_of(until, behind, stretch, next.is_split),
+        top,
+        is_split: next.is_split,
+        was_parted: false,
     }
 }
 
-/// A height that a lane of a set has: the one that was the last flow's, or else the greatest.
+/// How many instructions are left when a flow stops: a split one stops early.
 #[inline(always)]
-fn next_height(waiting: &Mask, places: &Places, last: usize) -> usize
-    requires { last ≤ max_values }
-    ensures { result ≤ max_values }
-{
-    if is_none(&those_with(waiting, &places.heights, last as u16)) {
-        usize::from(greatest_in(waiting, &places.heights)).min(MAX_VALUES)
+fn until_of(until: usize, behind: usize, stretch: usize, is_split: bool) -> usize {
+    if is_split {
+        until.max(behind.saturating_sub(stretch))
     } else {
-        last
+        until
     }
 }
 
-/// Lets the lanes of a set wait with so many instructions left to them and stacks of a height. So far
-/// their places said another height, or the same, and then nothing has to be written.
+/// Those of the lanes that wait at a place whose stacks end at a row, and whether there are others.
+#[derive(Drop)]
+struct NextLanes {
+    those: Mask,
+    top: usize,
+    is_split: bool,
+}
+
+/// The lanes of a set whose stacks end where those of the last flow did, or else at the topmost
+/// row.
 #[inline(always)]
-pub fn wait(places: &mut Places, set: &Mask, behind: usize, height: usize, old: usize)
+fn next_lanes(waiting: &Mask, tops: &LaneValues, last: usize) -> NextLanes
+    requires { last ≤ ROWS }
+    ensures top { result.top ≤ ROWS }
+    ensures those { (lane : ℕ) → lane < LANES → slice_index result.those lane ≡
+        (if slice_index tops.now lane == result.top then slice_index waiting.now lane else 0) }
+{
+    let found = parted(waiting, tops, last as u16);
+    let those = found.those;
+    if found.has_some {
+        NextLanes {
+            those,
+            top: last,
+            is_split: found.has_others,
+        }
+    } else {
+        topmost_lanes(waiting, tops)
+    }
+}
+
+/// The lanes of a set whose stacks end at the topmost row.
+fn topmost_lanes(waiting: &Mask, tops: &LaneValues) -> NextLanes
+    ensures top { result.top ≤ ROWS }
+    ensures those { (lane : ℕ) → lane < LANES → slice_index result.those lane ≡
+        (if slice_index tops.now lane == result.top then slice_index waiting.now lane else 0) }
+{
+    let top = usize::from(greatest_in(waiting, tops)).min(ROWS);
+    let found = parted(waiting, tops, top as u16);
+    let those = found.those;
+    NextLanes {
+        those,
+        top,
+        is_split: found.has_others,
+    }
+}
+
+/// Lets the lanes of a set wait with so many instructions left to them and stacks that end at a
+/// row. So far their places said another row, or the same, and then nothing has to be written.
+#[inline(always)]
+pub fn wait(places: &mut Places, set: &Mask, behind: usize, top: usize, old: usize)
     requires behind { behind ≤ max_turns }
-    requires height { height ≤ max_values }
+    requires top { top ≤ ROWS }
     requires old { (lane : ℕ) → lane < LANES → IsIn set.now lane →
-        slice_index places.old.heights lane ≡ old }
+        slice_index places.old.tops lane ≡ old }
     ensures behinds { (lane : ℕ) → lane < LANES → IsIn set.now lane →
         slice_index places.new.behinds lane ≡ behind }
-    ensures heights { (lane : ℕ) → lane < LANES → IsIn set.now lane →
-        slice_index places.new.heights lane ≡ height }
+    ensures tops { (lane : ℕ) → lane < LANES → IsIn set.now lane →
+        slice_index places.new.tops lane ≡ top }
     ensures other_behinds { (lane : ℕ) → lane < LANES → IsOut set.now lane →
         slice_index places.new.behinds lane ≡ slice_index places.old.behinds lane }
-    ensures other_heights { (lane : ℕ) → lane < LANES → IsOut set.now lane →
-        slice_index places.new.heights lane ≡ slice_index places.old.heights lane }
+    ensures other_tops { (lane : ℕ) → lane < LANES → IsOut set.now lane →
+        slice_index places.new.tops lane ≡ slice_index places.old.tops lane }
 {
     places.behinds = put_in(set, behind as u16, &places.behinds);
-    if height != old {
-        places.heights = put_in(set, height as u16, &places.heights);
+    if top != old {
+        places.tops = put_in(set, top as u16, &places.tops);
     }
 }
 
@@ -120,16 +178,16 @@ pub fn part_at_if(
 ) -> Result<(), Apart>
     requires some { 0 < flow.old.behind }
     requires within { flow.old.behind ≤ max_turns }
-    requires limit { lanes.old.stacks.len ≤ max_values }
-    requires heights { (lane : ℕ) → lane < LANES → IsIn flow.old.set.mask lane →
-        slice_index places.old.heights lane ≡ flow.old.height }
+    requires holds { Holds flow.old.span lanes.old.stacks.len }
+    requires tops { (lane : ℕ) → lane < LANES → IsIn flow.old.set.mask lane →
+        slice_index places.old.tops lane ≡ flow.old.top }
     ensures falls { OnOk result (flow.new.behind < flow.old.behind) }
     ensures left { (addresses : List ℕ) (code : List Instruction) →
         IsNext code flow.old.behind (SkipIfZero distance) →
         AreLeftWith addresses code flow.old places.old lanes.old →
         AreLeftWith addresses code flow.new places.new lanes.new }
 {
-    lanes.stacks.need(1)?;
+    lanes.stacks.need(flow.span, 1)?;
     let behind = flow.behind - 1;
     let target = behind.saturating_sub(distance);
     if distance == 0 {
@@ -149,11 +207,12 @@ pub fn part_at_if(
         flow.behind = target;
         return Ok(());
     }
-    wait(places, &zeros, target, lanes.stacks.len, flow.height);
+    wait(places, &zeros, target, lanes.stacks.len, flow.top);
     flow.set = LaneSet {
         mask: others,
         is_all: false,
     };
+    flow.was_parted = true;
     flow.behind = behind;
     flow.until = flow.until.max(target);
     Ok(())
@@ -171,14 +230,14 @@ pub fn part_at_case(
     requires some { 0 < flow.old.behind }
     requires within { flow.old.behind ≤ length code.now }
     requires code { length code.now ≤ max_turns }
-    requires limit { lanes.old.stacks.len ≤ max_values }
+    requires holds { Holds flow.old.span lanes.old.stacks.len }
     requires next { IsNext code.now flow.old.behind (Case count) }
     ensures falls { OnOk result (flow.new.behind < flow.old.behind) }
     ensures left { (addresses : List ℕ) →
         AreLeftWith addresses code.now flow.old places.old lanes.old →
         AreLeftWith addresses code.now flow.new places.new lanes.new }
 {
-    lanes.stacks.need(1)?;
+    lanes.stacks.need(flow.span, 1)?;
     let behind = flow.behind - 1;
     let indices = lanes.stacks.at_depth(1);
     let behinds = words_found(
@@ -191,7 +250,7 @@ pub fn part_at_case(
     )?;
     lanes.stacks.len -= 1;
     places.behinds = behinds;
-    places.heights = put_in(&flow.set.mask, lanes.stacks.len as u16, &places.heights);
+    places.tops = put_in(&flow.set.mask, lanes.stacks.len as u16, &places.tops);
     flow.set = LaneSet {
         mask: in_all(0),
         is_all: false,

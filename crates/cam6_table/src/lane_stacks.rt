@@ -1,65 +1,75 @@
 //! The stacks of all lanes. A word is done in some lanes, and in the others every stack stays.
-ghost use Rattle.std.specs.Prelude.{◌≡◌, ◌<◌, ◌≤◌, ◌+◌, ◌-◌, OnOk, OnErr, IfOk};
-ghost use Rattle.std.specs.Prelude.{slice_index_or, []};
+ghost use Rattle.std.specs.Prelude.{◌≡◌, ◌≢◌, ◌<◌, ◌≤◌, ◌+◌, ◌-◌, OnOk, OnErr, IfOk};
+ghost use Rattle.std.specs.Prelude.{slice_index_or, [], ℕ};
 ghost use Rattle.cam6_table.specs.declared.lane_values.TheConstants.{LANES};
-ghost use Rattle.cam6_table.specs.Limits.{max_values};
+ghost use Rattle.cam6_table.specs.declared.lane_stacks.TheConstants.{ROWS};
 ghost use Rattle.cam6_table.specs.Internal.LaneValues.{stack_word};
-ghost use Rattle.cam6_table.specs.Internal.Lanes.{column, Pushes, StayOut, LeavesIn};
+ghost use Rattle.cam6_table.specs.Internal.Lanes.{column, value_at, Stands, Holds};
+ghost use Rattle.cam6_table.specs.Internal.Lanes.{Pushes, StayOut, LeavesIn};
+ghost use Rattle.cam6_table.specs.Internal.Sets.{IsIn, IsOut};
 
 use crate::lane_values::{LANES, LaneValues, Merge, zeros};
-use crate::sets::LaneSet;
-use crate::stacks::{MAX_VALUES, Stack};
+use crate::sets::{LaneSet, Mask, chosen};
+use crate::spans::Span;
+use crate::stacks::Stack;
 use cam6_forth::StackWord;
 
 /// The lanes can't go on together. Nothing was done.
 #[derive(Clone, Copy, Debug, PartialEq, Eq)]
 pub struct Apart;
 
-/// A row of values for each height, the lowest first, and how high the stacks of the lanes at work
-/// are. What a row has above a lane's stack is of no account.
+/// Rows of values. A stack of 32 can begin at any of the first 33.
+pub const ROWS: usize = 64;
+
+/// Rows of values, the lowest first, and the row at which the stacks of the lanes at work end.
+/// What a row has below or above a lane's stack is of no account.
 #[derive(Drop)]
 pub struct Stacks {
-    pub rows: [LaneValues; MAX_VALUES],
+    pub rows: [LaneValues; ROWS],
     pub len: usize,
 }
 
 impl Stacks {
     pub fn new() -> Stacks {
         Stacks {
-            rows: [[0; LANES]; MAX_VALUES],
+            rows: [[0; LANES]; ROWS],
             len: 0,
         }
     }
 
-    /// The stack of a lane, which is so high.
-    pub fn of_lane(&self, lane: usize, height: usize) -> Stack
+    /// The stack of a lane, between two rows.
+    pub fn of_lane(&self, lane: usize, floor: usize, top: usize) -> Stack
         requires lane { lane < LANES }
-        requires height { height ≤ max_values }
-        ensures { result ≡ column lane height self.now.rows }
+        requires stands { Stands floor top }
+        ensures { result ≡ column lane self.now.rows floor top }
     {
         let mut stack = Stack::new();
-        for k in 0..height {
+        for k in floor..top {
             stack.put(self.rows[k][lane]);
         }
         stack
     }
 
     /// Whether there are so many values in each lane.
-    pub fn need(&self, count: usize) -> Result<(), Apart>
-        ensures { IfOk result (λ _. count ≤ self.now.len) }
+    #[inline(always)]
+    pub fn need(&self, span: Span, count: usize) -> Result<(), Apart>
+        requires few { count ≤ ROWS }
+        requires holds { Holds span self.now.len }
+        ensures { IfOk result (λ _. count + span.floor ≤ self.now.len) }
     {
-        if count <= self.len {
+        if count + span.floor <= self.len {
             Ok(())
         } else {
             Err(Apart)
         }
     }
 
-    /// Whether there is room for one more.
-    fn need_room(&self) -> Result<(), Apart>
-        ensures { IfOk result (λ _. self.now.len < max_values) }
+    /// Whether there is room for one more in each lane.
+    #[inline(always)]
+    fn need_room(&self, span: Span) -> Result<(), Apart>
+        ensures { IfOk result (λ _. self.now.len < span.room) }
     {
-        if self.len < MAX_VALUES {
+        if self.len < span.room {
             Ok(())
         } else {
             Err(Apart)
@@ -71,7 +81,7 @@ impl Stacks {
     pub fn at_depth(&self, depth: usize) -> &LaneValues
         requires some { 0 < depth }
         requires within { depth ≤ self.now.len }
-        requires limit { self.now.len ≤ max_values }
+        requires limit { self.now.len ≤ ROWS }
         ensures { result.now ≡ slice_index_or self.now.rows (self.now.len - depth) [] }
     {
         &self.rows[self.len - depth]
@@ -80,7 +90,7 @@ impl Stacks {
     /// Puts values on top.
     #[inline(always)]
     fn put(&mut self, set: &LaneSet, values: &LaneValues)
-        requires room { self.old.len < max_values }
+        requires room { self.old.len < ROWS }
         ensures high { self.new.len ≡ self.old.len + 1 }
         ensures put { Pushes set.now.mask values.now self.old self.new }
         ensures others { StayOut set.now.mask self.old self.new }
@@ -89,70 +99,87 @@ impl Stacks {
         self.len += 1;
     }
 
+    /// Copies a row over another one in the lanes of a set.
+    #[inline(always)]
+    pub fn copy(&mut self, set: &Mask, from: usize, to: usize)
+        requires from { from < ROWS }
+        requires to { to < ROWS }
+        ensures len { self.new.len ≡ self.old.len }
+        ensures inside { (lane : ℕ) → lane < LANES → IsIn set.now lane →
+            value_at lane self.new.rows to ≡ value_at lane self.old.rows from }
+        ensures others { (lane row : ℕ) → row ≢ to →
+            value_at lane self.new.rows row ≡ value_at lane self.old.rows row }
+        ensures outside { (lane : ℕ) → lane < LANES → IsOut set.now lane →
+            value_at lane self.new.rows to ≡ value_at lane self.old.rows to }
+    {
+        let row = self.rows[from];
+        self.rows[to] = chosen(set, &row, &self.rows[to]);
+    }
+
     /// Puts values on top, if there is room.
     #[inline(always)]
-    pub fn push(&mut self, set: &LaneSet, values: &LaneValues) -> Result<(), Apart>
-        requires limit { self.old.len ≤ max_values }
-        ensures room { OnOk result (self.old.len < max_values) }
+    pub fn push(&mut self, set: &LaneSet, span: Span, values: &LaneValues) -> Result<(), Apart>
+        requires holds { Holds span self.old.len }
+        ensures room { OnOk result (self.old.len < span.room) }
         ensures ok { OnOk result (Pushes set.now.mask values.now self.old self.new) }
-        ensures limit { self.new.len ≤ max_values }
+        ensures holds { Holds span self.new.len }
         ensures others { StayOut set.now.mask self.old self.new }
         ensures err { OnErr result (self.new ≡ self.old) }
     {
-        self.need_room()?;
+        self.need_room(span)?;
         self.put(set, values);
         Ok(())
     }
 
     /// Does what a stack word says.
-    pub fn apply(&mut self, set: &LaneSet, word: StackWord) -> Result<(), Apart>
-        requires limit { self.old.len ≤ max_values }
-        ensures { LeavesIn set.now.mask word self.old self.new result }
+    pub fn apply(&mut self, set: &LaneSet, span: Span, word: StackWord) -> Result<(), Apart>
+        requires holds { Holds span self.old.len }
+        ensures { LeavesIn set.now.mask span word self.old self.new result }
     {
         match word {
-            StackWord::Dup => self.dup(set),
-            StackWord::Drop => self.drop_top(set),
-            StackWord::Swap => self.swap(set),
-            StackWord::Over => self.over(set),
-            StackWord::Rot => self.rot(set),
-            StackWord::Plus => self.merge(set, Merge::Plus),
-            StackWord::Minus => self.merge(set, Merge::Minus),
-            StackWord::Times => self.merge(set, Merge::Times),
-            StackWord::And => self.merge(set, Merge::And),
-            StackWord::Or => self.merge(set, Merge::Or),
-            StackWord::Xor => self.merge(set, Merge::Xor),
-            StackWord::IsZero => self.is_zero(set),
-            StackWord::Equal => self.merge(set, Merge::Equal),
-            StackWord::Less => self.merge(set, Merge::Less),
-            StackWord::Greater => self.merge(set, Merge::Greater),
+            StackWord::Dup => self.dup(set, span),
+            StackWord::Drop => self.drop_top(set, span),
+            StackWord::Swap => self.swap(set, span),
+            StackWord::Over => self.over(set, span),
+            StackWord::Rot => self.rot(set, span),
+            StackWord::Plus => self.merge(set, span, Merge::Plus),
+            StackWord::Minus => self.merge(set, span, Merge::Minus),
+            StackWord::Times => self.merge(set, span, Merge::Times),
+            StackWord::And => self.merge(set, span, Merge::And),
+            StackWord::Or => self.merge(set, span, Merge::Or),
+            StackWord::Xor => self.merge(set, span, Merge::Xor),
+            StackWord::IsZero => self.is_zero(set, span),
+            StackWord::Equal => self.merge(set, span, Merge::Equal),
+            StackWord::Less => self.merge(set, span, Merge::Less),
+            StackWord::Greater => self.merge(set, span, Merge::Greater),
         }
     }
 
-    fn dup(&mut self, set: &LaneSet) -> Result<(), Apart>
-        requires limit { self.old.len ≤ max_values }
-        ensures { LeavesIn set.now.mask StackWord.Dup self.old self.new result }
+    fn dup(&mut self, set: &LaneSet, span: Span) -> Result<(), Apart>
+        requires holds { Holds span self.old.len }
+        ensures { LeavesIn set.now.mask span StackWord.Dup self.old self.new result }
     {
-        self.need(1)?;
-        self.need_room()?;
+        self.need(span, 1)?;
+        self.need_room(span)?;
         let a = *self.at_depth(1);
         self.put(set, &a);
         Ok(())
     }
 
-    fn drop_top(&mut self, _set: &LaneSet) -> Result<(), Apart>
-        requires limit { self.old.len ≤ max_values }
-        ensures { LeavesIn _set.now.mask StackWord.Drop self.old self.new result }
+    fn drop_top(&mut self, _set: &LaneSet, span: Span) -> Result<(), Apart>
+        requires holds { Holds span self.old.len }
+        ensures { LeavesIn _set.now.mask span StackWord.Drop self.old self.new result }
     {
-        self.need(1)?;
+        self.need(span, 1)?;
         self.len -= 1;
         Ok(())
     }
 
-    fn swap(&mut self, set: &LaneSet) -> Result<(), Apart>
-        requires limit { self.old.len ≤ max_values }
-        ensures { LeavesIn set.now.mask StackWord.Swap self.old self.new result }
+    fn swap(&mut self, set: &LaneSet, span: Span) -> Result<(), Apart>
+        requires holds { Holds span self.old.len }
+        ensures { LeavesIn set.now.mask span StackWord.Swap self.old self.new result }
     {
-        self.need(2)?;
+        self.need(span, 2)?;
         let b = *self.at_depth(1);
         let a = *self.at_depth(2);
         self.len -= 2;
@@ -161,22 +188,22 @@ impl Stacks {
         Ok(())
     }
 
-    fn over(&mut self, set: &LaneSet) -> Result<(), Apart>
-        requires limit { self.old.len ≤ max_values }
-        ensures { LeavesIn set.now.mask StackWord.Over self.old self.new result }
+    fn over(&mut self, set: &LaneSet, span: Span) -> Result<(), Apart>
+        requires holds { Holds span self.old.len }
+        ensures { LeavesIn set.now.mask span StackWord.Over self.old self.new result }
     {
-        self.need(2)?;
-        self.need_room()?;
+        self.need(span, 2)?;
+        self.need_room(span)?;
         let a = *self.at_depth(2);
         self.put(set, &a);
         Ok(())
     }
 
-    fn rot(&mut self, set: &LaneSet) -> Result<(), Apart>
-        requires limit { self.old.len ≤ max_values }
-        ensures { LeavesIn set.now.mask StackWord.Rot self.old self.new result }
+    fn rot(&mut self, set: &LaneSet, span: Span) -> Result<(), Apart>
+        requires holds { Holds span self.old.len }
+        ensures { LeavesIn set.now.mask span StackWord.Rot self.old self.new result }
     {
-        self.need(3)?;
+        self.need(span, 3)?;
         let c = *self.at_depth(1);
         let b = *self.at_depth(2);
         let a = *self.at_depth(3);
@@ -187,11 +214,11 @@ impl Stacks {
         Ok(())
     }
 
-    fn is_zero(&mut self, set: &LaneSet) -> Result<(), Apart>
-        requires limit { self.old.len ≤ max_values }
-        ensures { LeavesIn set.now.mask StackWord.IsZero self.old self.new result }
+    fn is_zero(&mut self, set: &LaneSet, span: Span) -> Result<(), Apart>
+        requires holds { Holds span self.old.len }
+        ensures { LeavesIn set.now.mask span StackWord.IsZero self.old self.new result }
     {
-        self.need(1)?;
+        self.need(span, 1)?;
         let zeros = zeros(self.at_depth(1));
         self.len -= 1;
         self.put(set, &zeros);
@@ -200,11 +227,11 @@ impl Stacks {
 
     /// Does a word that leaves one value of two.
     #[inline(always)]
-    fn merge(&mut self, set: &LaneSet, merge: Merge) -> Result<(), Apart>
-        requires limit { self.old.len ≤ max_values }
-        ensures { LeavesIn set.now.mask (stack_word merge) self.old self.new result }
+    fn merge(&mut self, set: &LaneSet, span: Span, merge: Merge) -> Result<(), Apart>
+        requires holds { Holds span self.old.len }
+        ensures { LeavesIn set.now.mask span (stack_word merge) self.old self.new result }
     {
-        self.need(2)?;
+        self.need(span, 2)?;
         let b = self.at_depth(1);
         let a = self.at_depth(2);
         if !merge.fits_in(set, a, b) {

@@ -3,22 +3,28 @@ ghost use Rattle.std.specs.Prelude.{◌≡◌, ◌<◌, ◌≤◌, ◌/◌, ℕ}
 ghost use Rattle.cam6_table.specs.declared.lane_values.TheConstants.{LANES};
 ghost use Rattle.cam6_table.specs.Limits.{max_values};
 ghost use Rattle.cam6_table.specs.Outputs.{untouched, entry_of, is_odd};
-ghost use Rattle.cam6_table.specs.Internal.Lanes.{bit_written, state_at, WritesIn};
+ghost use Rattle.cam6_table.specs.Internal.Lanes.{bit_written, state_at, floor_of, WritesIn};
+ghost use Rattle.cam6_table.specs.Internal.Lanes.{Stands, Holds, IsFor};
+ghost use Rattle.cam6_table.specs.Internal.Sets.{IsIn};
 
+use crate::floors::{Floors, all_low};
 use crate::lane_stacks::{Apart, Stacks};
 use crate::lane_values::{LANES, LaneValues, halves, in_all, lowest_bits};
 use crate::outputs::{State, entry_of};
 use crate::sets::LaneSet;
+use crate::spans::Span;
 use crate::stacks::Stack;
 use cam6_forth::Target;
 
 /// What stands for a plane to which a lane wrote nothing. A bit that it wrote is 0 or 1.
 const NOT_WRITTEN: u16 = 2;
 
-/// The stacks of all lanes, and for each plane of the half the bits that they wrote to it last.
+/// The stacks of all lanes, the rows at which they begin, and for each plane of the half the bits
+/// that they wrote to it last.
 #[derive(Drop)]
 pub struct Lanes {
     pub stacks: Stacks,
+    pub floors: Floors,
     pub lower: LaneValues,
     pub upper: LaneValues,
 }
@@ -27,6 +33,7 @@ pub struct Lanes {
 pub fn all_untouched() -> Lanes {
     Lanes {
         stacks: Stacks::new(),
+        floors: all_low(),
         lower: [NOT_WRITTEN; LANES],
         upper: [NOT_WRITTEN; LANES],
     }
@@ -35,21 +42,25 @@ pub fn all_untouched() -> Lanes {
 /// Makes the states those in which a rule begins.
 pub fn clear(lanes: &mut Lanes)
     ensures limit { lanes.new.stacks.len ≤ max_values }
+    ensures low { (lane : ℕ) → lane < LANES → floor_of lane lanes.new ≡ 0 }
     ensures cleared { (lane : ℕ) → lane < LANES → state_at lane 0 lanes.new ≡ untouched }
 {
     lanes.stacks.len = 0;
+    lanes.floors = all_low();
     lanes.lower = in_all(NOT_WRITTEN);
     lanes.upper = in_all(NOT_WRITTEN);
 }
 
-/// The state of a lane, whose stack is so high.
-pub fn state_of(lanes: &Lanes, lane: usize, height: usize) -> State
+/// The state of a lane, whose stack ends at a row.
+pub fn state_of(lanes: &Lanes, lane: usize, top: usize) -> State
     requires lane { lane < LANES }
-    requires height { height ≤ max_values }
-    ensures { result ≡ state_at lane height lanes.now }
+    requires stands { Stands (floor_of lane lanes.now) top }
+    ensures { result ≡ state_at lane top lanes.now }
 {
     State {
-        stack: lanes.stacks.of_lane(lane, height),
+        stack: lanes
+            .stacks
+            .of_lane(lane, usize::from(lanes.floors.rows[lane]), top),
         lower: bit_written(lanes.lower[lane]),
         upper: bit_written(lanes.upper[lane]),
     }
@@ -66,11 +77,11 @@ fn bit_written(value: u16) -> Option<bool>
     }
 }
 
-/// A lane's entry at the end of the code, however high its stack is.
+/// A lane's entry at the end of the code, wherever its stack ends.
 pub fn entry_at_end(lanes: &Lanes, lane: usize, address: u16) -> u8
     requires { lane < LANES }
-    ensures entry { (height : ℕ) →
-        result ≡ entry_of (is_odd address) (is_odd (address / 2)) (state_at lane height lanes.now) }
+    ensures entry { (top : ℕ) →
+        result ≡ entry_of (is_odd address) (is_odd (address / 2)) (state_at lane top lanes.now) }
     ensures within { result < 4 }
 {
     let state = State {
@@ -83,11 +94,13 @@ pub fn entry_at_end(lanes: &Lanes, lane: usize, address: u16) -> u8
 
 /// Does what an output word says.
 #[inline(always)]
-pub fn write_in(lanes: &mut Lanes, set: &LaneSet, target: Target) -> Result<(), Apart>
-    requires limit { lanes.old.stacks.len ≤ max_values }
-    ensures { WritesIn set.now.mask target lanes.old lanes.new result }
+pub fn write_in(lanes: &mut Lanes, set: &LaneSet, span: Span, target: Target) -> Result<(), Apart>
+    requires holds { Holds span lanes.old.stacks.len }
+    requires floors { (lane : ℕ) → lane < LANES → IsIn set.now.mask lane →
+        IsFor span (floor_of lane lanes.old) }
+    ensures { WritesIn set.now.mask span target lanes.old lanes.new result }
 {
-    lanes.stacks.need(1)?;
+    lanes.stacks.need(span, 1)?;
     let values = *lanes.stacks.at_depth(1);
     let low = lowest_bits(&values);
     lanes.stacks.len -= 1;

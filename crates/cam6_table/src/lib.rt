@@ -14,12 +14,13 @@
 //! stops for want of values exactly where there are fewer than it wants; code of the rule that a
 //! text was accepted as, which filled a table, is the text's code, and the table the text's table.
 //!
-//! Stands on: `cam6_planes`, `cam6_wiring`, `cam6_lookup` and `cam6_forth`.
+//! Stands on: `cam6_planes`, `cam6_wiring`, `cam6_lookup`, `cam6_lines`, `cam6_program` and
+//! `cam6_forth`.
 //!
 //! Read next: `stacks`, what a word does; `outputs`; `codes`, the instructions; `emitter`, how a
-//! rule becomes code; `evaluation`; `lane_values`, `sets`, `lane_stacks`, `lanes`, `flows` and
-//! `together`, how code runs at many addresses at once; `lines_read`, on which lines its results
-//! hang; `tables`; `filling`; `compiling`; then `laws`.
+//! rule becomes code; `evaluation`; `lane_values`, `sets`, `floors`, `spans`, `lane_stacks`, `lanes`,
+//! `flows`, `levels` and `together`, how code runs at many addresses at once; `lines_read`, on which
+//! lines its results hang; `tables` and `bands`; `filling` and `faults`; `compiling`; then `laws`.
 #![tactic(auto)]
 
 mod bands;
@@ -29,14 +30,17 @@ mod emitter;
 mod evaluation;
 mod faults;
 mod filling;
+mod floors;
 mod flows;
 mod lane_stacks;
 mod lane_values;
 mod lanes;
 pub mod laws;
+mod levels;
 mod lines_read;
 mod outputs;
 mod sets;
+mod spans;
 mod stacks;
 mod tables;
 mod together;

@@ -1,21 +1,26 @@
 //! Flat code is run in all lanes at once: lanes that are at one place go on together.
 ghost use Rattle.std.specs.Prelude.{◌≡◌, ◌≢◌, ◌<◌, ◌≤◌, ℕ, OnOk, length};
+ghost use Rattle.cam6_table.specs.declared.lane_values.TheConstants.{LANES};
 ghost use Rattle.cam6_table.specs.Limits.{max_values, max_turns};
 ghost use Rattle.cam6_table.specs.Internal.Lanes.{ActsIn, AreLeft, AreLeftWith};
+ghost use Rattle.cam6_table.specs.Internal.Lanes.{floor_of, Holds, IsFor};
+ghost use Rattle.cam6_table.specs.Internal.Sets.{IsIn};
 
 use crate::codes::{Instruction, Instructions};
 use crate::flows::{Flow, Places, next_flow, part_at_case, part_at_if, wait};
 use crate::lane_stacks::Apart;
 use crate::lane_values::{LaneValues, bits_of, in_all};
 use crate::lanes::{Lanes, write_in};
+use crate::levels::{level_if_due, new_balance};
 use crate::sets::LaneSet;
+use crate::spans::Span;
 
 /// More flows than code of 4,096 instructions can have in 64 lanes.
 const FLOWS: u32 = 64 * 4096;
 
-/// Lanes whose stacks differ in height pass the same instructions one after the other. After so many
-/// instructions in all they are sooner done one by one.
-const MOST_TURNS: u32 = 4 * 4096;
+/// Lanes whose stacks end at different rows pass the same instructions one after the other. After so
+/// many instructions in all they are sooner done one by one.
+const MOST_TURNS: u32 = 12 * 4096;
 
 /// Runs the code in all lanes, each at its address, up to its end, or to where one of them would
 /// stop.
@@ -31,20 +36,26 @@ pub fn run_together(
     ensures left { AreLeft addresses.now code.now places.new lanes.new }
 {
     let mut turns = MOST_TURNS;
+    let mut balance = new_balance(turns);
     for _ in 0..FLOWS {
-        let mut flow = next_flow(code, places, lanes);
+        level_if_due(&mut balance, turns, places, lanes);
+        let mut flow = next_flow(code, balance.stretch(), places, lanes);
         if flow.behind == 0 || turns == 0 {
             return;
         }
+        let before = turns;
         let ran = run_flow(code, addresses, &mut flow, places, lanes, &mut turns);
+        if flow.is_split {
+            balance.lose(before, turns);
+        }
         wait(
             places,
             &flow.set.mask,
             flow.behind,
             lanes.stacks.len,
-            flow.height,
+            flow.top,
         );
-        if ran.is_err() {
+        if ran.is_err() && !flow.was_parted {
             return;
         }
     }
@@ -89,7 +100,7 @@ fn act_in_flow(
         Instruction::SkipIfZero(distance) => part_at_if(distance, flow, places, lanes),
         Instruction::Case(count) => part_at_case(code, count, flow, places, lanes),
         instruction => {
-            let passed = act_in(instruction, addresses, &flow.set, lanes)?;
+            let passed = act_in(instruction, addresses, &flow.set, flow.span, lanes)?;
             flow.behind = (flow.behind - 1).saturating_sub(passed);
             Ok(())
         }
@@ -103,16 +114,19 @@ fn act_in(
     instruction: Instruction,
     addresses: &LaneValues,
     set: &LaneSet,
+    span: Span,
     lanes: &mut Lanes,
 ) -> Result<usize, Apart>
-    requires limit { lanes.old.stacks.len ≤ max_values }
-    ensures { ActsIn set.now.mask addresses.now instruction lanes.old lanes.new result }
+    requires holds { Holds span lanes.old.stacks.len }
+    requires floors { (lane : ℕ) → lane < LANES → IsIn set.now.mask lane →
+        IsFor span (floor_of lane lanes.old) }
+    ensures { ActsIn set.now.mask span addresses.now instruction lanes.old lanes.new result }
 {
     match instruction {
-        Instruction::Literal(value) => lanes.stacks.push(set, &in_all(value))?,
-        Instruction::Line(line) => lanes.stacks.push(set, &bits_of(addresses, line))?,
-        Instruction::Stack(word) => lanes.stacks.apply(set, word)?,
-        Instruction::Output(target) => write_in(lanes, set, target)?,
+        Instruction::Literal(value) => lanes.stacks.push(set, span, &in_all(value))?,
+        Instruction::Line(line) => lanes.stacks.push(set, span, &bits_of(addresses, line))?,
+        Instruction::Stack(word) => lanes.stacks.apply(set, span, word)?,
+        Instruction::Output(target) => write_in(lanes, set, span, target)?,
         Instruction::Skip(distance) => return Ok(distance),
         Instruction::CaseWord { after, .. } => return Ok(after),
         Instruction::SkipIfZero(_) | Instruction::Case(_) => return Err(Apart),

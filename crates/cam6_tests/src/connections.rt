@@ -3,6 +3,7 @@
 use crate::failing::{Failure, Ones};
 use cam6_cache::TableCache;
 use cam6_handoff::boot;
+use cam6_handoff::laws::blank_desks_rest;
 use cam6_planes::{NoMemory, Side};
 use cam6_pool::SlicingGate;
 use cam6_server::{Connection, Hall, Handle, Places, Visit, converse};
@@ -29,6 +30,7 @@ fn hall<R: Handle>(rt: R) -> Result<Hall<R>, NoMemory> {
     };
     let gate = SlicingGate::new(alloc, rt, seat.queue()?, 1)?;
     let cache = TableCache::new(alloc, 1)?;
+    blank_desks_rest();
     let places = Places::new(alloc, desks)?;
     Ok(Hall {
         rt,

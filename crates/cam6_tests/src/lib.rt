@@ -4,9 +4,9 @@
 //! They stand above the other crates and call their public functions alone, so that those crates
 //! are proved once. The program has its own, since no crate can call a program.
 //!
-//! Stands on: all libraries of the repository.
+//! Stands on: `cam6_server`, `cam6_forth`, `cam6_band` and what they stand on.
 //!
-//! Read next: `ample_memory`, each call that takes memory; `planes` and `rows`; `blocks`,
+//! Read next: `ample_memory`, each call that takes memory; `planes`, `rows` and `within`; `blocks`,
 //! `corners`, `addresses` and `lines`, what a cell sees; `bands`, a step that is moved or given up;
 //! `steps`, those of a run and of a rule; `desks`, one of the hand-off table; `connections`, what is
 //! said on one; then `failing`, readers, writers and desks that fail, with the sessions over them in

@@ -12,7 +12,7 @@
 //! and the event is a preempt of board 1, with as many bands left as the place has.
 //!
 //! Stands on: `cam6_handoff`, for words, rows and steps; `cam6_core`, for its model, events and
-//! refusals; `cam6_slot`, `cam6_machine`, `cam6_model` and `cam6_commands`.
+//! refusals; `cam6_slot`, `cam6_machine`, `cam6_model` and `cam6_commands`; `atomic_table`.
 //!
 //! Read next: `specs/Says.antt`, `specs/Steps.antt`; then `laws`.
 #![tactic(auto)]

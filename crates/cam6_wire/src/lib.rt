@@ -25,8 +25,7 @@
 //! defines is UTF-8; the text of a reply, of an outcome, of a line's fault and of the answer to a
 //! first line is one line.
 //!
-//! Stands on: `cam6_planes`, `cam6_wiring`, `cam6_forth`, `cam6_table`, `cam6_block`,
-//! `cam6_commands`;
+//! Stands on: `cam6_planes`, `cam6_wiring`, `cam6_table`, `cam6_block`, `cam6_commands`;
 //! `serde_json` with its grammar in `json`, and `hex`.
 //!
 //! Read next: `faults`, `limits`, `commands` and `replies`; what they read, `fields`, `wirings` and

@@ -8,10 +8,10 @@ loop-board-preserved c =
     let b = c.loop-board.board in
     let users = c.args.users in
     record {
-      same = c.cut_board.ensures.of ∙ c.loop-board.invariant.same;
-      next = c.cut_board.ensures.next;
+      same = c.cut_board-seat.ensures.of ∙ c.loop-board.invariant.same;
+      next = c.cut_board-seat.ensures.next;
       users = refl;
       made = subst (AreIdleSeats (b + 1) users) (sym c.in_ok-push.ensures.items)
-          (one_more_seat b users c.loop-board.seats.items c.cut_board.result
-          c.loop-board.invariant.made c.cut_board.ensures.seat);
+          (one_more_seat b users c.loop-board.seats.items c.cut_board-seat.result
+          c.loop-board.invariant.made c.cut_board-seat.ensures.seat);
     }

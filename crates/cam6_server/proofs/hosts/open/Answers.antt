@@ -1,8 +1,7 @@
-use Rattle.cam6_server.proofs.Resting.{blank_desks_rest}
 use Rattle.cam6_server.proofs.hosts.open.Goals as goal
 
 pub hall_of-requires-clause-desks : goal.hall_of-requires-clause-desks
-hall_of-requires-clause-desks g c = blank_desks_rest _ _ c.in_ok-desks.ensures.desks
+hall_of-requires-clause-desks g c = c.blank_desks_rest.ensures.law _ _ c.in_ok-desks.ensures.desks
 
 pub boards_at-requires : goal.boards_at-requires
 boards_at-requires g c = λ i seat at. (c.in_ok-desks.ensures.seats.each i seat at).idle

@@ -18,10 +18,10 @@ returns-then-behind-eq0 c =
     let room = c.args.room.now in
     let address = c.args.address in
     let behind = slice_index room.places.behinds c.args.lane in
-    let height = slice_index room.places.heights c.args.lane in
+    let top = slice_index room.places.tops c.args.lane in
     let none : last_of behind code ≡ [] = drop_all (length code - behind) code (omega arith) in
-    ap ok_entry (c.entry_at_end.ensures.entry height) ∙
+    ap ok_entry (c.entry_at_end.ensures.entry top) ∙
     ap (entry_at address)
     (sym (ap (λ (left : List Instruction).
-    exec (shown address) left 0 None (state_at c.args.lane height room.lanes)) none) ∙
+    exec (shown address) left 0 None (state_at c.args.lane top room.lanes)) none) ∙
     c.requires.left.left)

@@ -1,5 +1,5 @@
 use Rattle.std.proofs.Common.{◌≡◌, ◌∙◌, ◌-◌, List, ℕ, slice_index, sym, ap, refl, arith, inl, inr}
-use Rattle.cam6_table.proofs.LaneWords.{at_row}
+use Rattle.cam6_table.specs.Internal.Lanes.{value_at}
 use Rattle.cam6_table.proofs.Parting.{not_zero, is_zero, set_of_others, value_of_others}
 use Rattle.cam6_table.proofs.Parting.{no_zero, all_zero, set_of_zeros, none_of_none, each_other}
 use Rattle.cam6_table.proofs.Parting.{same_left, left_there, left_after_if}
@@ -14,15 +14,16 @@ returns-then-distance-eq0-clause-left c = λ addresses code next left.
     let within = left.within in
     record {
       within = omega arith;
-      limit = omega arith;
+      holds = record { low = omega arith; high = omega arith; within = c.requires.holds.within };
+      floors = left.floors;
       each = left.each;
-      heights = left.heights;
+      tops = left.tops;
       inside = λ lane below inside.
-          let v = at_row lane lanes.stacks.rows (len - 1) in
+          let v = value_at lane lanes.stacks.rows (len - 1) in
           left_after_if (slice_index addresses lane) code flow.behind (flow.behind - 1) len lanes _
-          lane (omega arith) (omega arith) refl (left.inside lane below inside) c.args.distance 0 next
+          lane (omega arith) (let low = (left.floors lane below inside).low in omega arith) refl refl (left.inside lane below inside) c.args.distance 0 next
           (never_passes v c.args.distance c.if-distance-eq0.true) (omega arith);
-      outside = λ lane below outside. same_left _ _ _ _ lanes _ lane refl
+      outside = λ lane below outside. same_left _ _ _ _ lanes _ lane refl refl
           (left.outside lane below outside);
     }
 
@@ -34,11 +35,12 @@ returns-then-is_none-clause-left c = λ addresses code next left.
     let within = left.within in
     record {
       within = omega arith;
-      limit = omega arith;
+      holds = record { low = omega arith; high = omega arith; within = c.requires.holds.within };
+      floors = left.floors;
       each = left.each;
-      heights = left.heights;
+      tops = left.tops;
       inside = λ lane below inside.
-          let v = at_row lane lanes.stacks.rows (len - 1) in
+          let v = value_at lane lanes.stacks.rows (len - 1) in
           let top : slice_index c.at_depth-top.result.now lane ≡ v =
           ap (λ (row : List ℕ). slice_index row lane) c.at_depth-top.ensures in
           let other = not_zero (slice_index flow.set.mask lane)
@@ -47,9 +49,9 @@ returns-then-is_none-clause-left c = λ addresses code next left.
           (c.those_with-zeros.ensures lane below) (c.those_without-others.ensures lane below) inside
           (c.if-is_none.ensures refl lane below) in
           left_after_if (slice_index addresses lane) code flow.behind (flow.behind - 1) len lanes _
-          lane (omega arith) (omega arith) refl (left.inside lane below inside) c.args.distance 0 next
+          lane (omega arith) (let low = (left.floors lane below inside).low in omega arith) refl refl (left.inside lane below inside) c.args.distance 0 next
           (goes_in v c.args.distance (λ is. other (top ∙ is))) (omega arith);
-      outside = λ lane below outside. same_left _ _ _ _ lanes _ lane refl
+      outside = λ lane below outside. same_left _ _ _ _ lanes _ lane refl refl
           (left.outside lane below outside);
     }
 
@@ -62,11 +64,12 @@ returns-then-is_none-2-clause-left c = λ addresses code next left.
     let target = c.saturating_sub-target in
     record {
       within = omega arith;
-      limit = omega arith;
+      holds = record { low = omega arith; high = omega arith; within = c.requires.holds.within };
+      floors = left.floors;
       each = left.each;
-      heights = left.heights;
+      tops = left.tops;
       inside = λ lane below inside.
-          let v = at_row lane lanes.stacks.rows (len - 1) in
+          let v = value_at lane lanes.stacks.rows (len - 1) in
           let top : slice_index c.at_depth-top.result.now lane ≡ v =
           ap (λ (row : List ℕ). slice_index row lane) c.at_depth-top.ensures in
           let zero = is_zero (slice_index flow.set.mask lane)
@@ -75,15 +78,16 @@ returns-then-is_none-2-clause-left c = λ addresses code next left.
           (c.those_with-zeros.ensures lane below) (c.those_without-others.ensures lane below) inside
           (c.if-is_none-2.ensures refl lane below) in
           left_after_if (slice_index addresses lane) code flow.behind target.result len lanes _ lane
-          (omega arith) (omega arith) refl (left.inside lane below inside) c.args.distance
+          (omega arith) (let low = (left.floors lane below inside).low in omega arith) refl refl
+          (left.inside lane below inside) c.args.distance
           c.args.distance next (goes_past v c.args.distance (sym top ∙ zero)) target.ensures;
-      outside = λ lane below outside. same_left _ _ _ _ lanes _ lane refl
+      outside = λ lane below outside. same_left _ _ _ _ lanes _ lane refl refl
           (left.outside lane below outside);
     }
 
 pub wait-requires-clause-old : goal.wait-requires-clause-old
 wait-requires-clause-old c = λ lane below inside.
-    c.requires.heights lane below
+    c.requires.tops lane below
     (set_of_zeros (slice_index c.args.flow.now.set.mask lane)
     (slice_index c.at_depth-top.result.now lane) (slice_index c.those_with-zeros.result lane)
     (slice_index c.those_without-others.result lane) (c.those_with-zeros.ensures lane below)
@@ -105,29 +109,35 @@ returns-clause-left c = λ addresses code next left.
     let others_are = c.those_without-others.ensures in
     record {
       within = omega arith;
-      limit = omega arith;
+      holds = record { low = omega arith; high = omega arith; within = c.requires.holds.within };
+      floors = λ lane below inside. left.floors lane below
+          (set_of_others (set lane) (top lane) (zeros lane) (others lane)
+          (zeros_are lane below) (others_are lane below) inside);
       each = λ lane below. each_other (set lane) (top lane) (zeros lane) (others lane)
           (zeros_are lane below) (others_are lane below) (left.each lane below);
-      heights = λ lane below inside.
+      tops = λ lane below inside.
           let other = value_of_others (set lane) (top lane) (zeros lane) (others lane)
           (zeros_are lane below) (others_are lane below) inside in
           let none = no_zero (set lane) (top lane) (zeros lane) (others lane)
           (zeros_are lane below) (others_are lane below) other in
-          c.wait.ensures.other_heights lane below none ∙
-          left.heights lane below (set_of_others (set lane) (top lane) (zeros lane) (others lane)
+          c.wait.ensures.other_tops lane below none ∙
+          left.tops lane below (set_of_others (set lane) (top lane) (zeros lane) (others lane)
           (zeros_are lane below) (others_are lane below) inside);
       inside = λ lane below inside.
-          let v = at_row lane rows (len - 1) in
+          let v = value_at lane rows (len - 1) in
           let is : top lane ≡ v = ap (λ (row : List ℕ). slice_index row lane) c.at_depth-top.ensures in
           let other = value_of_others (set lane) (top lane) (zeros lane) (others lane)
           (zeros_are lane below) (others_are lane below) inside in
+          let was = set_of_others (set lane) (top lane) (zeros lane) (others lane)
+          (zeros_are lane below) (others_are lane below) inside in
+          let low = (left.floors lane below was).low in
           left_after_if (slice_index addresses lane) code flow.behind (flow.behind - 1) len lanes _
-          lane (omega arith) (omega arith) refl
+          lane (omega arith) (omega arith) refl refl
           (left.inside lane below (set_of_others (set lane) (top lane) (zeros lane) (others lane)
           (zeros_are lane below) (others_are lane below) inside)) c.args.distance 0 next
           (goes_in v c.args.distance (λ same. other (is ∙ same))) (omega arith);
       outside = λ lane below outside.
-          let v = at_row lane rows (len - 1) in
+          let v = value_at lane rows (len - 1) in
           let is : top lane ≡ v = ap (λ (row : List ℕ). slice_index row lane) c.at_depth-top.ensures in
           let address = slice_index addresses lane in
           elim (left.each lane below) [
@@ -137,16 +147,17 @@ returns-clause-left c = λ addresses code next left.
                 let waits = all_zero (set lane) (top lane) (zeros lane) (others lane)
                 (zeros_are lane below) (others_are lane below) zero ∙ inside in
                 left_there address code target.result (len - 1) _ _ _ lane
-                (c.wait.ensures.behinds lane below waits) (c.wait.ensures.heights lane below waits)
+                (c.wait.ensures.behinds lane below waits) (c.wait.ensures.tops lane below waits)
                 (left_after_if address code flow.behind target.result len lanes _ lane (omega arith)
-                (omega arith) refl (left.inside lane below inside) c.args.distance c.args.distance
+                (let low = (left.floors lane below inside).low in omega arith) refl refl
+                (left.inside lane below inside) c.args.distance c.args.distance
                 next (goes_past v c.args.distance (sym is ∙ zero)) target.ensures))
             | inr out ↦ (
                 let none = none_of_none (set lane) (top lane) (zeros lane) (others lane)
                 (zeros_are lane below) (others_are lane below) out in
                 left_there address code _ _ _ _ _ lane
                 (c.wait.ensures.other_behinds lane below none)
-                (c.wait.ensures.other_heights lane below none)
-                (same_left address code _ _ lanes _ lane refl (left.outside lane below out)))
+                (c.wait.ensures.other_tops lane below none)
+                (same_left address code _ _ lanes _ lane refl refl (left.outside lane below out)))
           ];
     }

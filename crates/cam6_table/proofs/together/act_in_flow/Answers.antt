@@ -1,7 +1,8 @@
-use Rattle.std.proofs.Common.{slice_index, subst, arith}
-use Rattle.cam6_table.specs.Internal.Lanes.{IsNext}
+use Rattle.std.proofs.Common.{slice_index, subst, sym, arith}
+use Rattle.cam6_table.specs.declared.floors.Floors.{Floors}
+use Rattle.cam6_table.specs.Internal.Lanes.{floor_of, IsNext, IsFor}
 use Rattle.cam6_table.proofs.Outcomes.{still_left}
-use Rattle.cam6_table.proofs.Parting.{same_left}
+use Rattle.cam6_table.proofs.Parting.{same_left, stands_in}
 use Rattle.cam6_table.proofs.together.act_in_flow.Goals as goal
 
 pub returns-in-SkipIfZero-clause-left : goal.returns-in-SkipIfZero-clause-left
@@ -28,16 +29,22 @@ returns-in_ok-passed-in_default c =
       falls = omega arith;
       left = record {
         within = omega arith;
-        limit = done.ensures.limit;
+        holds = done.ensures.holds;
+        floors = λ lane below inside.
+            subst (λ (f : Floors). IsFor flow.span (slice_index f.rows lane))
+            (sym done.ensures.floors) (left.floors lane below inside);
         each = left.each;
-        heights = left.heights;
+        tops = left.tops;
         inside = λ lane below inside.
             still_left (slice_index c.args.addresses.now lane) code c.before-2.result flow.behind
             fewer.result lanes.stacks.len new.stacks.len lanes new lane (omega arith)
-            c.before-2.ensures done.ensures.limit done.passed fewer.ensures
+            c.before-2.ensures
+            (stands_in flow.span new.stacks.len (floor_of lane new) done.ensures.holds
+            (subst (λ (f : Floors). IsFor flow.span (slice_index f.rows lane))
+            (sym done.ensures.floors) (left.floors lane below inside))) done.passed fewer.ensures
             (done.ensures.each lane below inside) (left.inside lane below inside);
         outside = λ lane below outside.
-            same_left _ _ _ _ lanes new lane (done.ensures.others lane below outside _)
+            same_left _ _ _ _ lanes new lane done.ensures.floors (done.ensures.others lane below outside _)
             (left.outside lane below outside);
       };
     }

@@ -9,9 +9,8 @@ invariant-loop-index l = record {
   lease : l.lease ≡ l.fn.lease;
   end : l.index-end ≡ needs_of l.lease.work;
   few : l.index-end ≤ max_tables;
-  places : length l.self-inside.tables ≡ max_tables;
   filled : (k : ℕ) → k < l.index →
-      IsTableNeeded l.lease.work k (slice_index_or l.self-inside.tables k []);
+      IsTableNeeded l.lease.work k (slice_index_or l.self k []);
   loads : IsBehindLoadsOf l.lease.work l.index l.fn.cache l.cache;
   capacity : l.cache.capacity ≡ l.fn.cache.capacity;
 }

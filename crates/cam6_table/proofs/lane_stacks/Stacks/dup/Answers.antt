@@ -6,10 +6,11 @@ pub returns : goal.returns
 returns c =
     let s = c.args.self.now in
     record {
-      limit = omega arith;
-      each = λ lane below inside.
-          let said = dup_leaves lane s.len s.rows (omega arith) (omega arith) in
-          let put = c.put.ensures.put lane below inside in
+      holds = record { low = omega arith; high = omega arith; within = c.requires.holds.within };
+      each = λ lane below inside floor is.
+          let said = (let low = is.low in let full = is.full in
+          dup_leaves lane floor s.len s.rows (omega arith) (omega arith)) in
+          let put = (let low = is.low in c.put.ensures.put lane below inside floor (omega arith)) in
           cc;
       others = c.put.ensures.others;
     }

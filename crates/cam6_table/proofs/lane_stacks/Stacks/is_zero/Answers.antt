@@ -6,10 +6,10 @@ pub returns : goal.returns
 returns c =
     let s = c.args.self.now in
     record {
-      limit = omega arith;
-      each = λ lane below inside.
-          let said = is_zero_leaves lane s.len s.rows (omega arith) in
-          let put = c.put.ensures.put lane below inside in
+      holds = record { low = omega arith; high = omega arith; within = c.requires.holds.within };
+      each = λ lane below inside floor is.
+          let said = (let low = is.low in is_zero_leaves lane floor s.len s.rows (omega arith)) in
+          let put = (let low = is.low in c.put.ensures.put lane below inside floor (omega arith)) in
           let zero = c.zeros-zeros.ensures lane below in
           cc;
       others = c.put.ensures.others;

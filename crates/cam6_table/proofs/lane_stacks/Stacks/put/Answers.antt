@@ -3,14 +3,14 @@ use Rattle.cam6_table.proofs.Columns.{column_kept, column_more}
 use Rattle.cam6_table.proofs.lane_stacks.Stacks.put.Goals as goal
 
 pub returns-clause-put : goal.returns-clause-put
-returns-clause-put c = λ lane below inside.
+returns-clause-put c = λ lane below inside floor low.
     let s = c.args.self.now in
-    column_more lane s.rows s.len c.chosen.result (s.len + 1)
-    (slice_index c.args.values.now lane) (omega arith) refl
+    column_more lane s.rows s.len c.chosen.result floor (s.len + 1)
+    (slice_index c.args.values.now lane) (omega arith) low refl
     (c.chosen.ensures.inside lane below inside)
 
 pub returns-clause-others : goal.returns-clause-others
-returns-clause-others c = λ lane below outside height.
+returns-clause-others c = λ lane below outside floor top.
     let s = c.args.self.now in
     column_kept lane s.rows s.len c.chosen.result (omega arith)
-    (c.chosen.ensures.outside lane below outside) height
+    (c.chosen.ensures.outside lane below outside) floor top

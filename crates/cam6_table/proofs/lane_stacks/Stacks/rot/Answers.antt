@@ -6,15 +6,15 @@ pub returns : goal.returns
 returns c =
     let s = c.args.self.now in
     record {
-      limit = omega arith;
-      each = λ lane below inside.
-          let said = rot_leaves lane s.len s.rows (omega arith) in
-          let first = c.put.ensures.put lane below inside in
-          let second = c.put-2.ensures.put lane below inside in
-          let third = c.put-3.ensures.put lane below inside in
+      holds = record { low = omega arith; high = omega arith; within = c.requires.holds.within };
+      each = λ lane below inside floor is.
+          let said = (let low = is.low in rot_leaves lane floor s.len s.rows (omega arith)) in
+          let first = (let low = is.low in c.put.ensures.put lane below inside floor (omega arith)) in
+          let second = (let low = is.low in c.put-2.ensures.put lane below inside floor (omega arith)) in
+          let third = (let low = is.low in c.put-3.ensures.put lane below inside floor (omega arith)) in
           cc;
-      others = λ lane below outside height.
-          c.put-3.ensures.others lane below outside height ∙
-          c.put-2.ensures.others lane below outside height ∙
-          c.put.ensures.others lane below outside height;
+      others = λ lane below outside floor top.
+          c.put-3.ensures.others lane below outside floor top ∙
+          c.put-2.ensures.others lane below outside floor top ∙
+          c.put.ensures.others lane below outside floor top;
     }

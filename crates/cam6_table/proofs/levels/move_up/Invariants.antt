@@ -1,0 +1,21 @@
+use Rattle.std.proofs.Common.{◌≡◌, ◌<◌, ◌≤◌, ◌+◌, ℕ}
+use Rattle.cam6_table.specs.declared.lane_values.TheConstants.{LANES}
+use Rattle.cam6_table.specs.Internal.Lanes.{value_at}
+use Rattle.cam6_table.specs.Internal.Sets.{IsIn, IsOut}
+use Rattle.cam6_table.proofs.levels.move_up.Given as goal
+
+-- the rows from the next one on are where they go, and the others where they were
+abbrev pub invariant-loop-next : goal.invariant-loop-next
+invariant-loop-next l = record {
+  last : l.next ≤ l.to;
+  len : l.stacks.len ≡ l.fn.stacks.len;
+  moved : (lane row : ℕ) → lane < LANES → IsIn l.set lane → l.next ≤ row → row < l.to →
+      value_at lane l.stacks.rows (row + l.by) ≡ value_at lane l.fn.stacks.rows row;
+  kept : (lane row : ℕ) → row < l.next + l.by →
+      value_at lane l.stacks.rows row ≡ value_at lane l.fn.stacks.rows row;
+  outside : (lane row : ℕ) → lane < LANES → IsOut l.set lane →
+      value_at lane l.stacks.rows row ≡ value_at lane l.fn.stacks.rows row;
+}
+
+abbrev pub decreases-loop-next : goal.decreases-loop-next
+decreases-loop-next l = l.next
