@@ -3,7 +3,7 @@
 //!
 //! The arguments name files of `data/`. `play` of `cam6_examples` says what they ask for, and does all
 //! but the ways. After the argument `scarce` it does what takes memory, for runs in which an allocation
-//! fails (`scarce`). The program makes no claim of its own beyond being safe. `./connections` plays
+//! fails (`scarce`). The program makes no claim of its own beyond being safe. `checks/connections` plays
 //! the same sessions over connections to the program `cam6`.
 //!
 //! Stands on: `cam6_examples`, how files are read and compared; `cam6_session`, `cam6_cache` and what

@@ -1,4 +1,4 @@
-//! Does what takes memory, for runs in which an allocation fails: `./scarce` at the top of the
+//! Does what takes memory, for runs in which an allocation fails: `checks/out-of-memory` of the
 //! repository has each fail in turn. Whatever finds no memory is taken up again.
 //!
 //! Without further words it loads two tables from a cache, and prints which were kept; with ample
