@@ -231,9 +231,9 @@ def idle_seats() -> None:
 def dear_lines() -> list[str]:
     """Sixteen rules of 3,840 words with an IF for each line, all of half A, and a cycle of them."""
     lines = ["CENTER", "CENTER'", "CW", "CCW", "OPP", "CW'", "CCW'", "OPP'", "HORZ", "VERT", "&PHASE", "&PHASE'"]
-    words = doubled("W", " ".join(f"{line} IF 1 XOR THEN" for line in lines), 6)
+    words = doubled("UNIT", " ".join(f"{line} IF 1 XOR THEN" for line in lines), 6)
     rules = [
-        '{"do":"rule","name":"R%d","half":"A","hood":"N/MARG-HV","minor":"&/PHASES","text":"%s : R %d W6 W4 ;"}' % (k, words, k)
+        '{"do":"rule","name":"R%d","half":"A","hood":"N/MARG-HV","minor":"&/PHASES","text":"%s : R %d UNIT6 UNIT4 ;"}' % (k, words, k)
         for k in range(16)
     ]
     entries = ",".join('{"a":"R%d","b":"-","grid":"EVEN","phase":0}' % k for k in range(16))

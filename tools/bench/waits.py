@@ -46,8 +46,8 @@ def repeated(number: int, start: str, unit: str, size: int) -> str:
     """The text of a rule of some 4,096 words: the words of the start, and then a unit of so many words again and again. Each
     number gives another text."""
     times = (4096 - len(start.split()) - 2) // size
-    names = [f"W{i}" for i in range(times.bit_length())]
-    text = f": W0 {unit} ;" + "".join(f" : {name} {below} {below} ;" for below, name in zip(names, names[1:]))
+    names = [f"UNIT{i}" for i in range(times.bit_length())]
+    text = f": UNIT0 {unit} ;" + "".join(f" : {name} {below} {below} ;" for below, name in zip(names, names[1:]))
     chosen = [name for i, name in enumerate(names) if times >> i & 1]
     return f"{text} : R {number} DROP {start} {' '.join(chosen)} ;"
 
