@@ -12,7 +12,7 @@ use Rattle.cam6_wiring.specs.declared.names.Phase.{Phase}
 use Rattle.cam6_wiring.specs.declared.neighbours.Setting.{Setting}
 use Rattle.cam6_wiring.specs.declared.wirings.Hood.{Hood}
 use Rattle.cam6_wiring.specs.declared.wirings.Minor.{Minor}
-use Rattle.cam6_table.specs.NewBits.{bit_for}
+use Rattle.cam6_entries.specs.NewBits.{bit_for}
 use Rattle.cam6_band.specs.declared.tables.HalfTable.{HalfTable}
 use Rattle.cam6_band.specs.declared.tables.EntryTables.{EntryTables}
 

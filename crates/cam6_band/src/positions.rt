@@ -8,7 +8,7 @@ ghost use Rattle.cam6_band.specs.AtPosition.{tables_from, step_tables_at, half_a
 
 use crate::tables::{EntryTables, HalfTable};
 use cam6_cycle::{Cycle, Direction, Entry, HalfRule};
-use cam6_table::Table;
+use cam6_entries::Table;
 
 /// The tables by which a step goes this way from a position, among tables that lie as the cycle
 /// needs them, one for each use of a rule; and the position after the step.

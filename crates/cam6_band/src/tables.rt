@@ -2,7 +2,7 @@
 ghost use Rattle.std.specs.Prelude.{◌≡◌};
 ghost use Rattle.cam6_band.specs.ByTables.{setting_by, values_of};
 
-use cam6_table::Table;
+use cam6_entries::Table;
 use cam6_wiring::{Grid, Half, Hood, Minor, Phase, Setting};
 
 /// A half's table, and what names are on its address lines.

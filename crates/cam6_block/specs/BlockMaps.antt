@@ -12,7 +12,7 @@ use Rattle.cam6_forth.specs.Tree.{Part}
 use Rattle.cam6_forth.specs.Trees.{tree_of}
 use Rattle.cam6_table.specs.declared.faults.RuleFault.{RuleFault}
 use Rattle.cam6_table.specs.Meaning.{meaning}
-use Rattle.cam6_table.specs.NewBits.{bit_for}
+use Rattle.cam6_entries.specs.NewBits.{bit_for}
 use Rattle.cam6_block.specs.Blocks.{block_states, state_of, corner_sees}
 
 -- two new bits, as a number, by what is seen

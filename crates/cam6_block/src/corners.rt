@@ -3,7 +3,7 @@ ghost use Rattle.std.specs.Prelude.{◌≡◌, ◌<◌, ◌+◌, [], ◌∷◌, 
 ghost use Rattle.cam6_wiring.specs.Seen.{number_of, line_shows};
 ghost use Rattle.cam6_wiring.specs.declared.names.Level.TheVariants.{Lower, Upper};
 ghost use Rattle.cam6_wiring.specs.Wiring.{hood_names, minor_names, is_margolus};
-ghost use Rattle.cam6_table.specs.Limits.{addresses};
+ghost use Rattle.cam6_entries.specs.Limits.{addresses};
 ghost use Rattle.cam6_block.specs.Blocks.{corner_bit, corner_bits, corner_sees, corner_address};
 ghost use Rattle.cam6_block.specs.Blocks.{is_right, is_low};
 

@@ -3,7 +3,7 @@ ghost use Rattle.std.specs.Prelude.{◌≡◌, ◌<◌, ◌%◌, ℕ, true, IfOk
 ghost use Rattle.std.specs.Prelude.{slice_index};
 ghost use Rattle.cam6_wiring.specs.declared.names.Phase.{Phase};
 ghost use Rattle.cam6_wiring.specs.Wiring.{is_margolus};
-ghost use Rattle.cam6_table.specs.Limits.{addresses};
+ghost use Rattle.cam6_entries.specs.Limits.{addresses};
 ghost use Rattle.cam6_block.specs.BlockMaps.{by_table, block_map};
 ghost use Rattle.cam6_block.specs.BlockMaps.{IsOneToOne, IsReversible};
 ghost use Rattle.cam6_block.specs.Inverted.{IsInverted};

@@ -1,7 +1,7 @@
 //! The table of a rule's code, by the direction in which a cycle is gone along.
 ghost use Rattle.std.specs.Prelude.{◌≡◌, ◌<◌, ℕ, List, length, Some, IsOk, IfOk, IfErr, OnErr};
 ghost use Rattle.cam6_cycle.specs.declared.tables.Direction.TheVariants.{Forward, Backward};
-ghost use Rattle.cam6_table.specs.Limits.{addresses};
+ghost use Rattle.cam6_entries.specs.Limits.{addresses};
 ghost use Rattle.cam6_table.specs.Codes.{result_at};
 ghost use Rattle.cam6_table.specs.Tables.{AreEntries};
 ghost use Rattle.cam6_table.specs.RuleTexts.{IsCodeFor};

@@ -8,7 +8,7 @@ use crate::images::Image;
 use crate::worked::Worked;
 use cam6_band::go_by;
 use cam6_cycle::{Cycle, Direction};
-use cam6_table::Table;
+use cam6_entries::Table;
 use std::marker::Model;
 
 /// So many steps of an image along a cycle, one way from a position. Within a step the position is

@@ -4,7 +4,7 @@ ghost use Rattle.cam6_cycle.specs.Limits.{max_tables};
 
 use cam6_cycle::MAX_TABLES;
 use cam6_planes::NoMemory;
-use cam6_table::Table;
+use cam6_entries::Table;
 use std::alloc::Global;
 use std::marker::Model;
 

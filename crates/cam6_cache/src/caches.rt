@@ -42,7 +42,7 @@ impl Model for TableCache {
 
 impl TableCache {
     ghost use Rattle.std.specs.Prelude.{◌<◌, ◌≤◌, [], ◌⊎◌, true, not, length, IfOk, MatchBool};
-    ghost use Rattle.cam6_table.specs.Limits.{addresses};
+    ghost use Rattle.cam6_entries.specs.Limits.{addresses};
     ghost use Rattle.cam6_table.specs.RuleTexts.{IsCodeFor};
     ghost use Rattle.cam6_cache.specs.Keys.{IsReversibleKey, IsTrueFor};
     ghost use Rattle.cam6_cache.specs.Cached.{AreTrue, AreApart, is_cached, is_empty};

@@ -14,7 +14,8 @@ use Rattle.cam6_table.specs.declared.faults.RuleFault.{RuleFault}
 use Rattle.cam6_table.specs.declared.faults.RuleFault.TheVariants.{CaseIndex}
 use Rattle.cam6_table.specs.declared.outputs.State.{State}
 use Rattle.cam6_table.specs.Words.{pushed, on_stack}
-use Rattle.cam6_table.specs.Outputs.{untouched, written, entry_of, is_odd}
+use Rattle.cam6_entries.specs.NewBits.{is_odd}
+use Rattle.cam6_table.specs.Outputs.{untouched, written, entry_of}
 use Rattle.cam6_table.specs.Meaning.{then_do, with_stack, with_top, at_zero, at_address}
 
 -- the last so many instructions

@@ -10,7 +10,7 @@ use Rattle.cam6_forth.specs.declared.words.StackWord.{StackWord}
 use Rattle.cam6_table.specs.declared.codes.Instruction.{Instruction}
 use Rattle.cam6_table.specs.declared.faults.RuleFault.{RuleFault}
 use Rattle.cam6_table.specs.declared.faults.RuleFault.TheVariants.{MissingValue}
-use Rattle.cam6_table.specs.Limits.{addresses}
+use Rattle.cam6_entries.specs.Limits.{addresses}
 use Rattle.cam6_table.specs.Words.{Values, wants, on_stack}
 use Rattle.cam6_table.specs.Meaning.{meaning, at_address}
 use Rattle.cam6_table.specs.Tables.{Results, AreEntries, IsLeastStop, IsTrueTable, least_stop}

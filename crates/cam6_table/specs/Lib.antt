@@ -12,7 +12,5 @@ pub mod Tables
 pub mod Codes
 pub mod RuleTexts
 pub mod Compiling
-pub mod NewBits
-pub mod Bands
 pub mod Laws
 pub mod Internal

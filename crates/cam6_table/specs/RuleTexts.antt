@@ -5,7 +5,7 @@ use Rattle.cam6_forth.specs.Texts.{IsTextOf}
 use Rattle.cam6_forth.specs.Tree.{IsRule}
 use Rattle.cam6_forth.specs.Trees.{tree_of}
 use Rattle.cam6_table.specs.declared.codes.Instruction.{Instruction}
-use Rattle.cam6_table.specs.Limits.{addresses}
+use Rattle.cam6_entries.specs.Limits.{addresses}
 use Rattle.cam6_table.specs.Codes.{result_at}
 use Rattle.cam6_table.specs.Meaning.{at_address}
 use Rattle.cam6_table.specs.Tables.{IsTrueTable}

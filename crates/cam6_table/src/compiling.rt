@@ -7,7 +7,7 @@ ghost use Rattle.cam6_table.specs.Compiling.{fault_in, IsRefusedFor};
 use crate::codes::Code;
 use crate::faults::RuleFault;
 use crate::filling::fill;
-use crate::tables::Table;
+use cam6_entries::Table;
 use cam6_forth::{ParseFault, TextFault, parse_under};
 use cam6_planes::NoMemory;
 use cam6_wiring::Wiring;

@@ -3,9 +3,9 @@
 ghost use Rattle.std.specs.Prelude.{◌≡◌, ◌<◌, ◌≤◌, ℕ, Ok, Err, IfOk, IfErr, IsOk, length};
 ghost use Rattle.std.specs.Prelude.{slice_index, bit_and};
 ghost use Rattle.cam6_table.specs.declared.lane_values.TheConstants.{LANES};
-ghost use Rattle.cam6_table.specs.declared.tables.TheConstants.{ENTRIES};
+ghost use Rattle.cam6_entries.specs.declared.tables.TheConstants.{ENTRIES};
 ghost use Rattle.cam6_table.specs.Tables.{AreEntries, IsLeastStop};
-ghost use Rattle.cam6_table.specs.Limits.{addresses};
+ghost use Rattle.cam6_entries.specs.Limits.{addresses};
 ghost use Rattle.cam6_table.specs.Codes.{result_at};
 ghost use Rattle.cam6_table.specs.Internal.Lanes.{IsLeft, AreLeft};
 ghost use Rattle.cam6_table.specs.Internal.LinesRead.{IsMaskFor};
@@ -19,8 +19,8 @@ use crate::lane_values::{LANES, LaneValues};
 use crate::lanes::{Lanes, all_untouched, clear, entry_at_end, state_of};
 use crate::lines_read::lines_read;
 use crate::outputs::entry_of;
-use crate::tables::{ENTRIES, Table};
 use crate::together::run_together;
+use cam6_entries::{ENTRIES, Table};
 
 /// Makes the table that of a rule, or names the least address at which it stops, and the fault
 /// there, also if no cell shows the address. After a fault nothing is promised of the table's

@@ -2,7 +2,8 @@
 ghost use Rattle.std.specs.Prelude.{◌≡◌, ◌<◌, ◌≤◌, ◌/◌, ℕ};
 ghost use Rattle.cam6_table.specs.declared.lane_values.TheConstants.{LANES};
 ghost use Rattle.cam6_table.specs.Limits.{max_values};
-ghost use Rattle.cam6_table.specs.Outputs.{untouched, entry_of, is_odd};
+ghost use Rattle.cam6_entries.specs.NewBits.{is_odd};
+ghost use Rattle.cam6_table.specs.Outputs.{untouched, entry_of};
 ghost use Rattle.cam6_table.specs.Internal.Lanes.{bit_written, state_at, floor_of, WritesIn};
 ghost use Rattle.cam6_table.specs.Internal.Lanes.{Stands, Holds, IsFor};
 ghost use Rattle.cam6_table.specs.Internal.Sets.{IsIn};

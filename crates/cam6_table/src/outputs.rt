@@ -1,7 +1,8 @@
 //! The state of a rule that runs: its stack, and the last write to each plane.
 ghost use Rattle.std.specs.Prelude.{◌≡◌, ◌<◌, ◌/◌, ℕ, Bool, None};
 ghost use Rattle.cam6_table.specs.Words.{IsOutcome};
-ghost use Rattle.cam6_table.specs.Outputs.{untouched, written, is_odd, entry_of};
+ghost use Rattle.cam6_entries.specs.NewBits.{is_odd};
+ghost use Rattle.cam6_table.specs.Outputs.{untouched, written, entry_of};
 
 use crate::faults::RuleFault;
 use crate::stacks::Stack;

@@ -8,7 +8,7 @@ use cam6_board::Tables;
 use cam6_cycle::Direction;
 use cam6_planes::NoMemory;
 use cam6_slot::{Lease, Need};
-use cam6_table::Table;
+use cam6_entries::Table;
 use cam6_wiring::Wiring;
 use std::alloc::Global;
 use std::io;

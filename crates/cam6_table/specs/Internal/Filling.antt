@@ -1,7 +1,7 @@
 -- How a table is filled: batch by batch of the addresses that show nothing but lines of a mask.
 use Rattle.std.specs.Prelude.{◌≡◌, ◌≤◌, ◌<◌, ℕ, List, Ok, Err, IsOk, slice_index, bit_and}
 use Rattle.cam6_table.specs.declared.faults.RuleFault.{RuleFault}
-use Rattle.cam6_table.specs.Limits.{addresses}
+use Rattle.cam6_entries.specs.Limits.{addresses}
 use Rattle.cam6_table.specs.Tables.{Results}
 
 -- the entry at an address is the result there

@@ -1,8 +1,10 @@
 -- The new bits of a cell.
-use Rattle.std.specs.Prelude.{ℕ, ◌/◌, Bool}
+use Rattle.std.specs.Prelude.{ℕ, ◌/◌, ◌%◌, ◌==◌, Bool}
 use Rattle.cam6_wiring.specs.declared.names.Level.{Level}
 use Rattle.cam6_wiring.specs.declared.names.Level.TheVariants.{Lower, Upper}
-use Rattle.cam6_table.specs.Outputs.{is_odd}
+
+abbrev pub is_odd : ℕ → Bool
+is_odd v = v % 2 == 1
 
 -- of two new bits, the lowest is the lower plane's and the next the upper plane's
 abbrev pub bit_for : Level → ℕ → Bool

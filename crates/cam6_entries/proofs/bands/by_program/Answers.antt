@@ -13,11 +13,11 @@ use Rattle.cam6_lines.specs.Bands.{IsBandOf, side_of}
 use Rattle.cam6_lines.specs.Units.{columns, place, asked_for}
 use Rattle.cam6_program.specs.Meaning.{bit_by}
 use Rattle.cam6_program.specs.Programs.{keeps}
-use Rattle.cam6_table.proofs.KeptPlanes.{bit_kept, own_bit, not_kept, written_or_kept}
-use Rattle.cam6_table.proofs.BandRows.{unit_written, place_within}
-use Rattle.cam6_table.proofs.bands.by_program.Goals.{then-written, else-written}
-use Rattle.cam6_table.proofs.bands.by_program.Goals.{then-written-2, else-written-2}
-use Rattle.cam6_table.proofs.bands.by_program.Goals as goal
+use Rattle.cam6_entries.proofs.KeptPlanes.{bit_kept, own_bit, not_kept, written_or_kept}
+use Rattle.cam6_entries.proofs.BandRows.{unit_written, place_within}
+use Rattle.cam6_entries.proofs.bands.by_program.Goals.{then-written, else-written}
+use Rattle.cam6_entries.proofs.bands.by_program.Goals.{then-written-2, else-written-2}
+use Rattle.cam6_entries.proofs.bands.by_program.Goals as goal
 
 pub loop-unit-preserved : goal.loop-unit-preserved
 loop-unit-preserved c =

@@ -2,8 +2,8 @@ use Rattle.std.proofs.Common.{◌≡◌, ℕ, ◌+◌, ◌*◌, ◌∙◌, ap, s
 use Rattle.cam6_planes.specs.Row.{column_bit}
 use Rattle.cam6_lines.specs.Units.{columns, place}
 use Rattle.cam6_wiring.proofs.LineByLine.{one_more}
-use Rattle.cam6_table.proofs.BandRows.{row_written, in_columns, row_room, unit_room}
-use Rattle.cam6_table.proofs.bands.put_unit.Goals as goal
+use Rattle.cam6_entries.proofs.BandRows.{row_written, in_columns, row_room, unit_room}
+use Rattle.cam6_entries.proofs.bands.put_unit.Goals as goal
 
 pub put_words-requires : goal.put_words-requires
 put_words-requires c =

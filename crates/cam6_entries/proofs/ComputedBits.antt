@@ -17,7 +17,7 @@ use Rattle.cam6_lines.specs.Plans.{Asked}
 use Rattle.cam6_program.specs.Computing.{Computes}
 use Rattle.cam6_program.specs.Meaning.{bit_by}
 use Rattle.cam6_program.specs.Programs.{Steps}
-use Rattle.cam6_table.specs.Bands.{new_bit}
+use Rattle.cam6_entries.specs.Bands.{new_bit}
 
 pub computed : (entries : List ℕ) (program : Steps) → Computes entries program → (level : Level)
     (s : ℕ) (f : Cells) (setting : Setting) (hood : Hood) (minor : Minor) (x y : ℕ) →

@@ -4,8 +4,8 @@ use Rattle.cam6_planes.specs.Row.{column_bit}
 use Rattle.cam6_wiring.specs.declared.names.Level.TheVariants.{Lower, Upper}
 use Rattle.cam6_lines.specs.Bands.{IsBandOf, side_of}
 use Rattle.cam6_lines.specs.Limits.{height}
-use Rattle.cam6_table.specs.Bands.{new_bit}
-use Rattle.cam6_table.proofs.tables.Table.band_by_rows.Given as goal
+use Rattle.cam6_entries.specs.Bands.{new_bit}
+use Rattle.cam6_entries.proofs.tables.Table.band_by_rows.Given as goal
 
 abbrev pub invariant-loop-r : goal.invariant-loop-r
 invariant-loop-r l = record {

@@ -2,7 +2,7 @@ use Rattle.std.proofs.Common.{◌%◌, ◌==◌, ◌∙◌, ap, get_or}
 use Rattle.std.proofs.Math.Nat.{div-one}
 use Rattle.cam6_wiring.specs.Lines.{address_in}
 use Rattle.cam6_lookup.specs.Entries.{entry_bit}
-use Rattle.cam6_table.proofs.tables.Table.look_up.Goals as goal
+use Rattle.cam6_entries.proofs.tables.Table.look_up.Goals as goal
 
 pub returns-clause-lower : goal.returns-clause-lower
 returns-clause-lower c = λ x h.

@@ -12,7 +12,7 @@ use Rattle.cam6_wiring.specs.declared.wirings.Minor.{Minor}
 use Rattle.cam6_lines.specs.Bands.{side_of}
 use Rattle.cam6_lines.specs.Limits.{height}
 use Rattle.cam6_lines.specs.declared.bands.Band.{Band}
-use Rattle.cam6_table.specs.NewBits.{bit_for}
+use Rattle.cam6_entries.specs.NewBits.{bit_for}
 
 -- the new bit of a level at column x of row y of planes f, by the entry at the address that the
 -- cell shows

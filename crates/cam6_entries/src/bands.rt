@@ -16,7 +16,7 @@ ghost use Rattle.cam6_lines.specs.Limits.{height};
 ghost use Rattle.cam6_lines.specs.Units.{columns, place};
 ghost use Rattle.cam6_lines.specs.declared.units.TheConstants.{UNIT};
 ghost use Rattle.cam6_program.specs.Meaning.{bit_by};
-ghost use Rattle.cam6_table.specs.Bands.{ShowNewBits};
+ghost use Rattle.cam6_entries.specs.Bands.{ShowNewBits};
 
 use crate::tables::Table;
 use cam6_lines::{Band, HEIGHT, Plan, UNIT, Unit, UnitLines, units_of_band, words_of_row};

@@ -8,9 +8,9 @@ use Rattle.cam6_wiring.specs.Seen.{address}
 use Rattle.cam6_wiring.specs.declared.names.Level.TheVariants.{Lower, Upper}
 use Rattle.cam6_lines.specs.Bands.{IsBandOf, side_of}
 use Rattle.cam6_wiring.proofs.LineByLine.{one_more}
-use Rattle.cam6_table.specs.Bands.{new_bit}
-use Rattle.cam6_table.specs.NewBits.{bit_for}
-use Rattle.cam6_table.proofs.tables.Table.band_by_rows.Goals as goal
+use Rattle.cam6_entries.specs.Bands.{new_bit}
+use Rattle.cam6_entries.specs.NewBits.{bit_for}
+use Rattle.cam6_entries.proofs.tables.Table.band_by_rows.Goals as goal
 
 pub loop-r-preserved : goal.loop-r-preserved
 loop-r-preserved c =

@@ -10,7 +10,7 @@ use Rattle.cam6_lines.specs.Limits.{height}
 use Rattle.cam6_lines.specs.Units.{columns}
 use Rattle.cam6_program.specs.Meaning.{bit_by}
 use Rattle.cam6_program.specs.Programs.{keeps}
-use Rattle.cam6_table.proofs.bands.by_program.Given as goal
+use Rattle.cam6_entries.proofs.bands.by_program.Given as goal
 
 abbrev pub invariant-loop-unit : goal.invariant-loop-unit
 invariant-loop-unit l = record {

@@ -3,8 +3,8 @@ use Rattle.cam6_wiring.specs.declared.names.Level.TheVariants.{Lower, Upper}
 use Rattle.cam6_lines.specs.Bands.{side_of}
 use Rattle.cam6_program.specs.Computing.{Computes}
 use Rattle.cam6_program.specs.Programs.{Steps}
-use Rattle.cam6_table.proofs.ComputedBits.{computed_by}
-use Rattle.cam6_table.proofs.tables.Table.band.Goals as goal
+use Rattle.cam6_entries.proofs.ComputedBits.{computed_by}
+use Rattle.cam6_entries.proofs.tables.Table.band.Goals as goal
 
 -- the table's own program computes its entries
 own_program : (told entries : List ℕ) (held : Option Steps) (program : Steps) → told ≡ entries →

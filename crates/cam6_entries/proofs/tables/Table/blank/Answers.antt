@@ -1,5 +1,5 @@
 use Rattle.std.proofs.Common.{◌∙◌, ap, replicate}
-use Rattle.cam6_table.proofs.tables.Table.blank.Goals as goal
+use Rattle.cam6_entries.proofs.tables.Table.blank.Goals as goal
 
 pub returns : goal.returns
 returns c =

@@ -2,7 +2,7 @@ use Rattle.std.proofs.Common.{◌≡◌, ◌<◌, ◌+◌, ◌*◌, ℕ, [], sli
 use Rattle.cam6_planes.specs.Row.{column_bit}
 use Rattle.cam6_lines.specs.Limits.{height}
 use Rattle.cam6_lines.specs.Units.{columns, place}
-use Rattle.cam6_table.proofs.bands.put_unit.Given as goal
+use Rattle.cam6_entries.proofs.bands.put_unit.Given as goal
 
 abbrev pub invariant-loop-r : goal.invariant-loop-r
 invariant-loop-r l = record {

@@ -1,7 +1,7 @@
 //! A rule's table: its entry at each address.
 ghost use Rattle.std.specs.Prelude.{◌≡◌, ◌<◌, ℕ, IfOk, length};
 ghost use Rattle.std.specs.Prelude.{slice_index, replicate};
-ghost use Rattle.cam6_table.specs.declared.tables.TheConstants.{ENTRIES};
+ghost use Rattle.cam6_entries.specs.declared.tables.TheConstants.{ENTRIES};
 
 use cam6_lines::Plan;
 use cam6_lookup::look_up_rows;
@@ -28,7 +28,7 @@ pub struct Table {
 impl Model for Table {
     ghost use Rattle.std.specs.Prelude.{◌≡◌, List, ℕ, IfSome, vec_len};
     ghost use Rattle.cam6_program.specs.Computing.{Computes};
-    ghost use Rattle.cam6_table.specs.Limits.{addresses};
+    ghost use Rattle.cam6_entries.specs.Limits.{addresses};
 
     ghost Value = { List ℕ };
 
@@ -44,7 +44,7 @@ impl Table {
     ghost use Rattle.cam6_planes.specs.Side.{side_number};
     ghost use Rattle.cam6_wiring.specs.Lines.{address_in};
     ghost use Rattle.cam6_wiring.specs.declared.names.Level.TheVariants.{Lower, Upper};
-    ghost use Rattle.cam6_table.specs.NewBits.{bit_for};
+    ghost use Rattle.cam6_entries.specs.NewBits.{bit_for};
 
     /// A table of which every entry is 0.
     pub fn blank(alloc: Global) -> Result<Table, NoMemory>

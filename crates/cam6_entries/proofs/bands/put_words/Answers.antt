@@ -1,7 +1,7 @@
 use Rattle.std.proofs.Common.{◌≡◌, ap, arith, inl, inr}
 use Rattle.cam6_lines.specs.Units.{columns}
-use Rattle.cam6_table.proofs.UnitRows.{two_here, two_before, four_here, four_before}
-use Rattle.cam6_table.proofs.bands.put_words.Goals as goal
+use Rattle.cam6_entries.proofs.UnitRows.{two_here, two_before, four_here, four_before}
+use Rattle.cam6_entries.proofs.bands.put_words.Goals as goal
 
 pub returns-in-S128 : goal.returns-in-S128
 returns-in-S128 c =
