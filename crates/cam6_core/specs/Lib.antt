@@ -2,7 +2,6 @@
 -- are refused; what events make of users and boards, by the machines alone; when a core agrees with
 -- that; one event; a core to begin with; events one after another; the headline, and laws of runs.
 -- How the code goes about it stands apart.
-pub mod Limits
 pub mod History
 pub mod State
 pub mod Refusals

@@ -37,7 +37,6 @@ mod runs;
 mod start;
 mod users_and_boards;
 
-pub use cam6_commands::{Event, Outcome, Refused};
+pub use cam6_commands::{Event, MAX_BOARDS, MAX_USERS, Outcome, Refused};
 pub use parts::{Core, Whereabouts};
 pub use runs::run;
-pub use start::{MAX_BOARDS, MAX_USERS};

@@ -29,7 +29,7 @@ pub struct Core {
 
 impl Model for Core {
     ghost use Rattle.std.specs.Prelude.{◌≤◌, length};
-    ghost use Rattle.cam6_core.specs.Limits.{max_boards};
+    ghost use Rattle.cam6_commands.specs.Limits.{max_boards};
     ghost use Rattle.cam6_core.specs.State.{State, state, AreHeldWithin};
 
     ghost Value = { State };

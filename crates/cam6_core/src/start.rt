@@ -4,7 +4,8 @@ ghost use Rattle.cam6_cache.specs.Limits.{max_capacity};
 ghost use Rattle.cam6_station.specs.Held.{idle};
 ghost use Rattle.cam6_core.specs.Fresh.{fresh};
 ghost use Rattle.cam6_core.specs.Good.{Good};
-ghost use Rattle.cam6_core.specs.Limits.{max_users, max_boards};
+ghost use Rattle.cam6_commands.specs.Limits.{max_users, max_boards};
+ghost use Rattle.cam6_commands.specs.declared.limits.TheConstants.{MAX_USERS, MAX_BOARDS};
 ghost use Rattle.cam6_core.specs.Internal.Starting.{AreNewcomers};
 
 use crate::parts::{Core, Whereabouts};
@@ -14,12 +15,6 @@ use cam6_planes::{NoMemory, Side};
 use cam6_slot::Resting;
 use cam6_station::{Filling, Station};
 use std::alloc::Global;
-
-/// Users that a core can have at most.
-pub const MAX_USERS: usize = 32;
-
-/// Boards that a core can have at most.
-pub const MAX_BOARDS: usize = 8;
 
 impl Core {
     /// So many users, each with a blank machine of his limit, idle boards, and an empty cache of so

@@ -39,4 +39,5 @@ pub use desks::{Desk, Put};
 pub use queues::Queue;
 pub use rule::{Counts, Handing, View};
 pub use seats::BoardSeat;
-pub use start::{MAX_BOARDS, MAX_USERS, boot};
+pub use cam6_commands::{MAX_BOARDS, MAX_USERS};
+pub use start::boot;

@@ -55,7 +55,7 @@ impl BoardSeat {
     ghost use Rattle.cam6_slot.specs.Leases.{TablesFit};
     ghost use Rattle.cam6_station.specs.Loading.{IsBehindLoads};
     ghost use Rattle.cam6_handoff.specs.Holding.{IsIdle, emptied};
-    ghost use Rattle.cam6_handoff.specs.Limits.{max_users};
+    ghost use Rattle.cam6_commands.specs.Limits.{max_users};
     ghost use Rattle.cam6_handoff.specs.Seats.{TakeGives, Accepts, AcceptsDone};
 
     /// The board's number.

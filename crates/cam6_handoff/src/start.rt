@@ -2,7 +2,8 @@
 ghost use Rattle.std.specs.Prelude.{◌≡◌, ◌+◌, ◌<◌, ◌≤◌, [], IfOk, IsOk, length};
 ghost use Rattle.std.specs.Arc.{arc_value};
 ghost use Rattle.cam6_handoff.specs.Standing.{standing};
-ghost use Rattle.cam6_handoff.specs.Limits.{max_users, max_boards};
+ghost use Rattle.cam6_commands.specs.Limits.{max_users, max_boards};
+ghost use Rattle.cam6_commands.specs.declared.limits.TheConstants.{MAX_USERS, MAX_BOARDS};
 ghost use Rattle.cam6_handoff.specs.Boot.{AreBlankDesks, AreIdleSeats, IsSeatOf};
 ghost use Rattle.cam6_handoff.specs.Internal.Cutting.{IsFirstOf, behind_desk, new_desk};
 ghost use Rattle.cam6_handoff.specs.Internal.Cutting.{behind_board, new_board};
@@ -15,18 +16,13 @@ use crate::steps;
 use crate::steps::Chair;
 use crate::turns::Turns;
 use atomic_table::{Split, Table};
+use cam6_commands::MAX_USERS;
 use cam6_machine::Machine;
 use cam6_planes::{NoMemory, Side};
 use cam6_slot::Resting;
 use cam6_station::Filling;
 use std::alloc::Global;
 use std::sync::Arc;
-
-/// Users that a table can have at most.
-pub const MAX_USERS: usize = 32;
-
-/// Boards that a table can have at most.
-pub const MAX_BOARDS: usize = 8;
 
 struct DeskCut;
 

@@ -15,7 +15,7 @@ use Rattle.clap.specs.declared.builder.value_parser.ValueParser.TheVariants.{Nam
 use Rattle.cam6_planes.specs.declared.sides.Side.{Side}
 use Rattle.cam6_planes.specs.declared.sides.Side.TheVariants.{S128, S256, S512}
 use Rattle.cam6_cache.specs.Limits.{max_capacity}
-use Rattle.cam6_core.specs.Limits.{max_users, max_boards}
+use Rattle.cam6_commands.specs.Limits.{max_users, max_boards}
 use Rattle.cam6_modes.specs.CommandLine.{AreSides, Mode, TextsAt, max_connections, max_idle}
 use Rattle.cam6_modes.specs.CommandLine.{max_port}
 use Rattle.cam6_modes.specs.CommandLine.{number_at, number_said, served, served_at, shared}

@@ -15,7 +15,7 @@ use Rattle.clap.specs.declared.error.kind.ErrorKind.TheVariants.{DisplayVersion}
 use Rattle.cam6_planes.specs.declared.sides.Side.{Side}
 use Rattle.cam6_planes.specs.declared.sides.Side.TheVariants.{S128, S256, S512}
 use Rattle.cam6_cache.specs.Limits.{max_capacity}
-use Rattle.cam6_core.specs.Limits.{max_users, max_boards}
+use Rattle.cam6_commands.specs.Limits.{max_users, max_boards}
 use Rattle.cam6_modes.specs.declared.modes.Options.{Options}
 use Rattle.cam6_modes.specs.declared.modes.Options.TheVariants.{Alone, Replay, Serve}
 use Rattle.cam6_modes.specs.declared.modes.Refused.{Refused}

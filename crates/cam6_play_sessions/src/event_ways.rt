@@ -1,7 +1,7 @@
 //! The way in which events are played.
 ghost use Rattle.std.specs.Prelude.{◌≡◌, ◌<◌, ◌≤◌, length, IfOk};
 ghost use Rattle.cam6_cache.specs.Limits.{max_capacity};
-ghost use Rattle.cam6_core.specs.Limits.{max_users, max_boards};
+ghost use Rattle.cam6_commands.specs.Limits.{max_users, max_boards};
 
 use crate::event_players::Told;
 use cam6_cache::MAX_CAPACITY;

@@ -1,7 +1,7 @@
 //! A list of events, done as one, and begun again where there was no memory for it.
 ghost use Rattle.std.specs.Prelude.{◌<◌, ◌≤◌};
 ghost use Rattle.cam6_cache.specs.Limits.{max_capacity};
-ghost use Rattle.cam6_core.specs.Limits.{max_users, max_boards};
+ghost use Rattle.cam6_commands.specs.Limits.{max_users, max_boards};
 
 use cam6_cache::MAX_CAPACITY;
 use cam6_commands::{Event, Outcome};

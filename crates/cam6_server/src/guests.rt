@@ -1,6 +1,6 @@
 //! The clients of a host: how many wait for a seat, and how many have one.
 ghost use Rattle.std.specs.Prelude.{◌≡◌, ◌≤◌, ◌+◌};
-ghost use Rattle.cam6_handoff.specs.Limits.{max_users};
+ghost use Rattle.cam6_commands.specs.Limits.{max_users};
 ghost use Rattle.cam6_server.specs.Guests.{Enters, Leaves, Lengthens, Sits, are_none};
 ghost use Rattle.cam6_server.specs.Guests.{max_long, nobody};
 

@@ -9,7 +9,7 @@ use Rattle.cam6_handoff.specs.declared.rule.View.TheVariants.{Idle, Holds}
 use Rattle.cam6_handoff.specs.Rule.{Seated}
 use Rattle.cam6_handoff.specs.Standing.{Stance, standing, waiting, nowhere}
 use Rattle.cam6_handoff.specs.Holding.{Holding, nothing, holding, BoardStance}
-use Rattle.cam6_handoff.specs.Limits.{max_users}
+use Rattle.cam6_commands.specs.Limits.{max_users}
 
 abbrev pub waits_at : View → Stance
 waits_at (First desks boards) = nowhere

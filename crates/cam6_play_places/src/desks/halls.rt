@@ -1,6 +1,6 @@
 //! All desks and counters of a table.
 ghost use Rattle.std.specs.Prelude.{◌<◌, ◌≤◌};
-ghost use Rattle.cam6_handoff.specs.Limits.{max_users, max_boards};
+ghost use Rattle.cam6_commands.specs.Limits.{max_users, max_boards};
 
 use crate::desks::answers::Answer;
 use crate::desks::counters::Counter;

@@ -1,6 +1,6 @@
 //! Lines of users and boards, answered one by one.
 ghost use Rattle.std.specs.Prelude.{◌≡◌, ◌<◌, ◌≤◌, false};
-ghost use Rattle.cam6_handoff.specs.Limits.{max_users, max_boards};
+ghost use Rattle.cam6_commands.specs.Limits.{max_users, max_boards};
 ghost use Rattle.cam6_handoff.specs.Standing.{is_waiting};
 
 use crate::desks::answers::{Answer, add_answer};

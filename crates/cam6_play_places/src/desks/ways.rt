@@ -1,6 +1,6 @@
 //! The way in which lines of users and boards are played.
 ghost use Rattle.std.specs.Prelude.{◌<◌, ◌≤◌};
-ghost use Rattle.cam6_handoff.specs.Limits.{max_users, max_boards};
+ghost use Rattle.cam6_commands.specs.Limits.{max_users, max_boards};
 
 use crate::desks::players::answered;
 use cam6_examples::{Sent, Unplayable, limit_of, size_of};

@@ -1,7 +1,7 @@
 //! The way in which lines of users and workers are played.
 ghost use Rattle.std.specs.Prelude.{◌<◌, ◌≤◌, IfOk};
 ghost use Rattle.cam6_cache.specs.Limits.{max_capacity};
-ghost use Rattle.cam6_handoff.specs.Limits.{max_users, max_boards};
+ghost use Rattle.cam6_commands.specs.Limits.{max_users, max_boards};
 
 use crate::workers::gates::GateWay;
 use crate::workers::houses::Handle;
