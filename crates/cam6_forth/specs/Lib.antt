@@ -2,7 +2,7 @@
 -- limits and the faults' numbers; what a rule is without where it lies in memory, and what a token
 -- says by itself; the tree of a rule and its spelling, comments, which text is which rule; a rule
 -- that is being written, the tree that is read from a text, the fault of a token, and the faults
--- one by one in their order. Last, how a text is read token by token, what the calls answer, and
+-- one by one in their order. Last, how a text is read token by token, what the calls return, and
 -- the laws that tie this to the trees.
 pub mod Tokens
 pub mod Spellings
