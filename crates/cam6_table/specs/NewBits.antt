@@ -4,7 +4,7 @@ use Rattle.cam6_wiring.specs.declared.names.Level.{Level}
 use Rattle.cam6_wiring.specs.declared.names.Level.TheVariants.{Lower, Upper}
 use Rattle.cam6_table.specs.Outputs.{is_odd}
 
--- of two new bits, the lowest is the lower plane's and the next the upper plane's
+-- the lowest of the two new bits is the lower plane's, and the next is the upper plane's
 abbrev pub bit_for : Level → ℕ → Bool
 bit_for Lower bits = is_odd bits
 bit_for Upper bits = is_odd (bits / 2)

@@ -39,7 +39,7 @@ pub fn all_untouched() -> Lanes {
     }
 }
 
-/// Makes the states those in which a rule begins.
+/// Resets all lanes to the state in which a rule begins.
 pub fn clear(lanes: &mut Lanes)
     ensures limit { lanes.new.stacks.len ≤ max_values }
     ensures low { (lane : ℕ) → lane < LANES → floor_of lane lanes.new ≡ 0 }
@@ -51,7 +51,7 @@ pub fn clear(lanes: &mut Lanes)
     lanes.upper = in_all(NOT_WRITTEN);
 }
 
-/// The state of a lane, whose stack ends at a row.
+/// The state of a lane with a stack that ends at row `top`.
 pub fn state_of(lanes: &Lanes, lane: usize, top: usize) -> State
     requires lane { lane < LANES }
     requires stands { Stands (floor_of lane lanes.now) top }

@@ -1,18 +1,18 @@
 //! Flat code and tables: a rule compiled to instructions with forward jumps, run at each address.
 //!
-//! Contract: the code of a rule answers at each address what the rule means there
-//! (`specs/Meaning.antt`), the two new bits or the first fault. `eval` gives that result in at most
-//! 4,096 turns, one instruction each; `fill` leaves the table of all results, or names the least
-//! address at which any fault comes, with the fault there, also where no cell shows the address.
-//! `compile` makes a text its rule's code, where nothing is wrong in it; else it says what is. A
-//! table gives the new rows of a row's lines (`Table::look_up`), and is seen as its entries alone.
+//! Contract: the result of a rule's code at each address is what the rule means there
+//! (`specs/Meaning.antt`), the two new bits or the first fault. `eval` returns that result in at
+//! most 4,096 turns, one instruction each. `fill` makes the table of all results, or returns the
+//! least address at which any fault comes, with the fault there, even if no cell shows the address.
+//! `compile` turns a text into its rule's code, or returns what is wrong in the text. A table makes
+//! the new rows of a row's lines (`Table::look_up`), and contracts see only its entries.
 //!
 //! What a rule means is defined by recursion on its tree, as a function of what its names mean. The
 //! laws: a true table, read at the address of what is seen, is the rule as a function of what is
-//! seen; a rule that stops at no address stops nowhere, whatever is seen; trees of one rule mean
-//! the same; the least address with a fault is what a search over all addresses finds; a stack word
-//! stops for want of values exactly where there are fewer than it wants; code of the rule that a
-//! text was accepted as, which filled a table, is the text's code, and the table the text's table.
+//! seen. A rule that stops at no address stops nowhere, whatever is seen. Trees of one rule mean
+//! the same. The least address with a fault is what a search over all addresses finds. A stack word
+//! has fault 40 exactly if there are fewer values than it wants. If code of the rule that a text
+//! was accepted as filled a table, it is the text's code, and the table is the text's table.
 //!
 //! Stands on: `cam6_planes`, `cam6_wiring`, `cam6_lookup`, `cam6_lines`, `cam6_program` and
 //! `cam6_forth`.
