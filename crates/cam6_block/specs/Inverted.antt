@@ -7,7 +7,7 @@ use Rattle.cam6_table.specs.Limits.{addresses}
 use Rattle.cam6_block.specs.Blocks.{block_states, corner_bits, corner_address}
 use Rattle.cam6_block.specs.BlockMaps.{Reading, block_map, preimage}
 
--- no corner shows this address, at whatever phase and of whatever state
+-- no corner shows this address, at any phase and of any state
 abbrev pub IsHidden : Hood → Minor → ℕ → Type 0
 IsHidden hood minor address =
     (phase : Phase) (state corner : ℕ) → state < block_states → corner < 4 →
