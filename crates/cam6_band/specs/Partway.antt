@@ -15,7 +15,7 @@ pub record Mid : Type 0 where
   pub done : ℕ
   pub saved : List SavedRow
 
--- each saved row is, of planes f of s columns, the row with its number
+-- each saved row is the row of planes f with its number, at their s columns
 abbrev pub AreRowsOf : ℕ → Cells → List SavedRow → Type 0
 AreRowsOf s f saved = AllByRecursion (λ row. IsRow s f row.number row.row) saved
 
