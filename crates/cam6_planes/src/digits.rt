@@ -35,8 +35,8 @@ impl Bits {
     }
 }
 
-/// Returns the bits of hexadecimal digits of either case. Returns `None` if their number is not
-/// that of a row of one of the three sides, or if one of them is not a digit.
+/// Returns the bits of hexadecimal digits of either case. Returns `None` if a row of none of the
+/// three sides has so many digits, or if one of them is not a digit.
 pub fn bits_of_digits(digits: &[u8]) -> Option<Bits>
     ensures { result ≡ bits_of_digits digits.now }
 {

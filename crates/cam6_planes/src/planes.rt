@@ -180,7 +180,7 @@ impl Planes {
         clear_rows(&mut self.rows, p);
     }
 
-    /// Makes these planes equal to the others, with the others' side.
+    /// Copies the cells and the side of other planes. The limit stays.
     pub fn copy_from(&mut self, other: &Planes)
         requires { width other.now ≤ side_number self.old.limit }
         ensures cells { cells self.new ≡ cells other.now }
