@@ -1,5 +1,5 @@
 -- The laws that tie what is seen to the address that it makes, the table of rotations to the block,
--- and texts to what they name; and those of what is the same.
+-- and texts to what they name. Also the laws of what is the same.
 use Rattle.std.specs.Prelude.{◌≡◌, ◌<◌, ℕ, ◌*◌, true, false, List, Option, Some, None, get_or}
 use Rattle.cam6_planes.specs.Cells.{Cells}
 use Rattle.cam6_wiring.specs.Block.{corner_of, in_block, rotated, block_of}

@@ -68,8 +68,8 @@ pub(crate) fn put_seen(line: &mut Row, setting: Setting, name: Name, y: usize, r
     }
 }
 
-/// Writes what the cells of row `y` see of plane `p` in their blocks: from one corner in the even
-/// columns, and from another in the odd ones.
+/// Writes what the cells of row `y` see of plane `p` in their blocks. Those of even columns are at
+/// one corner of their block, and those of odd columns at another.
 fn put_in_block(line: &mut Row, grid: Grid, rotation: Rotation, p: usize, y: usize, rows: &Rows)
     requires plane { p < 4 }
     requires row { y < side_number rows.now.side }
