@@ -1,5 +1,5 @@
-//! The address lines of a band of sixteen rows, for all its cells at once: what each cell sees on
-//! the lines that are asked for.
+//! The address lines of a band of sixteen rows, for all its cells at once. They show what each cell
+//! sees on the lines that are asked for.
 //!
 //! Contract: `UnitLines::put` makes the lines of a unit, which is up to 256 columns of a band's
 //! rows. At each place, each line for which a plan asks shows what the cell there sees under the
@@ -9,9 +9,9 @@
 //!
 //! Stands on: `cam6_planes`, for rows; `cam6_wiring`, for names and what is seen under them.
 //!
-//! How: lines that differ only by the row that they look at are seen from one part of eighteen
-//! rows, from its row 0, 1 or 2 on. So eight neighbours are three parts: the centre, the west and
-//! the east. A part is made only if a line that is asked for needs it. A plan finds once which
+//! How: lines that differ only by the row that they look at share one part of eighteen rows. They
+//! are seen from its row 0, 1 or 2 on. So eight neighbours are three parts: the centre, the west
+//! and the east. A part is made only if a line that is asked for needs it. A plan finds once which
 //! parts these are and how each line is seen in them. Every band uses the plan.
 //!
 //! Read next: `bands` and `units`; `rows`, what the cells of a row see, by single `words`; `parts`;

@@ -47,8 +47,8 @@ pub(crate) fn put_part(part: &mut Part, setting: Setting, name: Name, band: &Ban
     }
 }
 
-/// As `put_part`, under any name. The functions below do the same for names that many lines have,
-/// each in a loop of its own, so that no row asks anew where its cells look.
+/// As `put_part`, under any name. The functions below do the same for names that many lines have.
+/// Each has a loop of its own, so that no row asks anew where its cells look.
 fn put_rows(part: &mut Part, setting: Setting, name: Name, band: &Band, unit: usize)
     requires within { IsWithin band.now }
     requires unit { columns band.now.planes.now.side * unit < side_of band.now }
@@ -141,8 +141,8 @@ fn put_row_beside(
     put_row(part, at, seen_beside(side, compass, p, band, unit, j));
 }
 
-/// Writes what lies in their blocks of the even grid. Each of its blocks lies within a word.
-/// Each call gets the grid and the rotation as constants, so its loop is compiled for them alone.
+/// Writes what lies in their blocks of the even grid. The columns of a block lie in one word. Each
+/// call gets the grid and the rotation as constants, so its loop is compiled for them alone.
 #[inline(never)]
 fn put_in_even_blocks(part: &mut Part, rotation: Rotation, p: usize, band: &Band, unit: usize)
     requires plane { p < 4 }
@@ -177,7 +177,7 @@ fn put_in_even_blocks(part: &mut Part, rotation: Rotation, p: usize, band: &Band
     }
 }
 
-/// As `put_in_even_blocks`, of the odd grid. Some of its blocks lie in two words.
+/// As `put_in_even_blocks`, of the odd grid. The columns of some of its blocks lie in two words.
 #[inline(never)]
 fn put_in_odd_blocks(part: &mut Part, rotation: Rotation, p: usize, band: &Band, unit: usize)
     requires plane { p < 4 }
