@@ -46,8 +46,8 @@ after_steps lines (step ∷ steps) slots = after_steps lines steps (after_step l
 abbrev pub empty : ℕ → List Bool
 empty slots = replicate slots false
 
--- the new bit of a level: its own line's bit if it has no source, and otherwise what the source
--- reads from the lines that the program is shown and from the slots at the end
+-- the new bit of a level: what its source reads from the lines that the program is shown and from
+-- the slots at the end. Without a source it is the bit of the level's own line
 abbrev pub given : Level → List Bool → List Bool → List Bool → Option Source → Bool
 given level bits lines slots None = slice_index_or bits (number level) false
 given level bits lines slots (Some source) = read lines slots source
