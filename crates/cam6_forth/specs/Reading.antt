@@ -19,7 +19,7 @@ use Rattle.cam6_forth.specs.Limits.{too_large, too_many_ifs, no_definition, too_
 use Rattle.cam6_forth.specs.Defined.{Defined}
 use Rattle.cam6_forth.specs.SingleWords.{word_of, definition_at}
 
--- what was read: the definitions, where the next token stands, and whether a comment is open; then
+-- what was read: the definitions, where the next token stands, and whether a comment is open. Then
 -- the name, the words, the size and the open IFs of the definition that is being read. Each IF has
 -- whether its ELSE has come, and the innermost is first
 pub record State : Type 0 where

@@ -90,7 +90,7 @@ AreOpenIfs wiring done (open_if ∷ outer) =
     × (length outer < max_open_ifs)
     × AreOpenIfs wiring done outer
 
--- an opened definition that has no fault so far; more is the size that its open braces take
+-- an opened definition that has no fault so far, with the size that its open braces take
 pub record IsOpened (wiring : Wiring) (done : List Defined) (last : Opened) (more : ℕ) :
     Type 0 where
   pub name : kind_of last.name ≡ kind.Other
