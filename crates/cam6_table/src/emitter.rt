@@ -85,7 +85,7 @@ struct OpenCase {
 #[derive(Drop)]
 struct Emitter {
     code: Instructions,
-    /// For each open IF, the innermost last, how many instructions follow where it leads.
+    /// For each open IF, the innermost last, how many instructions there are from its target on.
     landings: Vec<usize>,
     case: Option<OpenCase>,
 }

@@ -19,8 +19,8 @@ use cam6_forth::Target;
 /// What stands for a plane to which a lane wrote nothing. A bit that it wrote is 0 or 1.
 const NOT_WRITTEN: u16 = 2;
 
-/// The stacks of all lanes, the rows at which they begin, and for each plane of the half the bits
-/// that they wrote to it last.
+/// The stacks of all lanes and the rows at which they begin. For each plane of the half, the bits
+/// that the lanes wrote to it last.
 #[derive(Drop)]
 pub struct Lanes {
     pub stacks: Stacks,

@@ -2,8 +2,8 @@
 //!
 //! Contract: the result of a rule's code at each address is what the rule means there
 //! (`specs/Meaning.antt`), the two new bits or the first fault. `eval` returns that result in at
-//! most 4,096 turns, one instruction each. `fill` makes the table of all results, or returns the
-//! least address at which any fault comes, with the fault there, even if no cell shows the address.
+//! most 4,096 turns, one instruction each. `fill` makes the table of all results. If any fault
+//! comes, it returns the least address with one, even if no cell shows it, and the fault there.
 //! `compile` turns a text into its rule's code, or returns what is wrong in the text. A table makes
 //! the new rows of a row's lines (`Table::look_up`), and contracts see only its entries.
 //!

@@ -20,7 +20,7 @@ abbrev pub Instructions : Type 0
 Instructions = List Instruction
 
 -- code that is written from its end to its start: the instructions so far; for each open IF, the
--- innermost first, how many of them follow where it leads; and the open case
+-- innermost first, how many there are from its target on; and the open case
 pub record Emitted : Type 0 where
   pub code : Instructions
   pub landings : List ℕ

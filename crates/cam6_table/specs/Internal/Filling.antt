@@ -14,8 +14,8 @@ pub record IsAmong (some : List ℕ) (count address : ℕ) : Type 0 where
   pub counts : position < count
   pub is : slice_index some position ≡ address
 
--- the first count addresses rise and stand before the end. They have among them all those from one
--- on and before the end that show nothing but lines of a mask
+-- the first count of these rise and stand before the end. They include all addresses from one on
+-- and before the end that show nothing but lines of a mask
 pub record AreNext (mask from : ℕ) (some : List ℕ) (count end : ℕ) : Type 0 where
   pub before : (k : ℕ) → k < count → slice_index some k < end
   pub rising : (j k : ℕ) → j < k → k < count → slice_index some j < slice_index some k
