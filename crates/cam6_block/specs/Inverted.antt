@@ -13,8 +13,8 @@ IsHidden hood minor address =
     (phase : Phase) (state corner : ℕ) → state < block_states → corner < 4 →
     corner_address hood minor phase state corner ≢ address
 
--- at the address that a corner shows stand the bits that the corner has in the least state with
--- this successor; an address that no corner shows has its own two lowest bits
+-- the entry at the address that a corner shows is the corner's bits in the least state with this
+-- successor. An address that no corner shows has its own two lowest bits
 pub record IsInverted (read : Reading) (hood : Hood) (minor : Minor) (entries : List ℕ) :
     Type 0 where
   pub whole : length entries ≡ addresses

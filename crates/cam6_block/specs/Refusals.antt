@@ -36,7 +36,7 @@ IsRefused read hood minor (not_reversible.Meeting phase a b) =
 abbrev pub has_met : (ℕ → ℕ) → ℕ → Bool
 has_met f state = nat_lt (preimage f (f state)) state
 
--- the smaller state with the same successor and then the least state that has one, if any has
+-- the least state of which this is so, if there is any, and before it that smaller state
 unfoldable pub meeting_of : (ℕ → ℕ) → Option (ℕ × ℕ)
 meeting_of f =
     let b = first_from (has_met f) block_states 0 in

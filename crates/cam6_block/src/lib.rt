@@ -10,8 +10,8 @@
 //! and it gives each block back.
 //!
 //! So, by the rule `: R CW >PLN0 ;` each cell takes what the next one clockwise was. The inverted
-//! table gives each cell what the next one counter-clockwise is. The rule `: R CENTER CW AND >PLN0
-//! ;` has no inverted table, for at phase 0 the block states 0 and 1 both become 0.
+//! table gives each cell what the next one counter-clockwise is. There is no inverted table of
+//! `: R CENTER CW AND >PLN0 ;`, for at phase 0 the block states 0 and 1 both become 0.
 //!
 //! Stands on: `cam6_wiring`, `cam6_forth`, `cam6_table` and `cam6_cycle`.
 //!
