@@ -14,11 +14,11 @@
 //! neighbour was. After one band the rows 0 to 15 are new and the others old. Row 0 is what row 255
 //! was. The sixteenth band returns `Whole`.
 //!
-//! No function reads a cell of a `MidStep`. It can't be dropped: it goes on, or it is abandoned.
+//! No caller can read a cell of a `MidStep`. It can't be dropped: it goes on, or it is abandoned.
 //!
 //! Stands on: `cam6_planes`, `cam6_wiring`, `cam6_lines`, `cam6_table` and `cam6_cycle`.
 //!
-//! Read next: `tables`, what a step goes by, and `positions`, where it lies; `images`; `bands`;
+//! Read next: `tables`, what a step uses, and `positions`, where it lies; `images`; `bands`;
 //! then `new_rows`, the sixteen rows of a band, and `half_rows`, those of a half; and `laws`.
 #![tactic(auto)]
 
