@@ -116,7 +116,7 @@ fn put_beside(part: &mut Part, compass: Compass, p: usize, band: &Band, unit: us
     put_row_beside(part, side, compass, p, &own, unit, HEIGHT + 1);
 }
 
-/// Writes row `j` of it, after the rows before row `j`.
+/// Writes row `j` for `put_beside`, after the rows before it.
 #[inline(always)]
 fn put_row_beside(
     part: &mut Part,
@@ -141,8 +141,8 @@ fn put_row_beside(
     put_row(part, at, seen_beside(side, compass, p, band, unit, j));
 }
 
-/// Writes what lies in their blocks of the even grid. The columns of a block lie in one word. Each
-/// call gets the grid and the rotation as constants, so its loop is compiled for them alone.
+/// Writes what lies in the cells' blocks of the even grid. The columns of a block lie in one word.
+/// Each call gets the grid and the rotation as constants, so its loop is compiled for them alone.
 #[inline(never)]
 fn put_in_even_blocks(part: &mut Part, rotation: Rotation, p: usize, band: &Band, unit: usize)
     requires plane { p < 4 }
@@ -212,7 +212,7 @@ fn put_in_odd_blocks(part: &mut Part, rotation: Rotation, p: usize, band: &Band,
     }
 }
 
-/// Writes what lies in their blocks, if the band is eight whole rows of blocks.
+/// Writes what lies in the cells' blocks, if the band is eight whole rows of blocks.
 #[inline(always)]
 fn put_from_upper(
     part: &mut Part,
@@ -236,8 +236,8 @@ fn put_from_upper(
     }
 }
 
-/// Writes it, if the band's first row shares its blocks with the row to the band's north, and the
-/// last one with the row to its south.
+/// As `put_from_upper`, if the band's first row shares its blocks with the row to the band's north,
+/// and the last one with the row to its south.
 #[inline(always)]
 fn put_from_lower(
     part: &mut Part,
@@ -293,7 +293,7 @@ fn put_pair(
     put_row(part, words * (j + 1), lower);
 }
 
-/// Writes row `j` alone.
+/// As `put_pair`, for row `j` alone.
 #[inline(always)]
 fn put_row_in_block(
     part: &mut Part,

@@ -92,8 +92,8 @@ pub(crate) fn is_lower(grid: Grid, band: &Band, j: usize) -> bool
     side_in_block(grid, band.first + j - 1) == 1
 }
 
-/// What they see of plane `p` in their blocks. The block's other row lies to the south of its upper
-/// row, and to the north of its lower one.
+/// What the unit's cells see of plane `p` in their blocks. The block's other row lies to the south
+/// of its upper row, and to the north of its lower one.
 #[inline(always)]
 pub(crate) fn seen_in_block(
     side: Side,
@@ -144,8 +144,8 @@ fn other_row(lower: bool, j: usize) -> usize
     if lower { j - 1 } else { j + 1 }
 }
 
-/// What lies in their blocks one corner from them. The left columns look along their row and the
-/// right ones across to the other row, or the other way round.
+/// What lies in the cells' blocks one corner from them. The left columns look along their row and
+/// the right ones across to the other row, or the other way round.
 #[inline(always)]
 fn along_or_across(
     grid: Grid,
@@ -184,7 +184,7 @@ fn by_sides(grid: Grid, left: UnitRow, right: UnitRow) -> UnitRow
     ]
 }
 
-/// What they see of plane `p` beside them.
+/// What the unit's cells see of plane `p` beside them.
 #[inline(always)]
 pub(crate) fn seen_beside(
     side: Side,
