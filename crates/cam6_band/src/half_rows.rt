@@ -18,8 +18,8 @@ use cam6_planes::{Planes, WORDS};
 use cam6_entries::BandRows;
 use cam6_wiring::{Half, Level, Setting};
 
-/// A plane's new rows of a band. They are put only if they were written: else every cell keeps its
-/// bit.
+/// A plane's new rows of a band. They are put only if they were written. Otherwise every cell keeps
+/// its bit.
 #[derive(Drop)]
 pub(crate) struct PlaneRows {
     rows: BandRows,

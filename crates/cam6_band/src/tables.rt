@@ -1,4 +1,4 @@
-//! What a step goes by: the tables of a cycle's entry.
+//! What a step uses: the tables of a cycle's entry.
 ghost use Rattle.std.specs.Prelude.{◌≡◌};
 ghost use Rattle.cam6_band.specs.ByTables.{setting_by, values_of};
 

@@ -20,8 +20,8 @@ abbrev pub new_bit : List ℕ → ℕ → Cells → Setting → Hood → Minor �
 new_bit entries s f setting hood minor level x y =
     bit_for level (slice_index entries (address s (torus s f) setting hood minor x y))
 
--- of planes f, whose rows the band has, these are the new rows of a half's plane where they are
--- written; where they aren't, each cell of the band keeps its bit
+-- if a half's plane is written, these are its new rows of planes f in the band. If it isn't, each
+-- cell of the band keeps its bit
 abbrev pub ShowNewBits :
     List ℕ → Cells → Band → Setting → Hood → Minor → Level → Bool → List (List ℕ) → Type 0
 ShowNewBits entries f band setting hood minor level is_written rows =

@@ -35,9 +35,9 @@ pub struct Written {
 }
 
 impl Table {
-    /// Makes the new rows of both planes of a half, for the sixteen rows of a band: at each cell
-    /// that bit of the entry at the address which the cell shows. A plane in which every cell keeps
-    /// its bit may stay unwritten. Of words past the side nothing is said.
+    /// Makes the new rows of both planes of a half, for the sixteen rows of a band. Each cell gets
+    /// its bit of the entry at the address that it shows. A plane in which every cell keeps its bit
+    /// may stay unwritten. Words past the side may hold anything.
     pub fn band(
         &self,
         lower: &mut BandRows,

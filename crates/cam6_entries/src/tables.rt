@@ -46,7 +46,7 @@ impl Table {
     ghost use Rattle.cam6_wiring.specs.declared.names.Level.TheVariants.{Lower, Upper};
     ghost use Rattle.cam6_entries.specs.NewBits.{bit_for};
 
-    /// A table of which every entry is 0.
+    /// Allocates a table with every entry 0.
     pub fn blank(alloc: Global) -> Result<Table, NoMemory>
         ensures { IfOk result (λ table. table ≡ replicate ENTRIES 0) }
     {
@@ -58,7 +58,7 @@ impl Table {
         })
     }
 
-    /// How many entries there are; in every table as many.
+    /// The number of entries: 4,096 in every table.
     pub fn len(&self) -> u16
         ensures entries { result ≡ length self.now }
         ensures whole { result ≡ ENTRIES }
@@ -75,7 +75,7 @@ impl Table {
         self.entries[usize::from(address)]
     }
 
-    /// Writes the entry at an address. Of the entry only the two lowest bits are a cell's.
+    /// Writes the entry at an address. A cell gets only the entry's two lowest bits.
     pub fn put(&mut self, address: u16, entry: u8)
         requires { address < ENTRIES }
         ensures { self.new ≡ slice_set self.old address entry }
@@ -88,8 +88,8 @@ impl Table {
         }
     }
 
-    /// Writes both planes' new rows of a row's lines: at each column that bit of the entry at the
-    /// address which the lines show there. Of words past the side nothing is said.
+    /// Writes both planes' new rows: at each column the plane's bit of the entry at the address
+    /// that the lines show there. Words past the side may hold anything.
     pub fn look_up(&self, lower: &mut Row, upper: &mut Row, lines: &Lines, side: Side)
         ensures lower { (x : ℕ) → x < side_number side → column_bit lower.new x
             ≡ bit_for Lower (slice_index self.now (address_in lines.now x)) }
@@ -99,9 +99,9 @@ impl Table {
         look_up_rows(lower, upper, lines, side, &self.entries);
     }
 
-    /// Gives the table a program, if its entries have a short one, by which bands are made faster,
-    /// fastest under this neighbourhood and minor assignment. A program goes with the table's
-    /// copies, until an entry is written. It takes no memory.
+    /// Gives the table a program, if its entries have a short one. It makes bands faster, and
+    /// fastest under this neighbourhood and minor assignment. Copies of the table get it too.
+    /// Writing an entry removes it. Does not allocate.
     pub fn quicken(&mut self, hood: Hood, minor: Minor)
         ensures { self.new ≡ self.old }
     {
@@ -112,7 +112,7 @@ impl Table {
         };
     }
 
-    /// Makes the table a copy of another one. It takes no memory.
+    /// Makes the table a copy of another one. Does not allocate.
     pub fn copy_from(&mut self, other: &Table)
         ensures { self.new ≡ other.now }
     {

@@ -5,13 +5,13 @@ ghost use Rattle.cam6_wiring.specs.Block.{side_in_block};
 
 use cam6_wiring::Grid;
 
-/// The columns of even number of a word, of which column 0 is the highest bit.
+/// The even columns of a word. Column 0 is its highest bit.
 const EVEN_COLUMNS: u64 = 0xAAAA_AAAA_AAAA_AAAA;
 
-/// Those of odd number.
+/// The odd columns of a word.
 const ODD_COLUMNS: u64 = 0x5555_5555_5555_5555;
 
-/// The columns of a word, but those of another where a mask has them.
+/// The columns of `word`, but those of `other` at the columns that the mask has.
 #[inline]
 pub(crate) fn chosen_word(mask: u64, word: u64, other: u64) -> u64
     ensures { (c : ℕ) → c < 64 → word_column result c

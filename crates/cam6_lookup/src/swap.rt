@@ -14,8 +14,8 @@ pub(crate) type Pair = [u64; 2];
 /// Sixteen rows of two words.
 pub(crate) type Sixteen = [Pair; 16];
 
-/// The addresses of 128 columns, from a word on: in its lane l of sixteen bits, row k has that of
-/// position 16 l + k of each word.
+/// Returns the addresses of 128 columns, from a word on. In its lane l of sixteen bits, row k has
+/// the address of position 16 l + k of each word.
 pub(crate) fn shown_addresses(lines: &Lines, word: usize) -> Sixteen
     requires { word + 2 ≤ WORDS }
     ensures { ShowAddresses result lines.now word }

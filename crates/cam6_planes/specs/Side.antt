@@ -3,13 +3,13 @@ use Rattle.std.specs.Prelude.{ℕ, ◌==◌, Option, Some, None, if◌then◌els
 use Rattle.cam6_planes.specs.declared.sides.Side.{Side}
 use Rattle.cam6_planes.specs.declared.sides.Side.TheVariants.{S128, S256, S512}
 
--- how many rows and columns a side counts
+-- the number of rows and columns of a side
 abbrev pub side_number : Side → ℕ
 side_number S128 = 128
 side_number S256 = 256
 side_number S512 = 512
 
--- the side of so many rows and columns, if it is one
+-- the side of n rows and columns, if n is 128, 256 or 512
 abbrev pub side_of : ℕ → Option Side
 side_of n =
     if n == 128 then Some S128

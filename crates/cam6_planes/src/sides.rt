@@ -29,7 +29,7 @@ impl Side {
         }
     }
 
-    /// The side of so many columns and rows.
+    /// Returns the side of `number` columns and rows, or `None` if `number` is not 128, 256 or 512.
     pub fn of(number: u64) -> Option<Side>
         ensures side { result ≡ side_of number }
         ensures number { IfSome result (λ side. side_number side ≡ number) }

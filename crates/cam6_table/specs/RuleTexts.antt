@@ -10,7 +10,7 @@ use Rattle.cam6_table.specs.Codes.{result_at}
 use Rattle.cam6_table.specs.Meaning.{at_address}
 use Rattle.cam6_table.specs.Tables.{IsTrueTable}
 
--- code that a kept rule runs by: its text spells a rule, the code answers at each address what the
+-- the code of a kept rule: its text spells a rule, the code's result at each address is what the
 -- rule's words mean there, and it stops nowhere
 pub record IsCodeFor (wiring : Wiring) (text : List ℕ) (code : List Instruction) : Type 0 where
   pub spells : IsTextOf wiring (tree_of text) text

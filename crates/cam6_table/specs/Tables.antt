@@ -31,12 +31,12 @@ abbrev pub or_at_later_address :
 or_at_later_address (Ok entry) address later = later
 or_at_later_address (Err fault) address later = Some (address, fault)
 
--- the first of so many addresses, from one on, at which any fault comes, with the fault there
+-- the first of n addresses, from one on, at which any fault comes, with the fault there
 abbrev pub first_stop : Results → ℕ → ℕ → Option (ℕ × RuleFault)
 first_stop results zero address = None
 first_stop results (suc n) address =
     or_at_later_address (results address) address (first_stop results n (suc address))
 
--- the least address at which any fault comes, if there is one
+-- the least address at which any fault comes, if one does
 unfoldable pub least_stop : Results → Option (ℕ × RuleFault)
 least_stop results = first_stop results addresses 0

@@ -1,4 +1,4 @@
-//! Flat code is run at an address.
+//! Runs flat code at an address.
 ghost use Rattle.std.specs.Prelude.{◌≡◌, ◌+◌, ◌<◌, ◌≤◌, None, IfOk, length};
 ghost use Rattle.cam6_planes.specs.Row.{bit_number};
 ghost use Rattle.cam6_wiring.specs.Seen.{shown};
@@ -15,8 +15,8 @@ use crate::outputs::{State, entry_of, untouched, write};
 /// Turns that a rule can take, one for each instruction.
 pub const MAX_TURNS: u32 = 4096;
 
-/// The entry of the rule's table at an address, or the fault at which the rule stops there. Bit 0
-/// is the new lower plane, bit 1 the new upper plane. Each turn does one instruction.
+/// Returns the entry of the rule's table at an address, or the fault at which the rule stops there.
+/// Bit 0 is the new lower plane, bit 1 the new upper plane. Each turn does one instruction.
 pub fn eval(code: &Code, address: u16, turns: &mut u32) -> Result<u8, RuleFault>
     requires turns { max_turns ≤ turns.old }
     ensures value { result ≡ result_at code.now address }
@@ -31,7 +31,7 @@ pub fn eval(code: &Code, address: u16, turns: &mut u32) -> Result<u8, RuleFault>
     Ok(entry_of(&state, address))
 }
 
-/// A place in code: so many instructions are left, and a word of a case is looked for, if any.
+/// A place in code: how many instructions are left, and which word of a case is looked for, if any.
 #[derive(Clone, Copy, Debug, PartialEq, Eq)]
 pub struct Place {
     pub behind: usize,
@@ -77,7 +77,7 @@ pub fn run(
     Ok(())
 }
 
-/// How the code goes on: it passes so many instructions, and looks for a word of a case, if any.
+/// How the code goes on: how many instructions it passes, and which word of a case it looks for.
 #[derive(Clone, Copy, Debug, PartialEq, Eq)]
 pub struct Next {
     pub passed: usize,
@@ -123,7 +123,7 @@ pub fn go(passed: usize, word: Option<usize>) -> Next
     Next { passed, word }
 }
 
-/// At the head of a case's word: the word is done where it is the one looked for.
+/// At the head of a case's word: the word is done if it is the one looked for.
 pub fn at_head(word: Option<usize>, length: usize, after: usize) -> Next
     ensures { result ≡ at_head word length after }
 {

@@ -46,7 +46,7 @@ pub fn write(state: &mut State, target: Target) -> Result<(), RuleFault>
 }
 
 /// The table's entry at an address: bit 0 the new lower plane, bit 1 the new upper plane. A plane
-/// that isn't written keeps its centre, which stands on line 0 or 1 of every neighbourhood.
+/// that isn't written keeps its centre. The centre is on line 0 or 1 of every neighbourhood.
 pub fn entry_of(state: &State, address: u16) -> u8
     ensures entry { result ≡ entry_of (is_odd address) (is_odd (address / 2)) state.now }
     ensures within { result < 4 }

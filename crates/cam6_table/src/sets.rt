@@ -58,7 +58,7 @@ fn is_all(set: &Mask) -> bool
     missing == 0
 }
 
-/// The bits of a lane that is in a set which its place in a mask lacks.
+/// The bits of `IN` that a lane's place in a mask lacks.
 #[inline(always)]
 fn missing_bits(mask: u16) -> u16
     ensures { result ≡ 0 → mask ≡ IN }
@@ -74,8 +74,8 @@ fn in_if_equal(a: u16, b: u16) -> u16
     if a == b { IN } else { 0 }
 }
 
-/// The new value in a lane of a set, and else the old one. Without a branch the loop over the lanes
-/// becomes one over vectors.
+/// The new value in a lane of a set, and otherwise the old one. Without a branch the loop over the
+/// lanes becomes one over vectors.
 #[inline(always)]
 fn choose(set: u16, new: u16, old: u16) -> u16
     ensures inside { set ≡ IN → result ≡ new }
@@ -153,7 +153,7 @@ pub fn those_without(set: &Mask, values: &LaneValues, value: u16) -> Mask
     those
 }
 
-/// The lanes of a set in which the value is one, whether there is any, and whether there are others.
+/// The lanes of a set that have a value, whether there are any, and whether the set has others.
 #[derive(Drop)]
 pub struct Parts {
     pub those: Mask,

@@ -1,4 +1,4 @@
-//! The 64 columns of a word, told by the states of their cells.
+//! The 64 columns of a word, chosen by the states of their cells.
 ghost use Rattle.std.specs.Prelude.{◌≡◌, ◌<◌, ◌≤◌, ◌+◌, ◌*◌, ℕ, slice_index, if◌then◌else◌};
 ghost use Rattle.cam6_planes.specs.Row.{word_column};
 ghost use Rattle.cam6_planes.specs.declared.row.TheConstants.{WORDS};
@@ -7,8 +7,8 @@ ghost use Rattle.cam6_view.specs.Internal.{AreSpread, lower_state, state_in_word
 
 use cam6_planes::{CellRow, WORDS};
 
-/// For each state a word that has every column where the state is in the set that the mask names,
-/// and none where it isn't.
+/// For each state a word that has every column if the state is in the set that the mask names, and
+/// none if it isn't.
 pub(crate) fn spread(mask: u16) -> [u64; 16]
     ensures { AreSpread mask result }
 {
@@ -35,7 +35,7 @@ pub(crate) fn words_of(rows: &CellRow, k: usize) -> [u64; 4]
     [rows[0][k], rows[1][k], rows[2][k], rows[3][k]]
 }
 
-/// Of each column the bit that the word of its state has there.
+/// At each column the bit that the word of the column's state has there.
 pub(crate) fn by_state(words: &[u64; 4], sets: &[u64; 16]) -> u64
     ensures { (c : ℕ) → c < 64 → word_column result c
         ≡ word_column (slice_index sets.now (state_in_words words.now c)) c }
@@ -49,7 +49,7 @@ pub(crate) fn by_state(words: &[u64; 4], sets: &[u64; 16]) -> u64
     choose(words[3], below_8, from_8)
 }
 
-/// The same by the planes 0 and 1 alone, among four states.
+/// As `by_state`, by the planes 0 and 1 alone, among four states.
 fn by_lower(words: &[u64; 4], sets: &[u64; 16], first: usize) -> u64
     requires { first + 4 ≤ 16 }
     ensures { (c : ℕ) → c < 64 → word_column result c
@@ -60,7 +60,7 @@ fn by_lower(words: &[u64; 4], sets: &[u64; 16], first: usize) -> u64
     choose(words[1], unset, set)
 }
 
-/// At each column the bit of one word where `word` has the column, and of another where it hasn't.
+/// At each column the bit of `set` if `word` has the column, and of `unset` if it hasn't.
 #[tactic(auto, using(crate::proofs::Choices::chosen_column))]
 fn choose(word: u64, unset: u64, set: u64) -> u64
     ensures { (c : ℕ) → c < 64 → word_column result c
