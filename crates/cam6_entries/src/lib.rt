@@ -2,8 +2,8 @@
 //!
 //! Contract: a table is seen as the list of its 4,096 entries alone. `Table::look_up` and
 //! `Table::band` give each cell the bits of the entry at the address that the cell shows
-//! (`specs/Bands.antt`). A table may have a program, which `Table::quicken` makes from its entries. A
-//! band by the program gives the same bits, only faster. An entry that is written takes the
+//! (`specs/Bands.antt`). A table may have a program, which `Table::quicken` makes from its entries.
+//! A band by the program gives the same bits, only faster. An entry that is written takes the
 //! program away. Only `Table::blank` allocates.
 //!
 //! So, if entry 5 of a table is 2, each cell that shows address 5 gets 0 in the lower plane of the

@@ -19,8 +19,8 @@
 //!
 //! Read next: `stacks`, what a word does; `outputs`; `codes`, the instructions; `emitter`, how a
 //! rule becomes code; `evaluation`; `lane_values`, `sets`, `floors`, `spans`, `lane_stacks`, `lanes`,
-//! `flows`, `levels` and `together`, how code runs at many addresses at once; `lines_read`, the lines
-//! that its results depend on; `filling` and `faults`; `compiling`; then `laws`.
+//! `flows`, `levels` and `together`, how code runs at many addresses at once; `lines_read`, the
+//! lines that its results depend on; `filling` and `faults`; `compiling`; then `laws`.
 #![tactic(auto)]
 
 mod codes;
