@@ -22,7 +22,7 @@ pub const MAX_USERS: usize = 32;
 pub const MAX_BOARDS: usize = 8;
 
 impl Core {
-    /// So many users, each with a blank machine of his limit, idle boards, and an empty cache of so
+    /// So many users, each with a blank machine of their limit; idle boards; an empty cache of so
     /// many tables.
     pub fn new(
         alloc: Global,
