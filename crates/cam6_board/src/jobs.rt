@@ -78,7 +78,7 @@ impl Job {
         self.image.into_image()
     }
 
-    /// The position in the cycle, which the job has always.
+    /// Returns the position in the cycle. The clause `within` gives the job's invariant.
     pub fn position(&self) -> usize
         ensures position { result ≡ self.now.position }
         ensures within { result < length self.now.cycle }
@@ -110,7 +110,7 @@ impl Job {
     }
 }
 
-/// How the end of a step is told, with so many steps still to be done.
+/// Returns how a step ends, with so many steps still to be done.
 fn end_of(steps: u16) -> BandEnd
     ensures { result ≡ end_of steps }
 {

@@ -5,7 +5,7 @@ use cam6_slot::{Finished, Queued, Resting};
 use cam6_station::{Filling, Station};
 use std::marker::Model;
 
-/// Where a user's machine and his command are.
+/// Where a user's machine and command are.
 #[derive(Drop)]
 pub enum Whereabouts {
     /// There is no command.

@@ -17,7 +17,7 @@ use cam6_station::{Filling, Station};
 use std::alloc::Global;
 
 impl Core {
-    /// So many users, each with a blank machine of his limit, idle boards, and an empty cache of so
+    /// So many users, each with a blank machine of their limit; idle boards; an empty cache of so
     /// many tables.
     pub fn new(
         alloc: Global,

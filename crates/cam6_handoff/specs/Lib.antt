@@ -1,6 +1,5 @@
--- In the order of reading: the rule of the table, with what its steps tell; where a desk stands and
--- what its calls give; what a board's seat holds and what its calls give; the
--- beginning, with what follows of it.
+-- In the order of reading: the rule of the table, with its steps; where a desk stands and what its
+-- calls give; what a board's seat holds and what its calls give; the beginning, with its law.
 pub mod Rule
 pub mod Steps
 pub mod Standing

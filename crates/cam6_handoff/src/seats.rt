@@ -34,7 +34,7 @@ pub struct BoardSeat {
     turns: Arc<Turns>,
 }
 
-/// A command makes so many tables without a turn.
+/// The most tables that a command makes without a turn.
 const FEW: u8 = 2;
 
 impl Model for BoardSeat {
@@ -73,14 +73,14 @@ impl BoardSeat {
         self.users
     }
 
-    /// A look at whose commands wait, for whatever decides when a board's command makes way.
+    /// Returns a look at the commands that wait, for whatever decides when to preempt a board.
     pub fn queue(&self) -> Result<Queue, NoMemory> {
         let table = Arc::clone(&self.table)?;
         let turns = Arc::clone(&self.turns)?;
         Ok(queue_of(table, self.users, turns))
     }
 
-    /// Takes the user's command onto this board, if it waits there.
+    /// Takes the command of `user`, counted from 1, onto this board, if it waits for one.
     pub fn try_take(&mut self, user: usize) -> Option<(Lease, Job)>
         requires idle { IsIdle self.old }
         requires a_user { 0 < user }
@@ -104,7 +104,7 @@ impl BoardSeat {
         steps::back(&self.table.shared, &mut self.seat, word, queued);
     }
 
-    /// Gives what is finished to the user's desk, and wakes it.
+    /// Gives what is finished to the user's desk, and wakes the desk.
     pub fn put_done(&mut self, finished: Finished)
         requires { AcceptsDone self.old.holds finished }
         ensures { self.new ≡ emptied self.old }
@@ -125,8 +125,8 @@ impl BoardSeat {
     }
 
     /// Fills the tables that a lease needs, each under the cache's lock, which others may have in
-    /// between. If more than a few of them aren't kept, the seat waits for its turn to make the others:
-    /// seats make many tables one after the other.
+    /// between. Seats make many tables one after the other: once it has made two, the seat waits
+    /// for its turn to fill the others. It waits at once if the user's last command made many.
     pub fn fill_each<R: Wait>(&mut self, rt: &R, lease: &Lease, cache: &Mutex<TableCache>)
         ensures tables { TablesFit lease.now.work self.new.tables }
         ensures others { self.new ≡ record self.old { tables = self.new.tables } }
@@ -148,8 +148,8 @@ impl BoardSeat {
         }
     }
 
-    /// Whether the user's command, if it waits, is to wait on: another seat makes many tables, and the
-    /// user's last command made many too.
+    /// Whether the user's command, if it waits, must wait longer: another seat makes many tables,
+    /// and the user's last command made many too.
     pub fn is_held_back(&self, user: usize) -> bool
         requires { 0 < user }
     {
@@ -164,8 +164,8 @@ impl BoardSeat {
     }
 }
 
-/// Fills one table under the cache's lock: whether it was there. Who waits for the lock has it before
-/// another one who has had it already.
+/// Fills one table under the cache's lock, and returns whether it was there. A seat that waits for
+/// the lock has it before one that has already had it.
 fn fill_next<R: Wait>(
     rt: &R,
     turns: &Turns,
@@ -183,7 +183,7 @@ fn fill_next<R: Wait>(
     filling.fill_one(&mut cache, lease, index)
 }
 
-/// Fills tables of a lease, the first ones, until a few of them weren't there: how many it filled.
+/// Fills the first tables of a lease, until `FEW` weren't there. Returns how many it filled.
 fn fill_few<R: Wait>(
     rt: &R,
     turns: &Turns,
@@ -206,7 +206,7 @@ fn fill_few<R: Wait>(
     lease.needs()
 }
 
-/// Fills the tables of a lease from an index on: how many of them weren't there.
+/// Fills the tables of a lease from an index on. Returns how many weren't there, at most 255.
 fn fill_rest<R: Wait>(
     rt: &R,
     turns: &Turns,

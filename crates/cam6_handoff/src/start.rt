@@ -126,8 +126,8 @@ fn cut_seats(
     Ok(seats)
 }
 
-/// A table for so many users and boards: a desk for each user, with a blank machine of his limit,
-/// and a seat for each board, which holds nothing. All memory of the hand-off is taken here.
+/// Makes a table for so many users and boards. Returns a desk for each user, with a blank machine
+/// of their limit, and an idle seat for each board. Allocates all memory of the hand-off.
 pub fn boot(
     alloc: Global,
     users: usize,

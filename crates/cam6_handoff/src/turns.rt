@@ -3,15 +3,15 @@
 use std::sync::Mutex;
 use std::sync::atomic::{AtomicBool, AtomicU32, Ordering};
 
-/// What all seats of a table share: the turn to make many tables, and whose last command made many.
+/// What all seats of a table share: the turn, and which users' last commands made many tables.
 #[derive(Drop)]
 pub(crate) struct Turns {
-    /// Who holds it has the turn.
+    /// The seat that holds it has the turn.
     pub turn: Mutex<()>,
-    /// Who holds it has the cache's lock next.
+    /// The seat that holds it has the cache's lock next.
     pub next: Mutex<()>,
     is_taken: AtomicBool,
-    /// A bit for each word.
+    /// A bit for each word, 1 if the user's last command made many tables.
     dear: AtomicU32,
 }
 
@@ -30,7 +30,7 @@ impl Turns {
         }
     }
 
-    /// A seat has the turn, or has had it.
+    /// Notes that a seat has the turn, or that none has it any more.
     pub fn take(&self, is_taken: bool) {
         self.is_taken.store(is_taken, Ordering::SeqCst);
     }
@@ -40,13 +40,13 @@ impl Turns {
         self.dear.load(Ordering::SeqCst) & bit_of(word) != 0
     }
 
-    /// Whether the command at a word is to wait without a board: until the turn is over, if the user's
-    /// last one made many tables too.
+    /// Whether the command at a word must wait without a board: a seat has the turn, and the user's
+    /// last command made many tables too.
     pub fn holds_back(&self, word: usize) -> bool {
         self.is_taken.load(Ordering::SeqCst) && self.is_dear(word)
     }
 
-    /// A command of the word's user made many tables, or it didn't.
+    /// Notes whether a command of the word's user made many tables.
     pub fn note(&self, word: usize, is_dear: bool) {
         let bit = bit_of(word);
         if is_dear {

@@ -15,7 +15,7 @@ use cam6_band::{AtRest, go_by};
 use cam6_cycle::{Cycle, Direction};
 use cam6_entries::Table;
 
-/// Goes so many steps one way along the cycle, and answers the image and the position after them.
+/// Goes so many steps one way along the cycle, and returns the image and the position after them.
 pub(crate) fn go_along(
     image: AtRest,
     cycle: &Cycle,

@@ -17,7 +17,7 @@ abbrev pub new_bit : Level → Result ℕ RuleFault → Bool
 new_bit level (Ok bits) = bit_for level bits
 new_bit level (Err fault) = false
 
--- what a rule's words mean where its names mean these bits
+-- what a rule's words mean if its names mean these bits
 abbrev pub words_mean : Rule → Sees → Result ℕ RuleFault
 words_mean rule sees = meaning rule.wiring (tree_of rule.text) sees
 

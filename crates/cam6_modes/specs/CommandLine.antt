@@ -144,13 +144,13 @@ IsProgram app =
 
 -- what the program is to do
 pub data Mode : Type 0 where
-  -- serve one machine, whose side is at most this
+  -- serve one machine of at most this side
   single : Side → Mode
-  -- let so many users share so many boards and a cache of so many tables, each with a machine whose
-  -- side is at most this
+  -- let so many users share so many boards and a cache of so many tables, each with a machine of at
+  -- most this side
   shared : ℕ → ℕ → ℕ → Side → Mode
-  -- serve so many users, boards and cached tables over a network, each user with a machine whose side
-  -- is at most this, for so many connections, with so many seconds for a silent client, at this port
+  -- serve so many users, boards and cached tables over a network, each user with a machine of at
+  -- most this side; for so many connections, with so many seconds for a silent client, at this port
   served : ℕ → ℕ → ℕ → Side → ℕ → ℕ → ℕ → Mode
 
 -- the side at the option `--side`, and the number at another one
@@ -216,7 +216,7 @@ IsOfKind (Help text) kind = IsAsked kind
 IsOfKind (Words text) kind = (IsAsked kind → ⊥) × (kind ≢ OutOfMemory)
 IsOfKind NoMemory kind = ⊤
 
--- help, the version and a refusal come only where clap has an error of such a kind
+-- help, the version and a refusal come only if clap has an error of such a kind
 abbrev pub Refuses : Kinds → Refused → Type 0
 Refuses kinds (Help text) = (kind : ErrorKind) × IsAmong kind kinds × IsAsked kind
 Refuses kinds (Words text) =

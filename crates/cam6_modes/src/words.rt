@@ -88,15 +88,15 @@ A session to try, with one command, which lists the rules that there are:
   cam6 serve &
   printf '{\"seat\":1}\\n{\"do\":\"rules\"}\\n' | nc -N 127.0.0.1 6006";
 
-/// Reads the words, of which the first is the program's name.
+/// Reads the words. The first is the program's name.
 pub fn options(alloc: Global, words: &[String]) -> Result<Options, Refused>
-    // Of a simple command, clap's matches and the kinds of its errors are functions of the words.
+    // For a simple command, clap's matches and the kinds of its errors are functions of the words.
     ensures mode { IfOk result (λ options. (app : App) × IsProgram app
         × HasMode options (mode_of (subcommand_of app (map string_bytes words.now)))) }
     ensures refused { (app : App) × IsProgram app × MatchResult result
         (λ _. fault_of app (map string_bytes words.now) ≡ [])
         (Refuses (fault_of app (map string_bytes words.now))) }
-    // What is told of words that are often meant otherwise stands at the end.
+    // The hint about words that are often meant otherwise stands at the end.
     ensures slip { IfErr result
         (λ refused. EndsWith refused (what_is_told (slip (map string_bytes words.now)))) }
 {
@@ -175,7 +175,7 @@ fn side_given(matches: &ArgMatches<'_>) -> Side
     side
 }
 
-/// The number at an option, a least to a most one.
+/// Returns the number at an option, from `least` to `most`.
 fn number_given(matches: &ArgMatches<'_>, name: &str, least: u64, most: u64) -> u64
     requires { IsSome (number_told name.now least most (rows_of (found_of matches.now))) }
     ensures number { number_told name.now least most (rows_of (found_of matches.now))
@@ -305,7 +305,7 @@ fn idle_option<'a>(alloc: Global) -> Arg<'a>
     )
 }
 
-/// An option that is a number, a least to a most one.
+/// Makes an option that is a number from `least` to `most`.
 fn number_option<'a>(
     alloc: Global,
     name: &'a str,
@@ -334,7 +334,7 @@ fn side_option<'a>(alloc: Global) -> Arg<'a>
         .help("The largest side that a machine may have")
 }
 
-/// What clap's error means for the program; what is told of a slip stands behind its text.
+/// Returns what clap's error means for the program. The hint about a slip stands after its text.
 fn refusal(alloc: Global, error: clap::Error, slip: &str) -> Refused
     ensures kind { IsOfKind result (kind_of error) }
     ensures slip { EndsWith result slip.now }
@@ -343,12 +343,12 @@ fn refusal(alloc: Global, error: clap::Error, slip: &str) -> Refused
     refused(kind, error.to_string(alloc), slip)
 }
 
-/// What an error of clap's of this kind means for the program, with its text, or none for want of
-/// memory. What is told of a slip stands behind the text.
+/// Returns what an error of clap's of this kind means for the program. `text` is its text, or an
+/// error if that couldn't be allocated. The hint about a slip stands after the text.
 pub fn refused(kind: ErrorKind, text: Result<String, AllocError>, slip: &str) -> Refused
     ensures kind { IsOfKind result kind }
     ensures slip { EndsWith result slip.now }
-    // Memory is told to be wanted only where it is.
+    // `NoMemory` is returned only if an allocation failed or may have failed.
     ensures memory { result ≡ Refused.NoMemory →
         (kind ≡ ErrorKind.OutOfMemory) ⊎ (IsErr text ⊎ (0 < length slip.now)) }
 {
@@ -362,7 +362,7 @@ pub fn refused(kind: ErrorKind, text: Result<String, AllocError>, slip: &str) ->
     }
 }
 
-/// Refused words, with what is told of a slip.
+/// Refuses the words, with the hint about a slip after the text.
 fn with_slip(text: String, slip: &str) -> Refused
     ensures words { IsTold result (string_bytes text) slip.now }
 {

@@ -9,8 +9,8 @@ use crate::works::Work;
 use cam6_board::Job;
 use std::marker::Model;
 
-/// Steps of a command that wait for a board, with the machine's image at home, and beside it a step
-/// that is parked half done, or spare planes.
+/// Steps of a command that wait for a board, with the machine's image at home. Beside it lies a
+/// step that is parked half done, or spare planes.
 #[derive(Drop)]
 pub struct Queued {
     work: Work,
@@ -42,8 +42,8 @@ impl Queued {
         Queued { work, parked }
     }
 
-    /// The bands that are still to be done. Whoever has a command that waits learns here what it
-    /// always is.
+    /// Returns how many bands are still to be done, one at least. The clause `always` gives the
+    /// invariant of a command that waits.
     pub fn left(&self) -> u64
         ensures left { result ≡ queued_left self.now }
         ensures some { 0 < result }
@@ -52,7 +52,7 @@ impl Queued {
         self.work.left(self.parked.rows())
     }
 
-    /// A board takes the command: it goes on from the parked step, or from a copy of the image at
+    /// Gives the command to a board. It goes on from the parked step, or a copy of the image at
     /// home.
     pub fn lease(self, board: u8) -> (Lease, Job)
         // For whatever machine and command.

@@ -14,12 +14,12 @@ IsLoadedWith (loaded v h) u lease job =
     (v ≡ u) × (h.lease ≡ lease) × (h.job ≡ job) × HeldFits h
 IsLoadedWith y u lease job = ⊥
 
--- what is finished is one of n users'
+-- a finished command is that of one of n users
 abbrev pub IsOfUser : ℕ → Banded → Type 0
 IsOfUser n (More left) = ⊤
 IsOfUser n (Last u f) = IsNumber n u
 
--- and so is what comes back, if something does
+-- a command that comes back, if one does, is that of one of n users
 abbrev pub IsOfUserIf : ℕ → Option (ℕ × StoredQueued) → Type 0
 IsOfUserIf n None = ⊤
 IsOfUserIf n (Some back) = IsNumber n back.0

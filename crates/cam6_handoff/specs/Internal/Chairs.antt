@@ -45,8 +45,8 @@ TakenChair n b None me = me ≡ (Idle b, [])
 TakenChair n b (Some u) me =
     (u < n) × ((q : StoredQueued) × (me ≡ (Holds b u q, (u, None) ∷ [])))
 
--- a board's seat is of the table, which has so many users, and has taken what it says. They aren't
--- too many
+-- a board's seat is of the table, which has so many users, `max_users` at most; it has taken what
+-- it says
 abbrev pub BoardChair : TableId → ℕ → ℕ → TableId → ℕ → Option ℕ → Seated → Type 0
 BoardChair table users n own b taken me =
     (own ≡ table) × (n ≡ users) × (table.words ≡ users) × (table.slots ≡ users)
