@@ -13,6 +13,6 @@ ReadsOf EndOfInput all new line = all ≡ []
 ReadsOf ReadFault all new line = ⊤
 ReadsOf NoMemory all new line = ⊤
 
--- so it is of a reader that tells its bytes
+-- the same for a reader with known bytes
 abbrev pub Reads : Reading → Option (List ℕ) → Option (List ℕ) → List ℕ → Type 0
 Reads reading old new line = IfSome old (λ all. ReadsOf reading all new line)
