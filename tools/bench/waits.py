@@ -1,5 +1,5 @@
 """How long users wait for a command of one step, over connections to a host: alone on it, beside a machine of their own on
-standard input, beside another user whose tables are filled without end, and beside users who do what they can to keep others
+standard input, beside another user who has tables filled without end, and beside users who do what they can to keep others
 waiting. It prints medians, 99th percentiles and the longest waits, in microseconds.
 
 usage: waits.py PROGRAM [COUNT]     COUNT commands of each kind, 1,000 if it isn't said; a twentieth of it beside a user whose
