@@ -20,9 +20,10 @@
 //!
 //! The laws: a line says a command, an event or a seat exactly if it is within its limit and its
 //! JSON value shows it, with its keys and no others. A load needs its spelling too. In each version
-//! one line loads a machine, and no other does. Two saved machines that are written as one text are
-//! equal. The text of a rule that a line defines is UTF-8. The text of a reply, of an outcome, of a
-//! line's fault and of the answer to a first line is one line.
+//! one line loads a saved machine, if it is within its limit, and no other line does. Two saved
+//! machines that are written as one text are equal. The text of a rule that a line defines is
+//! UTF-8. The text of a reply, of an outcome, of a line's fault and of the answer to a first line
+//! is one line.
 //!
 //! Stands on: `cam6_planes`, `cam6_wiring`, `cam6_table`, `cam6_block`, `cam6_commands`;
 //! `serde_json` with its grammar in `json`, and `hex`.
