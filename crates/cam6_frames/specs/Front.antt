@@ -1,4 +1,4 @@
--- What writing adds to a writer, whose bytes may not be known.
+-- What writing adds to a writer. Its bytes may not be known.
 use Rattle.std.specs.Prelude.{◌≡◌, ℕ, List, ◌++◌, Option, Result, Ok, Err}
 use Rattle.std.specs.Io.KnownBytes.{Appends}
 use Rattle.cam6_frames.specs.declared.showing.Unshown.{Unshown}

@@ -1,4 +1,4 @@
--- A line of a reader, whose bytes may not be known.
+-- A line of a reader. Its bytes may not be known.
 use Rattle.std.specs.Prelude.{◌≡◌, ℕ, List, [], ◌∷◌, Option, Some, IfSome, ⊤}
 use Rattle.cam6_frames.specs.Lines.{lines}
 use Rattle.cam6_frames.specs.declared.lines.Reading.{Reading}
