@@ -83,7 +83,7 @@ pub struct House<R: Handle> {
     pub cache: Mutex<TableCache>,
     pub watch: Mutex<Watch>,
     pub hold: Hold,
-    /// Boards whose workers run.
+    /// Boards with workers that run.
     pub serving: Present,
     /// Users with a thread that asks.
     pub asking: Present,

@@ -33,7 +33,7 @@ pub enum Ask<'a> {
     Apart(u8, u8),
     Ended(usize),
     Running(u32),
-    /// A board, and the user whose command it takes.
+    /// A board, and the user. The board takes the user's command.
     Left(usize, usize),
     Faults(usize),
     Serve(usize),
