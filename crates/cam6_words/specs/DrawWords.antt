@@ -17,7 +17,7 @@ use Rattle.cam6_words.specs.declared.draw_options.Way.TheVariants as way
 use Rattle.cam6_pictures.specs.Look.{Window}
 use Rattle.cam6_pictures.specs.Palette.{default_palette, palette_said}
 
--- ---- the words
+-- ---- the arguments
 
 -- an option of this name that takes no value, and one that takes one
 abbrev pub flag : Text → Rule

@@ -10,7 +10,7 @@ use std::alloc::{AllocError, Global};
 use std::io;
 use thiserror::Error;
 
-/// Why a program has no task by its arguments.
+/// Why the arguments of a program give it no task.
 #[derive(Debug, Drop, Error)]
 pub enum Refused {
     /// They ask for the help text, or for the version.
