@@ -77,7 +77,7 @@ fn last_band(rt: &impl Abort, mid: MidStep, tables: &EntryTables) -> AtRest {
     }
 }
 
-/// The step says how far it is, on which torus, and of which limit.
+/// The step says how far it is, on which torus, and with which limit.
 fn check_mid(rt: &impl Abort, mid: &MidStep, side: Side, bands: u16) {
     assert_eq!(rt; mid.rows() / 16, bands);
     assert_eq!(rt; mid.side(), side);
@@ -155,7 +155,7 @@ fn check_moved(
 }
 
 // By hand, from the picture of the two grids: on the odd one the cell at column 0 of row 0 is the
-// lower right one of its block, and the upper left one stands at the last column of the last row.
+// lower right one of its block. The upper left one stands at the last column of the last row.
 fn check_moves(rt: &impl Abort, alloc: Global, tables: &EntryTables) -> Result<(), NoMemory> {
     for side in SIDES {
         for bands in bands_of(side) {
