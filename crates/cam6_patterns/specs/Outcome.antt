@@ -15,7 +15,7 @@ use Rattle.cam6_patterns.specs.declared.faults.PatternFault.{PatternFault}
 use Rattle.cam6_patterns.specs.declared.reading.Unread.{Unread}
 use Rattle.cam6_patterns.specs.declared.reading.Unread.TheVariants.{Fault, NoMemory}
 
--- a number that stands for n, however large n is: it is n modulo most_cells, and it is n itself
+-- a number that stands for n, however large n is: it equals n modulo most_cells, and n itself
 -- unless both are above most_cells
 pub record StandsFor (n number : ℕ) : Type 0 where
   pub ring : number % most_cells ≡ n % most_cells
