@@ -183,7 +183,7 @@ class Schedule(Play):
         self.event(word, **named)
 
     def any_load(self) -> None:
-        """A command that would load a private machine, by itself or in an ask: it is no event."""
+        """A command that loads a machine, by itself or in an ask: it is no event."""
         load = self.askers[1].load()
         self.say(self.random.choice([load, {"event": "ask", "user": 1, "command": load}]))
 

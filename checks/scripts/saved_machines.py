@@ -209,7 +209,7 @@ class Events(ToldEvents):
 
 
 def refused_events(told: Events) -> None:
-    """Lines that would load a private machine, or be refused by it."""
+    """Lines that a private machine would load, or refuse."""
     for planes in ([[], [], [], []], [["0" * 32], [], [], []]):
         command = load(blank(128, planes=planes))
         told.tell(said({"event": "ask", "user": 1, "command": command}), 3)

@@ -40,7 +40,7 @@ fn hall<R: Handle>(rt: R) -> Result<Hall<R>, NoMemory> {
     })
 }
 
-/// How a connection goes on these lines, and whether these bytes are the answers.
+/// How a connection with these lines goes, and whether these bytes are the answers.
 fn said<R: Handle>(hall: &Hall<R>, lines: &[u8], want: &[u8]) -> (Visit, bool) {
     let mut reader = lines;
     let mut writer = Vec::new(hall.rt.alloc());

@@ -26,7 +26,7 @@ pub enum Answer {
     Faults(u64),
     /// Whether a private machine comes to the same.
     Same(bool),
-    /// Whether it is so. It is no if it can't be done as things are.
+    /// Yes or no. It is no too if the line can't be done as things are.
     Is(bool),
     Unread,
 }

@@ -14,7 +14,8 @@ pub enum GateWay {
     Hold { user: u8, band: u8 },
     /// This once at the user's band, and Go otherwise.
     Once { turn: Turn, user: u8, band: u8 },
-    /// Preempt at random, about once in twenty times, and Go otherwise. This is the random number.
+    /// Preempt at random, about once in twenty times, and Go otherwise. The next random number
+    /// comes from this one.
     Chance { number: u64 },
     /// Preempt if a command has had its time and another one waits, and Go otherwise.
     Slices,
