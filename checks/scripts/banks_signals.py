@@ -60,7 +60,7 @@ def after(cells: set[tuple[int, int]], steps: int) -> set[tuple[int, int]]:
     return cells
 
 
-# Two holes on a slant, of which the one in an edge of the wire goes first.
+# Two holes on a slant. The one in an edge of the wire goes first.
 TO_THE_CORNER = {(25, 44), (26, 45)}
 EAST, WEST = {(25, 82), (26, 81)}, {(57, 82), (56, 81)}
 

@@ -144,7 +144,7 @@ def print_many() -> None:
 
 def print_long() -> None:
     def padded(text, size):
-        """The text with as many spaces behind it as make it so long."""
+        """The text with spaces after it, up to this size."""
         return f"{text}«{size - len(text)}* »"
 
     wiring, text = "A N/VONN &/CENTERS", ": R CENTER >PLN0 ;"

@@ -16,7 +16,7 @@ SEED = {(64, 64)}
 
 
 def after(steps: int, ways: list[tuple[int, int]]) -> set[tuple[int, int]]:
-    """What grows of the seed: in each step the other cells that have a single set neighbour are set too."""
+    """What grows from the seed: in each step the other cells that have a single set neighbour are set too."""
     cells = SEED
     for _ in range(steps):
         cells = cells | {cell for cell in near(cells, ways) if set_beside(cell, cells, ways) == 1}

@@ -1,6 +1,6 @@
 #!/usr/bin/env python3
 """Writes failures_after_each_band.example and preempted_after_each_band.example of cam6_play_sessions/data: three steps
-of a ball, on and back, whose board fails behind each number of bands, or which are taken off it behind each band.
+of a ball, on and back. Their board fails after each number of bands, or they are taken off it after each band.
 
 Shares nothing with the program: the outcomes are those of the model in `hosts`.
 """

@@ -47,7 +47,7 @@ def lease(user: int = 1, board: int = 0) -> dict[str, Any]:
 
 
 RUN = ask({"do": "run", "n": 20})
-# Each event, and what is told before it, so that it can happen.
+# Each event, and what comes before it, so that it can happen.
 EVENTS = [
     (ask(RULES), []),
     (lease(), [RUN]),
@@ -159,7 +159,7 @@ def keys() -> Events:
 
 
 def as_said(event: dict[str, Any], pairs: list[tuple[str, Any]]) -> int | dict[str, Any]:
-    """The event that these keys say, of which the last ones count; or that it is none."""
+    """The event that these keys say, or that they say none. If a key is there twice, the last one counts."""
     said = dict(pairs)
     is_read = said.keys() == event.keys() and all(
         said[key] == event[key] or said[key] == OTHERS.get(key, said) for key in said

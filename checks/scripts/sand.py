@@ -25,7 +25,7 @@ SAND = {(x, y) for x in range(43, 64) for y in range(42, 48)}
 
 
 def step(grains: set[tuple[int, int]], walls: set[tuple[int, int]], n: int) -> set[tuple[int, int]]:
-    """In each block a grain falls where there is room below it, and else to the other side where its way there is free."""
+    """In each block a grain falls if there is room below it, and else to the other side if its way there is free."""
     stepped = set(grains)
     full = grains | walls
     for upper_left, upper_right, lower_right, lower_left in blocks(grains, n):

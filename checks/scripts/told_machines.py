@@ -1,7 +1,7 @@
 """Lines that save machines and load them, and what comes of them, as an example of cam6_play_sessions says them.
 
-Shares nothing with the program. A machine that is loaded is told to the machine alone in `hosts`; the fault of one that
-is refused, or of a line that is none, is told with it, by hand.
+Shares nothing with the program. The private machine in `hosts` loads what is loaded. The fault of a machine that is
+refused, or of a line that says none, is given with it, by hand.
 """
 
 from __future__ import annotations

@@ -31,7 +31,7 @@ OUTPUT = (67, 36)
 
 
 def step(heads: set[tuple[int, int]], tails: set[tuple[int, int]]) -> tuple[set[tuple[int, int]], set[tuple[int, int]]]:
-    """A head becomes a tail, a tail wire again, and wire a head where one or two heads lie beside it."""
+    """A head becomes a tail, a tail wire again, and wire a head if one or two heads lie beside it."""
     wire = near(heads, EIGHT) & WIRE - heads - tails
     return {cell for cell in wire if set_beside(cell, heads, EIGHT) in (1, 2)}, heads
 

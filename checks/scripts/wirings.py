@@ -23,7 +23,7 @@ BLOCKS = {
     "N/MARG-HV": "CENTER CENTER' CW CCW OPP CW' CCW' OPP' HORZ VERT",
 }
 HOODS = {**SINGLE_CELLS, **BLOCKS}
-# The minor assignments, first the one of which a block sees nothing.
+# The minor assignments, first the one that a block sees nothing of.
 CENTRES = {"&/CENTERS": "&CENTER &CENTER'"}
 SEEN_BY_BLOCKS = {"&/PHASES": "&PHASE &PHASE'", "&/HV": "&HORZ &VERT"}
 MINORS = {**CENTRES, **SEEN_BY_BLOCKS}

@@ -1,8 +1,8 @@
 //! The program `cam6_draw`: lines of replies on standard input, pictures on standard output.
 //!
-//! Contract: what the words ask for, and each end's exit status, are those of `cam6_words`; the bytes of
-//! a picture those of `Netpbm` and of `Terminal` in `cam6_pictures`; which frames are shown, and how they
-//! end, is the contract of `show_frames` in `cam6_frames`.
+//! Contract: what the arguments ask for, and each end's exit status, are those of `cam6_words`. The
+//! bytes of a picture are those of `Netpbm` and of `Terminal` in `cam6_pictures`. Which frames are
+//! shown, and how they end, is the contract of `show_frames` in `cam6_frames`.
 //!
 //! Stands on: `cam6_words`, `cam6_pictures`, `cam6_frames`.
 #![tactic(auto)]
@@ -23,7 +23,7 @@ fn main(rt: HostRuntime) -> ExitCode {
     run(&rt)
 }
 
-/// Reads the words, and does what they ask for.
+/// Reads the arguments, and does what they ask for.
 fn run<R: Env + Input + Print + Eprint + AllocGlobal + Clock>(rt: &R) -> ExitCode {
     match options_given(rt) {
         Ok(options) => drawn(rt, &options),
@@ -66,7 +66,7 @@ fn drawn<R: Input + Print + Eprint + AllocGlobal + Clock>(
     ended(rt, Program::Draw, end)
 }
 
-/// How long a picture stays, where there are so many a second.
+/// How long a picture stays if there are at most so many a second.
 fn pause_of(rate: Option<usize>) -> Option<Duration> {
     match rate {
         Some(rate) => Some(Duration::from_micros(1_000_000 / rate.max(1) as u64)),

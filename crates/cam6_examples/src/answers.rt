@@ -1,4 +1,4 @@
-//! What comes back, line by line, and that there is no memory for it.
+//! What comes back, line by line, and the error of a failed allocation.
 
 use std::io;
 
@@ -9,7 +9,7 @@ pub fn add_line(answers: &mut Vec<u8>, line: &str) -> io::Result<()> {
     Ok(())
 }
 
-/// Memory was asked for and refused.
+/// Returns the error of a failed allocation.
 pub fn no_memory() -> io::Error {
     io::Error::from(io::ErrorKind::OutOfMemory)
 }

@@ -2,7 +2,7 @@
 //!
 //! ```text
 //! # what it shows, and where its answers come from
-//! as WAY                  how the lines that follow are played; a session, where nothing is said
+//! as WAY                  how the lines that follow are played; a session if nothing is said
 //! let NAME TEXT           `«NAME»` stands for the text from here on
 //! > LINE                  a line that is sent
 //! < LINE                  a line that must come back
@@ -10,9 +10,9 @@
 //! >> TEXT                 sent without an LF
 //! > rows PLANE            sends a `set` of each row that follows, and wants each to be done
 //! < plane                 the reply to `plane`, all zeros but for the rows that follow
-//! side NUMBER             rows are of this side from here on; of 256, where nothing is said
+//! side NUMBER             rows are of this side from here on; of 256 if nothing is said
 //! = ROW DIGITS            a row; `*` is for the zeros left out; `even` and `odd` are all such rows
-//! @ COLUMN ROW            where a picture begins, whose rows follow
+//! @ COLUMN ROW            where a picture begins; its rows follow
 //! | ..#..                 a row of the picture
 //! ```
 
@@ -73,7 +73,7 @@ struct Reading<W: Way> {
     pending: Pending,
 }
 
-/// Reads an example. The number is that of the line that can't be played, counted from 1.
+/// Reads an example. An error has the number of the line that can't be played, counted from 1.
 pub fn read_example<W: Way>(
     alloc: Global,
     text: &str,
@@ -94,7 +94,7 @@ pub fn read_example<W: Way>(
 }
 
 impl<W: Way> Reading<W> {
-    /// Reads all lines. What can't be played is told with its line, counted from 1.
+    /// Reads all lines. An error has the number of the line that can't be played, counted from 1.
     fn read_lines(&mut self, alloc: Global, text: &str) -> Result<(), (usize, Unplayable)> {
         let mut lines: usize = 0;
         for line in text.split('\n') {

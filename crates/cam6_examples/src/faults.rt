@@ -5,9 +5,9 @@ use std::alloc::{AllocError, AllocFailed};
 /// Why an example, or a line of one, can't be played.
 #[derive(Clone, Copy, Debug, PartialEq, Eq)]
 pub enum Unplayable {
-    /// Memory was asked for and refused.
+    /// An allocation failed.
     NoMemory,
-    /// A line is of none of the kinds.
+    /// A line isn't of any kind that is known.
     Unread,
 }
 

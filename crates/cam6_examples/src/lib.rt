@@ -1,9 +1,10 @@
-//! The worked examples: how their files are read, and what is told of them once they are played.
+//! The worked examples: how their files are read, and what is printed of them after they are
+//! played.
 //!
 //! Contract: it makes no claim beyond being safe, but that a size is within its bounds (`size_of`).
-//! What is read is shown by the examples, and a program plays them: it has the ways (`Way`) that its
-//! own files ask for, and says how their lines are played (`Played`, or a closure that may start
-//! threads). `play` and `play_by` do the rest.
+//! A program plays the examples. It has the ways (`Way`) that its own files ask for, and says how
+//! their lines are played (`Played`, or a closure that may start threads). `play` and `play_by` do
+//! the rest.
 //!
 //! Stands on: `cam6_planes`, for rows and sides, and `cam6_wiring`, for the words of a wiring.
 //!

@@ -1,4 +1,4 @@
-//! Files that are played, and what is told of each.
+//! Files that are played, and what is printed of each.
 
 use crate::answers::no_memory;
 use crate::examples::{Part, Sent, bytes_of, read_example};
@@ -11,19 +11,20 @@ use std::io::Write;
 use std::process::ExitCode;
 use std::{fs, io};
 
-/// Does what the program's words ask for.
+/// Does what the program's arguments ask for.
 ///
-/// The words name files, as `parity.example`. Each is played in the ways that it says, and a line
-/// tells whether all came back byte for byte. A file whose name begins with `wrong_` has one answer
-/// that is wrong on purpose: what is printed of it shows that answers are compared. After the word
-/// `lines` comes one file, and the number of one of its sessions, or none for the first: its lines
-/// are printed as they are sent, for the program `cam6` to take.
+/// The arguments name files, for example `parity.example`. Each is played in the ways that it says,
+/// and a line reports whether all came back byte for byte. A file with a name that begins with
+/// `wrong_` has one answer that is wrong on purpose. What is printed of it shows that answers are
+/// compared. After the argument `lines` comes one file, and the number of one of its sessions, or
+/// none for the first. The lines of that session are printed as they are sent, for the program
+/// `cam6` to take.
 pub fn play<W: Played, R: Env + Files + Print + AllocGlobal>(rt: &R) -> io::Result<ExitCode> {
     let alloc = rt.alloc();
     play_by(rt, &|way: &W, sent: &[Sent]| way.played(alloc, sent))
 }
 
-/// The same, where the ways are played by a closure, which may use all of the handle that it has, as to
+/// The same, but a closure plays the ways. It may use all of the handle that it has, for example to
 /// start threads.
 pub fn play_by<
     W: Way,
@@ -49,7 +50,7 @@ pub fn play_by<
     })
 }
 
-/// The parts of an example. None, which is printed, where a line can't be played.
+/// Returns the parts of an example. If a line can't be played, prints this and returns `None`.
 fn parts_of<W: Way, R: Files + Print + AllocGlobal>(
     rt: &R,
     name: &str,
@@ -65,7 +66,7 @@ fn parts_of<W: Way, R: Files + Print + AllocGlobal>(
     }
 }
 
-/// Plays examples. Whether all came back, but for those that are wrong on purpose.
+/// Plays examples. Returns whether all came back, except for those that are wrong on purpose.
 fn play_files<
     W: Way,
     R: Files + Print + AllocGlobal,
@@ -80,7 +81,8 @@ fn play_files<
     Ok(is_well)
 }
 
-/// Plays an example. Whether all came back, unless it is wrong on purpose.
+/// Plays an example. Returns whether all came back, or whether not all did if it is wrong on
+/// purpose.
 fn play_file<
     W: Way,
     R: Files + Print + AllocGlobal,
@@ -95,8 +97,8 @@ fn play_file<
     }
 }
 
-/// Prints the lines that an example sends in its session of this number, counted from 1, as they
-/// are sent. Whether there is one.
+/// Prints the lines that an example sends in its session of this number, counted from 1. Returns
+/// whether it has such a session.
 fn send<W: Way, R: Files + Print + AllocGlobal>(
     rt: &R,
     name: &str,
@@ -108,7 +110,7 @@ fn send<W: Way, R: Files + Print + AllocGlobal>(
     }
 }
 
-/// The same, of an example that has been read.
+/// The same for an example that has been read.
 fn send_session<W: Way, R: Print + AllocGlobal>(
     rt: &R,
     name: &str,
@@ -135,7 +137,7 @@ fn write_lines<R: Print + AllocGlobal>(rt: &R, sent: &[Sent]) -> io::Result<bool
     Ok(true)
 }
 
-/// Plays an example and prints whether all its lines came back.
+/// Plays an example, and prints and returns whether all its lines came back.
 fn show<W: Way, R: Print + AllocGlobal, F: Fn(&W, &[Sent]) -> io::Result<Vec<Vec<u8>>>>(
     rt: &R,
     name: &str,
@@ -167,7 +169,7 @@ fn lines_of(bytes: &[u8]) -> usize {
     bytes.iter().filter(|byte| **byte == b'\n').count()
 }
 
-/// The first line, from 1, in which one of the answers differs from what is wanted, if one does.
+/// The first line, from 1, in which one of the answers differs from the wanted one, if one does.
 fn first_other_of_all(answers: Vec<Vec<u8>>, wanted: &[u8]) -> Option<usize> {
     for answer in answers.as_slice() {
         if let Some(line) = first_other(answer.as_slice(), wanted) {

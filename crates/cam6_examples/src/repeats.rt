@@ -1,4 +1,4 @@
-//! Marks in an example's texts: a text so many times, bytes by their digits, and named texts.
+//! Marks in an example's texts: repeated texts, bytes by their digits, and named texts.
 
 use crate::faults::Unplayable;
 use std::alloc::Global;
@@ -10,7 +10,7 @@ pub struct Named {
     pub bytes: Vec<u8>,
 }
 
-/// Puts a text behind others, with its marks written out: `«8193* »` is so many spaces, `«x C2 A0»`
+/// Adds a text to others, with its marks written out: `«8193* »` is so many spaces, `«x C2 A0»`
 /// two bytes, `«9*x 0A»` nine LFs, and `«NAME»` a text named before.
 pub fn write_out(bytes: &mut Vec<u8>, text: &str, named: &[Named]) -> Result<(), Unplayable> {
     for (i, piece) in text.split('«').enumerate() {

@@ -8,7 +8,7 @@ use std::alloc::{AllocError, Global};
 pub struct Rows {
     /// Rows of the plane, and its columns.
     side: usize,
-    /// Of each the first are the row's, one for every four columns.
+    /// The first digits of each are the row's, one for every four columns.
     digits: Vec<[u8; DIGITS]>,
     is_named: Vec<bool>,
     /// Where the next row of a picture begins.
@@ -36,7 +36,7 @@ impl Rows {
     }
 
     /// `ROW DIGITS`, with `*` for as many zeros as are left out, and `even` or `odd` for all such
-    /// rows. None where it is no such text.
+    /// rows. `None` if the text is another one.
     fn put_digits(&mut self, text: &str) -> Option<()> {
         let (row, digits) = text.split_once(' ')?;
         let digits = all_digits(digits, self.side / 4)?;
@@ -85,7 +85,7 @@ impl Rows {
         text.extend_from_slice(b"]}\n")
     }
 
-    /// A row's digits, where the example names the row.
+    /// A row's digits, if the example names the row.
     pub fn named(&self, y: usize) -> Option<&[u8]> {
         if *self.is_named.get(y)? {
             self.digits.get(y)?.get(..self.side / 4)
@@ -112,8 +112,8 @@ impl Rows {
     }
 }
 
-/// A row's digits, so many, with zeros for its `*`. None where there are too many, or too few
-/// without `*`.
+/// The `count` digits of a row, with zeros for its `*`. `None` if it has too many, or too few and
+/// no `*`.
 fn all_digits(text: &str, count: usize) -> Option<[u8; DIGITS]> {
     let (first, last) = text.split_once('*').unwrap_or((text, ""));
     let given = first.len().saturating_add(last.len());

@@ -1,11 +1,11 @@
-//! Settings, as the words of a way and the lines of an example say them.
+//! Settings that the words of a way and the lines of an example say.
 ghost use Rattle.std.specs.Prelude.{◌<◌, ◌≤◌, IfOk};
 
 use crate::faults::Unplayable;
 use cam6_planes::Side;
 use cam6_wiring::{Half, Hood, Minor, Wiring};
 
-/// The limit that `within NUMBER` says; 256, where nothing is said.
+/// The limit that `within NUMBER` says, or 256 if nothing is said.
 pub fn limit_of(text: &str) -> Result<Side, Unplayable> {
     if text.is_empty() {
         return Ok(Side::S256);
@@ -19,7 +19,7 @@ pub fn side_of(number: &str) -> Result<Side, Unplayable> {
     Side::of(number).ok_or(Unplayable::Unread)
 }
 
-/// A number from 1 to the most that there can be.
+/// A number from 1 to `most`.
 pub fn size_of(text: &str, most: usize) -> Result<usize, Unplayable>
     ensures { IfOk result (λ size. (0 < size) × (size ≤ most)) }
 {
@@ -31,7 +31,7 @@ pub fn size_of(text: &str, most: usize) -> Result<usize, Unplayable>
     }
 }
 
-/// The wiring that `HALF HOOD MINOR` says, as `A N/VONN &/CENTERS`.
+/// The wiring that `HALF HOOD MINOR` says, for example `A N/VONN &/CENTERS`.
 pub fn wiring_of(text: &str) -> Result<Wiring, Unplayable> {
     match wiring_before(text) {
         Some((wiring, "")) => Ok(wiring),
@@ -39,7 +39,7 @@ pub fn wiring_of(text: &str) -> Result<Wiring, Unplayable> {
     }
 }
 
-/// The wiring that `HALF HOOD MINOR` says, and the text behind it and a space.
+/// The wiring that `HALF HOOD MINOR` says, and the text after it and a space.
 pub fn wiring_before(text: &str) -> Option<(Wiring, &str)> {
     let (half, rest) = text.split_once(' ')?;
     let (hood, rest) = rest.split_once(' ')?;

@@ -4,8 +4,8 @@ use Rattle.cam6_frames.specs.declared.replies.Said.{Said}
 use Rattle.cam6_frames.specs.Replies.{said}
 use Rattle.cam6_frames.specs.Run.{Taken, taken}
 
--- all lines are replies, and no frame breaks off; or the first line that is none, or at which a frame
--- does, by its number, counted from 1: at the end, by the number of lines
+-- all lines are replies, and no frame breaks off; or the number, counted from 1, of the first line
+-- that is no reply or at which a frame breaks off: at the end, the number of lines
 pub data Verdict : Type 0 where
   whole : Verdict
   no_reply : ℕ → Verdict
@@ -16,11 +16,11 @@ pub record Course : Type 0 where
   pub frames : List (List (List ℕ))
   pub verdict : Verdict
 
--- no frame comes any more
+-- no more frames come
 abbrev pub over : Verdict → Course
 over verdict = record { frames = []; verdict = verdict }
 
--- what comes after n lines, with these rows under way, where no line is left
+-- what comes after n lines, with these rows under way, if no line is left
 abbrev pub at_end : ℕ → List (List ℕ) → Course
 at_end n [] = over whole
 at_end n (row ∷ rows) = over (breaks_off n)

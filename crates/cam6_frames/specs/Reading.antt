@@ -1,4 +1,4 @@
--- A line of a reader, whose bytes may not be known.
+-- A line of a reader. Its bytes may not be known.
 use Rattle.std.specs.Prelude.{◌≡◌, ℕ, List, [], ◌∷◌, Option, Some, IfSome, ⊤}
 use Rattle.cam6_frames.specs.Lines.{lines}
 use Rattle.cam6_frames.specs.declared.lines.Reading.{Reading}
@@ -13,6 +13,6 @@ ReadsOf EndOfInput all new line = all ≡ []
 ReadsOf ReadFault all new line = ⊤
 ReadsOf NoMemory all new line = ⊤
 
--- so it is of a reader that tells its bytes
+-- the same for a reader with known bytes
 abbrev pub Reads : Reading → Option (List ℕ) → Option (List ℕ) → List ℕ → Type 0
 Reads reading old new line = IfSome old (λ all. ReadsOf reading all new line)

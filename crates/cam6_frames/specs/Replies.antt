@@ -19,7 +19,7 @@ use Rattle.cam6_frames.specs.declared.replies.Said.TheVariants.{Colours, Plane, 
 abbrev pub text_at : List ℕ → Data → Option (List ℕ)
 text_at key d = option_and_then as_str (get key d)
 
--- the digit at column x of bytes that hold two each, the first of them the higher
+-- the digit at column x of bytes that hold two digits each, the higher one first
 abbrev pub digit_column : List ℕ → ℕ → ℕ
 digit_column bytes x =
     if x % 2 == 0 then slice_index bytes (x / 2) / 16 else slice_index bytes (x / 2) % 16
@@ -54,7 +54,7 @@ abbrev pub are_long : ℕ → List (List ℕ) → Bool
 are_long columns [] = true
 are_long columns (row ∷ rows) = if length row == columns then are_long columns rows else false
 
--- rows that are a frame: as many as each of them has columns, which is one of the sides
+-- rows that are a frame: as many as each has columns, and that is one of the sides
 abbrev pub frame_of_rows : List (List ℕ) → Option (List (List ℕ))
 frame_of_rows rows =
     if is_some (side_of (length rows)) && are_long (length rows) rows then Some rows else None
@@ -82,12 +82,12 @@ by_word (Some word) d =
 abbrev pub reply_in : Data → Option Said
 reply_in d = if is_some (as_object d) then by_word (text_at (codes "ok") d) d else None
 
--- the first, or else the second
+-- the first if there is one, or else the second
 abbrev pub get_or_itself : Option Data → Data → Data
 get_or_itself None d = d
 get_or_itself (Some inner) d = inner
 
--- what comes of an event says what the reply in it says, if there is one:
+-- the outcome of an event says what its reply says, if it has one:
 -- {"ok":"collect","reply":{..}}
 abbrev pub said_in : Data → Option Said
 said_in d = reply_in (get_or_itself (get (codes "reply") d) d)

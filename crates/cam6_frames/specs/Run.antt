@@ -4,7 +4,7 @@ use Rattle.std.specs.Prelude.{Option, Some, None, get_or}
 use Rattle.cam6_frames.specs.declared.replies.Said.{Said}
 use Rattle.cam6_frames.specs.declared.replies.Said.TheVariants.{Colours, Plane, Other}
 
--- rows of a frame that is under way, and the frame that was whole before them, if it was just now
+-- the rows of a frame under way, and the frame that was just completed, if one was
 pub record Taken : Type 0 where
   pub rows : List (List ℕ)
   pub frame : Option (List (List ℕ))
@@ -15,8 +15,8 @@ gathered rows =
     if length rows == length (get_or rows 0 [])
     then record { rows = []; frame = Some rows } else record { rows = rows; frame = None }
 
--- what a reply makes of the rows under way; none, where the frame breaks off: a row comes that is
--- shorter or longer than those before it, or something else before the last row
+-- what a reply makes of the rows under way; none, if the frame breaks off: a row has another length
+-- than those before it, or something else comes before the last row
 abbrev pub taken : List (List ℕ) → Said → Option Taken
 taken [] (Colours row) = Some (gathered (row ∷ []))
 taken [] (Plane frame) = Some (record { rows = []; frame = Some frame })

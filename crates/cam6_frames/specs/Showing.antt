@@ -21,8 +21,8 @@ EndsSo WriteFault verdict missing = ⊤
 EndsSo NoMemory verdict missing = ⊤
 EndsSo TooManyLines verdict missing = ⊤
 
--- the pictures of all frames were written, and the end says how the frames end; or a front of them,
--- where the reader, the writer or memory failed
+-- the pictures of all frames were written, and the end says how the frames end; or a prefix of
+-- them, if showing ended before
 abbrev pub ShowsFrames : (List (List ℕ) → List ℕ) → End → Option (List ℕ) → Option (List ℕ)
     → Option (List ℕ) → Type 0
 ShowsFrames picture end read old new =
@@ -31,7 +31,7 @@ ShowsFrames picture end read old new =
     (flat_map picture (shown_in all).frames ≡ written ++ missing) ×
     (new ≡ Some (out ++ written)) × EndsSo end (shown_in all).verdict missing))
 
--- the end says that there are too many lines only where there are as many as are counted
+-- the end says that there are too many lines only if there are at least 2^64 - 1
 abbrev pub AreTooMany : End → Option (List ℕ) → Type 0
 AreTooMany end read =
     end ≡ TooManyLines → IfSome read (λ all. 18446744073709551615 ≤ length (lines all))

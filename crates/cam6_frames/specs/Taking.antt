@@ -17,7 +17,7 @@ use Rattle.cam6_frames.specs.declared.showing.Stop.TheVariants.{NoMemory}
 abbrev pub step : List ℕ → List (List ℕ) → Option Taken
 step line rows = option_and_then (taken rows) (said line)
 
--- the frame that was made whole, if one was
+-- the frame that was completed, if one was
 abbrev pub frames_of : Option Taken → List (List (List ℕ))
 frames_of None = []
 frames_of (Some t) = option_to_list t.frame
@@ -35,7 +35,7 @@ TakesReply line old (Err BreaksOff) new = BreaksAt line old
 TakesReply line old (Err WriteFault) new = ⊥
 TakesReply line old (Err NoMemory) new = ⊤
 
--- a picture was written, or else some front of it
+-- a picture was written, or else a prefix of it
 abbrev pub ShowsFrame : Result (Unit {0}) Stop → Option (List ℕ) → Option (List ℕ) → List ℕ → Type 0
 ShowsFrame (Ok done) old new bytes = Appends old new bytes
 ShowsFrame (Err NoReply) old new bytes = ⊥
@@ -50,7 +50,7 @@ pub record Change : Type 0 where
   pub before : Option (List ℕ)
   pub after : Option (List ℕ)
 
--- a line is taken, and the frame that it makes whole is shown, or why that isn't so
+-- a line is taken, and the frame that it completes is shown, or why that isn't so
 abbrev pub TakesLine : (List (List ℕ) → List ℕ) → List ℕ → Result (Unit {0}) Stop → Change
     → Type 0
 TakesLine picture line (Ok done) c =
@@ -64,14 +64,14 @@ TakesLine picture line (Err WriteFault) c =
 TakesLine picture line (Err NoMemory) c =
     WritesSome c.before c.after (flat_map picture (frames_of (step line c.old)))
 
--- how showing ends where a line isn't taken
+-- how showing ends if line n isn't taken
 abbrev pub end_at : ℕ → Stop → End
 end_at n NoReply = end.NoReply n
 end_at n BreaksOff = end.BreaksOff n
 end_at n WriteFault = end.WriteFault
 end_at n NoMemory = end.NoMemory
 
--- how showing ends after n lines, where none is left
+-- how showing ends after n lines, if none is left
 abbrev pub end_after : ℕ → List (List ℕ) → End
 end_after n [] = end.EndOfInput
 end_after n (row ∷ rows) = end.BreaksOff n

@@ -1,4 +1,4 @@
--- Rows that may become a frame, and the row that may come behind them.
+-- Rows that may become a frame, and the row that may come after them.
 use Rattle.std.specs.Prelude.{◌<◌, ℕ, List, [], ◌∷◌, length, ◌==◌, Bool, true, All}
 use Rattle.cam6_planes.specs.declared.sides.Side.{Side}
 use Rattle.cam6_planes.specs.Side.{side_number}

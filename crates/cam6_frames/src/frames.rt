@@ -33,7 +33,7 @@ impl Model for RowInColours {
 }
 
 impl RowInColours {
-    /// The front of the colours, as many as the side has columns.
+    /// The first colours, as many as the side has columns.
     pub(crate) fn new(side: Side, colours: [u8; COLUMNS]) -> RowInColours
         requires { IsRowOf side (take (side_number side) colours) }
         ensures { result ≡ take (side_number side) colours }
@@ -50,7 +50,7 @@ impl RowInColours {
     }
 }
 
-/// A picture of a torus: its rows, as many as each has columns. Contracts see it as a list of rows.
+/// A torus in colours: its rows, as many as each has columns. Contracts see it as a list of rows.
 #[derive(Debug, Drop)]
 pub struct Frame {
     rows: Vec<RowInColours>,
@@ -78,7 +78,7 @@ impl Frame {
         Frame { rows }
     }
 
-    /// How many rows and columns it has.
+    /// Returns the side: how many rows and columns it has.
     pub fn side(&self) -> Side
         ensures side { side_number result ≡ length self.now }
         ensures frame { IsFrame self.now }
@@ -86,7 +86,7 @@ impl Frame {
         self.rows[0].side
     }
 
-    /// The colour at a column and a row, round the torus.
+    /// Returns the colour at a column and a row, round the torus.
     pub fn colour(&self, column: usize, row: usize) -> u8
         ensures value { result ≡ colour_at self.now column row }
         ensures few { result < colours }
@@ -96,8 +96,7 @@ impl Frame {
     }
 }
 
-/// The frame that rows are, if they are as many as each of them has columns, which is one of the
-/// sides.
+/// The frame of these rows, if there are as many as each has columns, and that is one of the sides.
 pub(crate) fn frame_of_rows(rows: Vec<RowInColours>) -> Option<Frame>
     ensures { result ≡ frame_of_rows rows.items }
 {

@@ -1,11 +1,11 @@
 //! Frames: what the lines of replies show of cells in colours.
 //!
 //! Contract: `show_frames` writes the pictures of the frames that a reader's lines show, in their
-//! order (`specs/Showing.antt`), each as a `Screen` has it, and says how they end: all lines are
-//! replies and no frame breaks off, or at which line that isn't so (`specs/Course.antt`). A frame is
-//! the reply to `plane`, or a run of replies to `colours`, a row each, as many as a row has columns.
-//! Other replies are passed over, but not within a run. Only the rows of one frame and one line are
-//! kept, however many frames come.
+//! order (`specs/Showing.antt`). A `Screen` makes each picture. The function returns how the frames
+//! end (`specs/Course.antt`): all lines are replies and no frame breaks off, or the line at which
+//! that isn't so. A frame is the reply to `plane`, or a run of replies to `colours`. Each of these
+//! is a row, and a run has as many rows as a row has columns. Other replies are skipped, but a run
+//! breaks off at them. Only the rows of one frame and one line are kept, however many frames come.
 //!
 //! Stands on: `cam6_planes`, for the sides and the digits of rows; `serde_json` and `hex`.
 //!

@@ -5,7 +5,7 @@ ghost use Rattle.cam6_frames.specs.Reading.{Reads};
 
 use std::io::{BufRead, ErrorKind};
 
-/// What was read of a reader.
+/// What was read from a reader.
 #[derive(Clone, Copy, Debug, PartialEq, Eq)]
 pub(crate) enum Reading {
     /// A line.
@@ -14,7 +14,7 @@ pub(crate) enum Reading {
     EndOfInput,
     /// Not all of a line, since the reader failed.
     ReadFault,
-    /// Not all of a line, since no memory was found for it.
+    /// Not all of a line, since an allocation failed.
     NoMemory,
 }
 

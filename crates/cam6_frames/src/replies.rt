@@ -27,18 +27,18 @@ pub enum Said {
 /// Why a line says nothing.
 #[derive(Clone, Copy, Debug, PartialEq, Eq)]
 pub enum Unsaid {
-    /// It is no reply.
+    /// It isn't a reply.
     NoReply,
-    /// No memory was found for it.
+    /// An allocation for it failed.
     NoMemory,
 }
 
-/// What a line says.
+/// Returns what a line says of cells, or why it says nothing.
 #[tactic(auto, using(crate::proofs::Saying::said_by_value, crate::proofs::Saying::not_empty))]
 pub fn read_reply(alloc: Global, line: &[u8]) -> Result<Said, Unsaid>
     ensures said { IfOk result (λ reply. said line.now ≡ Some reply) }
     ensures no_reply { result ≡ Err NoReply → said line.now ≡ None }
-    // No memory is wanted for an empty line.
+    // An empty line takes no memory.
     ensures memory { result ≡ Err NoMemory → 0 < length line.now }
 {
     let value = line_value(alloc, line)?;

@@ -20,7 +20,7 @@ pub(crate) fn colours_of_text(text: &[u8]) -> Option<RowInColours>
     Some(row_of_digits(side, digits))
 }
 
-/// The row of this side whose colours are the digits of these bytes, two to a byte.
+/// The row of this side with the digits of these bytes as its colours, two to a byte.
 fn row_of_digits(side: Side, bytes: &[u8]) -> RowInColours
     requires { length bytes.now ≡ side_number side / 2 }
     ensures { result ≡ map (digit_column bytes.now) (range_with_len 0 (side_number side)) }

@@ -32,14 +32,14 @@ impl Model for Run {
 pub enum Untaken {
     /// The frame under way breaks off.
     BreaksOff,
-    /// No memory was found for the row.
+    /// An allocation for the row failed.
     NoMemory,
 }
 
 impl Run {
     ghost use Rattle.std.specs.Prelude.{[]};
 
-    /// No row.
+    /// A run without rows.
     pub fn new(alloc: Global) -> Run
         ensures { result ≡ [] }
     {
@@ -55,7 +55,8 @@ impl Run {
         self.rows.is_empty()
     }
 
-    /// Takes a reply: the frame that it makes whole, if it does.
+    /// Takes a reply, and returns the frame that it completes, if it does. On an error the rows
+    /// stay.
     pub fn take(&mut self, alloc: Global, said: Said) -> Result<Option<Frame>, Untaken>
         ensures ok { IfOk result (λ frame. taken self.old said
             ≡ Some (record { rows = self.new; frame = frame })) }
@@ -71,7 +72,7 @@ impl Run {
     }
 }
 
-/// Takes a row behind those under way.
+/// Takes a row after those under way.
 fn take_row(
     alloc: Global,
     rows: &mut Vec<RowInColours>,

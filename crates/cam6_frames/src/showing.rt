@@ -18,15 +18,15 @@ pub enum End {
     EndOfInput,
     /// This line, counted from 1, is no reply.
     NoReply { line: u64 },
-    /// At this line, or behind it where it is the last one, a frame breaks off.
+    /// A frame breaks off at this line, or after it if it is the last one.
     BreaksOff { line: u64 },
     /// The reader failed.
     ReadFault,
-    /// What shows frames failed, or took no byte.
+    /// The screen's writer failed, or took no byte.
     WriteFault,
-    /// No memory was found for a line or a row.
+    /// An allocation failed, for a line, a row or a picture.
     NoMemory,
-    /// More lines than can be counted.
+    /// There were more lines than can be counted.
     TooManyLines,
 }
 
@@ -35,11 +35,11 @@ pub enum End {
 pub enum Unshown {
     /// The writer failed, or took no byte.
     WriteFault,
-    /// No memory was found for what is written.
+    /// An allocation for what is written failed.
     NoMemory,
 }
 
-/// Something that shows frames, by bytes that it writes for each.
+/// Something that shows frames. It writes bytes for each.
 pub trait Screen {
     ghost use Rattle.std.specs.Prelude.{List, ℕ, Option};
     ghost use Rattle.cam6_frames.specs.Front.{WritesFront};
@@ -47,7 +47,7 @@ pub trait Screen {
     /// The bytes of a frame's picture.
     ghost picture: { Self → List (List ℕ) → List ℕ };
 
-    /// What was written, where that is known.
+    /// What was written, if that is known.
     ghost contents: { Self → Option (List ℕ) };
 
     /// Shows a frame.
@@ -57,7 +57,7 @@ pub trait Screen {
         ensures stays { picture self.new ≡ picture self.old };
 }
 
-/// Shows the frames of a reader's lines of replies.
+/// Shows the frames of a reader's lines of replies, and returns how they end.
 pub fn show_frames<R: BufRead, S: Screen>(alloc: Global, reader: &mut R, screen: &mut S) -> End
     ensures shown { ShowsFrames (S.picture screen.old) result (R.remaining reader.old)
         (S.contents screen.old) (S.contents screen.new) }
@@ -89,7 +89,7 @@ enum Stop {
     NoMemory,
 }
 
-/// Takes a line, and shows the frame that it makes whole, if it does.
+/// Takes a line, and shows the frame that it completes, if it does.
 fn take_line<S: Screen>(
     alloc: Global,
     line: &[u8],
@@ -110,7 +110,7 @@ fn take_line<S: Screen>(
     }
 }
 
-/// Takes a line: the frame that it makes whole, if it does.
+/// Takes a line, and returns the frame that it completes, if it does.
 fn take_reply(alloc: Global, line: &[u8], run: &mut Run) -> Result<Option<Frame>, Stop>
     ensures { TakesReply line.now run.old result run.new }
 {
@@ -138,7 +138,7 @@ fn show_frame<S: Screen>(screen: &mut S, frame: &Frame) -> Result<(), Stop>
     }
 }
 
-/// How showing ends where line n isn't taken.
+/// How showing ends if line n isn't taken.
 fn end_at(n: u64, stop: Stop) -> End
     ensures { result ≡ end_at n stop }
 {
@@ -150,7 +150,7 @@ fn end_at(n: u64, stop: Stop) -> End
     }
 }
 
-/// How showing ends after n lines, where none is left.
+/// How showing ends after n lines, if none is left.
 fn end_after(n: u64, run: &Run) -> End
     ensures { result ≡ end_after n run.now }
 {

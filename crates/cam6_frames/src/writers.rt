@@ -4,7 +4,7 @@ ghost use Rattle.cam6_frames.specs.Front.{WritesFront};
 use crate::showing::Unshown;
 use std::io::Write;
 
-/// Writes the bytes, in as many writes as it takes. A write that takes none is a fault.
+/// Writes all bytes, in as many writes as it takes. A write that takes no byte is a fault.
 pub fn write_bytes<W: Write>(writer: &mut W, bytes: &[u8]) -> Result<(), Unshown>
     ensures { WritesFront result (W.contents writer.old) (W.contents writer.new) bytes.now }
 {

@@ -1,9 +1,9 @@
 //! Patterns as run-length text, as other programs keep them, and on a torus.
 //!
-//! Contract: `read_pattern` answers the pattern that a text is, or the first fault with its line and
-//! column (`specs/Reading.antt`); `PatternTexts` writes the text of each frame (`specs/Writing.antt`);
-//! `write_placed` writes the command lines that set the rows of a pattern's planes on a torus, over
-//! its seams (`specs/Placing.antt`).
+//! Contract: `read_pattern` returns the pattern of a text, or the first fault with its line and
+//! column (`specs/Reading.antt`). `PatternTexts` writes the text of each frame
+//! (`specs/Writing.antt`). `write_placed` writes the command lines that set the rows of a pattern's
+//! planes on a torus, over its seams (`specs/Placing.antt`).
 //!
 //! The law: the text of rows is read as a pattern with their cells.
 //!

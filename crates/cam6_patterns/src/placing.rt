@@ -15,7 +15,7 @@ use itoa::Buffer;
 use std::io::Write;
 use std::marker::Model;
 
-/// One to four planes, of which the first has a state's lowest bit. Contracts see a list.
+/// One to four planes. The first has a state's lowest bit. Contracts see a list.
 #[derive(Debug, Drop)]
 pub struct ChosenPlanes {
     pub(crate) count: usize,
@@ -38,7 +38,7 @@ impl ChosenPlanes {
     ghost use Rattle.std.specs.Prelude.{◌≡◌, ◌<◌, ◌≤◌, ◌^◌, length, take};
     ghost use Rattle.std.specs.List.{AllByRecursion};
 
-    /// The first so many of these planes.
+    /// The first `count` of these planes.
     pub fn new(count: usize, planes: [u8; 4]) -> ChosenPlanes
         requires some { 0 < count }
         requires few { count ≤ 4 }
@@ -48,7 +48,7 @@ impl ChosenPlanes {
         ChosenPlanes { count, planes }
     }
 
-    /// How many states their bits have.
+    /// Returns how many states their bits have.
     pub fn states(&self) -> u8
         ensures value { result ≡ 2 ^ length self.now }
         ensures few { result ≤ 16 }
@@ -68,8 +68,9 @@ impl ChosenPlanes {
     }
 }
 
-/// Writes the command lines that set the rows of a pattern's planes on a torus of a side, where its
-/// upper left corner is moved by so many columns and rows from where it says that it lies.
+/// Writes the command lines that set the rows of a pattern's planes on a torus of a side. The
+/// pattern says where its upper left corner lies, and is moved from there by so many columns and
+/// rows.
 pub fn write_placed<W: Write>(
     writer: &mut W,
     side: Side,
@@ -95,7 +96,7 @@ pub fn write_placed<W: Write>(
     Ok(())
 }
 
-/// A pattern on a torus: the column of its first, and the row of its first.
+/// A pattern on a torus, with its first column at `first` and its first row at `top`.
 #[derive(Drop)]
 struct Placement<'a> {
     side: Side,
@@ -112,7 +113,7 @@ impl Placement<'_> {
     ghost use Rattle.cam6_patterns.specs.Placing.{bit_placed, set_line};
     ghost use Rattle.cam6_patterns.specs.Outcome.{lines_of_row};
 
-    /// The lines of the pattern's row y.
+    /// Writes the lines of the pattern's row y.
     fn write_row<W: Write>(
         &self,
         writer: &mut W,
@@ -132,7 +133,7 @@ impl Placement<'_> {
         Ok(())
     }
 
-    /// The line that sets the row y of bit k in a plane.
+    /// The line that sets a row of a plane to bit k of the pattern's row y.
     fn set_line(&self, plane: u8, k: usize, y: usize) -> Line
         requires top { self.now.top < 1024 }
         requires row { y < most_cells }
@@ -223,10 +224,10 @@ impl Placement<'_> {
 /// A command line that sets a row.
 type Line = ArrayVec<u8, LINE>;
 
-/// Room for the longest.
+/// Room for the longest such line.
 const LINE: usize = 256;
 
-/// Bytes behind those of a line.
+/// Pushes bytes to a line that has room for them.
 fn push_all(line: &mut Line, bytes: &[u8])
     requires { length line.old.items + length bytes.now ≤ LINE }
     ensures { line.new.items ≡ line.old.items ++ bytes.now }
@@ -234,7 +235,7 @@ fn push_all(line: &mut Line, bytes: &[u8])
     line.try_extend_from_slice(bytes).unwrap();
 }
 
-/// The state at a column and a row.
+/// The state at a column and a row, or 0 if the rows leave it out.
 fn state_in(rows: &[PatternRow], x: usize, y: usize) -> u8
     ensures { result ≡ state_in rows.now x y }
 {

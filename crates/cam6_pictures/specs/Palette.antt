@@ -11,7 +11,7 @@ use Rattle.cam6_pictures.specs.declared.looks.Light.{Light}
 abbrev pub rgb : ℕ → ℕ → ℕ → Light
 rgb red green blue = record { red = red; green = green; blue = blue }
 
--- the palette where none is said
+-- the palette if none is said
 abbrev pub default_palette : List Light
 default_palette =
     rgb 0x00 0x00 0x00 ∷ rgb 0xff 0xd2 0x3f ∷ rgb 0x3f 0xa7 0xff ∷ rgb 0x9b 0xe5 0x64

@@ -34,7 +34,7 @@ behind_plain = order (codes "49m")
 abbrev pub upper_half : List ℕ
 upper_half = 226 ∷ 150 ∷ 128 ∷ []
 
--- the pixels (i, 2k) and (i, 2k + 1), of which the lower one may be missing
+-- the pixels (i, 2k) and (i, 2k + 1); the lower one may be missing
 abbrev pub character : Look → List (List ℕ) → ℕ → ℕ → List ℕ
 character look frame k i =
     draw_in (hue (light_shown look frame i (2 * k)))

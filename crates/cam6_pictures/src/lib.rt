@@ -1,7 +1,7 @@
 //! Pictures of frames, as files and on a terminal.
 //!
 //! Contract: the bytes of a picture are those of `netpbm` or of `terminal` (`specs/Netpbm.antt`,
-//! `specs/Terminal.antt`): of each pixel, row by row, the light of the colour of the cell that it shows
+//! `specs/Terminal.antt`). Pixels come row by row, and each has the light of its cell's colour
 //! (`specs/Look.antt`). `palette_of` reads the lights of sixteen colours (`specs/Palette.antt`).
 //!
 //! Stands on: `cam6_frames`; `cam6_planes`, for the sides; `hex`.

@@ -11,7 +11,7 @@ use std::marker::Model;
 /// The most pixels that a cell is wide and high.
 pub const MOST_SCALE: usize = 16;
 
-/// The most columns and rows that a window has, and that it begins behind.
+/// The most columns and rows of a window. It also begins after fewer columns and rows than this.
 pub const MOST_CELLS: usize = 512;
 
 /// A colour on the screen: how much of each light, of 255.
@@ -60,7 +60,7 @@ impl Model for Window {
 pub struct Look {
     /// The light of each colour.
     pub palette: [Light; 16],
-    /// The part that is shown; where there is none, the whole torus.
+    /// The part that is shown. `None` is the whole torus.
     pub window: Option<Window>,
     /// How many pixels a cell is wide and high, from 1 to 16.
     pub scale: usize,
@@ -83,7 +83,7 @@ impl Look {
     ghost use Rattle.std.specs.Prelude.{◌≡◌, ◌<◌, ◌≤◌};
     ghost use Rattle.cam6_pictures.specs.Look.{pixels_wide, pixels_high, light_shown, window_of};
 
-    /// How many pixels the picture of a frame is wide.
+    /// Returns how many pixels the picture of a frame is wide.
     pub fn width(&self, frame: &Frame) -> usize
         ensures value { result ≡ pixels_wide self.now frame.now }
         ensures some { 0 < result }
@@ -92,7 +92,7 @@ impl Look {
         self.scale * self.window_of(frame).width
     }
 
-    /// How many pixels it is high.
+    /// Returns how many pixels it is high.
     pub fn height(&self, frame: &Frame) -> usize
         ensures value { result ≡ pixels_high self.now frame.now }
         ensures some { 0 < result }
@@ -101,7 +101,8 @@ impl Look {
         self.scale * self.window_of(frame).height
     }
 
-    /// The light of the cell that a pixel shows, from the left and from the top.
+    /// Returns the light of the cell that pixel (i, j) shows, counted from the left and from the
+    /// top.
     pub fn light(&self, frame: &Frame, i: usize, j: usize) -> Light
         requires column { i < 8192 }
         requires row { j < 8192 }

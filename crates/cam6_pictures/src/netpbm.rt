@@ -11,7 +11,8 @@ use cam6_frames::{Frame, Screen, Unshown, write_bytes};
 use std::alloc::{AllocError, Global};
 use std::io::Write;
 
-/// A writer of pictures in the format P6, one behind the other, as `ffmpeg -f image2pipe` takes them.
+/// A writer of pictures in the format P6, one after the other, as `ffmpeg -f image2pipe` takes
+/// them.
 #[derive(Drop)]
 pub struct Netpbm<W> {
     writer: W,
@@ -23,7 +24,7 @@ pub struct Netpbm<W> {
 impl<W: Write> Netpbm<W> {
     ghost use Rattle.std.specs.Prelude.{◌≡◌};
 
-    /// Such a writer, of frames as they are looked at.
+    /// A writer of frames with this look.
     pub fn new(alloc: Global, writer: W, look: Look) -> Netpbm<W>
         ensures writer { result.writer ≡ writer }
         ensures look { result.look ≡ look }
@@ -50,7 +51,7 @@ impl<W: Write> Screen for Netpbm<W> {
     }
 }
 
-/// Writes a picture. In the vector each row of pixels is made.
+/// Writes a picture. Uses the vector as room for each row of pixels.
 fn write_picture<W: Write>(
     writer: &mut W,
     pixels: &mut Vec<u8>,
@@ -95,7 +96,7 @@ fn write_rows<W: Write>(
     Ok(())
 }
 
-/// Makes a row of pixels of the vector.
+/// Replaces what is in the vector by a row of pixels.
 fn pixel_row(pixels: &mut Vec<u8>, look: &Look, frame: &Frame, j: usize) -> Result<(), AllocError>
     requires row { j < 8192 }
     ensures { IfOk result (λ _. pixels.new.items ≡ pixel_row_of look.now frame.now j) }

@@ -6,7 +6,7 @@ ghost use Rattle.cam6_pictures.specs.Palette.{light_said, palette_said};
 use crate::looks::Light;
 use hex::FromHex;
 
-/// The lights of the colours 0 to 15 where none are said.
+/// The lights of the colours 0 to 15 if no others are said.
 pub const PALETTE: [Light; 16] = [
     Light {
         red: 0x00,
@@ -90,7 +90,7 @@ pub const PALETTE: [Light; 16] = [
     },
 ];
 
-/// The lights that a word says.
+/// Returns the lights that a word says: sixteen groups of six digits, with commas between them.
 pub fn palette_of(word: &str) -> Option<[Light; 16]>
     ensures { result ≡ palette_said word.now }
 {

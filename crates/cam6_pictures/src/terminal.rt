@@ -18,11 +18,11 @@ use std::time::{Clock, Duration};
 /// A character that draws the upper half of its place, in UTF-8.
 const UPPER_HALF: &[u8] = b"\xe2\x96\x80";
 
-/// A terminal, or another writer of what one takes.
+/// Shows frames on a terminal, or writes what one takes to another writer.
 #[derive(Drop)]
 pub struct Terminal<C, W> {
     clock: C,
-    /// How long a picture stays at least.
+    /// The least time that a picture stays.
     pause: Option<Duration>,
     writer: W,
     look: Look,
@@ -33,7 +33,7 @@ pub struct Terminal<C, W> {
 impl<C: Clock, W: Write> Terminal<C, W> {
     ghost use Rattle.std.specs.Prelude.{◌≡◌};
 
-    /// A terminal on which each picture stays as long as this at least, by the clock.
+    /// A terminal on which each picture stays at least for the pause, by the clock.
     pub fn new(
         alloc: Global,
         clock: C,
@@ -74,7 +74,7 @@ impl<C: Clock, W: Write> Screen for Terminal<C, W> {
     }
 }
 
-/// Writes a picture. In the vector each line of characters is made.
+/// Writes a picture. Uses the vector as room for each line of characters.
 fn write_picture<W: Write>(
     writer: &mut W,
     line: &mut Vec<u8>,
@@ -109,7 +109,7 @@ fn write_lines<W: Write>(
     Ok(())
 }
 
-/// Makes a line of characters of the vector.
+/// Replaces what is in the vector by a line of characters.
 fn character_line(
     line: &mut Vec<u8>,
     look: &Look,

@@ -11,7 +11,7 @@ pub record StoredCounter : Type 0 where
   pub users : ℕ
   pub station : Manned
 
--- a board holds nothing where its seat holds nothing, and else what stands for whatever the place
+-- a board holds nothing if its seat holds nothing; else what it holds stands for whatever the place
 -- stood for that the seat took
 abbrev pub Serves : Holding → Manned → Type 0
 Serves nothing idle = ⊤

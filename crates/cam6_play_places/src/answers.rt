@@ -1,4 +1,4 @@
-//! What is told of a command, in every way.
+//! What comes back for a command, in every way.
 
 use cam6_commands::Reply;
 use cam6_examples::{add_line, no_memory};

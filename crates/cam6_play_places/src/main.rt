@@ -1,9 +1,8 @@
-//! Plays the worked examples of boards, of places, of desks and of workers: what becomes of a command
-//! while it is out on a board, below the table that hands commands to boards, at the place of one
-//! user, at the table itself, and between threads.
+//! Plays the worked examples of boards, of places, of desks and of workers. They show what becomes
+//! of a command on a board, at the place of one user, at the hand-off table, and between threads.
 //!
-//! The words name files of `data/`; `play_by` of `cam6_examples` says what they ask for, and does all
-//! but the ways. The program makes no claim of its own beyond being safe.
+//! The arguments name files of `data/`. `play_by` of `cam6_examples` says what they ask for, and
+//! does all but the ways. The program makes no claim of its own beyond being safe.
 //!
 //! Stands on: `cam6_examples`, how files are read and compared; `cam6_board`, `cam6_machine`,
 //! `cam6_slot`, `cam6_station`, `cam6_handoff`, `cam6_pool`, `cam6_wire` and what they stand on.

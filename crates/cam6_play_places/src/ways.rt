@@ -35,7 +35,7 @@ impl Way for AnyWay {
 }
 
 impl AnyWay {
-    /// What comes back of the lines, by each way in.
+    /// What comes back for the lines, by each way in.
     pub fn played<R: Handle + Send + Sync + 'static>(
         &self,
         rt: R,

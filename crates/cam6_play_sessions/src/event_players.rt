@@ -1,4 +1,4 @@
-//! Lines of events, answered by a replay: one by one, and all of them at once.
+//! Lines of events that a replay answers: one by one, and all of them at once.
 
 use crate::event_lines::{Line, number_of, read_line};
 use cam6_core::{Core, MAX_BOARDS};
@@ -7,7 +7,7 @@ use cam6_session::{End, replay};
 use std::alloc::Global;
 use std::io;
 
-/// How often one replay looks at its lines at most.
+/// The most looks at the lines in one replay.
 const TURNS: u64 = 1_000_000;
 
 /// What is to be made of the outcome of a line of events.
@@ -17,11 +17,11 @@ enum Mark {
     Answer,
     /// It isn't.
     Passed,
-    /// There was no line of events: this comes back.
+    /// There was no line of events, and `unread` comes back.
     Unread,
 }
 
-/// A core that is told lines of events one by one, with what it was told.
+/// A core that takes lines of events one by one, with the lines that it took.
 #[derive(Drop)]
 pub struct Told {
     alloc: Global,
@@ -42,7 +42,7 @@ impl Told {
         }
     }
 
-    /// What comes back of the lines, each told by itself.
+    /// Gives the core the lines, each by itself, and keeps what comes back.
     pub fn answered(&mut self, sent: &[Sent]) -> io::Result<()> {
         for line in sent {
             let line = str::from_utf8(line.bytes.as_slice()).unwrap_or("");
@@ -63,20 +63,20 @@ impl Told {
         Ok(())
     }
 
-    /// What came back, and what comes back if another core is told the same lines all at once.
+    /// What came back, and what comes back if another core takes the same lines all at once.
     pub fn both_ways(&self, other: Core) -> io::Result<Vec<Vec<u8>>> {
         let told = told_at_once(self.alloc, other, self.lines.as_slice())?;
         let at_once = marked(self.alloc, told.as_slice(), self.marks.as_slice())?;
         Ok(vec![in self.alloc; self.answers.clone()?, at_once]?)
     }
 
-    /// Tells a line, whose outcome comes back.
+    /// Gives the core a line. Its outcome comes back.
     fn answer(&mut self, line: &str) -> io::Result<()> {
         let outcome = self.tell(line, 1, Mark::Answer)?;
         add_line(&mut self.answers, outcome.as_str())
     }
 
-    /// Tells a line so many times: what comes of the last, which has this mark.
+    /// Gives the core a line so many times. Returns the outcome of the last, which has this mark.
     fn tell(&mut self, line: &str, times: u64, mark: Mark) -> io::Result<String> {
         let mut lines = Vec::new(self.alloc);
         for turn in 1..=times {
@@ -97,13 +97,13 @@ impl Told {
         Ok(String::from_str(self.alloc, last)?)
     }
 
-    /// So many bands of a board: what comes of the last, which has this mark.
+    /// Does so many bands of a board. Returns the outcome of the last, which has this mark.
     fn bands(&mut self, board: u64, times: u64, mark: Mark) -> io::Result<String> {
         let line = format!(in self.alloc; r#"{{"event":"band","board":{board}}}"#)?;
         self.tell(line.as_str(), times, mark)
     }
 
-    /// A command from its ask to its collect: what is collected, or why it isn't asked for.
+    /// Does a command from its ask to its collect. The reply comes back, or why the ask is refused.
     fn reply(&mut self, user: u64, command: &str) -> io::Result<()> {
         let ask = format!(in self.alloc; r#"{{"event":"ask","user":{user},"command":{command}}}"#)?;
         let asked = self.tell(ask.as_str(), 1, Mark::Passed)?;
@@ -140,13 +140,13 @@ impl Told {
     }
 }
 
-/// How many bands an outcome leaves, if it is one that says so.
+/// How many bands an outcome leaves, if it says so.
 fn left_in(outcome: &str) -> Option<u64> {
     let (left, _word) = outcome.strip_prefix(r#"{"left":"#)?.split_once(',')?;
     number_of(left).ok()
 }
 
-/// What a core tells of lines that it is told all at once.
+/// The outcomes of a core that takes lines all at once.
 fn told_at_once(alloc: Global, mut core: Core, lines: &[u8]) -> io::Result<Vec<u8>> {
     let mut told = Vec::new(alloc);
     let mut reader = lines;
@@ -156,7 +156,7 @@ fn told_at_once(alloc: Global, mut core: Core, lines: &[u8]) -> io::Result<Vec<u
     }
 }
 
-/// What comes back of the outcomes that were told, by the marks of their lines.
+/// What comes back of these outcomes, by the marks of their lines.
 fn marked(alloc: Global, told: &[u8], marks: &[Mark]) -> io::Result<Vec<u8>> {
     let mut outcomes = str::from_utf8(told).unwrap_or("").split('\n');
     let mut answers = Vec::new(alloc);

@@ -11,8 +11,8 @@ use cam6_planes::{NoMemory, Side};
 use std::alloc::Global;
 use std::io;
 
-/// `events USERS BOARDS CACHE [within LIMIT ..]`: a core of so many users, boards and tables that
-/// are cached, with one limit for all users or one for each; 256, where nothing is said.
+/// `events USERS BOARDS CACHE [within LIMIT ..]`: a core of so many users, boards and cached
+/// tables, with one limit for all users or one for each, or 256 if nothing is said.
 #[derive(Drop)]
 pub struct EventWay {
     /// The limit of each user's machine.
@@ -38,7 +38,7 @@ impl EventWay {
         })
     }
 
-    /// What comes back of the lines, told one by one and all at once.
+    /// What comes back for the lines, one by one and all at once.
     pub fn played(&self, alloc: Global, sent: &[Sent]) -> io::Result<Vec<Vec<u8>>> {
         let core = self.core(alloc).map_err(|_| no_memory())?;
         let told = told_one_by_one(alloc, core, sent)?;
@@ -55,7 +55,7 @@ impl EventWay {
     }
 }
 
-/// A core that was told lines one by one.
+/// A core that took lines one by one.
 fn told_one_by_one(alloc: Global, core: Core, sent: &[Sent]) -> io::Result<Told> {
     let mut told = Told::new(alloc, core);
     match told.answered(sent) {
@@ -64,7 +64,7 @@ fn told_one_by_one(alloc: Global, core: Core, sent: &[Sent]) -> io::Result<Told>
     }
 }
 
-/// A limit for each of so many users: the one that is said, or as many.
+/// A limit for each of so many users: the same for all if one is said, or as many as are said.
 fn limits_of(alloc: Global, users: usize, text: &str) -> Result<Vec<Side>, Unplayable>
     ensures { IfOk result (λ limits. length limits.items ≡ users) }
 {

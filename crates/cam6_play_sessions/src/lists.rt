@@ -1,4 +1,4 @@
-//! A list of events, done as one, and begun again where there was no memory for it.
+//! A list of events, done as one. It begins again if an allocation failed.
 ghost use Rattle.std.specs.Prelude.{◌<◌, ◌≤◌};
 ghost use Rattle.cam6_cache.specs.Limits.{max_capacity};
 ghost use Rattle.cam6_commands.specs.Limits.{max_users, max_boards};
@@ -13,10 +13,10 @@ use std::alloc::Global;
 use std::io;
 use std::io::ErrorKind;
 
-/// How often a list is begun at most, and how often is asked for the text of an outcome.
+/// How often a list is begun at most, and how often the text of an outcome is tried.
 const TIMES: u32 = 10;
 
-/// How many users, boards, and tables that are cached.
+/// How many users, boards and cached tables.
 #[derive(Drop)]
 pub struct Sizes {
     users: usize,
@@ -56,7 +56,7 @@ pub fn do_all<R: Print + AllocGlobal>(rt: &R, sizes: &Sizes, lines: &str) -> io:
     do_at(rt, &mut core, lines)
 }
 
-/// The same, to a core that is there.
+/// The same for this core.
 fn do_at<R: Print + AllocGlobal>(rt: &R, core: &mut Core, lines: &str) -> io::Result<()> {
     for _ in 0..TIMES {
         match events_of(rt.alloc(), lines) {
@@ -70,7 +70,7 @@ fn do_at<R: Print + AllocGlobal>(rt: &R, core: &mut Core, lines: &str) -> io::Re
     Err(io::Error::from(ErrorKind::Other))
 }
 
-/// What lines say. Those that say no event are left out.
+/// The events that lines say. Other lines are left out.
 fn events_of(alloc: Global, lines: &str) -> Result<Vec<Event>, NoMemory> {
     let mut events = Vec::new(alloc);
     for line in lines.split('\n') {

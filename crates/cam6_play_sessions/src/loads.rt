@@ -21,7 +21,7 @@ const KEEPS: &str = ": R CENTER >PLN0 ;";
 /// Its entries are the second bits of their addresses, and 0 in the lower plane.
 const CLEARS: &str = ": R 0 >PLN0 ;";
 
-/// What came of a load: the table was kept, or it is a new one; or it isn't the rule's.
+/// What came of a load: the table was kept, or it is a new one, or it isn't the rule's.
 #[derive(Clone, Copy)]
 enum Loaded {
     Hit,
@@ -29,13 +29,13 @@ enum Loaded {
     Wrong,
 }
 
-/// What came of five loads from a cache of two: each rule twice, and the first one again.
+/// Reports five loads from a cache of two: each rule twice, and the first one again.
 pub fn told(alloc: Global) -> Result<&'static str, NoMemory> {
     let mut cache = TableCache::new(alloc, 2)?;
     told_by(alloc, &mut cache)
 }
 
-/// The same, of a cache that is there.
+/// The same for this cache.
 fn told_by(alloc: Global, cache: &mut TableCache) -> Result<&'static str, NoMemory> {
     let mut key = Key::scratch(alloc)?;
     let mut table = Table::blank(alloc)?;
@@ -88,8 +88,8 @@ fn name_of(loads: [Loaded; 5]) -> &'static str {
     }
 }
 
-/// Loads the table of a text, and compares it: at each address stands the multiple of `unit` below
-/// the address modulo 4.
+/// Loads the table of a text, and compares it. The entry at each address must be the address modulo
+/// 4, rounded down to a multiple of `unit`.
 fn load(
     cache: &mut TableCache,
     key: &mut Key,

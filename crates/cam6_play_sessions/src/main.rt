@@ -1,5 +1,5 @@
-//! Plays the worked examples of sessions, of lines as they are read, of rules and their tables, and
-//! of events: what happens to users and boards, and what comes of it.
+//! Plays the worked examples of sessions, of lines that are read, of rules and their tables, and of
+//! events that happen to users and boards.
 //!
 //! The arguments name files of `data/`. `play` of `cam6_examples` says what they ask for, and does all
 //! but the ways. After the argument `scarce` it does what takes memory, for runs in which an allocation

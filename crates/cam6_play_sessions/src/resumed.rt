@@ -1,4 +1,4 @@
-//! Lines that a machine answers, taken up again where there was no memory for one.
+//! Lines that a machine answers. It goes on with them after an allocation failed.
 
 use cam6_examples::no_memory;
 use cam6_machine::Machine;
@@ -8,10 +8,10 @@ use std::alloc::Global;
 use std::io;
 use std::io::{ErrorKind, Write};
 
-/// How often a session looks at its lines at most.
+/// The most looks at the lines in a session.
 const TURNS: u64 = 1_099_511_627_776;
 
-/// How often lines are taken up at most.
+/// How often the lines are begun at most.
 const TIMES: u32 = 10;
 
 /// A writer, with the number of lines that it took.
@@ -37,14 +37,14 @@ impl<W: Write> Write for Counting<'_, W> {
     }
 }
 
-/// Answers lines as a blank machine does. Where there is no memory for one it is told to be done, or
-/// is answered again.
+/// Answers lines as a blank machine does. If an allocation fails for a line, writes `done` if its
+/// command was done, or else `again`, and answers the line again.
 pub fn answer_all<W: Write>(alloc: Global, lines: &[u8], writer: &mut W) -> io::Result<()> {
     let mut machine = Machine::new(alloc, Side::S256).map_err(|_| no_memory())?;
     answer_from(alloc, lines, writer, &mut machine)
 }
 
-/// The same, as a machine does from where it is.
+/// The same, beginning with this machine.
 fn answer_from<W: Write>(
     alloc: Global,
     lines: &[u8],
@@ -69,7 +69,7 @@ fn answer_from<W: Write>(
     Err(io::Error::from(ErrorKind::Other))
 }
 
-/// The lines behind so many.
+/// The lines after the first `number`.
 fn behind(lines: &[u8], number: usize) -> &[u8] {
     let mut rest = lines;
     for _ in 0..number {

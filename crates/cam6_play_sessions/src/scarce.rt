@@ -1,14 +1,14 @@
 //! Does what takes memory, for runs in which an allocation fails: `checks/out-of-memory` of the
-//! repository has each fail in turn. Whatever finds no memory is taken up again.
+//! repository has each fail in turn. Whatever runs out of memory is done again.
 //!
-//! Without further words it loads two tables from a cache, and prints which were kept; with ample
-//! memory that is `all kept`. With the word `session` it answers the lines of standard input as a
-//! machine does, one after another. If there is no memory for a line, it prints `again` and begins
-//! with that line once more, or `done` in place of the reply if the command was done. With the words
-//! `events USERS BOARDS TABLES` it reads all lines of standard input as events, does them as one list,
-//! and prints what came of them. Before that it prints `unread` if there was no memory for reading
-//! them, or `refused` if there was none for the list, and begins once more. An allocation that fails
-//! before any line ends it as a failure without an answer.
+//! Without further arguments it loads two tables from a cache, and prints which were kept. With
+//! ample memory that is `all kept`. With the argument `session` it answers the lines of standard
+//! input as a machine does, one after another. If there is no memory for a line, it prints `again`
+//! and begins with that line once more, or `done` in place of the reply if the command was done.
+//! With the arguments `events USERS BOARDS TABLES` it reads all lines of standard input as events,
+//! does them as one list, and prints what came of them. Before that it prints `unread` if there was
+//! no memory for reading them, or `refused` if there was none for the list, and begins once more.
+//! If an allocation fails before any line, it ends as a failure without an answer.
 
 use crate::{lists, loads, resumed};
 use cam6_examples::no_memory;
@@ -16,7 +16,7 @@ use std::io;
 use std::io::{Input, Read};
 use std::process::ExitCode;
 
-/// Does what the words ask for.
+/// Does what the arguments ask for.
 pub fn work<R: Input + Print + AllocGlobal>(rt: &R, words: &[String]) -> io::Result<ExitCode> {
     match words {
         [] => println!(rt; "{}", loads::told(rt.alloc()).unwrap_or("no memory"))?,

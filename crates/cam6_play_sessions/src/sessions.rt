@@ -11,7 +11,7 @@ use std::alloc::Global;
 use std::io;
 use std::io::{BufRead, Read};
 
-/// How often one session looks at its lines at most.
+/// The most looks at the lines in one session.
 const TURNS: u64 = 1_000_000;
 
 /// What a session answers, by each way in.
@@ -55,7 +55,7 @@ fn served(alloc: Global, limit: Side, sent: &[Sent]) -> io::Result<Vec<u8>> {
     add_end(answers, end)
 }
 
-/// The same, where its lines are read a byte at a time.
+/// The same, but its lines are read a byte at a time.
 fn served_byte_by_byte(alloc: Global, limit: Side, sent: &[Sent]) -> io::Result<Vec<u8>> {
     let bytes = bytes_of(alloc, sent)?;
     let mut reader = ByteByByte {
@@ -66,7 +66,7 @@ fn served_byte_by_byte(alloc: Global, limit: Side, sent: &[Sent]) -> io::Result<
     add_end(answers, end)
 }
 
-/// The answers, with another end than that of the input as a line of its own.
+/// The answers, with a line more if the session didn't end with its input.
 fn add_end(mut answers: Vec<u8>, end: End) -> io::Result<Vec<u8>> {
     if end != End::EndOfInput {
         add_line(&mut answers, "the session ended before its input")?;

@@ -11,8 +11,8 @@ use std::io;
 /// What is made of lines.
 #[derive(Drop)]
 pub enum LineWay {
-    /// A session over a blank machine of this limit: its answers, whether its lines are read whole
-    /// or a byte at a time, which are those of the machine to one command after another.
+    /// A session over a blank machine of this limit. Its answers must be the same if its lines are
+    /// read whole, a byte at a time, or as one command after another.
     Session(Side),
     /// What each line says, or its fault.
     Readings,

@@ -1,10 +1,10 @@
 //! The program `cam6_rle`: run-length texts of patterns into command lines of `cam6`, and its replies into
 //! such texts.
 //!
-//! Contract: what the words ask for, each end's exit status and what is told of a text that is no pattern
-//! are those of `cam6_words`; which lines a pattern is set by, and which text a frame has, is the contract
-//! of `read_pattern`, of `write_placed` and of `PatternTexts` in `cam6_patterns`; which frames replies
-//! show, and how they end, that of `show_frames` in `cam6_frames`.
+//! Contract: what the arguments ask for, each end's exit status and the line for a text that isn't
+//! a pattern are those of `cam6_words`. Which lines set a pattern, and which text a frame has, is
+//! the contract of `read_pattern`, of `write_placed` and of `PatternTexts` in `cam6_patterns`.
+//! Which frames replies show, and how they end, is the contract of `show_frames` in `cam6_frames`.
 //!
 //! Stands on: `cam6_words`, `cam6_patterns`, `cam6_frames`.
 #![tactic(auto)]
@@ -27,7 +27,7 @@ fn main(rt: HostRuntime) -> ExitCode {
     run(&rt)
 }
 
-/// Reads the words, and does what they ask for.
+/// Reads the arguments, and does what they ask for.
 fn run<R: Env + Input + Print + Eprint + AllocGlobal>(rt: &R) -> ExitCode {
     match options_given(rt) {
         Ok(RleOptions::Place(place)) => placed(rt, &place),
@@ -83,7 +83,7 @@ fn written<R: Print + Eprint + AllocGlobal>(rt: &R, place: &Place, pattern: &Pat
     }
 }
 
-/// Tells why the text is no pattern, and where.
+/// Prints why the text isn't a pattern, and where, and returns exit status 3.
 fn misread<R: Eprint + AllocGlobal>(rt: &R, fault: PatternFault) -> ExitCode
     ensures { exit_status result ≡ 3 }
 {

@@ -9,7 +9,7 @@ use cam6_wiring::{Grid, Half, Hood, Minor, Phase, Setting};
 use std::alloc::Global;
 use std::process::Abort;
 
-/// Of each plane the last two rows and the first two, and of each row the last two columns and the
+/// The last two rows and the first two of each plane, and of each row the last two columns and the
 /// first two.
 const PICTURE: [[u64; 4]; 4] = [
     [0b1011, 0b0101, 0b1100, 0b0011],

@@ -1,5 +1,5 @@
-//! Each public call that takes memory, once, where there is enough: no contract can say that a call
-//! doesn't give up for want of memory, where memory is taken.
+//! Each public call that takes memory, once, with enough memory. No contract can say that a call
+//! that takes memory doesn't run out of it.
 
 ghost use Rattle.std.specs.Prelude.{IfSome};
 ghost use Rattle.cam6_table.specs.RuleTexts.{IsCodeFor};
@@ -56,7 +56,7 @@ fn code_for(alloc: Global, wiring: Wiring, text: &str) -> Option<Code>
     compile(alloc, wiring, text, &mut trial).ok()
 }
 
-/// How many tables a cache of one has, before and behind each of two loads of a rule's table, and
+/// How many tables a cache of one has, before and after each of two loads of a rule's table, and
 /// whether each load found it there.
 fn loads(alloc: Global, cache: &mut TableCache) -> Result<([usize; 3], [bool; 2]), NoMemory> {
     let wiring = Wiring {
@@ -101,7 +101,7 @@ fn is_refused(machine: &mut Machine) -> Result<bool, NoMemory> {
     Ok(matches!(&reply, Reply::Refused(_)))
 }
 
-/// Whether it is where the machine stands for a desk.
+/// Whether it is refused if the machine stands for a desk.
 fn is_refused_at_a_desk(desk: &mut Machine) -> Result<bool, NoMemory> {
     let reply = desk.ask(Command::Run { n: 0 })?;
     Ok(matches!(&reply, Reply::Refused(_)))
@@ -270,7 +270,7 @@ fn asked_for(alloc: Global, command: Command) -> Result<Vec<Event>, AllocError> 
     Ok(events)
 }
 
-/// What comes of events in a new core of one user, whose machine is of this limit.
+/// The outcomes of events in a new core of one user with a machine of this limit.
 fn outcomes(alloc: Global, limit: Side, events: Vec<Event>) -> Result<Vec<Outcome>, NoMemory> {
     let mut core = Core::new(alloc, 1, 1, 1, [limit].as_slice())?;
     let outcomes = run(alloc, &mut core, events);
@@ -289,7 +289,7 @@ fn check_counted(rt: &impl Abort, outcomes: &[Outcome]) {
     );
 }
 
-// Cells of no state: the reply to its command alone wants no memory for it.
+// Counts the cells of no state. The reply itself takes no memory.
 #[test]
 fn events_run(rt: HostRuntime) -> Result<(), NoMemory> {
     let events = asked_for(rt.alloc(), Command::Count { mask: 0 })?;

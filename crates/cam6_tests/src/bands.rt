@@ -1,5 +1,5 @@
 //! A billiard ball's step in bands that crosses the corner of a torus of each side: it is moved to
-//! another image in its midst, or given up for a later one.
+//! another image in its middle, or given up for a later one.
 
 use crate::corners::SIDES;
 use crate::rows::lone;
@@ -32,7 +32,7 @@ fn filled(alloc: Global, code: &Code) -> Option<Table> {
     }
 }
 
-/// What a step of balls on the odd grid goes by.
+/// The tables for a step of balls on the odd grid.
 fn on_the_odd_grid<'a>(table: &'a Table) -> EntryTables<'a> {
     let (hood, minor) = (Hood::Margolus, Minor::Phases);
     EntryTables {
@@ -50,7 +50,7 @@ fn with_a_ball(rt: &impl Abort, alloc: Global, side: Side) -> Result<AtRest, NoM
     Ok(AtRest::of(planes))
 }
 
-/// The step after so many bands more, none of which is the last.
+/// The step after so many bands more. None of them is the last.
 fn after_bands(rt: &impl Abort, mid: MidStep, tables: &EntryTables, bands: u16) -> MidStep {
     let mut mid = mid;
     for _band in 0..bands {
@@ -77,7 +77,7 @@ fn last_band(rt: &impl Abort, mid: MidStep, tables: &EntryTables) -> AtRest {
     }
 }
 
-/// The step says how far it is, on which torus, and of which limit.
+/// The step says how far it is, on which torus, and with which limit.
 fn check_mid(rt: &impl Abort, mid: &MidStep, side: Side, bands: u16) {
     assert_eq!(rt; mid.rows() / 16, bands);
     assert_eq!(rt; mid.side(), side);
@@ -108,8 +108,8 @@ fn check_ball(rt: &impl Abort, planes: &Planes) {
     assert_eq!(rt; text[last / 4], b'1');
 }
 
-/// So many bands of a step in its own image, and the others in the spare one, which is of the same
-/// limit.
+/// Does so many bands of a step in its own image, and the others in the spare one, which has the
+/// same limit.
 fn check_step(rt: &impl Abort, image: AtRest, spare: Spare, tables: &EntryTables, bands: u16) {
     let side = image.planes().side();
     let mid = after_bands(rt, image.begin(tables), tables, bands);
@@ -140,7 +140,7 @@ fn bands_of(side: Side) -> [u16; 2] {
     [1, (side.number() / 16 - 1) as u16]
 }
 
-/// A step on a torus of this side is moved behind so many bands.
+/// A step on a torus of this side is moved after so many bands.
 fn check_moved(
     rt: &impl Abort,
     alloc: Global,
@@ -155,7 +155,7 @@ fn check_moved(
 }
 
 // By hand, from the picture of the two grids: on the odd one the cell at column 0 of row 0 is the
-// lower right one of its block, and the upper left one stands at the last column of the last row.
+// lower right one of its block. The upper left one stands at the last column of the last row.
 fn check_moves(rt: &impl Abort, alloc: Global, tables: &EntryTables) -> Result<(), NoMemory> {
     for side in SIDES {
         for bands in bands_of(side) {
@@ -171,7 +171,7 @@ fn a_step_is_moved(rt: HostRuntime) -> Result<(), NoMemory> {
     check_moves(&rt, rt.alloc(), &on_the_odd_grid(&table))
 }
 
-/// A step on a torus of this side is given up behind so many bands.
+/// A step on a torus of this side is given up after so many bands.
 fn check_given_up(
     rt: &impl Abort,
     alloc: Global,

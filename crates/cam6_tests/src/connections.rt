@@ -21,7 +21,7 @@ impl Connection for Plain {
     fn release(&self) {}
 }
 
-/// A hall of two users, whose boards nobody serves.
+/// A hall of two users. No worker serves its boards.
 fn hall<R: Handle>(rt: R) -> Result<Hall<R>, NoMemory> {
     let alloc = rt.alloc();
     let (desks, seats) = boot(alloc, 2, 1, &[Side::S128, Side::S128])?;
@@ -40,7 +40,7 @@ fn hall<R: Handle>(rt: R) -> Result<Hall<R>, NoMemory> {
     })
 }
 
-/// How a connection goes on which this is said, and whether this is answered.
+/// How a connection with these lines goes, and whether these bytes are the answers.
 fn said<R: Handle>(hall: &Hall<R>, lines: &[u8], want: &[u8]) -> (Visit, bool) {
     let mut reader = lines;
     let mut writer = Vec::new(hall.rt.alloc());
@@ -48,7 +48,7 @@ fn said<R: Handle>(hall: &Hall<R>, lines: &[u8], want: &[u8]) -> (Visit, bool) {
     (visit, writer.as_slice() == want)
 }
 
-/// The same, where the writer fails after so many bytes.
+/// The same with a writer that fails after so many calls.
 fn cut_off<R: Handle>(hall: &Hall<R>, lines: &[u8], calls: usize, want: &[u8]) -> (Visit, bool) {
     let mut reader = lines;
     let mut writer = Ones {
@@ -60,13 +60,13 @@ fn cut_off<R: Handle>(hall: &Hall<R>, lines: &[u8], calls: usize, want: &[u8]) -
     (visit, writer.bytes.as_slice() == want)
 }
 
-// Of a blank machine no cell has the state 1; the third line is no JSON.
+// No cell of a blank machine has the state 1. The third line isn't JSON.
 const LINES: &[u8] = b"{\"seat\":2}\n{\"do\":\"count\",\"mask\":2}\nnope\n";
 
 const ANSWERS: &[u8] = b"{\"ok\":\"seat\"}\n{\"count\":0,\"ok\":\"count\"}\n{\"fault\":2}\n";
 
-// A user has his seat, twice, one after the other; there is no third user; a first line is no JSON;
-// and there is none.
+// A user has the seat on two connections, one after the other. There is no third user. Then a first
+// line isn't JSON, and one is missing.
 #[test]
 fn a_connection_is_a_conversation(rt: HostRuntime) -> Result<(), NoMemory> {
     let hall = hall(rt)?;
@@ -96,7 +96,7 @@ fn a_connection_is_a_conversation(rt: HostRuntime) -> Result<(), NoMemory> {
     Ok(())
 }
 
-// `{"ok":"seat"}` and its LF have 14 bytes. The seat is free behind each.
+// `{"ok":"seat"}` and its LF have 14 bytes. The seat is free after each.
 #[test]
 fn a_connection_is_cut_off(rt: HostRuntime) -> Result<(), NoMemory> {
     let hall = hall(rt)?;

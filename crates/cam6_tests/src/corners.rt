@@ -7,7 +7,7 @@ use cam6_planes::{NoMemory, Planes, Side, WORDS};
 use cam6_wiring::{Compass, Grid, Half, Level, Name, Phase, Rotation, Setting};
 use std::process::Abort;
 
-/// A cell's column and row, where 255 is the last and 254 the last but one.
+/// A cell's column and row: 255 is the last and 254 the last but one.
 pub(crate) type Place = (u8, u8);
 
 pub(crate) const SIDES: [Side; 3] = [Side::S128, Side::S256, Side::S512];
@@ -40,7 +40,7 @@ fn rotated(rotation: Rotation) -> [Name; 2] {
 }
 
 /// Each of the cells sees a bit of this plane under the name at its place, and at no other: it sees
-/// 1 where that cell alone is set, and 0 where none is.
+/// 1 if that cell alone is set, and 0 if none is.
 fn check_places(
     rt: &impl Abort,
     planes: &mut Planes,
@@ -191,7 +191,7 @@ fn check_bits(rt: &impl Abort, planes: &Planes, setting: Setting, name: Name, bi
     }
 }
 
-/// So it is under both names, in either half.
+/// The same under both names, in either half.
 fn check_blank(
     rt: &impl Abort,
     planes: &Planes,

@@ -1,4 +1,4 @@
-//! A desk that is asked, where nothing waits, and a session there.
+//! A desk that is asked while nothing waits, and a session there.
 
 use crate::failing::Shown;
 use cam6_commands::{Command, Done, Reply};
@@ -25,15 +25,15 @@ fn check_desks<R: Abort + Wait>(rt: &R, desks: &mut [Desk]) -> Result<(), NoMemo
     Ok(())
 }
 
-// Of a blank machine no cell has the state 1. A command without steps is answered on the desk's own
-// thread, so that no board is wanted.
+// No cell of a blank machine has the state 1. A command without steps is answered on the desk's own
+// thread, so it needs no board.
 #[test]
 fn a_command_without_steps_is_asked(rt: HostRuntime) -> Result<(), NoMemory> {
     let (mut desks, _seats) = boot(rt.alloc(), 1, 1, &[Side::S128])?;
     check_desks(&rt, desks.as_mut_slice())
 }
 
-// Of a blank machine no cell has the state 1; the second line is no JSON; and no cycle is set.
+// No cell of a blank machine has the state 1. The second line isn't JSON, and no cycle is set.
 const LINES: &[u8] = b"{\"do\":\"count\",\"mask\":2}\nnope\n{\"do\":\"run\",\"n\":0}\n";
 
 const ANSWERS: &[u8] = b"{\"count\":0,\"ok\":\"count\"}\n{\"fault\":2}\n{\"fault\":63}\n";

@@ -1,5 +1,5 @@
-//! Readers and writers that fail at one of their calls, and one that stands at a machine and finds
-//! no memory at one of its calls.
+//! Readers and writers that fail at one of their calls, and a desk at a machine that runs out of
+//! memory at one of its calls.
 
 use cam6_commands::{Command, Reply};
 use cam6_machine::Machine;
@@ -9,7 +9,7 @@ use std::alloc::Global;
 use std::io;
 use std::io::{BufRead, ErrorKind, Read, Write};
 
-/// Answers a number of commands as its machine does, then finds no memory.
+/// Answers a number of commands as its machine does, then runs out of memory.
 #[derive(Drop)]
 pub(crate) struct Desk {
     pub(crate) machine: Machine,

@@ -1,8 +1,8 @@
 //! Tests of what no line, no text of a rule and no list of commands can show. All else that is
 //! tested is a file that a player plays, `cam6_play_sessions` or another one.
 //!
-//! They stand above the other crates and call their public functions alone, so that those crates
-//! are proved once. The program has its own, since no crate can call a program.
+//! They stand above the other crates and call only their public functions, so that those crates are
+//! proved once. The program has its own tests, since no crate can call a program.
 //!
 //! Stands on: `cam6_server`, `cam6_forth`, `cam6_band` and what they stand on.
 //!

@@ -1,5 +1,5 @@
-//! The lines of rows against the addresses of their cells, cell by cell, on planes without a
-//! pattern: each neighbourhood with each minor assignment, both halves, both grids, each phase.
+//! The lines of rows against the addresses of their cells, cell by cell, on random planes: each
+//! neighbourhood with each minor assignment, both halves, both grids, each phase.
 
 use crate::addresses::check_address;
 use crate::corners::SIDES;
@@ -22,7 +22,7 @@ const MINORS: [Minor; 3] = [Minor::Centers, Minor::Phases, Minor::HorzVert];
 
 const PHASES: [Phase; 4] = [Phase::P0, Phase::P1, Phase::P2, Phase::P3];
 
-/// The next of numbers whose upper bits have no pattern.
+/// The next of numbers with random upper bits.
 fn next(number: u64) -> u64 {
     number
         .wrapping_mul(6_364_136_223_846_793_005)
@@ -61,7 +61,7 @@ fn check_row(
     }
 }
 
-/// So it is for each half, grid and phase.
+/// The same for each half, grid and phase.
 fn check_settings(rt: &impl Abort, planes: &Planes, hood: Hood, minor: Minor, y: usize) {
     for half in [Half::A, Half::B] {
         for grid in [Grid::Even, Grid::Odd] {

@@ -7,7 +7,7 @@ use std::io;
 use std::io::Write;
 use std::process::Abort;
 
-// Two answers, of four bytes each. The writer takes a byte at a call, and is flushed behind each
+// Two answers, of four bytes each. The writer takes a byte at a call, and is flushed after each
 // answer that is released, so an answer takes five calls.
 const ANSWERS: &[u8] = b"one\ntwo\n";
 
@@ -31,7 +31,7 @@ fn sent(alloc: Global, calls: usize, want: &[u8]) -> io::Result<(bool, bool, boo
     Ok((first, second, is_got))
 }
 
-// What was sent before the writer failed stays sent. Nothing is sent behind that, though the writer
+// What was sent before the writer failed stays sent. Nothing is sent after that, though the writer
 // would take it.
 #[test]
 fn an_outbox_is_broken_for_good(rt: HostRuntime) -> io::Result<()> {

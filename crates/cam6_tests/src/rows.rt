@@ -4,7 +4,7 @@ use cam6_planes::{COLUMNS, DIGITS, Planes, Row, Side, WORDS, bits_of_digits, eas
 use std::process::Abort;
 use std::test::Fail;
 
-/// A row of which one column is set.
+/// A row with one column set.
 pub(crate) fn lone(column: usize) -> Row {
     let column = column % COLUMNS;
     let mut row = [0; WORDS];
@@ -40,7 +40,7 @@ fn lone_columns_move(rt: HostRuntime) {
     }
 }
 
-/// A row that came of one with this lone column has the other one alone.
+/// A row that was moved from one with this lone column has the other one alone.
 fn check_lone(rt: &impl Abort, column: usize, moved: Row, want: usize) {
     assert_eq!(rt; moved, lone(want), "column {column}");
 }
@@ -108,7 +108,7 @@ fn digits_are_read(rt: HostRuntime) {
     }
 }
 
-// By hand: a digit too few or too many, 48 or 96 of them, and one that is none.
+// By hand: a digit too few or too many, 48 or 96 of them, and a byte that isn't a digit.
 #[test]
 fn digits_of_no_row(rt: HostRuntime) {
     let zeros = [b'0'; 96];

@@ -1,4 +1,4 @@
-//! Sessions in which the reader, the writer or the one that is asked fails at each of its calls.
+//! Sessions in which the reader, the writer or the desk fails at each of its calls.
 
 use crate::failing::{Desk, Failure, Ones, Shown, is_answered};
 use cam6_machine::Machine;
@@ -9,8 +9,8 @@ use std::process::Abort;
 use std::test::Fail;
 
 // A session of four lines, the last without its LF, and the answers of the profile: no cycle is
-// set, no JSON, a cycle, and then a run of no steps. With their LFs the lines end behind 19, 24, 93
-// and 111 bytes, the answers behind 13, 25, 40 and 66.
+// set, no JSON, a cycle, and then a run of no steps. With their LFs the lines end after 19, 24, 93
+// and 111 bytes, the answers after 13, 25, 40 and 66.
 const LINES: &[u8] =
     b"{\"do\":\"run\",\"n\":0}\nnope\n{\"do\":\"cycle\",\"entries\":[{\"a\":\"-\",\"b\":\"-\",\"grid\":\"EVEN\",\"phase\":0}]}\n{\"do\":\"run\",\"n\":0}";
 
@@ -46,12 +46,12 @@ fn stands_after(alloc: Global, lines: usize, machine: &mut Machine) -> bool {
     is_answered(alloc, machine, RUN, want)
 }
 
-/// What came of a session: its end, whether what was wanted is what was written, and whether the
-/// desk stands where it was to. A desk is let go by as few functions as may be: each way in which
-/// it can be let go is a proof of its own.
+/// What came of a session: its end, whether the wanted bytes were written, and whether the desk
+/// stands where it should. As few functions as possible drop a desk, since each way to drop it is a
+/// proof of its own.
 type Came = (End, bool, bool);
 
-/// A session over a desk, with this reader and bound: its end, and whether this is written.
+/// A session over a desk, with this reader and bound: its end, and whether these bytes are written.
 fn read_at(
     alloc: Global,
     mut reader: Shown,
@@ -72,14 +72,14 @@ fn session(alloc: Global, reader: Shown, turns: u64, lines: usize) -> Result<Cam
     Ok(came)
 }
 
-/// So it is over this desk.
+/// The same over this desk.
 fn session_at(alloc: Global, reader: Shown, turns: u64, lines: usize, desk: &mut Desk) -> Came {
     let (end, is_written) = read_at(alloc, reader, turns, desk, answers_to_first(lines));
     let stands = stands_after(alloc, lines, &mut desk.machine);
     (end, is_written, stands)
 }
 
-/// A reader that fails after so many looks, and a bound of so many turns, end a session behind so
+/// A reader that fails after so many looks, and a bound of so many turns, end a session after so
 /// many lines.
 fn check_reader(
     rt: &impl Abort,
@@ -129,8 +129,8 @@ fn bytes_of(calls: usize) -> usize {
     }
 }
 
-/// A session over a desk, with a writer that fails after so many calls: its end, and whether this is
-/// written.
+/// A session over a desk, with a writer that fails after so many calls: its end, and whether these
+/// bytes are written.
 fn written_at(
     alloc: Global,
     failure: Failure,
@@ -157,7 +157,7 @@ fn written(alloc: Global, failure: Failure, calls: usize, lines: usize) -> Resul
     Ok(came)
 }
 
-/// So it is over this desk.
+/// The same over this desk.
 fn written_over(
     alloc: Global,
     failure: Failure,
@@ -171,8 +171,8 @@ fn written_over(
     (end, is_written, stands)
 }
 
-// The answer to a line takes a call for each byte, and a flush. A flush takes no byte, so where a
-// writer takes nothing more it goes well.
+// The answer to a line takes a call for each byte, and a flush. A flush takes no byte, so it goes
+// well if a writer takes nothing more.
 #[test]
 fn writers_fail_at_each_call(rt: HostRuntime) -> Result<(), Fail> {
     for (failure, marks) in [
@@ -210,7 +210,7 @@ fn served_at(alloc: Global, desk: &mut Desk, line: &'static [u8]) -> CameAgain {
     ([end, last], written, reader, is_written)
 }
 
-/// So it is over a desk that answers so many commands.
+/// The same over a desk that answers so many commands.
 fn served_again(alloc: Global, answers: usize, line: &'static [u8]) -> Result<CameAgain, NoMemory> {
     let mut desk = Desk::new(alloc, answers)?;
     let came = served_at(alloc, &mut desk, line);
@@ -218,7 +218,7 @@ fn served_again(alloc: Global, answers: usize, line: &'static [u8]) -> Result<Ca
     Ok(came)
 }
 
-// A desk that found no memory for a line stands where it stood, and the reader behind that line.
+// A desk that ran out of memory for a line stands where it stood, and the reader after that line.
 // Served again from that line, with memory, it answers the rest.
 #[test]
 fn desks_find_no_memory_at_each_call(rt: HostRuntime) -> Result<(), Fail> {

@@ -56,7 +56,7 @@ fn set_cycle(rt: &impl Abort, alloc: Global, machine: &mut Machine) -> Result<()
     Ok(())
 }
 
-/// The position that a run of no steps tells.
+/// The position that a run of no steps reports.
 fn position(machine: &mut Machine) -> Result<Option<usize>, NoMemory> {
     match machine.now(Command::Run { n: 0 })? {
         Now::Reply(Reply::Done(Done::Run { position })) => Ok(Some(position)),
@@ -102,8 +102,8 @@ fn check_none_left(rt: &impl Abort, machine: &mut Machine) {
     assert_eq!(rt; left(machine, Command::Plane { plane: 4 }), Ok(None));
 }
 
-// By hand: behind a step the machine stands at the next entry. It comes apart, lends what it keeps, and
-// is joined where it stood.
+// By hand: after a step the machine stands at the next entry. It comes apart, lends what it keeps,
+// and is joined where it stood.
 #[test]
 fn machines_come_apart(rt: HostRuntime) -> Result<(), NoMemory> {
     let mut machine = Machine::new(rt.alloc(), Side::S256)?;
@@ -121,7 +121,7 @@ fn take_a_step(rt: &impl Abort, alloc: Global, machine: &mut Machine) -> Result<
     Ok(())
 }
 
-/// The machine that is joined of another's parts.
+/// The machine that is joined from another's parts.
 fn parted(rt: &impl Abort, machine: Machine) -> Machine {
     let (kept, image, spare) = machine.part();
     check_kept(rt, &kept);
@@ -183,7 +183,7 @@ fn turns_of_the_largest_rules(rt: HostRuntime) -> Result<(), Fail> {
     Ok(())
 }
 
-// From the table of line faults; want of memory has no reply.
+// From the table of line faults; a failed allocation has no reply.
 #[test]
 fn numbers_of_line_faults(rt: HostRuntime) {
     assert_eq!(rt; LineFault::NoMemory.number(), 0);

@@ -1,4 +1,4 @@
-//! Calls on planes that first try what the calls ask for: that the row, or the cell, is there.
+//! Calls on planes that first check what the calls require: that the row, or the cell, is there.
 
 use cam6_planes::{Planes, Row, WORDS};
 use cam6_wiring::{Hood, Lines, Minor, Name, Rows, Setting, address_at, lines_of_row, seen};
@@ -56,7 +56,7 @@ pub(crate) fn lines_of(
     lines_of_row(half, hood, minor, grid, phase, y, &Rows::around(planes, y))
 }
 
-/// The address whose bits the lines show at this column.
+/// The address with the bits that the lines show at this column.
 pub(crate) fn shown_at(rt: &impl Abort, lines: &Lines, x: usize) -> u16 {
     let (word, column) = (x / 64, x % 64);
     assert!(rt; word < WORDS);

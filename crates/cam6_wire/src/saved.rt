@@ -14,7 +14,7 @@ use cam6_planes::Bits;
 use serde_json::{Map, Value, json};
 use std::alloc::{AllocError, Global};
 
-/// The versions in which a saved machine can be spelled. The second alone is written.
+/// The versions of a saved machine's spelling. Both are read, and only the second is written.
 #[derive(Clone, Copy, Debug, PartialEq, Eq)]
 pub enum Version {
     /// Without a side, which is 256.
@@ -139,7 +139,7 @@ fn entry_value(alloc: Global, entry: &NamedEntry) -> Result<Value, AllocError>
     Ok(Value::Object(members))
 }
 
-/// An entry's name for a half; `-` where it has none.
+/// An entry's name for a half, or `-` if it has none.
 fn name_text(name: &Option<Text>) -> &str
     ensures { result.now ≡ name_text name.now }
 {

@@ -1,4 +1,4 @@
--- The words that `cam6_draw` takes, and what they ask for.
+-- The arguments that `cam6_draw` takes, and what they ask for.
 use Rattle.std.specs.Prelude.{ℕ, List, [], codes, Option, Some, None, Bool}
 use Rattle.std.specs.Prelude.{true, false, ◌==◌, if◌then◌else◌, length, get_or, option_and_then}
 use Rattle.std.specs.Prelude.{option_map}
@@ -17,7 +17,7 @@ use Rattle.cam6_words.specs.declared.draw_options.Way.TheVariants as way
 use Rattle.cam6_pictures.specs.Look.{Window}
 use Rattle.cam6_pictures.specs.Palette.{default_palette, palette_said}
 
--- ---- the words
+-- ---- the arguments
 
 -- an option of this name that takes no value, and one that takes one
 abbrev pub flag : Text → Rule
@@ -70,7 +70,7 @@ abbrev pub is_true : Option Text → Bool
 is_true None = false
 is_true (Some word) = bytes_eq word (codes "true")
 
--- a rate goes with a terminal alone; whether --ppm and --text are said, and the word at --frames
+-- by whether --ppm and --text are said, and by the word at --frames; a rate needs a terminal
 abbrev pub way_said : Bool → Bool → Option Text → Option Way
 way_said true false None = Some way.Ppm
 way_said false true None = Some (way.Text None)
@@ -114,7 +114,7 @@ abbrev pub scale_by : Option Text → Option ℕ
 scale_by None = Some 1
 scale_by (Some word) = number_said 1 16 word
 
--- all of them, if each is said well
+-- all of them, if each is valid
 abbrev pub all_said : Option Way → Option (List Light) → Option (Option Window) → Option ℕ
     → Option DrawOptions
 all_said said_way said_palette said_window said_scale = do

@@ -1,4 +1,4 @@
--- Words that are refused: for which errors of clap's, and the exit status with what is told.
+-- Arguments that are refused: for which errors of clap's, and with which exit status and text.
 use Rattle.std.specs.Prelude.{◌≡◌, ◌≢◌, ◌⊎◌, ℕ, List, [], Option, None, codes, string_bytes, ⊤}
 use Rattle.std.specs.declared.io.ErrorKind.{ErrorKind as ReadKind}
 use Rattle.std.specs.declared.io.ErrorKind.TheVariants as read
@@ -15,7 +15,7 @@ use Rattle.cam6_words.specs.declared.refusals.Refused.TheVariants.{Help, Words, 
 abbrev pub IsAnswer : ErrorKind → Type 0
 IsAnswer kind = (kind ≡ DisplayHelp) ⊎ (kind ≡ DisplayVersion)
 
--- an error of clap's of this kind is refused so
+-- what an error of clap's of this kind may become
 abbrev pub IsOfKind : Refused → ErrorKind → Type 0
 IsOfKind (Help text) kind = IsAnswer kind
 IsOfKind (Words text) kind = (IsAnswer kind → ⊥) × (kind ≢ OutOfMemory)
@@ -27,8 +27,8 @@ IsRefusal (Help text) = ⊥
 IsRefusal (Words text) = ⊤
 IsRefusal NoMemory = ⊤
 
--- help comes only where clap has an error of such a kind, and a refusal only where it has another
--- one, or the words that it takes ask for nothing
+-- help comes only if clap has an error of such a kind; a refusal only if clap has another one, or
+-- takes the words and they ask for nothing
 abbrev pub Refuses : {A : Type 0} → Kinds → Option A → Refused → Type 0
 Refuses kinds said (Help text) = (kind : ErrorKind) × IsAmong kind kinds × IsAnswer kind
 Refuses kinds said (Words text) =
@@ -36,7 +36,7 @@ Refuses kinds said (Words text) =
     ⊎ ((kinds ≡ []) × (said ≡ None))
 Refuses kinds said NoMemory = ⊤
 
--- words that can't be had, for want of memory, or because one is no UTF-8
+-- arguments that can't be read: memory ran out, or one isn't UTF-8
 abbrev pub IsUnreadable : Program → Refused → ReadKind → Type 0
 IsUnreadable program (Help text) kind = ⊥
 IsUnreadable program (Words text) kind =
@@ -44,7 +44,7 @@ IsUnreadable program (Words text) kind =
     × (string_bytes text ≡ told program (codes "a word is not UTF-8\n"))
 IsUnreadable program NoMemory kind = ⊤
 
--- the exit status, with what is told; help succeeds
+-- the exit status, with the text; help succeeds
 abbrev pub refusal : Program → Refused → ℕ × List ℕ
 refusal program (Help text) = (0, string_bytes text)
 refusal program (Words text) = (2, string_bytes text)

@@ -1,4 +1,4 @@
--- The words that `cam6_rle` takes, and what they ask for.
+-- The arguments that `cam6_rle` takes, and what they ask for.
 use Rattle.std.specs.Prelude.{◌≡◌, ℕ, ◌-◌, List, [], ◌∷◌, codes, length, map, Option, Some, None}
 use Rattle.std.specs.Prelude.{Bool, true, false, ◌||◌, ◌&&◌, ◌==◌, not, nat_lt, nat_le, if◌then◌else◌}
 use Rattle.std.specs.Prelude.{option_and_then, option_map, is_some, unwrap_or, string_bytes}
@@ -29,7 +29,7 @@ side_said word = if bytes_eq word (side_text S128) then Some S128
     else (if bytes_eq word (side_text S256) then Some S256
     else (if bytes_eq word (side_text S512) then Some S512 else None))
 
--- a whole number up to that, as a word
+-- a whole number up to last_move, as a word
 abbrev pub move_said : Text → Option ℕ
 move_said word = if is_unsigned_in 0 last_move word
     then Some (digits_value 10 (without_leading_plus word)) else None
@@ -39,7 +39,7 @@ abbrev pub is_among : ℕ → List ℕ → Bool
 is_among b [] = false
 is_among b (first ∷ bytes) = (first == b) || is_among b bytes
 
--- whether none of them stands twice
+-- whether all of them are different
 abbrev pub are_different : List ℕ → Bool
 are_different [] = true
 are_different (b ∷ bytes) = not (is_among b bytes) && are_different bytes
@@ -185,7 +185,7 @@ abbrev pub HasTask : RleOptions → Option Task → Type 0
 HasTask (Place placing) said = said ≡ Some (place placing)
 HasTask (Gather rule) said = said ≡ Some (gather (string_bytes rule))
 
--- they ask for this, or for no task where there are none
+-- they ask for this, or for no task if there are no options
 abbrev pub MayHaveTask : Option RleOptions → Option Task → Type 0
 MayHaveTask None said = said ≡ None
 MayHaveTask (Some options) said = HasTask options said

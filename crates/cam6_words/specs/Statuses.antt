@@ -1,4 +1,4 @@
--- The exit status of each end, with what is told.
+-- The exit status of each end, with its line.
 use Rattle.std.specs.Prelude.{ℕ, List, ◌++◌, Option, None, Some, codes, decimal}
 use Rattle.cam6_words.specs.Program.{at_line, told}
 use Rattle.cam6_words.specs.declared.programs.Program.{Program}
@@ -11,7 +11,7 @@ use Rattle.cam6_patterns.specs.declared.faults.Cause.{Cause}
 use Rattle.cam6_patterns.specs.declared.faults.Cause.TheVariants as cause
 use Rattle.cam6_patterns.specs.declared.faults.PatternFault.{PatternFault}
 
--- none at the end of input, where the program succeeds
+-- none at the end of input: the program succeeds
 abbrev pub failure : Program → End → Option (ℕ × List ℕ)
 failure program EndOfInput = None
 failure program (NoReply line) = Some (3, at_line program line (codes " is no reply\n"))
@@ -31,11 +31,11 @@ cause_told cause.TooHigh = codes ": too high\n"
 cause_told cause.TooManyStates = codes ": more states than the planes hold\n"
 cause_told cause.NoEnd = codes ": the end, !, is missing\n"
 
--- a column, and what is told of it
+-- a text after the number of a column
 abbrev pub column_told : ℕ → List ℕ → List ℕ
 column_told column text = codes ", column " ++ decimal column ++ text
 
--- the first fault of a text, and where, as `cam6_rle` tells it
+-- the first fault of a text, and where, as `cam6_rle` reports it
 abbrev pub fault_told : PatternFault → List ℕ
 fault_told fault =
     at_line Rle fault.line

@@ -1,4 +1,4 @@
-//! What the words of `cam6_draw` ask for.
+//! What the arguments of `cam6_draw` ask for.
 
 use cam6_pictures::Look;
 use thiserror::Error;
@@ -15,16 +15,16 @@ pub struct DrawOptions {
 /// How pictures are written.
 #[derive(Clone, Copy, Debug)]
 pub enum Way {
-    /// As files of the netpbm programs, one behind the other.
+    /// As files of the netpbm programs, one after the other.
     Ppm,
     /// On a terminal, one over the other.
     Text {
-        /// How many pictures a second at most, where that is said.
+        /// The most pictures a second, if that is said.
         rate: Option<usize>,
     },
 }
 
-/// Why words that clap takes ask for nothing.
+/// Why arguments that clap takes ask for nothing.
 #[derive(Clone, Copy, Debug, Error)]
 pub(crate) enum Unsaid {
     #[error("one of --ppm and --text is wanted, and not both")]

@@ -1,4 +1,4 @@
-//! The words of `cam6_draw`.
+//! The arguments of `cam6_draw`.
 ghost use Rattle.std.specs.Prelude.{◌≡◌, ◌≤◌, ◌&&◌, [], IfErr, IfOk, IfSome, Some};
 ghost use Rattle.std.specs.Prelude.{None, true, false, codes, if◌then◌else◌, map, nat_le, option_map};
 ghost use Rattle.std.specs.Prelude.{string_bytes};
@@ -44,9 +44,9 @@ Exit status:
   5  no memory
   6  too many lines";
 
-/// Reads the words, of which the first is the program's name.
+/// Returns what the arguments ask for, or why they are refused. The first is the program's name.
 pub fn options_of_draw(alloc: Global, words: &[String]) -> Result<DrawOptions, Refused>
-    // Of a simple command, clap's matches and the kinds of its errors are functions of the words.
+    // For a simple command, clap's matches and the kinds of its errors are functions of the words.
     ensures asked { IfOk result (λ options.
         (fault_of program_of (map string_bytes words.now) ≡ [])
         × (asked_by (matches_of program_of (map string_bytes words.now)) ≡ Some options)) }
@@ -62,7 +62,7 @@ pub fn options_of_draw(alloc: Global, words: &[String]) -> Result<DrawOptions, R
     }
 }
 
-/// What words ask for that clap takes.
+/// What arguments ask for that clap takes.
 fn taken(alloc: Global, matches: &ArgMatches<'_>) -> Result<DrawOptions, Refused>
     ensures asked { IfOk result (λ options.
         asked_by (rows_of (found_of matches.now)) ≡ Some options) }
@@ -243,7 +243,7 @@ fn scale_by(word: Option<&str>) -> Result<usize, Unsaid>
     }
 }
 
-/// The number that a word is, a least to a most one.
+/// The number that a word is, if it is from `least` to `most`.
 fn number_of(word: &str, least: usize, most: usize) -> Option<usize>
     ensures number { result ≡ number_said least most word.now }
     ensures within { IfSome result (λ number. (least ≤ number) × (number ≤ most)) }
@@ -254,7 +254,7 @@ fn number_of(word: &str, least: usize, most: usize) -> Option<usize>
     bounded(number, least, most)
 }
 
-/// The number, if it is a least to a most one.
+/// The number, if it is from `least` to `most`.
 fn bounded(number: usize, least: usize, most: usize) -> Option<usize>
     ensures number { result
         ≡ (if nat_le least number && nat_le number most then Some number else None) }

@@ -10,9 +10,9 @@ use crate::statuses::{WRITE_FAILED, failure_of};
 use cam6_frames::End;
 use std::process::ExitCode;
 
-/// Tells why the words ask for nothing, and ends.
+/// Prints help, or why the arguments are refused, and returns the exit status.
 pub fn refuse(rt: &(impl Print + Eprint), program: Program, refused: &Refused) -> ExitCode
-    // Help may end otherwise, where it can't be written.
+    // Help ends with another status if it can't be written.
     ensures { (refusal_told program refused.now).0 ≢ 0
         → exit_status result ≡ (refusal_told program refused.now).0 }
 {
@@ -26,7 +26,7 @@ pub fn refuse(rt: &(impl Print + Eprint), program: Program, refused: &Refused) -
     }
 }
 
-/// Ends as showing ended.
+/// Returns the exit status of an end. If the end is a failure, prints its line to standard error.
 pub fn ended<R: Eprint + AllocGlobal>(rt: &R, program: Program, end: End) -> ExitCode
     ensures { MatchOption (failure program end) (exit_status result ≡ 0)
         (λ told. exit_status result ≡ told.0) }
@@ -38,11 +38,11 @@ pub fn ended<R: Eprint + AllocGlobal>(rt: &R, program: Program, end: End) -> Exi
     }
 }
 
-/// Ends with a status, and a text on standard error.
+/// Prints a text to standard error, and returns the exit status.
 pub fn failed(rt: &impl Eprint, status: u8, text: &str) -> ExitCode
     ensures { exit_status result ≡ status }
 {
-    // Standard error is the last place to tell of a fault, so a fault of its own isn't told.
+    // There is no other place for a report than standard error, so its own fault isn't reported.
     let _ = rt.eprint(text);
     ExitCode::from(status)
 }

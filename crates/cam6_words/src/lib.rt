@@ -1,10 +1,11 @@
-//! The words of `cam6_draw` and of `cam6_rle`, and how both end.
+//! The arguments of `cam6_draw` and of `cam6_rle`, and how both programs end.
 //!
-//! Contract: `options_of_draw` and `options_of_rle` read the words as `clap` takes them
-//! (`specs/DrawWords.antt`, `specs/RleWords.antt`), and words are refused only where clap has a fault of
-//! them, where they ask for nothing, or for want of memory (`specs/Refusals.antt`). `failure_of` is each end's exit status
-//! with its line (`specs/Statuses.antt`), with which `ended` ends; `refusal_of` that of words that are
-//! refused, with which `refuse` ends; `fault_text` tells why a text is no pattern, and where.
+//! Contract: `options_of_draw` and `options_of_rle` read the arguments as `clap` takes them
+//! (`specs/DrawWords.antt`, `specs/RleWords.antt`). Arguments are refused only if `clap` has a
+//! fault of them, if they ask for nothing, or if memory runs out (`specs/Refusals.antt`).
+//! `failure_of` returns each end's exit status with its line (`specs/Statuses.antt`), and `ended`
+//! ends with them. `refusal_of` returns those of refused arguments, and `refuse` ends with them.
+//! `fault_text` says why a text isn't a pattern, and where.
 //!
 //! Stands on: `cam6_frames`, for the ends; `cam6_pictures`, for looks, and `cam6_patterns`, for planes and
 //! faults of texts; `cam6_planes`, for the sides; `clap`, `thiserror`.

@@ -3,7 +3,7 @@
 /// Their version, and the toolchain that proves them.
 pub(crate) const VERSION: &str = "1 (Rattle logic dac8208d650f15bf)";
 
-/// A program, in whose name faults are told.
+/// A program. Faults are reported in its name.
 #[derive(Clone, Copy, Debug)]
 pub enum Program {
     /// `cam6_draw`.
@@ -16,7 +16,7 @@ impl Program {
     ghost use Rattle.std.specs.Prelude.{◌≡◌, codes};
     ghost use Rattle.cam6_words.specs.Program.{name_of, told};
 
-    /// Its name.
+    /// Returns its name.
     pub fn name(self) -> &'static str
         ensures { result.now ≡ name_of self }
     {
@@ -26,7 +26,7 @@ impl Program {
         }
     }
 
-    /// What is told for want of memory.
+    /// Returns the line for a failed allocation.
     pub fn no_memory(self) -> &'static str
         ensures { result.now ≡ told self (codes "no memory\n") }
     {
@@ -36,7 +36,7 @@ impl Program {
         }
     }
 
-    /// What is told where a write failed.
+    /// Returns the line for a failed write.
     pub fn write_failed(self) -> &'static str
         ensures { result.now ≡ told self (codes "write failed\n") }
     {
@@ -46,7 +46,7 @@ impl Program {
         }
     }
 
-    /// What is told where there is no memory for the line that says why.
+    /// Returns the line for a failed allocation of the line that says why.
     pub fn no_memory_to_say_why(self) -> &'static str
         ensures { result.now ≡ told self (codes "no memory to say why\n") }
     {

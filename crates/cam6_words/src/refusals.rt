@@ -1,4 +1,4 @@
-//! Words that are refused.
+//! Arguments that are refused.
 ghost use Rattle.std.specs.Prelude.{◌≡◌, ◌⊎◌, IsErr};
 ghost use Rattle.clap.specs.Words.{kind_of};
 ghost use Rattle.cam6_words.specs.Refusals.{IsOfKind, IsRefusal, IsUnreadable, refusal as refusal_told};
@@ -10,22 +10,22 @@ use std::alloc::{AllocError, Global};
 use std::io;
 use thiserror::Error;
 
-/// Why the words of a program ask for nothing.
+/// Why the arguments of a program give it no task.
 #[derive(Debug, Drop, Error)]
 pub enum Refused {
     /// They ask for the help text, or for the version.
     #[error("{0}")]
     Help(String),
-    /// They are no words of the program; the text says why.
+    /// They aren't arguments of the program. The text says why.
     #[error("{0}")]
     Words(String),
-    /// Memory was asked for and refused.
+    /// An allocation failed.
     #[error("no memory")]
     NoMemory,
 }
 
-/// The status of words that are refused, and what is told: help for standard output, anything else
-/// for standard error.
+/// Returns the exit status of refused arguments, and the text to print: help on standard output,
+/// anything else on standard error.
 pub fn refusal_of(program: Program, refused: &Refused) -> (u8, &str)
     ensures { (result.0, result.1.now) ≡ refusal_told program refused.now }
 {
@@ -36,7 +36,7 @@ pub fn refusal_of(program: Program, refused: &Refused) -> (u8, &str)
     }
 }
 
-/// Why the words could not be had.
+/// Returns why the arguments could not be read.
 pub fn unreadable(alloc: Global, program: Program, kind: io::ErrorKind) -> Refused
     ensures { IsUnreadable program result kind }
 {
@@ -49,7 +49,7 @@ pub fn unreadable(alloc: Global, program: Program, kind: io::ErrorKind) -> Refus
     }
 }
 
-/// Words that clap takes and that ask for nothing, with what is told of them.
+/// Arguments that clap takes but that ask for nothing, with the text that says why.
 pub(crate) fn unasked(text: Result<String, AllocError>) -> Refused
     ensures { IsRefusal result }
 {
@@ -67,10 +67,11 @@ pub(crate) fn refusal(alloc: Global, error: clap::Error) -> Refused
     refused_for(kind, error.to_string(alloc))
 }
 
-/// What an error of this kind means for a program, with its text, or none for want of memory.
+/// What an error of this kind means for a program, with its text, or with none if an allocation
+/// failed.
 fn refused_for(kind: ErrorKind, text: Result<String, AllocError>) -> Refused
     ensures kind { IsOfKind result kind }
-    // Memory is told to be wanted only where it is.
+    // `NoMemory` is returned only if an allocation failed.
     ensures memory { result ≡ Refused.NoMemory → (kind ≡ ErrorKind.OutOfMemory) ⊎ IsErr text }
 {
     let Ok(text) = text else {

@@ -1,4 +1,4 @@
-//! What the words of `cam6_rle` ask for.
+//! What the arguments of `cam6_rle` ask for.
 
 use cam6_patterns::ChosenPlanes;
 use cam6_planes::Side;

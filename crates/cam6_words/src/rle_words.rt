@@ -1,4 +1,4 @@
-//! The words of `cam6_rle`.
+//! The arguments of `cam6_rle`.
 ghost use Rattle.std.specs.Prelude.{◌≡◌, ◌⊎◌, ◌-◌, ◌≤◌, IfOk, IfErr, IfSome, None, []};
 ghost use Rattle.std.specs.Prelude.{option_map, map, string_bytes, true, false, codes, is_some};
 ghost use Rattle.std.specs.List.{list_all};
@@ -45,15 +45,16 @@ Lines to try: a glider, and out again.
   printf 'x = 3, y = 3\\nbo$2bo$3o!\\n' | cam6_rle --column 8 --row 8
   (printf 'x = 3, y = 3\\nbo$2bo$3o!\\n' | cam6_rle; echo '{\"do\":\"plane\",\"plane\":0}') | cam6 | cam6_rle --replies";
 
-/// What is told where `--rule` stands without `--replies`, or says no line, or where `--planes` says none.
+/// The line for `--rule` without `--replies`, for a `--rule` that isn't one line, and for
+/// `--planes` that are none.
 const NO_TASK_TEXT: &str = "\
 cam6_rle: --planes wants one to four of the digits 0 to 3, none of them twice; --rule wants one line,
 and goes with --replies
 ";
 
-/// Reads the words, of which the first is the program's name.
+/// Returns what the arguments ask for, or why they are refused. The first is the program's name.
 pub fn options_of_rle(alloc: Global, words: &[String]) -> Result<RleOptions, Refused>
-    // By the command line as it is, wherever the three words of the sides are kept.
+    // For the program's command line, wherever the three words of the sides are kept.
     ensures task { IfOk result (λ options. (app : App) × IsProgram app
         × (fault_of app (map string_bytes words.now) ≡ [])
         × HasTask options (task_of (matches_of app (map string_bytes words.now)))) }
@@ -183,7 +184,7 @@ fn is_one_line(bytes: &[u8]) -> bool
     true
 }
 
-/// Words that ask for no task.
+/// Arguments that ask for no task.
 fn no_task(alloc: Global) -> Refused
     ensures { IsRefusal result }
 {
@@ -216,7 +217,7 @@ fn move_of_word(word: &str) -> Option<usize>
     Some(number as usize)
 }
 
-/// The planes that the digits of a word are, of which none stands twice.
+/// The planes of a word's one to four different digits.
 fn planes_of_word(word: &str) -> Option<ChosenPlanes>
     ensures { result ≡ planes_said word.now }
 {
@@ -227,7 +228,7 @@ fn planes_of_word(word: &str) -> Option<ChosenPlanes>
     Some(planes_of_digits(digits))
 }
 
-/// Whether bytes are one to four digits of planes, of which none stands twice.
+/// Whether bytes are one to four different digits of planes.
 fn says_planes(digits: &[u8]) -> bool
     ensures { result ≡ says_planes digits.now }
 {

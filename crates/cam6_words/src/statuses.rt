@@ -8,7 +8,7 @@ use cam6_frames::End;
 use cam6_patterns::{Cause, PatternFault};
 use std::alloc::{AllocError, Global};
 
-/// Words that are refused.
+/// Arguments that are refused.
 pub const REFUSED_WORDS: u8 = 2;
 
 /// A text that is no pattern, a line that is no reply, a frame that breaks off, or a read that failed.
@@ -17,14 +17,14 @@ pub const BAD_INPUT: u8 = 3;
 /// A write that failed.
 pub const WRITE_FAILED: u8 = 4;
 
-/// Memory that was asked for and refused.
+/// An allocation that failed.
 pub const NO_MEMORY: u8 = 5;
 
-/// More lines than are counted.
+/// More lines than can be counted.
 pub const TOO_MANY_LINES: u8 = 6;
 
-/// The status of an end that is a failure, with its line for standard error where memory is found
-/// for it.
+/// Returns the exit status of an end that is a failure, and its line for standard error, unless an
+/// allocation for the line failed.
 pub fn failure_of(
     alloc: Global,
     program: Program,
@@ -50,7 +50,7 @@ pub fn failure_of(
     Some((status, text))
 }
 
-/// A text, behind the program's name.
+/// A text after the program's name.
 pub(crate) fn told(alloc: Global, program: Program, text: &str) -> Result<String, AllocError>
     ensures { IfOk result (λ line. string_bytes line ≡ told_in program text.now) }
 {
@@ -58,7 +58,7 @@ pub(crate) fn told(alloc: Global, program: Program, text: &str) -> Result<String
     format!(in alloc; "{name}: {text}")
 }
 
-/// A line by its number, and what is told of it.
+/// A text after the program's name and the number of a line.
 fn at_line(alloc: Global, program: Program, line: u64, text: &str) -> Result<String, AllocError>
     ensures { IfOk result (λ told. string_bytes told ≡ at_line_told program line text.now) }
 {
@@ -66,7 +66,7 @@ fn at_line(alloc: Global, program: Program, line: u64, text: &str) -> Result<Str
     format!(in alloc; "{name}: line {line}{text}")
 }
 
-/// Why a text is no pattern, and where.
+/// Returns the line that says why a text isn't a pattern, and where.
 pub fn fault_text(alloc: Global, fault: PatternFault) -> Result<String, AllocError>
     ensures { IfOk result (λ told. string_bytes told ≡ fault_told fault) }
 {
@@ -74,14 +74,14 @@ pub fn fault_text(alloc: Global, fault: PatternFault) -> Result<String, AllocErr
     at_line(alloc, Program::Rle, fault.line as u64, text.as_str())
 }
 
-/// A column by its number, and what is told of it.
+/// A text after the number of a column.
 fn at_column(alloc: Global, column: usize, text: &str) -> Result<String, AllocError>
     ensures { IfOk result (λ told. string_bytes told ≡ column_told column text.now) }
 {
     format!(in alloc; ", column {column}{text}")
 }
 
-/// Why a text is no pattern.
+/// The text of a cause.
 fn cause_text(cause: Cause) -> &'static str
     ensures { result.now ≡ cause_told cause }
 {

@@ -1,4 +1,4 @@
-//! What is told of a line that is no command.
+//! What comes back for a line that isn't a command.
 
 use cam6_board::BandEnd;
 use cam6_examples::add_line;
@@ -16,7 +16,7 @@ pub enum CallEnd {
 pub enum Answer {
     /// The job is in hand, and the machine is away.
     Job,
-    /// There is no cycle, or it can't be gone along this way.
+    /// There is no cycle, or its tables can't be filled for this direction.
     Refused,
     /// The machine is away.
     Away,

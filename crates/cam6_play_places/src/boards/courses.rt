@@ -4,7 +4,7 @@ ghost use Rattle.std.specs.Prelude.{◌<◌, length};
 use cam6_board::{Image, Job};
 use cam6_cycle::{Cycle, Direction};
 
-/// A cycle and the way along it, from the position behind the whole steps that are done.
+/// A cycle and the way along it, from the position after the whole steps that are done.
 #[derive(Drop)]
 pub struct Course {
     cycle: Cycle,
@@ -14,7 +14,7 @@ pub struct Course {
 }
 
 impl Course {
-    /// The way along a cycle's copy from a position, if it is one.
+    /// The way along a cycle's copy from a position, if the cycle has the position.
     pub fn new(cycle: &Cycle, position: usize, direction: Direction) -> Option<Course> {
         if position >= cycle.entries().len() {
             return None;
@@ -36,7 +36,7 @@ impl Course {
         self.position = after;
     }
 
-    /// So many steps of an image from here.
+    /// A job of so many steps of an image from here.
     pub fn job(&self, image: Image, steps: u16) -> Job {
         Job::new(
             image,

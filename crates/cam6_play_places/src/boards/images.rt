@@ -1,10 +1,11 @@
-//! An image in the middle of a step, taken to other planes.
+//! An image in the middle of a step, moved to other planes.
 
 use cam6_band::Spare;
 use cam6_board::Image;
 use cam6_planes::Planes;
 
-/// Takes an image in the middle of a step to these planes. Whether it is one, and they have room.
+/// Moves an image to these planes, if it is in the middle of a step and they have room. Returns the
+/// image, and whether it was moved.
 pub fn move_into(image: Image, planes: Planes) -> (Image, bool) {
     match image.into_rest() {
         Ok(rest) => (Image::Rest(rest), false),

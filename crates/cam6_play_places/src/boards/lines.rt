@@ -9,9 +9,9 @@
 //! done BOARD            the rows of the step under way that are done
 //! faults BOARD          how often the board failed
 //! unload BOARD          the image is in hand again
-//! move LIMIT            the image in hand, in the middle of a step, goes to another of this limit
+//! move LIMIT            the image in hand, in the middle of a step, moves to another of this limit
 //! join                  the machine is whole again, with the image in hand
-//! join blank            the same once the image is lost, with blank planes, where the job began
+//! join blank            the same after the image is lost: with blank planes, where the job began
 //! ```
 
 use cam6_cycle::Direction;

@@ -24,7 +24,7 @@ enum Place {
     Lost(Spare),
 }
 
-/// What is left of a machine whose image is away, and the way of its job.
+/// What is left of a machine while its image is away, and the way of its job.
 #[derive(Drop)]
 struct Apart {
     kept: Kept,
@@ -34,7 +34,7 @@ struct Apart {
     side: Side,
 }
 
-/// A machine whose image is away on a job.
+/// A machine while its image is away on a job.
 #[derive(Drop)]
 pub struct Parted {
     apart: Apart,
@@ -60,7 +60,8 @@ impl Room {
         &self.tables
     }
 
-    /// The way from where a machine stands, for which the tables are filled, if there is one.
+    /// Returns the way from where a machine stands, and fills its tables. `None` if there is no
+    /// such way.
     fn course_of(&mut self, kept: &Kept, direction: Direction) -> Option<Course> {
         let cycle = kept.cycle()?;
         self.filled.spoil();
@@ -74,7 +75,7 @@ impl Room {
     }
 }
 
-/// Takes a machine apart for so many steps, or gives it back where there is no such way.
+/// Takes a machine apart for so many steps, or gives it back if there is no such way.
 pub fn part(
     machine: Machine,
     direction: Direction,
@@ -140,7 +141,8 @@ impl Parted {
         self.place = Place::Lost(spare);
     }
 
-    /// Takes an image in the middle of a step to these planes, if it is in hand and they have room.
+    /// Moves the image to these planes, if it is in hand in the middle of a step, and they have
+    /// room.
     pub fn move_into(&mut self, planes: Planes) -> Answer {
         match mem::replace(&mut self.place, Place::Board) {
             Place::Hand(image, steps) => {
@@ -164,8 +166,8 @@ impl Parted {
         }
     }
 
-    /// The machine is whole again once its image is lost: with blank planes, if those that were left
-    /// fit, where the job began.
+    /// The machine is whole again after its image was lost. It has blank planes, if those that were
+    /// left fit, and stands where the job began.
     pub fn join_blank(self) -> Result<Machine, Parted> {
         let Parted { apart, place } = self;
         match place {
@@ -219,7 +221,7 @@ impl Apart {
     }
 }
 
-/// Blank planes of this side, or of their limit where that is less.
+/// Blank planes of this side, or of their limit if that is less.
 fn blank_image(spare: Spare, side: Side) -> AtRest {
     let mut planes = spare.into_planes();
     let limit = planes.limit();

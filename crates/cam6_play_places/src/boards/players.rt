@@ -1,4 +1,4 @@
-//! Lines to a machine and its boards, answered one by one.
+//! Answers lines to a machine and its boards one by one.
 
 use crate::answers::add_reply;
 use crate::boards::answers::{Answer, CallEnd, add_answer};
@@ -25,8 +25,8 @@ struct Player {
     soft: Watched<SoftBoard>,
 }
 
-/// What comes back of each line, from a blank machine of this limit and a board that fails at these
-/// calls.
+/// What comes back for each line, from a blank machine of this limit and a board that fails at
+/// these calls.
 pub fn answered(alloc: Global, limit: Side, calls: Vec<u64>, sent: &[Sent]) -> io::Result<Vec<u8>> {
     match Player::new(alloc, limit, calls) {
         Ok(mut player) => {
@@ -99,7 +99,7 @@ impl Player {
         }
     }
 
-    /// What is told of a job that is under way.
+    /// The answer to a line on a job that is under way.
     fn answer_of_job(&mut self, ask: Ask) -> Answer {
         let Some(parted) = &mut self.parted else {
             return Answer::No;
@@ -222,7 +222,7 @@ fn told(end: Option<CallEnd>) -> Answer {
     end.map_or(Answer::No, Answer::Band)
 }
 
-/// So many bands, up to the last of the job and to a fault.
+/// Does so many bands, but stops after the last of the job and at a fault.
 fn bands<B: Board>(parted: &mut Parted, board: &mut Watched<B>, number: u64) -> Answer {
     let mut answer = Answer::No;
     for before in 0..number {

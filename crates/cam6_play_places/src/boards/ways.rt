@@ -15,7 +15,7 @@ pub struct BoardWay {
 }
 
 impl BoardWay {
-    /// Reads the words behind `boards`.
+    /// Reads the words after `boards`.
     pub fn read(alloc: Global, rest: &str) -> Result<BoardWay, Unplayable> {
         let Some((limit, calls)) = rest.split_once("failing at ") else {
             return Ok(BoardWay {
@@ -29,13 +29,13 @@ impl BoardWay {
         })
     }
 
-    /// What comes back of the lines.
+    /// What comes back for the lines.
     pub fn answers(&self, alloc: Global, sent: &[Sent]) -> io::Result<Vec<u8>> {
         answered(alloc, self.limit, self.calls.clone()?, sent)
     }
 }
 
-/// Numbers of calls, of which the first is 1.
+/// Numbers of calls, counted from 1.
 fn calls_of(alloc: Global, text: &str) -> Result<Vec<u64>, Unplayable> {
     let mut calls = Vec::new(alloc);
     for call in text.split(' ') {

@@ -1,4 +1,4 @@
-//! A user's commands once more, on a machine alone.
+//! A user's commands once more, on a private machine.
 
 use cam6_commands::{Command, Reply};
 use cam6_examples::no_memory;
@@ -98,7 +98,7 @@ fn plane_at(alloc: Global, desk: &mut Desk, plane: u64) -> io::Result<Option<Str
     }
 }
 
-/// The reply to a command that is put at a desk. None where the desk waits, for it or for another.
+/// The reply to a command that is put at a desk. `None` if the desk waits, for it or for another.
 pub fn put_at(desk: &mut Desk, command: Command) -> io::Result<Option<Reply>> {
     if desk.is_waiting() {
         return Ok(None);

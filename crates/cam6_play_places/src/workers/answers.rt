@@ -1,4 +1,4 @@
-//! What is told of a line.
+//! What comes back for a line.
 
 use crate::answers::add_number;
 use cam6_examples::add_line;
@@ -24,9 +24,9 @@ pub enum Answer {
     Nothing,
     /// How often a board failed.
     Faults(u64),
-    /// Whether a machine alone comes to the same.
+    /// Whether a private machine comes to the same.
     Same(bool),
-    /// Whether it is so, or no, where it can't be done as things are.
+    /// Yes or no. It is no too if the line can't be done as things are.
     Is(bool),
     Unread,
 }
@@ -41,7 +41,7 @@ pub fn add_answer(alloc: Global, answers: &mut Vec<u8>, answer: &Answer) -> io::
     }
 }
 
-/// The words of an answer that has the same ones always, or none.
+/// The words of an answer that always has the same ones, or an empty text.
 fn words_of(answer: &Answer) -> &'static str {
     match answer {
         Answer::Fault(text) => text,

@@ -14,9 +14,10 @@ pub enum GateWay {
     Hold { user: u8, band: u8 },
     /// This once at the user's band, and Go otherwise.
     Once { turn: Turn, user: u8, band: u8 },
-    /// Preempt about once in twenty times, by the numbers that come of this one, and Go otherwise.
+    /// Preempt at random, about once in twenty times, and Go otherwise. The next random number
+    /// comes from this one.
     Chance { number: u64 },
-    /// Preempt where a command has had its time and another one waits, and Go otherwise.
+    /// Preempt if a command has had its time and another one waits, and Go otherwise.
     Slices,
 }
 
@@ -103,7 +104,7 @@ impl Watch {
         }
     }
 
-    /// The user's bands in the order in which they were asked for, each with the answer where that
+    /// The user's bands in the order in which they were asked for, each with the answer if that
     /// wasn't Go.
     pub fn bands(&self, alloc: Global, user: u8) -> io::Result<String> {
         self.checked()?;
@@ -148,7 +149,7 @@ impl Watch {
     }
 }
 
-/// Adds a band, and the answer where that wasn't Go, behind the bands of a text.
+/// Adds a band to the bands of a text, and the answer if that wasn't Go.
 fn add_band(alloc: Global, text: &mut String, asked: Asked) -> io::Result<()> {
     if !text.is_empty() {
         text.push(' ')?;
@@ -163,7 +164,7 @@ fn add_band(alloc: Global, text: &mut String, asked: Asked) -> io::Result<()> {
     Ok(())
 }
 
-/// The next number by chance: never 0, where this one isn't.
+/// The next random number. It is 0 only if this one is.
 fn shuffled(number: u64) -> u64 {
     let number = number ^ number.wrapping_shl(13);
     let number = number ^ number.wrapping_shr(7);

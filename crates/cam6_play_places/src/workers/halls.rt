@@ -26,7 +26,7 @@ pub struct Hall<R: Handle> {
 }
 
 impl<R: Handle + Send + Sync + 'static> Hall<R> {
-    /// A desk for each user, and a seat for each worker, none of which serves yet.
+    /// A hall with a desk for each user, and a seat for each worker. No worker serves yet.
     pub fn new(rt: R, way: &WorkerWay) -> Result<Hall<R>, NoMemory> {
         let alloc = rt.alloc();
         let limits = vec![in alloc; way.limit; way.users]?;
@@ -53,7 +53,7 @@ impl<R: Handle + Send + Sync + 'static> Hall<R> {
         })
     }
 
-    /// A worker serves at each seat. The board that fails does so at this call.
+    /// Starts a worker at each seat. The board that fails does so at this call.
     pub fn open(&mut self, board: BoardWay, call: u64) -> io::Result<()> {
         for (number, worker) in self.workers.iter_mut().enumerate() {
             let kind = match board {
@@ -66,8 +66,8 @@ impl<R: Handle + Send + Sync + 'static> Hall<R> {
         Ok(())
     }
 
-    /// All threads end, and are joined. What was asked for is done first. The first fault is told
-    /// once all are joined.
+    /// Ends all threads and joins them. What was asked for is done first. Returns the first fault,
+    /// after all are joined.
     pub fn close(&mut self) -> io::Result<()> {
         self.let_go();
         let served = self.serve_those_who_ask();
@@ -84,7 +84,7 @@ impl<R: Handle + Send + Sync + 'static> Hall<R> {
         self.house.tell_to_end(false);
     }
 
-    /// Workers serve until no thread of a user asks. It is looked so many times at most.
+    /// Workers serve until no thread of a user asks, for `LOOKS` looks at most.
     fn serve_those_who_ask(&mut self) -> io::Result<()> {
         for _ in 0..LOOKS {
             if self.house.asking.count() == 0 {
@@ -96,7 +96,7 @@ impl<R: Handle + Send + Sync + 'static> Hall<R> {
         Ok(())
     }
 
-    /// All users are joined: the first fault of those who join with one.
+    /// Joins all users, and returns the first fault.
     fn join_users(&mut self) -> io::Result<()> {
         let mut joined = Ok(());
         for user in self.users.iter_mut() {
@@ -107,7 +107,7 @@ impl<R: Handle + Send + Sync + 'static> Hall<R> {
         joined
     }
 
-    /// A worker serves again at each seat whose worker has ended.
+    /// Starts a worker again at each seat where the worker has ended.
     fn serve_again(&mut self) -> io::Result<()> {
         for worker in self.workers.iter_mut() {
             worker.join_ended(&self.house.rt, &self.house.serving);
@@ -125,7 +125,7 @@ impl<R: Handle + Send + Sync + 'static> Hall<R> {
         }
     }
 
-    /// A worker serves again at the seat.
+    /// Starts a worker again at the seat, if none serves there.
     pub fn serve(&mut self, board: usize) -> io::Result<Answer> {
         let Some(worker) = self.workers.get_mut(board) else {
             return Ok(Answer::Is(false));
@@ -138,7 +138,7 @@ impl<R: Handle + Send + Sync + 'static> Hall<R> {
         }
     }
 
-    /// The worker's end is waited for.
+    /// Waits for the worker's end.
     pub fn ended(&mut self, board: usize) -> Answer {
         match self.workers.get_mut(board) {
             Some(worker) => match worker.wait(&self.house.rt, &self.house.serving) {
@@ -169,7 +169,7 @@ fn house_of<R: Handle>(
     Ok(Arc::new(alloc, house)?)
 }
 
-/// The gate of a host, where the way asks for it.
+/// The gate of a host, if the way asks for it.
 fn slices_of<R: Handle>(
     rt: R,
     way: &WorkerWay,

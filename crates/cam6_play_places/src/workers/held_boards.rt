@@ -1,11 +1,11 @@
-//! Boards of which the first band is held.
+//! Boards that are held in their first band.
 
 use crate::workers::houses::{Handle, House};
 use cam6_board::{BandEnd, Board, BoardFault, Image, Job, SoftBoard, Tables};
 use cam6_planes::NoMemory;
 use std::sync::Arc;
 
-/// A board that never fails. Inside the first band of all such boards its thread is held.
+/// A board that never fails. The first thread that does a band of such a board is held inside it.
 #[derive(Drop)]
 pub struct HeldBoard<R: Handle> {
     inner: SoftBoard,

@@ -4,7 +4,7 @@ use std::sync::{Mutex, Wait};
 use std::thread::sleep;
 use std::time::{Clock, Duration};
 
-/// How often a thread looks for what it waits for, at most, with a millisecond between.
+/// The most looks of a thread for what it waits for, with a millisecond between them.
 pub const LOOKS: u32 = 60_000;
 
 /// Lets a millisecond pass.
@@ -12,12 +12,12 @@ pub fn pause<R: Clock>(rt: &R) {
     sleep(rt, Duration::from_millis(1));
 }
 
-/// How far it is with a hold.
+/// The stage of a hold.
 #[derive(Clone, Copy, PartialEq, Eq)]
 enum Stage {
-    /// Nobody is ever held.
+    /// No thread is ever held.
     Off,
-    /// Nobody has come by.
+    /// No thread has come by.
     Free,
     /// A thread is held.
     Holding,
@@ -27,14 +27,14 @@ enum Stage {
     GivenUp,
 }
 
-/// Holds the first who comes by, and nobody else.
+/// Holds the first thread that comes by, and no other.
 #[derive(Drop)]
 pub struct Hold {
     stage: Mutex<Stage>,
 }
 
 impl Hold {
-    /// One at which a thread is held, or none.
+    /// A hold for one thread, or for none.
     pub fn new(is_on: bool) -> Hold {
         let stage = if is_on { Stage::Free } else { Stage::Off };
         Hold {
@@ -42,7 +42,7 @@ impl Hold {
         }
     }
 
-    /// The first who comes by is held here, for as long as it looks at most.
+    /// Holds the first thread that comes by, until it is let go, or for `LOOKS` looks.
     pub fn pass<R: Wait + Clock>(&self, rt: &R) {
         if !self.turn(rt, Stage::Free, Stage::Holding) {
             return;
@@ -56,7 +56,7 @@ impl Hold {
         self.turn(rt, Stage::Holding, Stage::GivenUp);
     }
 
-    /// Whether a thread is held. Where one may still come by it is waited for.
+    /// Returns whether a thread is held. Waits for one that may still come by.
     pub fn is_holding<R: Wait + Clock>(&self, rt: &R) -> bool {
         for _ in 0..LOOKS {
             let stage = self.stage(rt);
@@ -68,12 +68,12 @@ impl Hold {
         false
     }
 
-    /// Lets the thread go, and says whether one was held.
+    /// Lets the thread go, and returns whether one was held.
     pub fn release<R: Wait>(&self, rt: &R) -> bool {
         self.turn(rt, Stage::Holding, Stage::Released)
     }
 
-    /// Lets the thread go, and holds nobody from here on.
+    /// Lets the thread go, and holds no thread from here on.
     pub fn end<R: Wait>(&self, rt: &R) {
         *self.stage.lock(rt) = Stage::Off;
     }
@@ -82,7 +82,7 @@ impl Hold {
         *self.stage.lock(rt)
     }
 
-    /// Goes on from a stage to another, and says whether it was at the first.
+    /// Goes on from a stage to another, and returns whether it was at the first.
     fn turn<R: Wait>(&self, rt: &R, from: Stage, to: Stage) -> bool {
         let mut stage = self.stage.lock(rt);
         let is_there = *stage == from;

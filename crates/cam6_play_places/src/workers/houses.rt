@@ -13,12 +13,12 @@ use std::sync::{Mutex, Wait};
 use std::thread::Threads;
 use std::time::Clock;
 
-/// What is wanted of the runtime.
+/// What the threads need of the runtime.
 pub trait Handle: Threads + Wait + Clock + AllocGlobal + Copy + Drop {}
 
 impl<R: Threads + Wait + Clock + AllocGlobal + Copy + Drop> Handle for R {}
 
-/// Those of at most 64 threads that are at work, by their numbers.
+/// The numbers of those threads that are at work, out of at most 64.
 #[derive(Drop)]
 pub struct Present {
     bits: AtomicU64,
@@ -31,12 +31,12 @@ impl Present {
         }
     }
 
-    /// Notes one who isn't there.
+    /// Notes that a thread comes. It isn't there yet.
     pub fn enter(&self, number: u8) {
         self.bits.fetch_add(bit(number), Ordering::SeqCst);
     }
 
-    /// Notes that one who is there goes.
+    /// Notes that a thread goes. It is there.
     pub fn leave(&self, number: u8) {
         self.bits.fetch_sub(bit(number), Ordering::SeqCst);
     }
@@ -49,7 +49,7 @@ impl Present {
         self.bits.load(Ordering::SeqCst).count_ones()
     }
 
-    /// Whether one has gone. He is waited for.
+    /// Waits for a thread to go, and returns whether it has gone.
     pub fn is_gone<R: Clock>(&self, rt: &R, number: u8) -> bool {
         for _ in 0..LOOKS {
             if !self.has(number) {
@@ -60,7 +60,7 @@ impl Present {
         false
     }
 
-    /// Whether so many are there. It is waited for.
+    /// Waits for so many to be there, and returns whether they are.
     pub fn is_count<R: Clock>(&self, rt: &R, count: u32) -> bool {
         for _ in 0..LOOKS {
             if self.count() == count {
@@ -83,11 +83,11 @@ pub struct House<R: Handle> {
     pub cache: Mutex<TableCache>,
     pub watch: Mutex<Watch>,
     pub hold: Hold,
-    /// Boards whose workers run.
+    /// Boards with workers that run.
     pub serving: Present,
-    /// Users of whom a thread asks.
+    /// Users with a thread that asks.
     pub asking: Present,
-    /// The gate that answers, where it isn't the one that notes what is asked.
+    /// The gate that answers, if it isn't `watch`.
     slices: Option<SlicingGate<R>>,
     /// Workers that find nothing to do are to end.
     is_ending: AtomicBool,
@@ -113,7 +113,7 @@ impl<R: Handle> House<R> {
         }
     }
 
-    /// Tells workers to end where they find nothing to do, or not to.
+    /// Sets whether workers that find nothing to do are to end, and wakes them.
     pub fn tell_to_end(&self, is_ending: bool) {
         self.is_ending.store(is_ending, Ordering::SeqCst);
         for _ in 0..MAX_BOARDS {
@@ -128,7 +128,7 @@ impl<R: Handle> House<R> {
         }
     }
 
-    /// The reply to a command, waited for. None where there was no memory for it.
+    /// Waits for the reply to a command. Returns `None` if an allocation failed.
     pub fn ask(&self, desk: &mut Desk, command: Command) -> Option<Reply>
         requires { is_waiting desk.old ≡ false }
     {

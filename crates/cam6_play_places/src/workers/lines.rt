@@ -1,22 +1,22 @@
 //! What a line asks for. Users are numbered from 1, boards from 0.
 //!
 //! ```text
-//! user USER {..}      the command is asked at the user's desk, and waited for: its reply
-//! start USER {..}     the command is asked by a thread of its own: that it has started
-//! join USER           what that thread asked for is waited for: its reply
-//! held                whether a board is held; one that may still come by is waited for
-//! release             the board that is held goes on: whether there was one
+//! user USER {..}      asks the command at the user's desk, and waits: its reply
+//! start USER {..}     asks the command in a thread of its own: that it has started
+//! join USER           waits for what that thread asked for: its reply
+//! held                whether a board is held; waits for one that may still come by
+//! release             lets the board that is held go on: whether there was one
 //! asked USER          what the gate was asked for the user, with its answers but for Go
 //! apart USER USER     whether each of them had a board, and no board did a band of both
-//! ended BOARD         the worker's end is waited for: how it ended
-//! running NUMBER      whether so many workers run; it is waited for
+//! ended BOARD         waits for the worker's end: how it ended
+//! running NUMBER      waits for so many workers to run: whether they do
 //! left BOARD USER     a worker that has ended takes the user's command, if it waits, and puts it
 //!                     back: the bands left of it
 //! faults BOARD        how often the board of a worker that has ended failed
 //! serve BOARD         a worker serves there again, with a board that never fails
 //! end                 a board that is held goes on, and all workers end
 //! evict               whether there was a table to drop from the cache
-//! alone USER          whether a machine alone answers the user's commands the same, and has the
+//! alone USER          whether a private machine answers the user's commands the same, and has the
 //!                     same planes
 //! ```
 
@@ -33,7 +33,7 @@ pub enum Ask<'a> {
     Apart(u8, u8),
     Ended(usize),
     Running(u32),
-    /// A board, and the user whose command it takes.
+    /// A board, and the user. The board takes the user's command.
     Left(usize, usize),
     Faults(usize),
     Serve(usize),
@@ -55,7 +55,7 @@ pub fn read_line(line: &str) -> Option<Ask<'_>> {
     }
 }
 
-/// What a word with a number behind it asks for.
+/// What a word with a number after it asks for.
 fn read_number<'a>(verb: &str, number: &str) -> Option<Ask<'a>> {
     match verb {
         "asked" => Some(Ask::Asked(number.parse().ok()?)),
@@ -64,7 +64,7 @@ fn read_number<'a>(verb: &str, number: &str) -> Option<Ask<'a>> {
     }
 }
 
-/// What a word with the number of a user or of a board behind it asks for.
+/// What a word with the number of a user or of a board after it asks for.
 fn read_place<'a>(verb: &str, number: usize) -> Option<Ask<'a>> {
     match verb {
         "join" => Some(Ask::Join(number)),
@@ -76,7 +76,7 @@ fn read_place<'a>(verb: &str, number: usize) -> Option<Ask<'a>> {
     }
 }
 
-/// What a word with a number and more behind it asks for.
+/// What a word with a number and more after it asks for.
 fn read_more<'a>(verb: &str, number: &str, rest: &'a str) -> Option<Ask<'a>> {
     match verb {
         "apart" => Some(Ask::Apart(number.parse().ok()?, rest.parse().ok()?)),
@@ -86,7 +86,7 @@ fn read_more<'a>(verb: &str, number: &str, rest: &'a str) -> Option<Ask<'a>> {
     }
 }
 
-/// What a word with a user's number and a command behind it asks for.
+/// What a word with a user's number and a command after it asks for.
 fn read_asking<'a>(verb: &str, user: usize, command: &'a str) -> Option<Ask<'a>> {
     match verb {
         "user" => Some(Ask::User(user, command)),

@@ -1,4 +1,4 @@
-//! Lines of users and workers, answered one by one.
+//! Answers lines of users and workers one by one.
 
 use crate::workers::answers::{Answer, add_answer};
 use crate::workers::gates::Watch;
@@ -11,7 +11,7 @@ use cam6_examples::{Sent, no_memory};
 use std::alloc::Global;
 use std::io;
 
-/// What comes back of each line. A board that fails does so at this call.
+/// What comes back for each line. A board that fails does so at this call.
 pub fn answered<R: Handle + Send + Sync + 'static>(
     rt: R,
     way: &WorkerWay,
@@ -23,7 +23,7 @@ pub fn answered<R: Handle + Send + Sync + 'static>(
     Ok(answers)
 }
 
-/// Plays the lines in a hall, and adds what comes back of each.
+/// Plays the lines in a hall, and adds what comes back for each.
 fn play<R: Handle + Send + Sync + 'static>(
     rt: R,
     way: &WorkerWay,
@@ -52,7 +52,7 @@ fn play_in<R: Handle + Send + Sync + 'static>(
     add_answers(hall, sent, answers)
 }
 
-/// Adds what comes back of each line.
+/// Adds what comes back for each line.
 fn add_answers<R: Handle + Send + Sync + 'static>(
     hall: &mut Hall<R>,
     sent: &[Sent],
@@ -65,7 +65,7 @@ fn add_answers<R: Handle + Send + Sync + 'static>(
     Ok(())
 }
 
-/// What is answered of a line.
+/// The answer to a line.
 fn answer_to<R: Handle + Send + Sync + 'static>(
     hall: &mut Hall<R>,
     line: &[u8],
@@ -76,7 +76,7 @@ fn answer_to<R: Handle + Send + Sync + 'static>(
     }
 }
 
-/// What is answered of what a line asks for.
+/// The answer to what a line asks for.
 fn answer_of<R: Handle + Send + Sync + 'static>(
     hall: &mut Hall<R>,
     ask: Ask<'_>,
@@ -100,7 +100,7 @@ fn answer_of<R: Handle + Send + Sync + 'static>(
     }
 }
 
-/// What is answered of a line that asks what the gate was asked.
+/// The answer to a line that asks what the gate was asked.
 fn of_gate(watch: &Watch, alloc: Global, ask: Ask<'_>) -> io::Result<Answer> {
     match ask {
         Ask::Asked(user) => Ok(Answer::Text(watch.bands(alloc, user)?)),
@@ -109,7 +109,7 @@ fn of_gate(watch: &Watch, alloc: Global, ask: Ask<'_>) -> io::Result<Answer> {
     }
 }
 
-/// What is answered of a line that names a user's desk.
+/// The answer to a line that names a user's desk.
 fn of_user<R: Handle + Send + Sync + 'static>(
     hall: &mut Hall<R>,
     ask: Ask<'_>,

@@ -29,7 +29,8 @@ impl IdleSeat {
         IdleSeat { seat }
     }
 
-    /// Takes the user's command, if it waits, and puts it back as it is: the bands left of it.
+    /// Takes the user's command, if it waits, and puts it back as it is. Returns the bands left of
+    /// it.
     pub fn left(&mut self, user: usize) -> Option<u64> {
         if user == 0 || user > self.seat.users() {
             return None;
@@ -48,7 +49,7 @@ pub struct EmptyBoard<B: Board> {
     ghost empty: { B.held board ≡ empty },
 }
 
-/// What is there of a worker that has ended.
+/// What is left of a worker that has ended.
 #[derive(Drop)]
 pub struct Left {
     pub seat: IdleSeat,
@@ -87,7 +88,7 @@ fn soft_board(alloc: Global) -> io::Result<EmptyBoard<SoftBoard>> {
     Ok(EmptyBoard { board })
 }
 
-/// A board of which the first band is held.
+/// A board that is held in its first band.
 fn held_board<R: Handle>(house: &Arc<House<R>>) -> io::Result<EmptyBoard<HeldBoard<R>>> {
     let board = HeldBoard::new(house).map_err(|_| no_memory())?;
     Ok(EmptyBoard { board })
@@ -100,8 +101,8 @@ fn failing_board(alloc: Global, call: u64) -> io::Result<EmptyBoard<FlakyBoard>>
     Ok(EmptyBoard { board })
 }
 
-/// A thread that works at the seat, with a handle of its own on the house. None where there is no
-/// memory for it.
+/// Starts a thread that works at the seat, with a handle of its own on the house. Returns `None` if
+/// there is no memory for it.
 fn start<R: Handle + Send + Sync + 'static, B: Board + Send + 'static>(
     house: &House<R>,
     theirs: Arc<House<R>>,
@@ -117,14 +118,14 @@ fn start<R: Handle + Send + Sync + 'static, B: Board + Send + 'static>(
     thread
 }
 
-/// A worker, or what is left of one, or neither where it could not be started.
+/// A worker, or what is left of one, or neither if it could not be started.
 #[derive(Drop)]
 pub struct Worker {
     /// The board's number.
     number: u8,
     /// The thread, while it isn't joined.
     thread: Option<JoinHandle<Left>>,
-    /// What is left once it is.
+    /// What is left after it is joined.
     left: Option<Left>,
 }
 
@@ -144,7 +145,7 @@ impl Worker {
         }
     }
 
-    /// Serves from here on, and says whether it didn't yet.
+    /// Serves from here on, and returns whether it didn't before.
     pub fn serve<R: Handle + Send + Sync + 'static>(
         &mut self,
         house: &Arc<House<R>>,
@@ -161,7 +162,7 @@ impl Worker {
         }
     }
 
-    /// Serves with a board from here on, at the seat that is left, and says so.
+    /// Serves with a board from here on, at the seat that is left, and returns true.
     fn serve_with<R: Handle + Send + Sync + 'static, B: Board + Send + 'static>(
         &mut self,
         house: &Arc<House<R>>,
@@ -193,7 +194,7 @@ impl Worker {
         }
     }
 
-    /// Waits for the end of a worker that runs, and says how it ended.
+    /// Waits for the end of a worker that runs, and returns how it ended.
     pub fn wait<R: Handle>(&mut self, rt: &R, serving: &Present) -> Option<Ended> {
         if self.thread.is_none() || !serving.is_gone(rt, self.number) {
             return None;
@@ -206,7 +207,8 @@ impl Worker {
     }
 }
 
-/// The worker of this board that has ended takes the user's command, if it waits, and puts it back.
+/// The worker of this board, if it has ended, takes the user's command that waits, and puts it
+/// back.
 pub fn bands_left(workers: &mut Vec<Worker>, board: usize, user: usize) -> Answer {
     let Some(left) = left_at(workers, board) else {
         return Answer::Is(false);

@@ -17,15 +17,15 @@ use std::thread::{JoinHandle, spawn};
 use std::time::Clock;
 use std::{io, mem};
 
-/// What a thread comes back with that asked at a desk.
+/// What a thread that asked at a desk comes back with.
 #[derive(Drop)]
 pub struct Spoken {
     desk: Desk,
-    /// None where there was no memory for it.
+    /// `None` if the desk waited already, or there was no memory for it.
     reply: Option<Reply>,
 }
 
-/// What a thread takes along that asks at a desk.
+/// What a thread that asks at a desk takes along.
 #[derive(Drop)]
 struct Errand {
     user: u8,
@@ -33,15 +33,15 @@ struct Errand {
     command: Command,
 }
 
-/// A user, who may ask at his desk.
+/// A user, who may ask at their desk.
 #[derive(Drop)]
 pub struct User {
     number: u8,
-    /// His desk, unless a thread has it.
+    /// The user's desk, unless a thread has it.
     desk: Option<Desk>,
-    /// The thread that has his desk.
+    /// The thread that has the user's desk.
     thread: Option<JoinHandle<Spoken>>,
-    /// All that he asked. The last reply is empty while it isn't there.
+    /// All commands that the user asked. The last reply is empty while it isn't there.
     told: Vec<Told>,
 }
 
@@ -55,7 +55,7 @@ impl User {
         }
     }
 
-    /// The command is asked at the desk, and waited for.
+    /// Asks the command at the desk, and waits for its reply.
     pub fn ask<R: Handle>(&mut self, house: &House<R>, line: &str) -> io::Result<Answer> {
         let Some(desk) = self.desk() else {
             return Ok(Answer::Is(false));
@@ -74,7 +74,7 @@ impl User {
         Ok(())
     }
 
-    /// The command is asked by a thread of its own.
+    /// Starts a thread that asks the command.
     pub fn start<R: Handle + Send + Sync + 'static>(
         &mut self,
         house: &Arc<House<R>>,
@@ -119,7 +119,7 @@ impl User {
         Ok(())
     }
 
-    /// What the thread asked for is waited for.
+    /// Waits for what the thread asked for.
     pub fn join<R: Handle>(&mut self, rt: &R, asking: &Present) -> io::Result<Answer> {
         if !asking.is_gone(rt, self.number) {
             return Ok(Answer::Is(false));
@@ -133,13 +133,13 @@ impl User {
         }
     }
 
-    /// Takes the desk back from a thread: the reply that it had there.
+    /// Takes the desk back from a thread, and returns the reply that it had there.
     fn come_back(&mut self, spoken: Spoken) -> Option<Reply> {
         self.desk.insert(spoken.desk);
         spoken.reply
     }
 
-    /// Keeps the reply to the last command, and tells it.
+    /// Keeps the reply to the last command, and returns it.
     fn hear(&mut self, alloc: Global, reply: Option<&Reply>) -> io::Result<Answer> {
         match reply {
             Some(reply) => {
@@ -158,7 +158,7 @@ impl User {
         }
     }
 
-    /// Whether a machine alone of this limit comes to the same.
+    /// Whether a private machine of this limit comes to the same.
     pub fn alone(&mut self, alloc: Global, limit: Side) -> io::Result<Answer> {
         let Some(desk) = &mut self.desk else {
             return Ok(Answer::Is(false));
@@ -176,7 +176,7 @@ impl User {
     }
 }
 
-/// What is answered of a line's fault.
+/// The answer to a line's fault.
 fn fault_answer(fault: LineFault) -> io::Result<Answer> {
     match fault {
         LineFault::NoMemory => Err(no_memory()),
@@ -184,7 +184,7 @@ fn fault_answer(fault: LineFault) -> io::Result<Answer> {
     }
 }
 
-/// What is answered of a line at a desk: the reply to its command, or its fault.
+/// The answer to a line at a desk: the reply to its command, or its fault.
 fn answer_at<R: Handle>(house: &House<R>, desk: &mut Desk, line: &str) -> io::Result<Answer> {
     let alloc = house.rt.alloc();
     match read_command(alloc, line.as_bytes()) {
@@ -199,7 +199,7 @@ fn answer_at<R: Handle>(house: &House<R>, desk: &mut Desk, line: &str) -> io::Re
     }
 }
 
-/// What is answered with a reply, or without one.
+/// The answer with a reply, or without one.
 fn reply_answer(alloc: Global, reply: Option<&Reply>) -> io::Result<Answer> {
     match reply {
         Some(reply) => Ok(Answer::Text(text_of(alloc, reply)?)),
@@ -207,7 +207,7 @@ fn reply_answer(alloc: Global, reply: Option<&Reply>) -> io::Result<Answer> {
     }
 }
 
-/// The reply that a desk waits for, unless no board has done the command for long.
+/// The reply that a desk waits for, unless no board has done the command after `LOOKS` looks.
 fn collected<R: Clock>(rt: &R, desk: &mut Desk) -> Option<Reply> {
     for _ in 0..LOOKS {
         if let Some(reply) = desk.try_collect() {
@@ -218,8 +218,8 @@ fn collected<R: Clock>(rt: &R, desk: &mut Desk) -> Option<Reply> {
     None
 }
 
-/// A thread that asks at the desk, with a handle of its own on the house. None where there is no
-/// memory for it.
+/// Starts a thread that asks at the desk, with a handle of its own on the house. Returns `None` if
+/// there is no memory for it.
 fn start<R: Handle + Send + Sync + 'static>(
     house: &House<R>,
     theirs: Arc<House<R>>,
@@ -234,7 +234,7 @@ fn start<R: Handle + Send + Sync + 'static>(
     thread
 }
 
-/// What a thread does that asks at a desk.
+/// What a thread that asks at a desk does.
 fn speak<R: Handle>(house: &House<R>, errand: Errand) -> Spoken {
     let Errand {
         user,

@@ -13,7 +13,7 @@ use cam6_planes::Side;
 use cam6_pool::Turn;
 use std::io;
 
-/// Tables that are cached, where nothing is said.
+/// The most tables that are cached, if nothing is said.
 const CACHED: usize = 16;
 
 /// What boards do beside their work.
@@ -22,7 +22,7 @@ pub enum BoardWay {
     Soft,
     /// A board is held inside the first band of all.
     Held,
-    /// Board 0 fails at one call of these, each of which is tried anew.
+    /// Board 0 fails at one of these calls. The lines are played anew for each of them.
     Failing { first: u64, last: u64 },
 }
 
@@ -35,7 +35,7 @@ pub struct WorkerWay {
     pub users: usize,
     pub boards: usize,
     pub limit: Side,
-    /// Tables that are cached at most.
+    /// The most tables that are cached.
     pub cached: usize,
     pub gate: GateWay,
     pub board: BoardWay,
@@ -45,7 +45,7 @@ pub struct WorkerWay {
 }
 
 impl WorkerWay {
-    /// The way of the words behind `workers`.
+    /// Reads the words after `workers`.
     pub fn read(words: &str) -> Result<WorkerWay, Unplayable> {
         let mut words = Words { rest: words };
         let way = WorkerWay {
@@ -63,7 +63,7 @@ impl WorkerWay {
         }
     }
 
-    /// What comes back of the lines, once for each call at which a board is to fail.
+    /// What comes back for the lines, once for each call at which a board is to fail.
     pub fn played<R: Handle + Send + Sync + 'static>(
         &self,
         rt: R,

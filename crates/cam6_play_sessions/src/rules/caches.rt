@@ -2,9 +2,9 @@
 //!
 //! ```text
 //! load HALF HOOD MINOR TEXT     whether the table of the rule's text was kept
-//! undo HALF HOOD MINOR TEXT     the same of the one that undoes it, or why there is none
+//! undo HALF HOOD MINOR TEXT     the same for the inverse of that table, or why there is none
 //! table                         the table of the last load, 64 entries in a line
-//! evict                         whether there was one, of which the oldest is dropped
+//! evict                         drops the oldest table: whether there was one
 //! ```
 ghost use Rattle.std.specs.Prelude.{◌≡◌, ◌<◌, ◌≤◌, IfOk, None, true};
 ghost use Rattle.cam6_cache.specs.Keys.{IsReversibleKey};
@@ -22,7 +22,8 @@ use cam6_wiring::Wiring;
 use std::alloc::Global;
 use std::io;
 
-/// A cache with what it is asked by, and room for the tables that a rule is tried by first.
+/// A cache with the key that it is asked by, and room for the tables by which a rule is tried
+/// first.
 #[derive(Drop)]
 struct Asked {
     cache: TableCache,
@@ -47,7 +48,7 @@ impl Asked {
     }
 }
 
-/// What comes back of each line.
+/// What comes back for each line.
 pub fn loads(alloc: Global, capacity: usize, sent: &[Sent]) -> io::Result<Vec<u8>> {
     let mut asked = Asked::new(alloc, capacity).ok_or(no_memory())?;
     let mut answers = Vec::new(alloc);
@@ -57,7 +58,7 @@ pub fn loads(alloc: Global, capacity: usize, sent: &[Sent]) -> io::Result<Vec<u8
     Ok(answers)
 }
 
-/// Adds what comes back of a line.
+/// Adds what comes back for a line.
 fn add_answer(
     alloc: Global,
     answers: &mut Vec<u8>,

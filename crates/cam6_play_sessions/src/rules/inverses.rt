@@ -1,4 +1,4 @@
-//! Tables that undo those of rules.
+//! Inverses of the tables of rules.
 
 use crate::rules::texts::{add_table, fill_by_text};
 use cam6_block::{NotReversible, invert};
@@ -8,7 +8,7 @@ use cam6_wiring::Wiring;
 use std::alloc::Global;
 use std::io;
 
-/// Room for a table, and for the one that undoes it.
+/// Room for a table, and for its inverse.
 #[derive(Drop)]
 struct Room {
     table: Table,
@@ -23,7 +23,7 @@ impl Room {
     }
 }
 
-/// The table that undoes each rule's, in lines of 64 entries, or why there is none.
+/// The inverse of each rule's table, in lines of 64 entries, or why it has none.
 pub fn inverses(alloc: Global, wiring: Wiring, sent: &[Sent]) -> io::Result<Vec<u8>> {
     let mut room = Room::new(alloc)?;
     let mut answers = Vec::new(alloc);
@@ -46,7 +46,7 @@ fn add_inverse(
     }
 }
 
-/// The table that undoes the one which undoes each rule's, or why there is none.
+/// The inverse of the inverse of each rule's table, or why it has none.
 pub fn inverses_twice(alloc: Global, wiring: Wiring, sent: &[Sent]) -> io::Result<Vec<u8>> {
     let mut room = Room::new(alloc)?;
     let mut answers = Vec::new(alloc);
@@ -74,7 +74,7 @@ fn add_inverse_twice(
     }
 }
 
-/// Fills the table of a rule's text, and the one that undoes it.
+/// Fills the table of a rule's text, and its inverse.
 fn inverse_of_text(
     alloc: Global,
     wiring: Wiring,

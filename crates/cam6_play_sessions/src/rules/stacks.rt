@@ -1,4 +1,4 @@
-//! What words leave on the stack, as far as rules can tell it by what they write.
+//! What words leave on the stack, as far as rules can find out by what they write.
 
 use crate::rules::texts::{read_rule, rule_fault};
 use cam6_examples::{Sent, add_line, no_memory};
@@ -7,11 +7,11 @@ use cam6_wiring::{Half, Hood, Minor, Wiring};
 use std::alloc::Global;
 use std::io;
 
-/// Values that a stack holds at most.
+/// The most values that a stack holds.
 const VALUES: u32 = 32;
 
-/// What each text's words leave, the top value last, or the fault at which they stop. A stack that
-/// is full can't be told, since telling takes room for one value.
+/// What each text's words leave, the top value last, or the fault at which they stop. A full stack
+/// can't be read, since that takes room for one value.
 pub fn stacks(alloc: Global, sent: &[Sent]) -> io::Result<Vec<u8>> {
     let mut answers = Vec::new(alloc);
     for text in sent {
@@ -24,7 +24,7 @@ pub fn stacks(alloc: Global, sent: &[Sent]) -> io::Result<Vec<u8>> {
     Ok(answers)
 }
 
-/// The entry that a body writes where all lines show 0.
+/// The entry that a body writes at address 0.
 fn written_by(alloc: Global, body: &str) -> io::Result<Result<u8, RuleFault>> {
     let text = format!(in alloc; ": R {body} ;")?;
     let wiring = Wiring {
@@ -40,7 +40,7 @@ fn written_by(alloc: Global, body: &str) -> io::Result<Result<u8, RuleFault>> {
     Ok(eval(&code, 0, &mut turns))
 }
 
-/// The words, and then so many that drop a value.
+/// The words, and then so many `DROP`.
 fn dropping(alloc: Global, words: &str, values: u32) -> io::Result<String> {
     let mut body = String::from_str(alloc, words)?;
     for _ in 0..values {

@@ -88,7 +88,7 @@ fn add_definition(alloc: Global, answers: &mut Vec<u8>, definition: &Definition)
     Ok(())
 }
 
-/// A space and the word, a single one by what it says.
+/// A space and the word. A single word has the name of what it says.
 fn word_text(alloc: Global, word: Word) -> io::Result<String> {
     match word {
         Word::Single(said) => Ok(format!(in alloc; " {said:?}")?),
@@ -143,7 +143,7 @@ pub fn tables(alloc: Global, wiring: Wiring, sent: &[Sent]) -> io::Result<Vec<u8
     Ok(answers)
 }
 
-/// The same, with room for a table.
+/// The same, in this room for a table.
 fn add_tables(
     alloc: Global,
     answers: &mut Vec<u8>,
@@ -160,8 +160,8 @@ fn add_tables(
     Ok(())
 }
 
-/// Makes the table that of a rule's text, or tells the text's fault, or the least address at which
-/// the rule stops.
+/// Makes the table that of a rule's text, or returns the text's fault, or the least address at
+/// which the rule stops.
 pub fn fill_by_text(
     alloc: Global,
     wiring: Wiring,
@@ -174,8 +174,8 @@ pub fn fill_by_text(
     }
 }
 
-/// The code of a rule's text, which makes the table the rule's; or the text's fault, or the least
-/// address at which the rule stops.
+/// Returns the code of a rule's text, and makes the table the rule's. Or returns the text's fault,
+/// or the least address at which the rule stops.
 pub fn code_of(
     alloc: Global,
     wiring: Wiring,

@@ -18,9 +18,9 @@ pub enum RuleWay {
     Entries(Wiring, Vec<u16>),
     /// Each rule's whole table, or the least address at which it stops.
     Tables(Wiring),
-    /// The table that undoes each rule's table, or why there is none.
+    /// The inverse of each rule's table, or why it has none.
     Inverses(Wiring),
-    /// The table that undoes the one which undoes each rule's.
+    /// The inverse of the inverse of each rule's table.
     InversesTwice(Wiring),
     /// Loads from a cache of so many tables.
     Cache(usize),
