@@ -32,11 +32,11 @@ use std::process::ExitCode;
 
 /// The greeting if commands are typed.
 const COMMANDS_ARE_TYPED: &str = "\
-cam6: a command a line, as {\"do\":\"rules\"}; Ctrl-D ends; see docs/MANUAL.md or cam6 --help\n";
+cam6: type a command a line, such as {\"do\":\"rules\"}. Ctrl-D ends. docs/MANUAL.md has the commands, docs/ERRORS.md the numbers.\n";
 
 /// The greeting if events are typed.
 const EVENTS_ARE_TYPED: &str = "\
-cam6: an event a line, as {\"event\":\"evict\"}; Ctrl-D ends; see docs/MANUAL.md or cam6 --help\n";
+cam6: type an event a line, such as {\"event\":\"evict\"}. Ctrl-D ends. docs/SERVER.md has the events, docs/ERRORS.md the numbers.\n";
 
 fn main(rt: HostRuntime) -> ExitCode {
     run(
