@@ -22,6 +22,7 @@ use crate::loads::saved_in;
 use crate::saved::is_load_line;
 use crate::wirings::wiring_in;
 use cam6_commands::{Command, NamedRule, Text};
+use cam6_wiring::Wiring;
 use serde_json::{Category, Value};
 use std::alloc::{AllocError, Global};
 
@@ -256,11 +257,16 @@ fn rule_of(alloc: Global, value: &Value) -> Result<Option<Command>, AllocError>
     let Some(text) = text_at(value, "text") else {
         return Ok(None);
     };
-    Ok(Some(Command::Rule {
-        name: Text::new(String::from_str(alloc, name)?),
-        wiring,
-        text: Text::new(String::from_str(alloc, text)?),
-    }))
+    Ok(Some(new_rule(alloc, name, wiring, text)?))
+}
+
+/// The command that defines a rule, with copies of these texts.
+fn new_rule(alloc: Global, name: &str, wiring: Wiring, text: &str) -> Result<Command, AllocError>
+    ensures { IfOk result (λ command. command ≡ Command.Rule name.now wiring text.now) }
+{
+    let name = Text::new(String::from_str(alloc, name)?);
+    let text = Text::new(String::from_str(alloc, text)?);
+    Ok(Command::Rule { name, wiring, text })
 }
 
 #[tactic(auto, unfolding(crate::specs::Commands::drop_of))]

@@ -38,8 +38,9 @@ fn entries_in(alloc: Global, values: &[Value]) -> Result<Option<NamedEntries>, A
     }
     let mut entries = Vec::new(alloc);
     for value in values {
-        let Some(entry) = entry_in(alloc, value)? else {
-            unreachable!()
+        let entry = match entry_in(alloc, value)? {
+            Some(entry) => entry,
+            None => unreachable!(),
         };
         entries.push(entry)?;
     }
