@@ -36,9 +36,9 @@ mod start;
 mod steps;
 mod turns;
 
+pub use cam6_commands::{MAX_BOARDS, MAX_USERS};
 pub use desks::{Desk, Put};
 pub use queues::Queue;
 pub use rule::{Counts, Handing, View};
 pub use seats::BoardSeat;
-pub use cam6_commands::{MAX_BOARDS, MAX_USERS};
 pub use start::boot;

@@ -1,5 +1,5 @@
 //! A board's seat.
-ghost use Rattle.std.specs.Prelude.{◌≡◌, ◌<◌, ◌≤◌, [], None};
+ghost use Rattle.std.specs.Prelude.{◌≡◌, ◌<◌, ◌≤◌, [], None, IsTrue};
 ghost use Rattle.std.specs.Arc.{arc_value};
 ghost use Rattle.cam6_slot.specs.Leases.{TablesFit};
 ghost use Rattle.cam6_slot.specs.Needs.{needs_of};
@@ -125,10 +125,11 @@ impl BoardSeat {
     }
 
     /// Fills the tables that a lease needs, each under the cache's lock, which others may have in
-    /// between. Seats make many tables one after the other: once it has made two, the seat waits
-    /// for its turn to fill the others. It waits at once if the user's last command made many.
-    pub fn fill_each<R: Wait>(&mut self, rt: &R, lease: &Lease, cache: &Mutex<TableCache>)
-        ensures tables { TablesFit lease.now.work self.new.tables }
+    /// between. Returns whether it did. Seats make many tables one after the other. If the command
+    /// needs more than two that aren't kept, and another seat has the turn, the rest is not filled:
+    /// the command is to wait again, and is held back until that seat is done.
+    pub fn fill_each<R: Wait>(&mut self, rt: &R, lease: &Lease, cache: &Mutex<TableCache>) -> bool
+        ensures tables { IsTrue result → TablesFit lease.now.work self.new.tables }
         ensures others { self.new ≡ record self.old { tables = self.new.tables } }
     {
         let word = self.taken.unwrap_or(0);
@@ -138,14 +139,17 @@ impl BoardSeat {
         } else {
             fill_few(rt, &self.turns, &mut self.filling, lease, cache)
         };
-        if next < lease.needs() {
-            let turn = self.turns.turn.lock(rt);
-            self.turns.take(true);
-            let made = fill_rest(rt, &self.turns, &mut self.filling, lease, next, cache);
-            self.turns.take(false);
-            drop(turn);
-            self.turns.note(word, made > if is_dear { FEW } else { 0 });
+        if next == lease.needs() {
+            return true;
         }
+        if !self.turns.try_take() {
+            self.turns.note(word, true);
+            return false;
+        }
+        let made = fill_rest(rt, &self.turns, &mut self.filling, lease, next, cache);
+        self.turns.give_back();
+        self.turns.note(word, made > if is_dear { FEW } else { 0 });
+        true
     }
 
     /// Whether the user's command, if it waits, must wait longer: another seat makes many tables,

@@ -1,16 +1,15 @@
 //! Seats that have many tables to make do so one after the other.
 
 use std::sync::Mutex;
-use std::sync::atomic::{AtomicBool, AtomicU32, Ordering};
+use std::sync::atomic::{AtomicU32, Ordering};
 
 /// What all seats of a table share: the turn, and which users' last commands made many tables.
 #[derive(Drop)]
 pub(crate) struct Turns {
-    /// The seat that holds it has the turn.
-    pub turn: Mutex<()>,
     /// The seat that holds it has the cache's lock next.
     pub next: Mutex<()>,
-    is_taken: AtomicBool,
+    /// 1 while a seat has the turn, and else 0.
+    taken: AtomicU32,
     /// A bit for each word, 1 if the user's last command made many tables.
     dear: AtomicU32,
 }
@@ -23,16 +22,20 @@ fn bit_of(word: usize) -> u32 {
 impl Turns {
     pub fn new() -> Turns {
         Turns {
-            turn: Mutex::new(()),
             next: Mutex::new(()),
-            is_taken: AtomicBool::new(false),
+            taken: AtomicU32::new(0),
             dear: AtomicU32::new(0),
         }
     }
 
-    /// Notes that a seat has the turn, or that none has it any more.
-    pub fn take(&self, is_taken: bool) {
-        self.is_taken.store(is_taken, Ordering::SeqCst);
+    /// Takes the turn, unless another seat has it. Returns whether it did.
+    pub fn try_take(&self) -> bool {
+        self.taken.fetch_or(1, Ordering::SeqCst) == 0
+    }
+
+    /// Gives the turn back, which this seat has.
+    pub fn give_back(&self) {
+        self.taken.store(0, Ordering::SeqCst);
     }
 
     /// Whether the last command of the word's user made many tables.
@@ -43,7 +46,7 @@ impl Turns {
     /// Whether the command at a word must wait without a board: a seat has the turn, and the user's
     /// last command made many tables too.
     pub fn holds_back(&self, word: usize) -> bool {
-        self.is_taken.load(Ordering::SeqCst) && self.is_dear(word)
+        self.taken.load(Ordering::SeqCst) != 0 && self.is_dear(word)
     }
 
     /// Notes whether a command of the word's user made many tables.

@@ -22,6 +22,9 @@ pub enum Version {
     Second,
 }
 
+/// How a line ends that loads a machine in the first version.
+const END_OF_FIRST: &[u8] = b"\"version\":1}}";
+
 /// Whether a line is the one that loads this machine, in either version.
 pub(crate) fn is_load_line(
     alloc: Global,
@@ -30,7 +33,13 @@ pub(crate) fn is_load_line(
 ) -> Result<bool, AllocError>
     ensures { IfOk result (λ is. is ≡ is_load_line line.now saved.now) }
 {
-    // The version that is written comes first: it is the one to expect.
+    // The line's end says which version to expect, so that a machine is seldom written twice.
+    if line.ends_with(END_OF_FIRST) {
+        if is_load_line_in(alloc, line, Version::First, saved)? {
+            return Ok(true);
+        }
+        return is_load_line_in(alloc, line, Version::Second, saved);
+    }
     if is_load_line_in(alloc, line, Version::Second, saved)? {
         return Ok(true);
     }
