@@ -5,8 +5,8 @@
 //! makes of what the lines show there (`specs/Meaning.antt`). `asked` says which lines it has to be
 //! shown, and `keeps` which level it leaves to every cell as it is.
 //!
-//! Stands on: `cam6_lines`, for units; `cam6_lookup`, for entries; `cam6_wiring`, for lines and
-//! levels.
+//! Stands on: `cam6_planes`, for the columns of a word; `cam6_lines`, for units; `cam6_lookup`, for
+//! entries; `cam6_wiring`, for lines and levels.
 //!
 //! How: any list of steps means something, whether anybody wants it or not, and running it is
 //! proved to make what it means. So nothing is proved of the builder but that it is safe: what it
