@@ -21,7 +21,7 @@ use crate::programs::VERSION;
 use crate::refusals::{Refused, refusal, unasked};
 use crate::rle_options::{Place, RleOptions};
 use cam6_patterns::ChosenPlanes;
-use cam6_planes::Side;
+use cam6_planes::{COLUMNS, Side};
 use clap::builder::ValueParser;
 use clap::{Arg, ArgAction, ArgMatches, Command};
 use std::alloc::{AllocError, Global};
@@ -30,7 +30,7 @@ use std::alloc::{AllocError, Global};
 static SIDES: [&str; 3] = ["128", "256", "512"];
 
 /// The last column, or row, by which a pattern is moved.
-const LAST_MOVE: u64 = 511;
+const LAST_MOVE: u64 = COLUMNS as u64 - 1;
 
 /// What the program reads and writes, its statuses, and lines to try.
 const PROGRAM_TEXT: &str = "\
