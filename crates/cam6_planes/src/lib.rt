@@ -6,9 +6,11 @@
 //! `set_row_words` and `put_row` change one row of one plane and nothing else; `copy_from` makes
 //! the planes equal, side and all; `set_side` blanks them at another side, within the limit that
 //! `blank` took memory for; `west` and `east` move a row by one column, `moved_east` and
-//! `moved_west` a word, with what comes in from the word beside it. `row` lends a row of all
-//! four planes. `bits_of_digits` gives the bits of hexadecimal digits, of either case, that are as
-//! many as a row of one of the sides has, and none of others (`specs/Digits.antt`).
+//! `moved_west` a word, with what comes in from the word beside it. `chosen_word` mixes two words by
+//! the columns of a mask, and `word_of` has one bit in every column. `row` lends a row of all four
+//! planes. `bits_of_digits` gives the bits of hexadecimal digits, of either case, that are as many as
+//! a row of one of the sides has, and none of others (`specs/Digits.antt`). `Side::named` gives the
+//! side of a text, which is its number in decimal digits.
 //!
 //! The laws: the digits that `row_hex` writes of a row are read back as its bits; the bytes that
 //! `row_bits` makes of a row show it, no others do, and their digits are the row's.
@@ -16,10 +18,11 @@
 //! Stands on: `hex`, for a row's digits. Column 0 is the highest bit of a row's first word, of its
 //! first byte and of its first hexadecimal digit.
 //!
-//! Read next: `sides`; `row`, one packed row and its shifts by one column; `digits`, how they are
-//! made and read; then `planes`; then `memory` and `laws`.
+//! Read next: `sides`; `row`, one packed row and its shifts by one column; `columns`, those of a word;
+//! `digits`, how they are made and read; then `planes`; then `memory` and `laws`.
 #![tactic(auto)]
 
+mod columns;
 mod digits;
 pub mod laws;
 mod memory;
@@ -27,6 +30,7 @@ mod planes;
 mod row;
 mod sides;
 
+pub use columns::{chosen_word, word_of};
 pub use digits::{Bits, bits_of_digits};
 pub use memory::NoMemory;
 pub use planes::Planes;
