@@ -13,10 +13,9 @@ pub fn limit_of(text: &str) -> Result<Side, Unplayable> {
     side_of(text.strip_prefix("within ").ok_or(Unplayable::Unread)?)
 }
 
-/// The side of a number.
+/// The side whose number a text is.
 pub fn side_of(number: &str) -> Result<Side, Unplayable> {
-    let number = number.parse().map_err(|_| Unplayable::Unread)?;
-    Side::of(number).ok_or(Unplayable::Unread)
+    Side::named(number).ok_or(Unplayable::Unread)
 }
 
 /// A number from 1 to `most`.

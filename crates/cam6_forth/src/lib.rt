@@ -18,9 +18,10 @@
 //!
 //! Stands on: `cam6_wiring`.
 //!
-//! Read next: `words`, the words of a body, and `rules`; `tokens` and `kinds`, how a text is cut
-//! and what a token is; `reader`, what was read so far; then `parser`; `laws`, what holds of trees,
-//! texts and faults by themselves.
+//! Read next: `words`, the words of a body, with `spellings`, their texts, and `rules`; `tokens` and
+//! `kinds`, how a text is cut and what a token is; `faults` and `limits`, why a text is refused;
+//! `reader`, what was read so far, with `open_ifs`; then `parser`; `laws`, what holds of trees, texts
+//! and faults by themselves.
 #![tactic(auto)]
 
 mod faults;

@@ -6,15 +6,13 @@ use Rattle.std.proofs.lemmas.List.{get_or-take, get_or_default, length-take}
 use Rattle.std.proofs.lemmas.List.Elements.{All-get_or}
 use Rattle.std.specs.List.{AllByRecursion}
 use Rattle.cam6_planes.specs.declared.sides.Side.{Side}
-use Rattle.cam6_planes.specs.declared.sides.Side.TheVariants.{S128, S256, S512}
 use Rattle.cam6_planes.specs.Side.{side_number}
+use Rattle.cam6_planes.proofs.SideNumbers.{side_least}
 use Rattle.cam6_frames.specs.Frame.{colours, colour_at, IsRowOf, IsFrame}
 
 -- a side counts some columns
 pub side_is_some : (side : Side) → 0 < side_number side
-side_is_some S128 = omega arith
-side_is_some S256 = omega arith
-side_is_some S512 = omega arith
+side_is_some side = omega (arith, side_least side)
 
 -- each colour of a row is one
 pub colour_is_few : (row : List ℕ) (x : ℕ) → AllByRecursion (λ colour. colour < colours) row

@@ -5,16 +5,14 @@ use Rattle.std.proofs.lemmas.Bool.{eqb-true}
 use Rattle.std.proofs.lemmas.List.Elements.{All-append}
 use Rattle.std.specs.Prelude.{All}
 use Rattle.cam6_planes.specs.declared.sides.Side.{Side}
-use Rattle.cam6_planes.specs.declared.sides.Side.TheVariants.{S128, S256, S512}
 use Rattle.cam6_planes.specs.Side.{side_number}
+use Rattle.cam6_planes.proofs.SideNumbers.{side_least}
 use Rattle.cam6_frames.specs.Frame.{IsRowOf, IsFrame}
 use Rattle.cam6_frames.specs.Unfinished.{IsUnfinished, goes_on}
 
 -- a side counts more than one column
 pub side_is_many : (side : Side) → 1 < side_number side
-side_is_many S128 = omega arith
-side_is_many S256 = omega arith
-side_is_many S512 = omega arith
+side_is_many side = omega (arith, side_least side)
 
 -- one row alone
 only : (side : Side) (row : List ℕ) → IsRowOf side row → All (IsRowOf side) (row ∷ [])

@@ -13,9 +13,8 @@ use Rattle.cam6_planes.specs.Digits.{row_text}
 use Rattle.cam6_planes.specs.Row.{bit_number, byte_column}
 use Rattle.cam6_planes.specs.Side.{side_number, side_of}
 use Rattle.cam6_planes.specs.declared.sides.Side.{Side}
-use Rattle.cam6_planes.specs.declared.sides.Side.TheVariants.{S128, S256, S512}
 use Rattle.cam6_planes.proofs.DigitsRead.{digits_read_back}
-use Rattle.cam6_planes.proofs.SideNumbers.{side_of_number}
+use Rattle.cam6_planes.proofs.SideNumbers.{side_of_number, side_words}
 use Rattle.cam6_frames.specs.Frame.{colours}
 use Rattle.cam6_frames.specs.Replies.{digit_column}
 use Rattle.cam6_frames.specs.Laws.{colour_digit, ColoursAreReadBack, BitsAreReadBack}
@@ -101,9 +100,7 @@ packed_shows (a ∷ b ∷ row) even few (suc (suc x)) =
     rw half (rw odd (packed_shows row (omega arith) few.1.1 x))
 
 side_is_even : (side : Side) → (side_number side % 2 ≡ 0)
-side_is_even S128 = refl
-side_is_even S256 = refl
-side_is_even S512 = refl
+side_is_even side = omega (arith, side_words side)
 
 pub colours_back : ColoursAreReadBack
 colours_back side row is =

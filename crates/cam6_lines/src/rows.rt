@@ -15,8 +15,8 @@ ghost use Rattle.cam6_lines.specs.Internal.Parts.{first_beside, first_row, row_a
 
 use crate::bands::Band;
 use crate::units::words_of_row;
-use crate::words::{chosen_word, right_columns, word_of};
-use cam6_planes::{Row, Side, moved_east, moved_west};
+use crate::words::right_columns;
+use cam6_planes::{Row, Side, chosen_word, moved_east, moved_west, word_of};
 use cam6_wiring::{Compass, Grid, Name, Rotation, Setting, side_in_block};
 
 /// Words of a row of a unit at most.

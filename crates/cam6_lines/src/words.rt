@@ -1,5 +1,5 @@
-//! Single words of a row: mixed by columns, or the same throughout.
-ghost use Rattle.std.specs.Prelude.{◌≡◌, ◌<◌, ◌==◌, ℕ, if◌then◌else◌};
+//! The words of a row that have the right columns of blocks.
+ghost use Rattle.std.specs.Prelude.{◌≡◌, ◌<◌, ◌==◌, ℕ};
 ghost use Rattle.cam6_planes.specs.Row.{word_column};
 ghost use Rattle.cam6_wiring.specs.Block.{side_in_block};
 
@@ -10,23 +10,6 @@ const EVEN_COLUMNS: u64 = 0xAAAA_AAAA_AAAA_AAAA;
 
 /// The odd columns of a word.
 const ODD_COLUMNS: u64 = 0x5555_5555_5555_5555;
-
-/// The columns of `word`, but those of `other` at the columns that the mask has.
-#[inline]
-pub(crate) fn chosen_word(mask: u64, word: u64, other: u64) -> u64
-    ensures { (c : ℕ) → c < 64 → word_column result c
-        ≡ (if word_column mask c then word_column other c else word_column word c) }
-{
-    mask & other | !mask & word
-}
-
-/// The same bit in every column.
-#[inline]
-pub(crate) fn word_of(bit: bool) -> u64
-    ensures { (c : ℕ) → c < 64 → word_column result c ≡ bit }
-{
-    if bit { u64::MAX } else { 0 }
-}
 
 /// The right columns of the grid's blocks.
 #[inline]

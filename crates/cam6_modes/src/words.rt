@@ -8,7 +8,7 @@ ghost use Rattle.cam6_modes.specs.CommandLine.{TextsAt, mode_of, number_at as nu
 ghost use Rattle.cam6_modes.specs.CommandLine.{number_option as option_of_numbers};
 ghost use Rattle.cam6_modes.specs.CommandLine.{replay as replay_of, serve as serve_of, served_at};
 ghost use Rattle.cam6_modes.specs.CommandLine.{shared_at, side_at};
-ghost use Rattle.cam6_modes.specs.CommandLine.{side_option as option_of_sides, side_said};
+ghost use Rattle.cam6_modes.specs.CommandLine.{side_option as option_of_sides};
 ghost use Rattle.cam6_modes.specs.CommandLine.{users_option as option_of_users};
 ghost use Rattle.cam6_modes.specs.CommandLine.{boards_option as option_of_boards};
 ghost use Rattle.cam6_modes.specs.CommandLine.{cache_option as option_of_tables};
@@ -27,9 +27,6 @@ use clap::builder::ValueParser;
 use clap::error::ErrorKind;
 use clap::{Arg, ArgMatches, Command};
 use std::alloc::{AllocError, Global};
-
-/// The sides as words.
-static SIDES: [&str; 3] = ["128", "256", "512"];
 
 /// The last port.
 const MAX_PORT: u64 = 65_535;
@@ -169,7 +166,7 @@ fn side_given(matches: &ArgMatches<'_>) -> Side
     let Some(word) = matches.get_str("side") else {
         unreachable!()
     };
-    let Some(side) = side_of_word(word) else {
+    let Some(side) = Side::named(word) else {
         unreachable!()
     };
     side
@@ -189,18 +186,6 @@ fn number_given(matches: &ArgMatches<'_>, name: &str, least: u64, most: u64) -> 
         unreachable!()
     };
     number
-}
-
-/// The side that a word is.
-fn side_of_word(word: &str) -> Option<Side>
-    ensures { result ≡ side_said word.now }
-{
-    match word {
-        "128" => Some(Side::S128),
-        "256" => Some(Side::S256),
-        "512" => Some(Side::S512),
-        _ => None,
-    }
 }
 
 /// The program's command line.
@@ -329,8 +314,8 @@ fn side_option<'a>(alloc: Global) -> Arg<'a>
 {
     Arg::new(alloc, "side")
         .long("side")
-        .value_parser(ValueParser::Names(SIDES.as_slice()))
-        .default_value("256")
+        .value_parser(ValueParser::Names(Side::texts()))
+        .default_value(Side::S256.text())
         .help("The largest side that a machine may have")
 }
 

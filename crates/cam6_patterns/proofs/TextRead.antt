@@ -42,10 +42,10 @@ module _ (side states most : ℕ) (rule : List ℕ) (rows : List (List ℕ)) (la
       recursion_from_All (FitsIn width states) rows
       (λ k d h. record { wide = omega (arith, fit.even k d h); within = fit.few k d h })
 
-  narrow : width ≤ 512
+  narrow : width ≤ most_cells
   narrow = omega (arith, fit.wide, largest)
 
-  low : length rows ≤ 512
+  low : length rows ≤ most_cells
   low = omega (arith, fit.high, largest)
 
   -- the cells behind the header

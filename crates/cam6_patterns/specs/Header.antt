@@ -64,7 +64,7 @@ extents_in line =
     (option_and_then (extent_at_front 121) (after_sign 44 wide.1)))
     (extent_at_front 120 line)
 
--- a whole number modulo most_cells, and what comes after it: "-3" is 509
+-- a whole number modulo most_cells, and what comes after it: "-3" is most_cells - 3
 abbrev pub turn_at_front : List ℕ → Option (ℕ × List ℕ)
 turn_at_front [] = None
 turn_at_front (b ∷ bytes) =

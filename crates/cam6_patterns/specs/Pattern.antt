@@ -1,10 +1,11 @@
 -- Patterns: cells in states, from the upper left corner.
 use Rattle.std.specs.Prelude.{◌<◌, ◌≤◌, ℕ, List, [], length, slice_index, get_or, All}
 use Rattle.std.specs.List.{AllByRecursion}
+use Rattle.cam6_planes.specs.Limits.{max_columns}
 
 -- the most columns and rows of a pattern, and of a torus
 abbrev pub most_cells : ℕ
-most_cells = 512
+most_cells = max_columns
 
 -- the most states of a cell
 abbrev pub most_states : ℕ

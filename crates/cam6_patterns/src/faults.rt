@@ -7,7 +7,7 @@ pub enum Cause {
     NoHeader,
     /// A byte that says nothing of cells, or a number with nothing after it.
     Unexpected,
-    /// A number above 512.
+    /// A number that is larger than the columns of the largest torus.
     CountTooLarge,
     /// More columns than the torus has, or than the header says.
     TooWide,

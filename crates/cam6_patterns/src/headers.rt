@@ -12,10 +12,10 @@ ghost use Rattle.cam6_patterns.specs.Outcome.{StandsFor, AreExtents, LeadsTo, bo
 ghost use Rattle.cam6_planes.specs.Side.{side_number};
 
 use crate::faults::{Cause, PatternFault};
-use cam6_planes::Side;
+use cam6_planes::{COLUMNS, Side};
 
 /// The most columns and rows of a pattern, and of a torus.
-pub(crate) const MOST_CELLS: usize = 512;
+pub(crate) const MOST_CELLS: usize = COLUMNS;
 
 /// Where a pattern lies, and how large it is.
 #[derive(Clone, Copy)]

@@ -79,8 +79,8 @@ pub fn write_placed<W: Write>(
     planes: &ChosenPlanes,
     pattern: &Pattern,
 ) -> Result<(), Unshown>
-    requires column { column < 512 }
-    requires row { row < 512 }
+    requires column { column < most_cells }
+    requires row { row < most_cells }
     ensures { WritesFront result (W.contents writer.old) (W.contents writer.new)
         (placed (side_number side) column row planes.now pattern.now) }
 {
@@ -120,7 +120,7 @@ impl Placement<'_> {
         planes: &ChosenPlanes,
         y: usize,
     ) -> Result<(), Unshown>
-        requires top { self.now.top < 1024 }
+        requires top { self.now.top < 2 * most_cells }
         requires row { y < most_cells }
         ensures { WritesFront result (W.contents writer.old) (W.contents writer.new)
             (lines_of_row (side_number self.now.side) self.now.first self.now.top
@@ -135,7 +135,7 @@ impl Placement<'_> {
 
     /// The line that sets a row of a plane to bit k of the pattern's row y.
     fn set_line(&self, plane: u8, k: usize, y: usize) -> Line
-        requires top { self.now.top < 1024 }
+        requires top { self.now.top < 2 * most_cells }
         requires row { y < most_cells }
         ensures { let side = side_number self.now.side in
             result.items ≡ set_line side plane ((self.now.top + y) % side)
@@ -225,7 +225,7 @@ impl Placement<'_> {
 type Line = ArrayVec<u8, LINE>;
 
 /// Room for the longest such line.
-const LINE: usize = 256;
+const LINE: usize = DIGITS + 128;
 
 /// Pushes bytes to a line that has room for them.
 fn push_all(line: &mut Line, bytes: &[u8])

@@ -1,6 +1,7 @@
 -- How frames are looked at: the part of the torus that is shown, how large, and in which colours.
 use Rattle.std.specs.Prelude.{ℕ, ◌+◌, ◌*◌, ◌/◌, List, length, get_or}
 use Rattle.std.specs.Prelude.{Option, Some, None}
+use Rattle.cam6_planes.specs.Limits.{max_columns}
 use Rattle.cam6_frames.specs.Frame.{colour_at}
 use Rattle.cam6_pictures.specs.declared.looks.Light.{Light}
 
@@ -22,6 +23,14 @@ pub record Look : Type 0 where
 abbrev pub window_of : Option Window → ℕ → Window
 window_of None side = record { column = 0; row = 0; width = side; height = side }
 window_of (Some window) side = window
+
+-- the most pixels that a cell is wide and high
+abbrev pub most_scale : ℕ
+most_scale = 16
+
+-- the most pixels that a picture is wide and high
+abbrev pub most_pixels : ℕ
+most_pixels = most_scale * max_columns
 
 -- how many pixels a picture is wide and high
 abbrev pub pixels_wide : Look → List (List ℕ) → ℕ

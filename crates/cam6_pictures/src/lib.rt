@@ -14,7 +14,7 @@ mod netpbm;
 mod palettes;
 mod terminal;
 
-pub use looks::{Light, Look, MOST_CELLS, MOST_SCALE, Window};
+pub use looks::{Light, Look, MOST_SCALE, Window};
 pub use netpbm::Netpbm;
 pub use palettes::{PALETTE, palette_of};
 pub use terminal::Terminal;

@@ -11,9 +11,6 @@ use std::marker::Model;
 /// The most pixels that a cell is wide and high.
 pub const MOST_SCALE: usize = 16;
 
-/// The most columns and rows of a window. It also begins after fewer columns and rows than this.
-pub const MOST_CELLS: usize = 512;
-
 /// A colour on the screen: how much of each light, of 255.
 #[derive(Clone, Copy, Debug, PartialEq, Eq)]
 pub struct Light {
@@ -22,7 +19,8 @@ pub struct Light {
     pub blue: u8,
 }
 
-/// The part of a torus from a column and a row on, over its seams. It has 1 to 512 columns and rows.
+/// The part of a torus from a column and a row on, over its seams. It has at least one column and one
+/// row, and at most as many as the largest torus.
 #[derive(Clone, Copy, Debug)]
 pub struct Window {
     pub column: usize,
@@ -33,6 +31,7 @@ pub struct Window {
 
 impl Model for Window {
     ghost use Rattle.std.specs.Prelude.{◌<◌, ◌≤◌};
+    ghost use Rattle.cam6_planes.specs.Limits.{max_columns};
     ghost use Rattle.cam6_pictures.specs.Look.{Window};
 
     ghost Value = { Window };
@@ -51,8 +50,8 @@ impl Model for Window {
       height = w.height;
     } };
 
-    ghost invariant = { λ w. (w.column < 512) × (w.row < 512) × (0 < w.width) × (w.width ≤ 512)
-        × (0 < w.height) × (w.height ≤ 512) };
+    ghost invariant = { λ w. (w.column < max_columns) × (w.row < max_columns)
+        × (0 < w.width) × (w.width ≤ max_columns) × (0 < w.height) × (w.height ≤ max_columns) };
 }
 
 /// How frames are looked at.
@@ -68,7 +67,7 @@ pub struct Look {
 
 impl Model for Look {
     ghost use Rattle.std.specs.Prelude.{◌<◌, ◌≤◌};
-    ghost use Rattle.cam6_pictures.specs.Look.{Look};
+    ghost use Rattle.cam6_pictures.specs.Look.{Look, most_scale};
 
     ghost Value = { Look };
 
@@ -76,18 +75,19 @@ impl Model for Look {
 
     ghost inverse = { λ l. record { palette = l.palette; window = l.window; scale = l.scale } };
 
-    ghost invariant = { λ l. (0 < l.scale) × (l.scale ≤ 16) };
+    ghost invariant = { λ l. (0 < l.scale) × (l.scale ≤ most_scale) };
 }
 
 impl Look {
     ghost use Rattle.std.specs.Prelude.{◌≡◌, ◌<◌, ◌≤◌};
     ghost use Rattle.cam6_pictures.specs.Look.{pixels_wide, pixels_high, light_shown, window_of};
+    ghost use Rattle.cam6_pictures.specs.Look.{most_pixels};
 
     /// Returns how many pixels the picture of a frame is wide.
     pub fn width(&self, frame: &Frame) -> usize
         ensures value { result ≡ pixels_wide self.now frame.now }
         ensures some { 0 < result }
-        ensures few { result ≤ 8192 }
+        ensures few { result ≤ most_pixels }
     {
         self.scale * self.window_of(frame).width
     }
@@ -96,7 +96,7 @@ impl Look {
     pub fn height(&self, frame: &Frame) -> usize
         ensures value { result ≡ pixels_high self.now frame.now }
         ensures some { 0 < result }
-        ensures few { result ≤ 8192 }
+        ensures few { result ≤ most_pixels }
     {
         self.scale * self.window_of(frame).height
     }
@@ -104,8 +104,8 @@ impl Look {
     /// Returns the light of the cell that pixel (i, j) shows, counted from the left and from the
     /// top.
     pub fn light(&self, frame: &Frame, i: usize, j: usize) -> Light
-        requires column { i < 8192 }
-        requires row { j < 8192 }
+        requires column { i < most_pixels }
+        requires row { j < most_pixels }
         ensures { result ≡ light_shown self.now frame.now i j }
     {
         let window = self.window_of(frame);

@@ -2,7 +2,7 @@
 ghost use Rattle.std.specs.Prelude.{◌≡◌, ◌<◌, ◌++◌, IfOk, flat_map, string_bytes};
 ghost use Rattle.std.specs.List.{range_with_len};
 ghost use Rattle.cam6_frames.specs.Front.{WritesFront};
-ghost use Rattle.cam6_pictures.specs.Look.{pixels_high};
+ghost use Rattle.cam6_pictures.specs.Look.{most_pixels, pixels_high};
 ghost use Rattle.cam6_pictures.specs.Netpbm.{header as header_of, light_bytes, netpbm};
 ghost use Rattle.cam6_pictures.specs.Netpbm.{pixel_row as pixel_row_of};
 
@@ -98,7 +98,7 @@ fn write_rows<W: Write>(
 
 /// Replaces what is in the vector by a row of pixels.
 fn pixel_row(pixels: &mut Vec<u8>, look: &Look, frame: &Frame, j: usize) -> Result<(), AllocError>
-    requires row { j < 8192 }
+    requires row { j < most_pixels }
     ensures { IfOk result (λ _. pixels.new.items ≡ pixel_row_of look.now frame.now j) }
 {
     pixels.clear();

@@ -3,7 +3,7 @@ ghost use Rattle.std.specs.Prelude.{◌≡◌, ◌+◌, ◌*◌, ◌/◌, ◌<�
 ghost use Rattle.std.specs.Prelude.{flat_map, nat_lt, if◌then◌else◌};
 ghost use Rattle.std.specs.List.{range_with_len};
 ghost use Rattle.cam6_frames.specs.Front.{WritesFront};
-ghost use Rattle.cam6_pictures.specs.Look.{light_shown, pixels_high};
+ghost use Rattle.cam6_pictures.specs.Look.{light_shown, most_pixels, pixels_high};
 ghost use Rattle.cam6_pictures.specs.Terminal.{behind_in, behind_plain, character, draw_in};
 ghost use Rattle.cam6_pictures.specs.Terminal.{character_line as character_line_of, hue as hue_of};
 ghost use Rattle.cam6_pictures.specs.Terminal.{step_of as step_told, terminal as terminal_of};
@@ -116,7 +116,7 @@ fn character_line(
     frame: &Frame,
     k: usize,
 ) -> Result<(), AllocError>
-    requires row { k < 4096 }
+    requires row { 2 * k < most_pixels }
     ensures { IfOk result (λ _. line.new.items ≡ character_line_of look.now frame.now k) }
 {
     line.clear();
@@ -134,8 +134,8 @@ fn push_character(
     k: usize,
     i: usize,
 ) -> Result<(), AllocError>
-    requires row { k < 4096 }
-    requires column { i < 8192 }
+    requires row { 2 * k < most_pixels }
+    requires column { i < most_pixels }
     ensures { IfOk result (λ _. line.new.items
         ≡ line.old.items ++ character look.now frame.now k i) }
 {
@@ -152,7 +152,7 @@ fn push_behind(
     i: usize,
     j: usize,
 ) -> Result<(), AllocError>
-    requires column { i < 8192 }
+    requires column { i < most_pixels }
     ensures { IfOk result (λ _. line.new.items ≡ line.old.items
         ++ (if nat_lt j (pixels_high look.now frame.now)
         then behind_in (hue_of (light_shown look.now frame.now i j)) else behind_plain)) }

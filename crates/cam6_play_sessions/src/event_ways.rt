@@ -82,6 +82,5 @@ fn limits_of(alloc: Global, users: usize, text: &str) -> Result<Vec<Side>, Unpla
 }
 
 fn limit_of(text: &str) -> Result<Side, Unplayable> {
-    let number = text.parse().map_err(|_| Unplayable::Unread)?;
-    Side::of(number).ok_or(Unplayable::Unread)
+    Side::named(text).ok_or(Unplayable::Unread)
 }

@@ -5,8 +5,8 @@
 //! makes of what the lines show there (`specs/Meaning.antt`). `asked` returns which lines it has to
 //! be shown, and `keeps` whether every cell keeps its bit of a level.
 //!
-//! Stands on: `cam6_lines`, for units; `cam6_lookup`, for entries; `cam6_wiring`, for lines and
-//! levels.
+//! Stands on: `cam6_planes`, for the columns of a word; `cam6_lines`, for units; `cam6_lookup`, for
+//! entries; `cam6_wiring`, for lines and levels.
 //!
 //! How: every list of steps means something, and running it is proved to make what it means. So the
 //! builder is proved only to be safe. `Program::of` runs what was built on all 4,096 addresses at

@@ -1,11 +1,11 @@
 -- Of `cam6_rle`, clap's matches and faults are functions of the words, wherever those of the sides are.
-use Rattle.std.proofs.Common.{◌≡◌, true, [], ◌∷◌, refl, ap, ◌∙◌}
+use Rattle.std.proofs.Common.{◌≡◌, true, map, refl, ap, ◌∙◌}
 use Rattle.std.specs.Borrow.{Bor}
 use Rattle.clap.proofs.OnLiterals.{clap_on_literals}
 use Rattle.clap.specs.Simple.{is_simple}
 use Rattle.clap.specs.Words.{App, is_simple_and_free}
-use Rattle.cam6_planes.specs.declared.sides.Side.TheVariants.{S128, S256, S512}
-use Rattle.cam6_words.specs.RleWords.{IsProgram, TextsAt, program, side_text}
+use Rattle.cam6_planes.specs.Side.{side_texts}
+use Rattle.cam6_words.specs.RleWords.{IsProgram, TextsAt, program}
 
 program_is_free : (sides : TextsAt) → is_simple_and_free (program sides) ≡ true
 unfolding clap_on_literals
@@ -21,8 +21,7 @@ at_first x = record { ref_ptr = (0, 0); now = x }
 -- there is one
 pub some_program : (app : App) × IsProgram app
 some_program =
-    let sides : TextsAt = at_first (at_first (side_text S128) ∷ at_first (side_text S256)
-    ∷ at_first (side_text S512) ∷ []) in
+    let sides : TextsAt = at_first (map at_first side_texts) in
     (program sides, (sides, refl, refl))
 
 pub is_free_program : (app : App) → IsProgram app → is_simple_and_free app ≡ true

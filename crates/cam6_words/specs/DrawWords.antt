@@ -1,5 +1,5 @@
 -- The arguments that `cam6_draw` takes, and what they ask for.
-use Rattle.std.specs.Prelude.{ℕ, List, [], codes, Option, Some, None, Bool}
+use Rattle.std.specs.Prelude.{ℕ, ◌-◌, List, [], codes, Option, Some, None, Bool}
 use Rattle.std.specs.Prelude.{true, false, ◌==◌, if◌then◌else◌, length, get_or, option_and_then}
 use Rattle.std.specs.Prelude.{option_map}
 use Rattle.std.specs.Str.{bytes_eq}
@@ -10,6 +10,7 @@ use Rattle.clap.specs.Walk.{all_of}
 use Rattle.clap.specs.Words.{App, Row, Rule, Text, first_of, new_app, new_rule}
 use Rattle.clap.specs.Words.{with_rule}
 use Rattle.clap.specs.declared.builder.action.ArgAction.TheVariants.{SetTrue}
+use Rattle.cam6_planes.specs.Limits.{max_columns}
 use Rattle.cam6_pictures.specs.declared.looks.Light.{Light}
 use Rattle.cam6_words.specs.declared.draw_options.DrawOptions.{DrawOptions}
 use Rattle.cam6_words.specs.declared.draw_options.Way.{Way}
@@ -93,10 +94,10 @@ palette_by (Some word) = palette_said word
 -- a column, a row, a width and a height
 abbrev pub window_said : Text → Text → Text → Text → Option Window
 window_said x y w h = do
-  column ← number_said 0 511 x
-  row ← number_said 0 511 y
-  width ← number_said 1 512 w
-  height ← number_said 1 512 h
+  column ← number_said 0 (max_columns - 1) x
+  row ← number_said 0 (max_columns - 1) y
+  width ← number_said 1 max_columns w
+  height ← number_said 1 max_columns h
   Some (record { column = column; row = row; width = width; height = height })
 
 abbrev pub window_of : List Text → Option Window

@@ -12,22 +12,11 @@ use Rattle.clap.specs.Words.{App, Row, Rule, Text, count_of, first_of, new_app, 
 use Rattle.clap.specs.declared.builder.action.ArgAction.TheVariants.{Count}
 use Rattle.clap.specs.declared.builder.value_parser.ValueParser.TheVariants.{Names, Unsigned}
 use Rattle.cam6_planes.specs.declared.sides.Side.{Side}
-use Rattle.cam6_planes.specs.declared.sides.Side.TheVariants.{S128, S256, S512}
+use Rattle.cam6_planes.specs.declared.sides.Side.TheVariants.{S256}
+use Rattle.cam6_planes.specs.Side.{side_named, side_text, side_texts}
 use Rattle.cam6_words.specs.Placing.{Placing, last_move}
 use Rattle.cam6_words.specs.declared.rle_options.RleOptions.{RleOptions}
 use Rattle.cam6_words.specs.declared.rle_options.RleOptions.TheVariants.{Place, Gather}
-
--- a side as a word
-abbrev pub side_text : Side → Text
-side_text S128 = codes "128"
-side_text S256 = codes "256"
-side_text S512 = codes "512"
-
--- the side that a word is, if it is one
-abbrev pub side_said : Text → Option Side
-side_said word = if bytes_eq word (side_text S128) then Some S128
-    else (if bytes_eq word (side_text S256) then Some S256
-    else (if bytes_eq word (side_text S512) then Some S512 else None))
 
 -- a whole number up to last_move, as a word
 abbrev pub move_said : Text → Option ℕ
@@ -64,7 +53,7 @@ TextsAt = Bor (List (Bor Text))
 
 -- it is to the three sides as words
 abbrev pub AreSides : TextsAt → Type 0
-AreSides sides = texts sides.now ≡ side_text S128 ∷ side_text S256 ∷ side_text S512 ∷ []
+AreSides sides = texts sides.now ≡ side_texts
 
 -- `--side`, one of the words that are referred to, or else 256
 abbrev pub side_option : TextsAt → Rule
@@ -139,7 +128,7 @@ x >>= f = option_and_then f x
 
 -- the side, the move and the planes that an option's word says
 abbrev pub side_at : List Row → Option Side
-side_at rows = option_and_then side_said (first_of (codes "side") rows)
+side_at rows = option_and_then side_named (first_of (codes "side") rows)
 
 abbrev pub move_at : Text → List Row → Option ℕ
 move_at name rows = option_and_then move_said (first_of name rows)

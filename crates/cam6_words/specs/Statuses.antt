@@ -1,5 +1,6 @@
 -- The exit status of each end, with its line.
 use Rattle.std.specs.Prelude.{ℕ, List, ◌++◌, Option, None, Some, codes, decimal}
+use Rattle.cam6_planes.specs.Limits.{max_columns}
 use Rattle.cam6_words.specs.Program.{at_line, told}
 use Rattle.cam6_words.specs.declared.programs.Program.{Program}
 use Rattle.cam6_words.specs.declared.programs.Program.TheVariants.{Rle}
@@ -25,7 +26,7 @@ failure program TooManyLines = Some (6, told program (codes "too many lines\n"))
 abbrev pub cause_told : Cause → List ℕ
 cause_told cause.NoHeader = codes ": a header is wanted, as x = 3, y = 3\n"
 cause_told cause.Unexpected = codes ": a byte that says nothing here\n"
-cause_told cause.CountTooLarge = codes ": a number above 512\n"
+cause_told cause.CountTooLarge = codes ": a number above " ++ decimal max_columns ++ codes "\n"
 cause_told cause.TooWide = codes ": too wide\n"
 cause_told cause.TooHigh = codes ": too high\n"
 cause_told cause.TooManyStates = codes ": more states than the planes hold\n"

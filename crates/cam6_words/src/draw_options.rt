@@ -1,6 +1,7 @@
 //! What the arguments of `cam6_draw` ask for.
 
 use cam6_pictures::Look;
+use cam6_planes::COLUMNS;
 use thiserror::Error;
 
 /// What `cam6_draw` is to do.
@@ -35,7 +36,7 @@ pub(crate) enum Unsaid {
     Frames,
     #[error("--scale takes a whole number from 1 to 16")]
     Scale,
-    #[error("--crop takes a column and a row from 0 to 511, and a width and a height from 1 to 512")]
+    #[error("--crop takes a column and a row from 0 to {last}, and a width and a height from 1 to {most}", last = COLUMNS - 1, most = COLUMNS)]
     Crop,
     #[error("--palette takes sixteen groups of six hexadecimal digits, with commas between them")]
     Palette,

@@ -19,7 +19,8 @@ ghost use Rattle.cam6_words.specs.DrawWords.{window_of as window_of_words};
 use crate::draw_options::{DrawOptions, Unsaid, Way};
 use crate::programs::VERSION;
 use crate::refusals::{Refused, refusal, unasked};
-use cam6_pictures::{Light, Look, MOST_CELLS, MOST_SCALE, PALETTE, Window, palette_of};
+use cam6_pictures::{Light, Look, MOST_SCALE, PALETTE, Window, palette_of};
+use cam6_planes::COLUMNS;
 use clap::{Arg, ArgAction, ArgMatches, Command};
 use std::alloc::{AllocError, Global};
 
@@ -209,16 +210,16 @@ fn window_of(words: &[&str]) -> Option<Window>
 fn window_said(x: &str, y: &str, w: &str, h: &str) -> Option<Window>
     ensures { result ≡ window_said x.now y.now w.now h.now }
 {
-    let Some(column) = number_of(x, 0, MOST_CELLS - 1) else {
+    let Some(column) = number_of(x, 0, COLUMNS - 1) else {
         return None;
     };
-    let Some(row) = number_of(y, 0, MOST_CELLS - 1) else {
+    let Some(row) = number_of(y, 0, COLUMNS - 1) else {
         return None;
     };
-    let Some(width) = number_of(w, 1, MOST_CELLS) else {
+    let Some(width) = number_of(w, 1, COLUMNS) else {
         return None;
     };
-    let Some(height) = number_of(h, 1, MOST_CELLS) else {
+    let Some(height) = number_of(h, 1, COLUMNS) else {
         return None;
     };
     Some(Window {

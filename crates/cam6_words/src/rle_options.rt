@@ -20,7 +20,7 @@ pub enum RleOptions {
 #[derive(Debug, Drop)]
 pub struct Place {
     pub side: Side,
-    /// By how many columns and rows the pattern is moved, 511 at most.
+    /// By how many columns and rows the pattern is moved, fewer than the largest torus has.
     pub column: usize,
     pub row: usize,
     pub planes: ChosenPlanes,

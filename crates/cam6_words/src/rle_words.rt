@@ -8,7 +8,7 @@ ghost use Rattle.cam6_words.specs.RleWords.{AreSides, HasTask, IsProgram};
 ghost use Rattle.cam6_words.specs.Refusals.{IsRefusal, Refuses};
 ghost use Rattle.cam6_words.specs.RleWords.{TextsAt, task_of, place_at, is_one_line, MayHaveTask};
 ghost use Rattle.cam6_words.specs.RleWords.{placed, side_at, move_at, planes_at};
-ghost use Rattle.cam6_words.specs.RleWords.{side_said, move_said, planes_said};
+ghost use Rattle.cam6_words.specs.RleWords.{move_said, planes_said};
 ghost use Rattle.cam6_words.specs.RleWords.{says_planes, is_plane_digit, are_different, gather_at};
 ghost use Rattle.cam6_words.specs.RleWords.{side_option as option_of_sides};
 ghost use Rattle.cam6_words.specs.Placing.{last_move};
@@ -21,16 +21,13 @@ use crate::programs::VERSION;
 use crate::refusals::{Refused, refusal, unasked};
 use crate::rle_options::{Place, RleOptions};
 use cam6_patterns::ChosenPlanes;
-use cam6_planes::Side;
+use cam6_planes::{COLUMNS, Side};
 use clap::builder::ValueParser;
 use clap::{Arg, ArgAction, ArgMatches, Command};
 use std::alloc::{AllocError, Global};
 
-/// The sides as words.
-static SIDES: [&str; 3] = ["128", "256", "512"];
-
 /// The last column, or row, by which a pattern is moved.
-const LAST_MOVE: u64 = 511;
+const LAST_MOVE: u64 = COLUMNS as u64 - 1;
 
 /// What the program reads and writes, its statuses, and lines to try.
 const PROGRAM_TEXT: &str = "\
@@ -133,7 +130,7 @@ fn placed(
 fn side_given(matches: &ArgMatches<'_>) -> Option<Side>
     ensures { result ≡ side_at (rows_of (found_of matches.now)) }
 {
-    side_of_word(matches.get_str("side")?)
+    Side::named(matches.get_str("side")?)
 }
 
 /// The columns, or rows, that an option says.
@@ -189,18 +186,6 @@ fn no_task(alloc: Global) -> Refused
     ensures { IsRefusal result }
 {
     unasked(String::from_str(alloc, NO_TASK_TEXT))
-}
-
-/// The side that a word is.
-fn side_of_word(word: &str) -> Option<Side>
-    ensures { result ≡ side_said word.now }
-{
-    match word {
-        "128" => Some(Side::S128),
-        "256" => Some(Side::S256),
-        "512" => Some(Side::S512),
-        _ => None,
-    }
 }
 
 /// The columns, or rows, that a word is.
@@ -314,8 +299,8 @@ fn side_option<'a>(alloc: Global) -> Arg<'a>
 {
     Arg::new(alloc, "side")
         .long("side")
-        .value_parser(ValueParser::Names(SIDES.as_slice()))
-        .default_value("256")
+        .value_parser(ValueParser::Names(Side::texts()))
+        .default_value(Side::S256.text())
         .help("The side of the torus")
 }
 

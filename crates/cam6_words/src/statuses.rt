@@ -6,6 +6,7 @@ ghost use Rattle.cam6_words.specs.Statuses.{cause_told, column_told, failure, fa
 use crate::programs::Program;
 use cam6_frames::End;
 use cam6_patterns::{Cause, PatternFault};
+use cam6_planes::COLUMNS;
 use std::alloc::{AllocError, Global};
 
 /// Arguments that are refused.
@@ -70,7 +71,8 @@ fn at_line(alloc: Global, program: Program, line: u64, text: &str) -> Result<Str
 pub fn fault_text(alloc: Global, fault: PatternFault) -> Result<String, AllocError>
     ensures { IfOk result (λ told. string_bytes told ≡ fault_told fault) }
 {
-    let text = at_column(alloc, fault.column, cause_text(fault.cause))?;
+    let cause = cause_text(alloc, fault.cause)?;
+    let text = at_column(alloc, fault.column, cause.as_str())?;
     at_line(alloc, Program::Rle, fault.line as u64, text.as_str())
 }
 
@@ -82,16 +84,17 @@ fn at_column(alloc: Global, column: usize, text: &str) -> Result<String, AllocEr
 }
 
 /// The text of a cause.
-fn cause_text(cause: Cause) -> &'static str
-    ensures { result.now ≡ cause_told cause }
+fn cause_text(alloc: Global, cause: Cause) -> Result<String, AllocError>
+    ensures { IfOk result (λ told. string_bytes told ≡ cause_told cause) }
 {
-    match cause {
+    let text = match cause {
         Cause::NoHeader => ": a header is wanted, as x = 3, y = 3\n",
         Cause::Unexpected => ": a byte that says nothing here\n",
-        Cause::CountTooLarge => ": a number above 512\n",
+        Cause::CountTooLarge => return format!(in alloc; ": a number above {}\n", COLUMNS),
         Cause::TooWide => ": too wide\n",
         Cause::TooHigh => ": too high\n",
         Cause::TooManyStates => ": more states than the planes hold\n",
         Cause::NoEnd => ": the end, !, is missing\n",
-    }
+    };
+    String::from_str(alloc, text)
 }

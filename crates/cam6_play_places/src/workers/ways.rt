@@ -129,8 +129,7 @@ fn limit_of(words: &mut Words<'_>) -> Result<Side, Unplayable> {
     if !words.take("within") {
         return Ok(Side::S256);
     }
-    let number = words.next().parse().map_err(|_| Unplayable::Unread)?;
-    Side::of(number).ok_or(Unplayable::Unread)
+    Side::named(words.next()).ok_or(Unplayable::Unread)
 }
 
 fn cached_of(words: &mut Words<'_>) -> Result<usize, Unplayable>

@@ -1,6 +1,6 @@
 use Rattle.std.proofs.Common.{◌∙◌, sym}
-use Rattle.cam6_lines.proofs.SameWords.{column_of_max, column_of_zero}
-use Rattle.cam6_lines.proofs.words.word_of.Goals as goal
+use Rattle.cam6_planes.proofs.SameWords.{column_of_max, column_of_zero}
+use Rattle.cam6_planes.proofs.columns.word_of.Goals as goal
 
 pub returns-then-bit : goal.returns-then-bit
 returns-then-bit c = λ k h. column_of_max k ∙ sym c.if-bit.true
