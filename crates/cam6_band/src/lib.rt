@@ -16,7 +16,7 @@
 //!
 //! No caller can read a cell of a `MidStep`. It can't be dropped: it goes on, or it is abandoned.
 //!
-//! Stands on: `cam6_planes`, `cam6_wiring`, `cam6_lines`, `cam6_table` and `cam6_cycle`.
+//! Stands on: `cam6_planes`, `cam6_wiring`, `cam6_lines`, `cam6_entries` and `cam6_cycle`.
 //!
 //! Read next: `tables`, what a step uses, and `positions`, where it lies; `images`; `bands`;
 //! then `new_rows`, the sixteen rows of a band, and `half_rows`, those of a half; and `laws`.

@@ -13,7 +13,7 @@
 //! table gives each cell what the next one counter-clockwise is. There is no inverted table of
 //! `: R CENTER CW AND >PLN0 ;`, for at phase 0 the block states 0 and 1 both become 0.
 //!
-//! Stands on: `cam6_wiring`, `cam6_forth`, `cam6_table` and `cam6_cycle`.
+//! Stands on: `cam6_wiring`, `cam6_entries`, `cam6_forth`, `cam6_table` and `cam6_cycle`.
 //!
 //! Read next: `corners`, what a corner of a block sees; `successors`; `refusals`; then `inverses`
 //! and `rule_tables`; and `laws`.

@@ -8,7 +8,7 @@
 //! nothing after it. The fault carries planes with the limit of the lost ones. Nothing is said of
 //! their bits.
 //!
-//! Stands on: `cam6_planes`, `cam6_table`, `cam6_band`, `cam6_cycle`, `cam6_model` and `cam6_rules`.
+//! Stands on: `cam6_planes`, `cam6_entries`, `cam6_band`, `cam6_cycle`, `cam6_model` and `cam6_rules`.
 //!
 //! Read next: `images`, `jobs` and `tables`, what a board is loaded with; `boards`, what every board
 //! does; `soft_boards`, those that never fail, with `worked`, the image that is worked on;

@@ -13,7 +13,8 @@
 //! So, with a cache of two: loads of the keys K, L, K, M, K and L miss, miss, hit, miss, hit and
 //! miss, for M comes instead of L. Then the tables of L and K are cached.
 //!
-//! Stands on: `cam6_planes`, `cam6_wiring`, `cam6_table`, `cam6_block`, `cam6_cycle` and `lru`.
+//! Stands on: `cam6_planes`, `cam6_wiring`, `cam6_entries`, `cam6_table`, `cam6_block`, `cam6_cycle`
+//! and `lru`.
 //!
 //! Read next: `keys`, what a table is asked for by; `caches`; then `laws`.
 #![tactic(auto)]

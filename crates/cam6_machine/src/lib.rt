@@ -28,7 +28,7 @@
 //! spare one. `Kept::join` makes a machine of such parts, at any position of the cycle. The law:
 //! that is the machine that was parted, but for the side, the cells and the position.
 //!
-//! Stands on: `cam6_planes`, `cam6_wiring`, `cam6_table`, `cam6_band`, `cam6_view`, `cam6_cycle`,
+//! Stands on: `cam6_planes`, `cam6_wiring`, `cam6_entries`, `cam6_band`, `cam6_view`, `cam6_cycle`,
 //! `cam6_commands`, `cam6_model` and `cam6_rules`.
 //!
 //! Read next: `replies`, `answers` and `rows`, what is said at once; `refusals`, when a number of a

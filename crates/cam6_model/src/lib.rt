@@ -30,8 +30,9 @@
 //! - What is saved of a machine is all of it but its limit (`specs/Saved.antt`). A machine loads it
 //!   if its limit allows the saved side, and becomes that machine. Nothing else is loaded.
 //!
-//! Stands on: `cam6_planes`, `cam6_wiring`, `cam6_forth`, `cam6_table`, `cam6_block`, `cam6_cycle`,
-//! `cam6_band`, `cam6_view` and `cam6_commands`; of `cam6_band` and `cam6_view` on definitions alone.
+//! Stands on: `cam6_planes`, `cam6_wiring`, `cam6_entries`, `cam6_forth`, `cam6_table`, `cam6_block`,
+//! `cam6_cycle`, `cam6_band`, `cam6_view` and `cam6_commands`. Of `cam6_band` and `cam6_view` it uses
+//! definitions alone.
 //!
 //! Read next: `specs/Lib.antt`, which lists the definitions in the order of reading; then `laws`.
 #![tactic(auto)]
