@@ -19,7 +19,7 @@
 //!
 //! Read next: `stacks`, what a word does; `outputs`; `codes`, the instructions; `emitter`, how a
 //! rule becomes code; `evaluation`; `lane_values`, `sets`, `floors`, `spans`, `lane_stacks`, `lanes`,
-//! `flows`, `levels` and `together`, how code runs at many addresses at once; `lines_read`, on which
+//! `levels`, `waiting`, `flows`, `meeting` and `together`, how code runs at many addresses at once; `lines_read`, on which
 //! lines its results hang; `tables` and `bands`; `filling` and `faults`; `compiling`; then `laws`.
 #![tactic(auto)]
 
@@ -38,12 +38,14 @@ mod lanes;
 pub mod laws;
 mod levels;
 mod lines_read;
+mod meeting;
 mod outputs;
 mod sets;
 mod spans;
 mod stacks;
 mod tables;
 mod together;
+mod waiting;
 
 pub use bands::{BandRows, Written};
 pub use codes::{Code, Instruction};
