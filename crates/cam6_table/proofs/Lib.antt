@@ -50,3 +50,5 @@ pub mod RightEntries
 pub mod Outcomes
 -- Lanes part at an IF and at a case: which of them are where afterwards.
 pub mod Parting
+-- A flow takes others along: what is left in each of their lanes.
+pub mod TakenAlong

@@ -19,8 +19,9 @@
 //!
 //! Read next: `stacks`, what a word does; `outputs`; `codes`, the instructions; `emitter`, how a
 //! rule becomes code; `evaluation`; `lane_values`, `sets`, `floors`, `spans`, `lane_stacks`, `lanes`,
-//! `flows`, `levels` and `together`, how code runs at many addresses at once; `lines_read`, the
-//! lines that its results depend on; `filling` and `faults`; `compiling`; then `laws`.
+//! `levels`, `waiting`, `flows`, `meeting` and `together`, how code runs at many addresses at
+//! once; `lines_read`, the lines that its results depend on; `filling` and `faults`; `compiling`;
+//! then `laws`.
 #![tactic(auto)]
 
 mod codes;
@@ -37,11 +38,13 @@ mod lanes;
 pub mod laws;
 mod levels;
 mod lines_read;
+mod meeting;
 mod outputs;
 mod sets;
 mod spans;
 mod stacks;
 mod together;
+mod waiting;
 
 pub use cam6_entries::{BandRows, ENTRIES, Table, Written};
 pub use codes::{Code, Instruction};
