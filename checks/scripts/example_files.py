@@ -1,7 +1,7 @@
 """Worked examples, played through the machine and the host of `machines` instead of the program: what comes back must
 be what the file says. So the files judge what `fuzz` is judged by.
 
-Shares nothing with the program. It reads files as docs/GALLERY.md tells, and knows the ways `session`, `readings`,
+Shares nothing with the program. It reads files as docs/EXAMPLES.md tells, and knows the ways `session`, `readings`,
 `texts`, `tables` and `events`; parts of other ways it passes over.
 """
 
