@@ -1,7 +1,7 @@
 """Worked examples, played through the machine and the host of `machines` instead of the program: what comes back must
 be what the file says. So the files judge what `fuzz` is judged by.
 
-Shares nothing with the program. It reads files as docs/GALLERY.md says, and knows the ways `session`, `readings`,
+Shares nothing with the program. It reads files as docs/EXAMPLES.md says, and knows the ways `session`, `readings`,
 `texts`, `tables` and `events`. It skips parts of other ways.
 """
 
