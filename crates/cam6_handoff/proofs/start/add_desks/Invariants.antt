@@ -1,7 +1,7 @@
 use Rattle.std.proofs.Common.{◌≡◌, []}
 use Rattle.cam6_handoff.specs.Boot.{AreBlankDesksTo}
 use Rattle.cam6_handoff.specs.declared.rule.View.TheVariants.{First}
-use Rattle.cam6_handoff.proofs.start.cut_desks.Given as goal
+use Rattle.cam6_handoff.proofs.start.add_desks.Given as goal
 
 abbrev pub invariant-loop-user : goal.invariant-loop-user
 invariant-loop-user l = record {

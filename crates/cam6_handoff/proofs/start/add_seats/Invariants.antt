@@ -1,7 +1,7 @@
 use Rattle.std.proofs.Common.{◌≡◌, []}
 use Rattle.cam6_handoff.specs.Boot.{AreIdleSeats}
 use Rattle.cam6_handoff.specs.declared.rule.View.TheVariants.{First}
-use Rattle.cam6_handoff.proofs.start.cut_seats.Given as goal
+use Rattle.cam6_handoff.proofs.start.add_seats.Given as goal
 
 abbrev pub invariant-loop-board : goal.invariant-loop-board
 invariant-loop-board l = record {
