@@ -13,9 +13,9 @@ ghost use Rattle.cam6_band.specs.Internal.HalfRows.{rows_of, bit_put};
 ghost use Rattle.cam6_band.specs.Internal.NewRows.{IsOutside};
 
 use crate::tables::HalfTable;
+use cam6_entries::BandRows;
 use cam6_lines::{Band, HEIGHT};
 use cam6_planes::{Planes, WORDS};
-use cam6_entries::BandRows;
 use cam6_wiring::{Half, Level, Setting};
 
 /// A plane's new rows of a band. They are put only if they were written. Otherwise every cell keeps

@@ -102,7 +102,7 @@ impl Board for FlakyBoard {
 
     fn rows(&self) -> Option<u16> {
         match &self.job {
-            Some(job) => Some(job.image().rows()),
+            Some(job) => Some(job.image().rows_done()),
             None => None,
         }
     }

@@ -48,7 +48,7 @@ impl Image {
     }
 
     /// The rows of the step that are done, whole bands of them: 0 at rest.
-    pub fn rows(&self) -> u16
+    pub fn rows_done(&self) -> u16
         ensures rows { result ≡ rows_of self.now }
         ensures within { result < width (planes_in self.now) }
         ensures bands { result % band ≡ 0 }

@@ -3,8 +3,8 @@ ghost use Rattle.std.specs.Prelude.{◌≡◌, ◌<◌, ◌≤◌, ℕ, length, 
 ghost use Rattle.cam6_cycle.specs.Limits.{max_tables};
 
 use cam6_cycle::MAX_TABLES;
-use cam6_planes::NoMemory;
 use cam6_entries::Table;
+use cam6_planes::NoMemory;
 use std::alloc::Global;
 use std::marker::Model;
 

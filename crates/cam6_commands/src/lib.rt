@@ -35,9 +35,7 @@ pub use checks::{Mask, PlaneNumber, RowNumber, StepCount};
 pub use commands::{Command, NamedEntries, NamedEntry};
 pub use events::Event;
 pub use faults::Fault;
-pub use limits::{
-    MAX_BOARDS, MAX_COLOUR, MAX_MASK, MAX_NAME, MAX_RULES, MAX_STEPS, MAX_USERS,
-};
+pub use limits::{MAX_BOARDS, MAX_COLOUR, MAX_MASK, MAX_NAME, MAX_RULES, MAX_STEPS, MAX_USERS};
 pub use outcomes::Outcome;
 pub use refusals::Refusal;
 pub use refused::Refused;

@@ -96,7 +96,7 @@ impl Reader {
             Context::Outside => self.outside(kind),
             Context::Naming => self.naming(kind, token),
             Context::Inside => self.inside(wiring, kind, token),
-            Context::Braces => self.braces(wiring, kind, token),
+            Context::Braces => self.between_braces(wiring, kind, token),
         }
     }
 
@@ -172,7 +172,12 @@ impl Reader {
         }
     }
 
-    fn braces(&mut self, wiring: Wiring, kind: Kind, token: &[u8]) -> Result<(), AdvanceFault>
+    fn between_braces(
+        &mut self,
+        wiring: Wiring,
+        kind: Kind,
+        token: &[u8],
+    ) -> Result<(), AdvanceFault>
         ensures { Steps (braces wiring self.old kind token.now) self.new result }
     {
         match kind {

@@ -84,7 +84,7 @@ fn options_given<R: Env + AllocGlobal>(rt: &R) -> Result<Options, Refused> {
     let alloc = rt.alloc();
     let args = match std::env::args(rt) {
         Ok(args) => args,
-        Err(e) => return Err(unreadable(alloc, e.kind())),
+        Err(e) => return Err(refusal_of_read(alloc, e.kind())),
     };
     let Ok(words) = args.collect::<Vec<String>>(alloc) else {
         return Err(Refused::NoMemory);
@@ -93,7 +93,7 @@ fn options_given<R: Env + AllocGlobal>(rt: &R) -> Result<Options, Refused> {
 }
 
 /// Returns why the words could not be read.
-fn unreadable(alloc: Global, kind: ErrorKind) -> Refused
+fn refusal_of_read(alloc: Global, kind: ErrorKind) -> Refused
     ensures { IsUnreadable result kind }
 {
     match kind {

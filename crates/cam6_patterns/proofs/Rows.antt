@@ -7,7 +7,7 @@ use Rattle.std.specs.List.{list_all, AllByRecursion}
 use Rattle.std.proofs.Math.Nat.{mod-eq_of_lt}
 use Rattle.std.proofs.lemmas.List.{get_or-take, length-take-le, ext_get_or}
 use Rattle.cam6_planes.proofs.SideNumbers.{side_least, side_most}
-use Rattle.cam6_frames.specs.Frame.{colour_at, IsRowOf, IsFrame}
+use Rattle.cam6_show_frames.specs.Frame.{colour_at, IsRowOf, IsFrame}
 use Rattle.cam6_patterns.specs.Pattern.{most_cells}
 use Rattle.cam6_patterns.specs.Writing.{trimmed, trimmed_by, letter, counted, runs, runs_after}
 use Rattle.cam6_patterns.specs.Writing.{row_ends, row_by_row, filled}

@@ -1,7 +1,7 @@
 -- The pattern of a run-length text.
 use Rattle.std.specs.Prelude.{ℕ, ◌+◌, List, [], ◌∷◌, length, ◌==◌, nat_lt, if◌then◌else◌}
 use Rattle.std.specs.Prelude.{Option, Some, None, Result, Ok, Err}
-use Rattle.cam6_frames.specs.Lines.{lines}
+use Rattle.cam6_show_frames.specs.Lines.{lines}
 use Rattle.cam6_patterns.specs.Pattern.{Pattern}
 use Rattle.cam6_patterns.specs.Faults.{fault}
 use Rattle.cam6_patterns.specs.Header.{past_blanks, extents_in, corner_in, if_none}

@@ -49,7 +49,7 @@ pub(crate) fn read_head(
         return Ok(Head::Before(corner));
     };
     if *first == b'#' {
-        return Ok(Head::Before(either(corner_in(line), corner)));
+        return Ok(Head::Before(first_or_second(corner_in(line), corner)));
     }
     if past_blanks(line).is_empty() {
         return Ok(Head::Before(corner));
@@ -101,7 +101,10 @@ fn boxed(corner: Option<(usize, usize)>, width: usize, height: usize) -> Extent
 }
 
 /// The first if there is one, or else the second.
-fn either(first: Option<(usize, usize)>, second: Option<(usize, usize)>) -> Option<(usize, usize)>
+fn first_or_second(
+    first: Option<(usize, usize)>,
+    second: Option<(usize, usize)>,
+) -> Option<(usize, usize)>
     ensures { result ≡ if_none first second }
 {
     match first {
@@ -294,8 +297,8 @@ fn after_first<'a>(wanted: &[u8], bytes: &'a [u8]) -> Option<&'a [u8]>
 fn corner_in(line: &[u8]) -> Option<(usize, usize)>
     ensures { result ≡ corner_in line.now }
 {
-    let second = either(corner_after(b"#P ", line), corner_after(b"#R ", line));
-    either(corner_of_position(line), second)
+    let second = first_or_second(corner_after(b"#P ", line), corner_after(b"#R ", line));
+    first_or_second(corner_of_position(line), second)
 }
 
 /// The corner after "Pos=" in a remark of Golly's.

@@ -4,13 +4,13 @@ ghost use Rattle.std.specs.Int.{bit_at};
 ghost use Rattle.cam6_planes.specs.Row.{bit_number};
 ghost use Rattle.cam6_patterns.specs.Pattern.{most_cells, state_in};
 ghost use Rattle.cam6_planes.specs.Side.{side_number};
-ghost use Rattle.cam6_frames.specs.Front.{WritesFront};
+ghost use Rattle.cam6_show_frames.specs.Front.{WritesFront};
 ghost use Rattle.cam6_patterns.specs.Placing.{placed};
 
 use crate::patterns::{Pattern, PatternRow};
 use arrayvec::ArrayVec;
-use cam6_frames::{Unshown, write_bytes};
 use cam6_planes::{BYTES, DIGITS, Side};
+use cam6_show_frames::{Unshown, write_bytes};
 use itoa::Buffer;
 use std::io::Write;
 use std::marker::Model;

@@ -2,7 +2,7 @@
 ghost use Rattle.std.specs.Prelude.{◌≡◌, ◌≤◌, ◌+◌, ℕ, length, IfOk, MatchResult, Ok, Err};
 ghost use Rattle.cam6_planes.specs.Side.{side_number};
 ghost use Rattle.cam6_patterns.specs.Pattern.{most_states};
-ghost use Rattle.cam6_frames.specs.Lines.{lines};
+ghost use Rattle.cam6_show_frames.specs.Lines.{lines};
 ghost use Rattle.cam6_patterns.specs.Body.{nothing_read};
 ghost use Rattle.cam6_patterns.specs.Reading.{pattern_in, lines_read, within};
 ghost use Rattle.cam6_patterns.specs.Outcome.{boxed, bounds_of, RowsOf};

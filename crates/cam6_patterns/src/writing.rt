@@ -8,8 +8,8 @@ ghost use Rattle.cam6_patterns.specs.Writing.{filled, counted, letter, trimmed, 
 ghost use Rattle.cam6_patterns.specs.Outcome.{Fills, FillsRow};
 
 use arrayvec::ArrayVec;
-use cam6_frames::{Frame, Screen, Unshown, write_bytes};
 use cam6_planes::COLUMNS;
+use cam6_show_frames::{Frame, Screen, Unshown, write_bytes};
 use itoa::Buffer;
 use std::alloc::{AllocError, Global};
 use std::io::Write;
@@ -41,7 +41,7 @@ impl<W: Write> PatternTexts<W> {
 
 impl<W: Write> Screen for PatternTexts<W> {
     ghost use Rattle.std.specs.Prelude.{List, ℕ, Option, string_bytes};
-    ghost use Rattle.cam6_frames.specs.Front.{WritesFront};
+    ghost use Rattle.cam6_show_frames.specs.Front.{WritesFront};
     ghost use Rattle.cam6_patterns.specs.Writing.{text_of_frame};
 
     ghost picture = { λ s frame. text_of_frame (string_bytes s.rule) frame };

@@ -138,7 +138,7 @@ impl<R: Wait + Clock + Drop> SlicingGate<R> {
     }
 
     /// Sleeps until it is rung, or for a while, unless it was rung since the board was idle last.
-    fn listen(&self, heard: u64) -> u64 {
+    fn sleep_until_rung(&self, heard: u64) -> u64 {
         let poll = Duration::from_millis(POLL);
         let bell = self.bell.lock(&self.rt);
         let (rings, _) = self
@@ -178,7 +178,7 @@ impl<R: Wait + Clock + Drop> Gate for SlicingGate<R> {
         // A command may have been put back at a word that the worker had looked at before. User 0 is
         // nobody, so that any command that waits is another one's.
         if !self.queue.has_other(0) {
-            slice.heard = self.listen(slice.heard);
+            slice.heard = self.sleep_until_rung(slice.heard);
         }
         slice.free(self.now());
         !self.stopping.load(Ordering::SeqCst)

@@ -72,9 +72,9 @@ fn shown<'a>(lines: &Lines<'a>, line: usize) -> &'a Unit
     }
 }
 
-/// Writes what an operation makes of what it reads, in the first `words` words.
+/// Writes the result of an operation, in so many words.
 #[inline(always)]
-fn put_made(out: &mut Unit, operation: Operation, from: &Readable, words: usize)
+fn put_result(out: &mut Unit, operation: Operation, from: &Readable, words: usize)
     requires { words ≤ UNIT }
     ensures { (c : ℕ) → c < 64 * words →
         column_bit out.new c ≡ made (lines_at c from.now) (slots_at c from.now) operation }
@@ -132,7 +132,7 @@ fn write_first(
             before,
             behind,
         };
-        put_made(out, operation, &from, words);
+        put_result(out, operation, &from, words);
     }
 }
 

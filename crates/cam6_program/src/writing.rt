@@ -123,13 +123,13 @@ impl Writer {
     {
         let source = level?;
         if let Source::Slot(place) = source {
-            self.write(usize::from(place));
+            self.write_choice(usize::from(place));
         }
         Some(self.in_slot(source))
     }
 
     /// Writes a choice, after all that it reads, unless it is written already.
-    fn write(&mut self, place: usize)
+    fn write_choice(&mut self, place: usize)
         requires place { place < NODES }
         requires count { self.old.count ≤ MAX_STEPS }
         ensures { self.new.count ≤ MAX_STEPS }
@@ -141,7 +141,7 @@ impl Writer {
         for source in sources(operation) {
             if let Source::Slot(below) = source {
                 if usize::from(below) < place {
-                    self.write(usize::from(below));
+                    self.write_choice(usize::from(below));
                 }
             }
         }

@@ -110,7 +110,7 @@ impl Rules {
         ensures room { room.new ≡ room.old }
     {
         let NamedRule { name, wiring, text } = rule;
-        if self.has(&name) {
+        if self.has_name(&name) {
             return Ok(false);
         }
         match self.define(&[], name, wiring, text, room) {
@@ -121,7 +121,7 @@ impl Rules {
     }
 
     /// Whether one of them has the name.
-    fn has(&self, name: &Text) -> bool
+    fn has_name(&self, name: &Text) -> bool
         ensures { result ≡ is_some (rule_named name.now self.now) }
     {
         wiring_of(&self.by_name, name).is_some()

@@ -24,7 +24,7 @@ impl Parked {
     ghost use Rattle.cam6_slot.specs.Parking.{rows_parked, IsWithinStep, HasRoomFor, LeavesAs};
 
     /// Returns how many rows of the parked step are done.
-    pub(crate) fn rows(&self) -> u16
+    pub(crate) fn rows_done(&self) -> u16
         ensures rows { result ≡ rows_parked self.now }
         ensures within { IsWithinStep self.now }
     {

@@ -49,7 +49,7 @@ impl Queued {
         ensures some { 0 < result }
         ensures always { IsQueued self.now }
     {
-        self.work.left(self.parked.rows())
+        self.work.left(self.parked.rows_done())
     }
 
     /// Gives the command to a board. It goes on from the parked step, or a copy of the image at
@@ -66,7 +66,7 @@ impl Queued {
         ensures work { result.0.work ≡ self.work }
     {
         let Queued { work, parked } = self;
-        let rows = parked.rows();
+        let rows = parked.rows_done();
         // Planes have a side within their limit.
         let _side = work.home().planes().side();
         let image = parked.into_image(work.home());

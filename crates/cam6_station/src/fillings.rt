@@ -3,9 +3,9 @@ ghost use Rattle.std.specs.Prelude.{◌≡◌, ◌<◌};
 
 use cam6_board::Tables;
 use cam6_cache::{Key, TableCache};
+use cam6_entries::Table;
 use cam6_planes::NoMemory;
 use cam6_slot::Lease;
-use cam6_entries::Table;
 use std::alloc::Global;
 use std::marker::Model;
 

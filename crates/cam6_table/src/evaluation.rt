@@ -10,7 +10,7 @@ ghost use Rattle.cam6_table.specs.Codes.{last_of, Acts};
 
 use crate::codes::{Code, Instruction, Instructions};
 use crate::faults::RuleFault;
-use crate::outputs::{State, entry_of, untouched, write};
+use crate::outputs::{State, entry_of, untouched, write_output};
 
 /// Turns that a rule can take, one for each instruction.
 pub const MAX_TURNS: u32 = 4096;
@@ -98,7 +98,7 @@ fn act(
         Instruction::Literal(value) => state.stack.push(value)?,
         Instruction::Line(line) => state.stack.push(bit_of(address, line))?,
         Instruction::Stack(word) => state.stack.apply(word)?,
-        Instruction::Output(target) => write(state, target)?,
+        Instruction::Output(target) => write_output(state, target)?,
         Instruction::SkipIfZero(distance) => {
             if state.stack.pop()? == 0 {
                 return Ok(go(distance, None));

@@ -28,7 +28,7 @@ pub fn untouched() -> State
 }
 
 /// Does what an output word says. After a fault nothing is promised of the stack.
-pub fn write(state: &mut State, target: Target) -> Result<(), RuleFault>
+pub fn write_output(state: &mut State, target: Target) -> Result<(), RuleFault>
     ensures { IsOutcome (written target state.old) state.new result }
 {
     let value = state.stack.pop()?;

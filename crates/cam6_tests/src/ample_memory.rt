@@ -27,14 +27,14 @@ fn planes_are_blank(rt: HostRuntime) -> Result<(), Fail> {
     Ok(())
 }
 
-fn rule(alloc: Global) -> Result<Rule, ParseFault> {
+fn sample_rule(alloc: Global) -> Result<Rule, ParseFault> {
     let text = ": R CENTER >PLN0 ;";
     parse(alloc, text, Half::A, Hood::VonNeumann, Minor::Centers)
 }
 
 #[test]
 fn rules_become_code(rt: HostRuntime) -> Result<(), Fail> {
-    let rule = rule(rt.alloc())?;
+    let rule = sample_rule(rt.alloc())?;
     assert_eq!(rt; rule.definitions().len(), 1);
     let code = Code::of(rt.alloc(), &rule);
     assert!(rt; code.is_ok());

@@ -41,7 +41,7 @@ impl Present {
         self.bits.fetch_sub(bit(number), Ordering::SeqCst);
     }
 
-    pub fn has(&self, number: u8) -> bool {
+    pub fn is_there(&self, number: u8) -> bool {
         self.bits.load(Ordering::SeqCst) & bit(number) != 0
     }
 
@@ -52,7 +52,7 @@ impl Present {
     /// Waits for a thread to go, and returns whether it has gone.
     pub fn is_gone<R: Clock>(&self, rt: &R, number: u8) -> bool {
         for _ in 0..LOOKS {
-            if !self.has(number) {
+            if !self.is_there(number) {
                 return true;
             }
             pause(rt);

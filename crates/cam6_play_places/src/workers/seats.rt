@@ -189,7 +189,7 @@ impl Worker {
 
     /// Joins the thread, if it has come to its end.
     pub fn join_ended<R: Handle>(&mut self, rt: &R, serving: &Present) {
-        if !serving.has(self.number) {
+        if !serving.is_there(self.number) {
             self.join(rt);
         }
     }

@@ -96,7 +96,7 @@ impl<'a> Words<'a> {
     }
 
     /// Whether these words come next.
-    fn has(&self, words: &str) -> bool {
+    fn comes_next(&self, words: &str) -> bool {
         match self.rest.strip_prefix(words) {
             Some(rest) => rest.is_empty() || rest.starts_with(' '),
             None => false,
@@ -105,7 +105,7 @@ impl<'a> Words<'a> {
 
     /// Goes past these words, if they come next.
     fn take(&mut self, words: &str) -> bool {
-        if !self.has(words) {
+        if !self.comes_next(words) {
             return false;
         }
         for _ in words.split(' ') {
@@ -142,7 +142,7 @@ fn cached_of(words: &mut Words<'_>) -> Result<usize, Unplayable>
 }
 
 fn gate_of(words: &mut Words<'_>) -> Result<GateWay, Unplayable> {
-    if words.has("hold bands") {
+    if words.comes_next("hold bands") {
         return Ok(GateWay::Open);
     }
     if words.take("hold") {

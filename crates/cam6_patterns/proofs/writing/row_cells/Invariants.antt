@@ -1,5 +1,5 @@
 use Rattle.std.proofs.Common.{◌≡◌, ◌<◌, ℕ, length, get_or}
-use Rattle.cam6_frames.specs.Frame.{colour_at}
+use Rattle.cam6_show_frames.specs.Frame.{colour_at}
 use Rattle.cam6_patterns.specs.Pattern.{most_cells}
 use Rattle.cam6_patterns.proofs.writing.row_cells.Given as goal
 
