@@ -1,6 +1,6 @@
 //! Rows of planes: one is written, and all others stay.
 
-use crate::within::{row_of, set_row};
+use crate::within::{row_of, same, set_row};
 use cam6_planes::{DIGITS, NoMemory, Planes, Row, Side, WORDS};
 use std::process::Abort;
 use std::test::Fail;
@@ -31,9 +31,9 @@ fn check_columns(rt: &impl Abort, planes: &Planes) {
 fn check_digits(rt: &impl Abort, planes: &Planes) {
     assert!(rt; planes.side().number() == 256);
     let mut text = [b'-'; DIGITS];
-    assert_eq!(rt; planes.row_hex(2, 10, &mut text), 64);
-    assert_eq!(rt; &text[..64], TEXT);
-    assert_eq!(rt; &text[64..], [b'-'; 64].as_slice());
+    same(rt, &planes.row_hex(2, 10, &mut text), &64);
+    same(rt, &&text[..64], &TEXT);
+    same(rt, &&text[64..], &[b'-'; 64].as_slice());
 }
 
 fn check_rows(rt: &impl Abort, planes: &Planes) {
