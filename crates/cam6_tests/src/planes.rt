@@ -1,6 +1,6 @@
 //! Rows of planes: one is written, and all others stay.
 
-use crate::within::{row_of, same, set_row};
+use crate::within::{row_of, same, same_at, set_row};
 use cam6_planes::{DIGITS, NoMemory, Planes, Row, Side, WORDS};
 use std::process::Abort;
 use std::test::Fail;
@@ -24,7 +24,7 @@ fn check_columns(rt: &impl Abort, planes: &Planes) {
     assert!(rt; planes.side().number() == 256);
     for x in 0..256 {
         let want = x == 0 || x == 131 || x == 132 || x == 255;
-        assert_eq!(rt; planes.bit(2, x, 10), want, "column {x}");
+        same_at(rt, &planes.bit(2, x, 10), &want, &x);
     }
 }
 
@@ -90,7 +90,7 @@ fn check_beside(rt: &impl Abort, planes: &Planes) {
 
 fn check_row(rt: &impl Abort, planes: &Planes, plane: usize, row: usize, want: Row) {
     let got = row_of(rt, planes, plane, row);
-    assert_eq!(rt; got, want, "row {row} of plane {plane}");
+    same_at(rt, &got, &want, &(plane, row));
 }
 
 #[test]

@@ -43,7 +43,7 @@ fn lone_columns_move(rt: HostRuntime) {
 
 /// A row that came of one with this lone column has the other one alone.
 fn check_lone(rt: &impl Abort, column: usize, moved: Row, want: usize) {
-    assert_eq!(rt; moved, lone(want), "column {column}");
+    same_at(rt, &moved, &lone(want), &column);
 }
 
 // Every digit, and the first and the last column of the last word.
