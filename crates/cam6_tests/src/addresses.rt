@@ -3,7 +3,7 @@
 //! the first two.
 
 use crate::corners::{CELLS, SIDES, on_side};
-use crate::within::{address_of, set_row};
+use crate::within::{address_of, same_at, set_row};
 use cam6_planes::{NoMemory, Planes, Side, WORDS};
 use cam6_wiring::{Grid, Half, Hood, Minor, Phase, Setting};
 use std::alloc::Global;
@@ -58,7 +58,7 @@ pub(crate) fn check_address(
     want: u16,
 ) {
     let address = address_of(rt, planes, hood, minor, setting, looking);
-    assert_eq!(rt; address, want, "{hood:?} {minor:?} {setting:?} {looking:?}");
+    same_at(rt, &address, &want, &(hood, minor, setting, looking));
 }
 
 fn check_addresses(

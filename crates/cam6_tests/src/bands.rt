@@ -3,7 +3,7 @@
 
 use crate::corners::SIDES;
 use crate::rows::lone;
-use crate::within::{row_of, set_row};
+use crate::within::{row_of, same, same_at, set_row};
 use cam6_band::{AtRest, EntryTables, HalfTable, MidStep, Next, Spare};
 use cam6_forth::parse;
 use cam6_planes::{DIGITS, NoMemory, Planes, Side, WORDS};
@@ -79,9 +79,9 @@ fn last_band(rt: &impl Abort, mid: MidStep, tables: &EntryTables) -> AtRest {
 
 /// The step says how far it is, on which torus, and with which limit.
 fn check_mid(rt: &impl Abort, mid: &MidStep, side: Side, bands: u16) {
-    assert_eq!(rt; mid.rows() / 16, bands);
-    assert_eq!(rt; mid.side(), side);
-    assert_eq!(rt; mid.limit(), side);
+    same(rt, &(mid.rows() / 16), &bands);
+    same(rt, &mid.side(), &side);
+    same(rt, &mid.limit(), &side);
 }
 
 fn check_limit(rt: &impl Abort, spare: &Spare, limit: Side) {
@@ -98,14 +98,14 @@ fn moved(rt: &impl Abort, mid: MidStep, spare: Spare) -> (MidStep, Spare) {
 fn check_ball(rt: &impl Abort, planes: &Planes) {
     let last = planes.side().number() - 1;
     for row in 0..last {
-        assert_eq!(rt; row_of(rt, planes, 0, row), [0; WORDS], "row {row}");
+        same_at(rt, &row_of(rt, planes, 0, row), &[0; WORDS], &row);
     }
     let mut text = [b'-'; DIGITS];
     planes.row_hex(0, last, &mut text);
     for digit in 0..last / 4 {
-        assert_eq!(rt; text[digit], b'0', "digit {digit}");
+        same_at(rt, &text[digit], &b'0', &digit);
     }
-    assert_eq!(rt; text[last / 4], b'1');
+    same(rt, &text[last / 4], &b'1');
 }
 
 /// Does so many bands of a step in its own image, and the others in the spare one, which has the

@@ -1,7 +1,7 @@
 //! Corners of blocks, rotations in them, and addresses round a lone cell, worked out by hand.
 
 use crate::addresses::check_address;
-use crate::within::{address_of, seen_at};
+use crate::within::{address_of, same_at, seen_at};
 use cam6_planes::{NoMemory, Planes, Side};
 use cam6_wiring::{
     Compass, Corner, Grid, Half, Hood, Level, Minor, Name, Phase, Rotation, Setting, corner_of,
@@ -22,7 +22,7 @@ fn corners_of_cells(rt: HostRuntime) {
         (Grid::Odd, 0, 255, Corner::UpperRight),
         (Grid::Odd, 255, 255, Corner::UpperLeft),
     ] {
-        assert_eq!(rt; corner_of(grid, x, y), want, "{grid:?} {x} {y}");
+        same_at(&rt, &corner_of(grid, x, y), &want, &(grid, x, y));
     }
 }
 
@@ -53,7 +53,7 @@ fn rotations_in_a_block(rt: HostRuntime) {
         ),
     ] {
         for (rotation, want) in rotations.into_iter().zip(places) {
-            assert_eq!(rt; in_block(corner, rotation), want, "{corner:?} {rotation:?}");
+            same_at(&rt, &in_block(corner, rotation), &want, &(corner, rotation));
         }
     }
 }

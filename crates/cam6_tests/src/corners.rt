@@ -2,7 +2,7 @@
 //! halves, on both grids and in each phase.
 
 use crate::rows::lone;
-use crate::within::{seen_at, set_row};
+use crate::within::{same_at, seen_at, set_row};
 use cam6_planes::{NoMemory, Planes, Side, WORDS};
 use cam6_wiring::{Compass, Grid, Half, Level, Name, Phase, Rotation, Setting};
 use std::process::Abort;
@@ -70,7 +70,7 @@ fn check_bit(
     bit: bool,
 ) {
     let got = seen_at(rt, planes, setting, name, looking);
-    assert_eq!(rt; got, bit, "{setting:?} {name:?} {looking:?}");
+    same_at(rt, &got, &bit, &(setting, name, looking));
 }
 
 /// Unprimed names read planes 0 and 2, primed ones planes 1 and 3.

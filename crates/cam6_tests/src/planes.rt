@@ -1,6 +1,6 @@
 //! Rows of planes: one is written, and all others stay.
 
-use crate::within::{row_of, set_row};
+use crate::within::{row_of, same, same_at, set_row};
 use cam6_planes::{DIGITS, NoMemory, Planes, Row, Side, WORDS};
 use std::process::Abort;
 use std::test::Fail;
@@ -24,16 +24,16 @@ fn check_columns(rt: &impl Abort, planes: &Planes) {
     assert!(rt; planes.side().number() == 256);
     for x in 0..256 {
         let want = x == 0 || x == 131 || x == 132 || x == 255;
-        assert_eq!(rt; planes.bit(2, x, 10), want, "column {x}");
+        same_at(rt, &planes.bit(2, x, 10), &want, &x);
     }
 }
 
 fn check_digits(rt: &impl Abort, planes: &Planes) {
     assert!(rt; planes.side().number() == 256);
     let mut text = [b'-'; DIGITS];
-    assert_eq!(rt; planes.row_hex(2, 10, &mut text), 64);
-    assert_eq!(rt; &text[..64], TEXT);
-    assert_eq!(rt; &text[64..], [b'-'; 64].as_slice());
+    same(rt, &planes.row_hex(2, 10, &mut text), &64);
+    same(rt, &&text[..64], &TEXT);
+    same(rt, &&text[64..], &[b'-'; 64].as_slice());
 }
 
 fn check_rows(rt: &impl Abort, planes: &Planes) {
@@ -90,7 +90,7 @@ fn check_beside(rt: &impl Abort, planes: &Planes) {
 
 fn check_row(rt: &impl Abort, planes: &Planes, plane: usize, row: usize, want: Row) {
     let got = row_of(rt, planes, plane, row);
-    assert_eq!(rt; got, want, "row {row} of plane {plane}");
+    same_at(rt, &got, &want, &(plane, row));
 }
 
 #[test]

@@ -1,5 +1,6 @@
 //! One row of a plane: its columns moved round the torus, and as bytes, words, digits and columns.
 
+use crate::within::{same, same_at};
 use cam6_planes::{COLUMNS, DIGITS, Planes, Row, Side, WORDS, bits_of_digits, east, west};
 use std::process::Abort;
 use std::test::Fail;
@@ -42,7 +43,7 @@ fn lone_columns_move(rt: HostRuntime) {
 
 /// A row that was moved from one with this lone column has the other one alone.
 fn check_lone(rt: &impl Abort, column: usize, moved: Row, want: usize) {
-    assert_eq!(rt; moved, lone(want), "column {column}");
+    same_at(rt, &moved, &lone(want), &column);
 }
 
 // Every digit, and the first and the last column of the last word.
@@ -88,10 +89,10 @@ fn digits_bytes_and_words(rt: HostRuntime) -> Result<(), Fail> {
 /// The words and the digits of a row.
 fn check_row(rt: &impl Abort, planes: &Planes, plane: usize, row: usize) {
     assert!(rt; planes.side().number() == 256 && plane < 4 && row < 256);
-    assert_eq!(rt; planes.row_words(plane, row), ROW);
+    same(rt, &planes.row_words(plane, row), &ROW);
     let mut text = [0; DIGITS];
-    assert_eq!(rt; planes.row_hex(plane, row, &mut text), 64);
-    assert_eq!(rt; &text[..64], TEXT);
+    same(rt, &planes.row_hex(plane, row, &mut text), &64);
+    same(rt, &&text[..64], &TEXT);
 }
 
 const UPPER_CASE: &[u8] = b"0123456789ABCDEFFEDCBA987654321000000000000000008000000000000001";
@@ -134,7 +135,7 @@ fn columns_of_digits(rt: HostRuntime) -> Result<(), Fail> {
     ] {
         for (place, digit) in columns.iter().enumerate() {
             let column = (usize::from(first) + place % 16) % 256;
-            assert_eq!(rt; planes.bit(1, column, 7), *digit == b'1', "column {column}");
+            same_at(&rt, &planes.bit(1, column, 7), &(*digit == b'1'), &column);
         }
     }
     Ok(())

@@ -1,8 +1,25 @@
-//! Calls on planes that first check what the calls require: that the row, or the cell, is there.
+//! Comparisons, and calls on planes that first check what the calls require: that the row, or the
+//! cell, is there.
 
 use cam6_planes::{Planes, Row, WORDS};
 use cam6_wiring::{Hood, Lines, Minor, Name, Rows, Setting, address_at, lines_of_row, seen};
+use std::fmt::Debug;
 use std::process::Abort;
+
+/// Both values are the same. An assertion costs its proof wherever it is written, so it stands here.
+pub(crate) fn same<R: Abort, T: PartialEq + Debug>(rt: &R, got: &T, want: &T) {
+    assert_eq!(rt; got, want);
+}
+
+/// Both values are the same at this place, which a failure names.
+pub(crate) fn same_at<R: Abort, T: PartialEq + Debug, P: Debug>(
+    rt: &R,
+    got: &T,
+    want: &T,
+    place: &P,
+) {
+    assert_eq!(rt; got, want, "at {place:?}");
+}
 
 pub(crate) fn set_row(rt: &impl Abort, planes: &mut Planes, plane: usize, row: usize, words: Row) {
     assert!(rt; plane < 4 && row < planes.side().number());
