@@ -2,16 +2,14 @@
 use Rattle.std.proofs.Common.{◌≡◌, ◌∙◌, ◌<◌, ◌≤◌, ℕ, Bool, true, false, refl, sym, ap, subst, arith}
 use Rattle.cam6_handoff.specs.Holding.{BoardStance, Holding, nothing, holding, emptied}
 use Rattle.cam6_handoff.specs.Seats.{Accepts}
-use Rattle.cam6_slot.specs.Finished.{StoredFinished}
 use Rattle.cam6_slot.specs.Parking.{StoredQueued}
-use Rattle.cam6_station.specs.declared.stations.Banded.TheVariants.{More, Last, Lost}
-use Rattle.cam6_station.specs.declared.stations.Preempted.{Preempted}
-use Rattle.cam6_station.specs.Calls.{BandGives, PreemptGives, GoesHome, Rises}
+use Rattle.cam6_station.specs.declared.stations.Banded.TheVariants.{More}
+use Rattle.cam6_station.specs.Calls.{BandGives, GoesHome, Rises}
 use Rattle.cam6_station.specs.Held.{Manned, Stationed, Held, idle, loaded, dead, is_loaded, is_dead}
 use Rattle.cam6_station.specs.Held.{IsLoaded}
 use Rattle.cam6_pool.specs.Serving.{Serves}
 use Rattle.cam6_pool.specs.Internal.Served.{Carries, ServesOn, turns_left}
-use Rattle.cam6_pool.proofs.Serving.{holds_nothing, serves_as, serves_behind}
+use Rattle.cam6_pool.proofs.Serving.{holds_nothing, serves_as}
 
 -- a station that is loaded with a lease serves its place, and what is lost of it goes back there
 pub serves_loaded : (p : Holding) (w : ℕ) (h : Held) → Carries p h.lease h.job →

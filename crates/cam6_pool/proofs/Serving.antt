@@ -1,11 +1,10 @@
 -- What a seat and its board have of each other, before and after each call of the board.
-use Rattle.std.proofs.Common.{◌≡◌, ℕ, Some, Bool, true, false, refl, sym, subst}
+use Rattle.std.proofs.Common.{◌≡◌, ℕ, Some, true, false, refl, sym, subst}
 use Rattle.cam6_handoff.specs.Holding.{Holding, nothing, holding}
 use Rattle.cam6_handoff.specs.Seats.{Accepts, AcceptsDone}
 use Rattle.cam6_slot.specs.Finished.{StoredFinished}
 use Rattle.cam6_slot.specs.Parking.{StoredQueued}
 use Rattle.cam6_station.specs.declared.stations.Banded.TheVariants.{More, Last, Lost}
-use Rattle.cam6_station.specs.declared.stations.Preempted.{Preempted}
 use Rattle.cam6_station.specs.declared.stations.Preempted.TheVariants as off
 use Rattle.cam6_station.specs.Calls.{BandGives, PreemptGives, FailGives}
 use Rattle.cam6_station.specs.Held.{Manned, idle, loaded, dead, is_idle, is_loaded}
