@@ -87,6 +87,7 @@ impl Core {
                 self.set_user(user as u64, Whereabouts::Finished(finished));
                 Outcome::Banded(0)
             }
+            Banded::Lost(_, _) => unreachable!(),
         }
     }
 

@@ -22,10 +22,10 @@
 //! meanwhile. After another lease and 13 more bands, user 1 collects the reply that their private
 //! machine would give.
 //!
-//! Stands on: `cam6_station`, `cam6_slot`, `cam6_cache` and what they stand on.
+//! Stands on: `cam6_station`, `cam6_slot`, `cam6_board`, `cam6_cache` and what they stand on.
 //!
-//! Read next: `Event`, `Outcome` and `Refused` of `cam6_commands`; `parts`, what a core holds;
-//! `start`; `refusals`; `applying`, event by event, with `users_and_boards`, by which they go about
+//! Read next: `Event`, `Outcome` and `Refused` of `cam6_commands`; `parts`, what a core holds, with
+//! `soft_stations`, its boards; `start`; `refusals`; `applying`, event by event, with `users_and_boards`, by which they go about
 //! it; then `runs` and `laws`.
 #![tactic(auto)]
 
@@ -34,6 +34,7 @@ pub mod laws;
 mod parts;
 mod refusals;
 mod runs;
+mod soft_stations;
 mod start;
 mod users_and_boards;
 

@@ -1,8 +1,9 @@
 //! What a core holds.
 
+use crate::soft_stations::SoftStation;
 use cam6_cache::TableCache;
 use cam6_slot::{Finished, Queued, Resting};
-use cam6_station::{Filling, Station};
+use cam6_station::Filling;
 use std::marker::Model;
 
 /// Where a user's machine and command are.
@@ -22,7 +23,7 @@ pub enum Whereabouts {
 #[derive(Drop)]
 pub struct Core {
     pub(crate) users: Vec<Whereabouts>,
-    pub(crate) boards: Vec<Station>,
+    pub(crate) boards: Vec<SoftStation>,
     pub(crate) cache: TableCache,
     pub(crate) filling: Filling,
 }

@@ -9,11 +9,12 @@ ghost use Rattle.cam6_commands.specs.declared.limits.TheConstants.{MAX_USERS, MA
 ghost use Rattle.cam6_core.specs.Internal.Starting.{AreNewcomers};
 
 use crate::parts::{Core, Whereabouts};
+use crate::soft_stations::SoftStation;
 use cam6_cache::TableCache;
 use cam6_machine::Machine;
 use cam6_planes::{NoMemory, Side};
 use cam6_slot::Resting;
-use cam6_station::{Filling, Station};
+use cam6_station::Filling;
 use std::alloc::Global;
 
 impl Core {
@@ -65,12 +66,12 @@ fn newcomers(alloc: Global, users: usize, limits: &[Side]) -> Result<Vec<Whereab
 }
 
 /// So many idle boards.
-fn idle_boards(alloc: Global, boards: usize) -> Result<Vec<Station>, NoMemory>
+fn idle_boards(alloc: Global, boards: usize) -> Result<Vec<SoftStation>, NoMemory>
     ensures { IfOk result (λ made. made.items ≡ replicate boards idle) }
 {
     let mut made = Vec::with_capacity(alloc, boards)?;
     for _board in 0..boards {
-        made.push(Station::new(alloc)?)?;
+        made.push(SoftStation::new(alloc)?)?;
     }
     Ok(made)
 }

@@ -1,10 +1,10 @@
 //! One user's whereabouts or one board, taken or changed in its place.
-ghost use Rattle.std.specs.Prelude.{◌≡◌, ◌<◌, length, slice_set, Some};
+ghost use Rattle.std.specs.Prelude.{◌≡◌, ◌<◌, false, length, slice_set, Some};
 ghost use Rattle.std.specs.List.{slice_get};
 ghost use Rattle.cam6_cache.specs.Cached.{AreTrue};
 ghost use Rattle.cam6_slot.specs.Leases.{JobFits};
 ghost use Rattle.cam6_slot.specs.Lefts.{lease_left};
-ghost use Rattle.cam6_station.specs.Calls.{BandGives, PreemptGives, FailGives};
+ghost use Rattle.cam6_station.specs.Calls.{BandGives, PreemptGives, FailGives, is_lost};
 ghost use Rattle.cam6_station.specs.Held.{idle, dead, IsLoaded, IsAlive};
 ghost use Rattle.cam6_station.specs.Loading.{IsBehindLoads};
 ghost use Rattle.cam6_core.specs.State.{at_number, with_user, with_board, board_of, IsNumber};
@@ -13,7 +13,7 @@ ghost use Rattle.cam6_core.specs.Internal.Returning.{IsLoadedWith, IsOfUser, IsO
 use crate::parts::{Core, Whereabouts};
 use cam6_board::Job;
 use cam6_slot::{Lease, Queued};
-use cam6_station::Banded;
+use cam6_station::{Banded, Preempted};
 use std::mem;
 
 impl Core {
@@ -70,6 +70,7 @@ impl Core {
     pub(crate) fn band_on(&mut self, board: u64) -> Banded
         requires { IsLoaded (board_of self.old board) }
         ensures gives { BandGives (board_of self.old board) result (board_of self.new board) }
+        ensures never { is_lost result ≡ false }
         ensures others { self.new ≡ with_board self.old board (board_of self.new board) }
         ensures user { IsOfUser (length self.old.users) result }
     {
@@ -79,7 +80,8 @@ impl Core {
     /// Takes the command off a board, and returns it with its user's number.
     pub(crate) fn preempt_on(&mut self, board: u64) -> (usize, Queued)
         requires { IsLoaded (board_of self.old board) }
-        ensures back { PreemptGives (board_of self.old board) result.0 result.1 }
+        ensures back { PreemptGives (board_of self.old board)
+            (Preempted.Back result.0 result.1) idle }
         ensures idle { self.new ≡ with_board self.old board idle }
         ensures user { IsNumber (length self.old.users) result.0 }
     {

@@ -3,10 +3,12 @@ ghost use Rattle.std.specs.Prelude.{◌≡◌, ◌<◌, ◌≤◌, true, false};
 ghost use Rattle.cam6_handoff.specs.Holding.{IsIdle};
 ghost use Rattle.cam6_station.specs.Held.{is_idle, is_loaded, is_dead};
 
+use crate::desks::answers::Answer;
+use cam6_board::SoftBoard;
 use cam6_cache::TableCache;
 use cam6_handoff::BoardSeat;
 use cam6_planes::NoMemory;
-use cam6_station::{Banded, Station};
+use cam6_station::{Banded, Preempted, Station};
 use std::alloc::Global;
 use std::marker::Model;
 
@@ -15,17 +17,18 @@ use std::marker::Model;
 #[derive(Drop)]
 pub struct Counter {
     seat: BoardSeat,
-    station: Station,
+    station: Station<SoftBoard>,
 }
 
 impl Model for Counter {
-    ghost use Rattle.cam6_play_places.specs.Counters.{StoredCounter, Serves};
+    ghost use Rattle.cam6_pool.specs.Serving.{Serves};
+    ghost use Rattle.cam6_play_places.specs.Counters.{StoredCounter};
 
     ghost Value = { StoredCounter };
 
-    ghost view = { λ c. record { users = c.seat.users; station = c.station } };
+    ghost view = { λ c. record { users = c.seat.users; station = c.station.at } };
 
-    ghost invariant = { λ c. Serves c.seat.holds c.station };
+    ghost invariant = { λ c. Serves c.seat.holds c.station.at };
 }
 
 impl Counter {
@@ -33,7 +36,8 @@ impl Counter {
     pub fn new(alloc: Global, seat: BoardSeat) -> Result<Counter, NoMemory>
         requires { IsIdle seat }
     {
-        let station = Station::new(alloc)?;
+        let board = SoftBoard::new(alloc)?;
+        let station = Station::of(board);
         Ok(Counter { seat, station })
     }
 
@@ -63,52 +67,74 @@ impl Counter {
     }
 
     /// The board takes the user's command, if it waits, and has so many bands to do.
-    pub fn take(&mut self, user: usize, cache: &mut TableCache) -> Option<u64>
+    pub fn take(&mut self, user: usize, cache: &mut TableCache) -> Answer
         requires idle { is_idle self.old.station ≡ true }
         requires a_user { 0 < user }
         requires user { user ≤ self.old.users }
     {
-        let (lease, job) = self.seat.try_take(user)?;
+        let Some((lease, job)) = self.seat.try_take(user) else {
+            return Answer::Nothing;
+        };
         let left = lease.left();
         self.seat.fill(&lease, cache);
-        self.station.load(user, lease, job, self.seat.tables());
-        Some(left)
+        match self.station.load(user, lease, job, self.seat.tables()) {
+            Ok(()) => Answer::Left(left),
+            Err(queued) => {
+                self.seat.put_back(queued);
+                Answer::Lost
+            }
+        }
     }
 
     /// One band: so many are left, or the command is done and given to the user's desk.
-    pub fn band(&mut self) -> Option<u64>
+    pub fn band(&mut self) -> Answer
         requires { is_loaded self.old.station ≡ true }
     {
         match self.station.band() {
-            Banded::More(left) => Some(left),
+            Banded::More(left) => Answer::Left(left),
             Banded::Last(_, finished) => {
                 self.seat.put_done(finished);
-                None
+                Answer::Done
+            }
+            Banded::Lost(_, queued) => {
+                self.seat.put_back(queued);
+                Answer::Lost
             }
         }
     }
 
     /// The command is taken off the board, and waits again.
-    pub fn back(&mut self)
+    pub fn back(&mut self) -> Answer
         requires { is_loaded self.old.station ≡ true }
     {
-        let (_, queued) = self.station.preempt();
-        self.seat.put_back(queued);
-    }
-
-    /// The board fails, and what it holds waits again at its home.
-    pub fn fail(&mut self)
-        requires { is_dead self.old.station ≡ false }
-    {
-        if let Some((_, queued)) = self.station.fail() {
-            self.seat.put_back(queued);
+        match self.station.preempt() {
+            Preempted::Back(_, queued) => {
+                self.seat.put_back(queued);
+                Answer::Back
+            }
+            Preempted::Lost(_, queued) => {
+                self.seat.put_back(queued);
+                Answer::Lost
+            }
         }
     }
 
+    /// The board fails, and what it holds waits again at its home.
+    pub fn fail(&mut self) -> Answer
+        requires { is_dead self.old.station ≡ false }
+    {
+        let Some((_, queued)) = self.station.fail() else {
+            return Answer::Failed;
+        };
+        self.seat.put_back(queued);
+        Answer::Lost
+    }
+
     /// A board that has failed is idle again.
-    pub fn repair(&mut self)
+    pub fn repair(&mut self) -> Answer
         requires { is_dead self.old.station ≡ true }
     {
         self.station.repair();
+        Answer::Repaired
     }
 }

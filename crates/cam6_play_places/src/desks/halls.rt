@@ -54,8 +54,7 @@ impl Hall {
         if user == 0 || user > counter.users() || !counter.is_idle() {
             return Answer::No;
         }
-        let left = counter.take(user, &mut self.cache);
-        left.map_or(Answer::Nothing, Answer::Left)
+        counter.take(user, &mut self.cache)
     }
 
     pub fn bands(&mut self, board: usize, number: u64) -> Answer {
@@ -67,42 +66,28 @@ impl Hall {
             if !counter.is_loaded() {
                 break;
             }
-            answer = counter.band().map_or(Answer::Done, Answer::Left);
+            answer = counter.band();
         }
         answer
     }
 
     pub fn back(&mut self, board: usize) -> Answer {
         match self.counters.get_mut(board) {
-            Some(counter) if counter.is_loaded() => {
-                counter.back();
-                Answer::Back
-            }
+            Some(counter) if counter.is_loaded() => counter.back(),
             _ => Answer::No,
         }
     }
 
     pub fn fail(&mut self, board: usize) -> Answer {
         match self.counters.get_mut(board) {
-            Some(counter) if !counter.is_dead() => {
-                let answer = if counter.is_loaded() {
-                    Answer::Lost
-                } else {
-                    Answer::Failed
-                };
-                counter.fail();
-                answer
-            }
+            Some(counter) if !counter.is_dead() => counter.fail(),
             _ => Answer::No,
         }
     }
 
     pub fn repair(&mut self, board: usize) -> Answer {
         match self.counters.get_mut(board) {
-            Some(counter) if counter.is_dead() => {
-                counter.repair();
-                Answer::Repaired
-            }
+            Some(counter) if counter.is_dead() => counter.repair(),
             _ => Answer::No,
         }
     }

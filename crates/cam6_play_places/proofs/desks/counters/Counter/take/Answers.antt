@@ -1,7 +1,8 @@
-use Rattle.std.proofs.Common.{◌∙◌, ap}
-use Rattle.cam6_handoff.specs.Holding.{BoardStance, holding}
+use Rattle.std.proofs.Common.{◌∙◌, sym, ap, subst}
+use Rattle.cam6_handoff.specs.Holding.{BoardStance, Holding}
+use Rattle.cam6_handoff.specs.Seats.{Accepts}
+use Rattle.cam6_pool.proofs.Serving.{idle_of}
 use Rattle.cam6_play_places.specs.Counters.{StoredCounter}
-use Rattle.cam6_play_places.proofs.Serving.{idle_of, serves_as}
 use Rattle.cam6_play_places.proofs.desks.counters.Counter.take.Goals as goal
 
 pub load-requires-clause-idle : goal.load-requires-clause-idle
@@ -9,10 +10,10 @@ load-requires-clause-idle c =
     ap (λ (k : StoredCounter). k.station) c.self.view_is
     ∙ idle_of c.args.self.now.station c.requires.idle
 
-pub invariant_of-self-2 : goal.invariant_of-self-2
-invariant_of-self-2 c =
-    let (v, holds, lease) = c.in_ok-lease.ensures in
-    serves_as c.fill.new.self.holds (holding c.args.user v) c.load.new.self _
-    (ap (λ (b : BoardStance). b.holds) c.fill.ensures.others
-    ∙ ap (λ (b : BoardStance). b.holds) holds) c.load.ensures
-    (λ m by st. lease.stands m by st)
+pub put_back-requires : goal.put_back-requires
+put_back-requires c =
+    let (v, holds, lease) = c.in-Some.ensures in
+    subst (λ (x : Holding). Accepts x c.in-Err.queued)
+    (sym (ap (λ (b : BoardStance). b.holds) c.fill.ensures.others
+    ∙ ap (λ (b : BoardStance). b.holds) holds))
+    (λ m by st. c.in-Err.ensures.back.stands m by (lease.stands m by st))
