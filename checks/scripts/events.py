@@ -1,5 +1,5 @@
 #!/usr/bin/env python3
-"""Writes schedules_of_events.example of cam6_play_sessions/data: random schedules of events, at a host that many users
+"""Writes schedules_of_events.example of cam6_try_sessions/data: random schedules of events, at a host that many users
 share, and their outcomes. With `SEED EVENTS` it writes one schedule by this seed, of so many lines of events. After them
 come those that bring all users to rest and show their planes.
 

@@ -1,5 +1,5 @@
 #!/usr/bin/env python3
-"""Writes many_users.example of cam6_play_places/data: 32 users with rules, pictures and runs of their own, which eight
+"""Writes many_users.example of cam6_try_places/data: 32 users with rules, pictures and runs of their own, which eight
 workers do at once while a gate takes commands off boards at random.
 
 Shares nothing with the program: each user's replies are those of a private machine of `hosts`, in plain steps over

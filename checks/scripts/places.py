@@ -1,5 +1,5 @@
 #!/usr/bin/env python3
-"""Writes schedules.example of cam6_play_places/data: runs and backs under random schedules, on a board that loses its
+"""Writes schedules.example of cam6_try_places/data: runs and backs under random schedules, on a board that loses its
 image now and then and has the command taken off it, by whole steps over blocks.
 
 Shares nothing with the program: it knows no bands but two numbers, how many are left, and how many would be left if

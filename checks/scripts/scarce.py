@@ -1,6 +1,6 @@
 """Refuses each request for memory in turn, one in a run, until a run meets none, and looks at what comes back.
 
-CAM6 is the program `cam6`, and PLAYER the one of cam6_play_sessions. REFUSING is a library that is loaded into them and
+CAM6 is the program `cam6`, and PLAYER the one of cam6_try_sessions. REFUSING is a library that is loaded into them and
 refuses requests (refusing.c). What has to come back is said by hand or by the plain machines of `hosts`. Prints for
 each part how many requests were refused and how that was seen, and what failed. The last line is 'N passed, M failed',
 over the runs in which a request was refused.

@@ -1,4 +1,4 @@
-"""Lines of events and what comes of them, as an example of cam6_play_sessions says them.
+"""Lines of events and what comes of them, as an example of cam6_try_sessions says them.
 
 Shares nothing with the program: the outcomes are those of the model in `hosts`.
 """

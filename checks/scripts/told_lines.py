@@ -1,4 +1,4 @@
-"""Lines and what comes of them, as an example of cam6_play_sessions says them.
+"""Lines and what comes of them, as an example of cam6_try_sessions says them.
 
 Shares nothing with the program. What a line says is given with it, by a plain command or by its fault. Replies are
 those of the private machine in `hosts`. A text may have bytes that are no UTF-8. They stand in it as `text_of` has

@@ -2,7 +2,13 @@
 use Rattle.std.proofs.Common.{◌≡◌, ◌∙◌, ◌<◌, ◌≤◌, ℕ, Bool, true, false, refl, sym, ap, subst, arith}
 use Rattle.cam6_handoff.specs.Holding.{BoardStance, Holding, nothing, holding, emptied}
 use Rattle.cam6_handoff.specs.Seats.{Accepts}
+use Rattle.cam6_board.specs.Jobs.{StoredJob}
+use Rattle.cam6_board.specs.declared.images.Image.{Image}
+use Rattle.cam6_commands.specs.declared.commands.Command.{Command}
+use Rattle.cam6_model.specs.Machine.{Machine}
+use Rattle.cam6_slot.specs.Leases.{StoredLease}
 use Rattle.cam6_slot.specs.Parking.{StoredQueued}
+use Rattle.cam6_slot.specs.Stands.{Stands, StandsOut}
 use Rattle.cam6_station.specs.declared.stations.Banded.TheVariants.{More}
 use Rattle.cam6_station.specs.Calls.{BandGives, GoesHome, Rises}
 use Rattle.cam6_station.specs.Held.{Manned, Stationed, Held, idle, loaded, dead, is_loaded, is_dead}
@@ -21,6 +27,15 @@ pub accepts_home : (p : Holding) (h : Held) (q : StoredQueued) → Carries p h.l
     GoesHome h q → Accepts p q
 accepts_home nothing h q has home = absurd has
 accepts_home (holding u v) h q has home = λ m c st. home.stands m c (has.2 m c st)
+
+-- a command that is given back before a board has begun with it
+pub accepts_unbegun : (p : Holding) (l : StoredLease) (job : StoredJob) (image : Image)
+    (q : StoredQueued) → Carries p l job → image ≡ job.image →
+    ((m : Machine) (c : Command) (begun : StoredJob) → StandsOut l begun m c →
+    begun.image ≡ image → Stands q m c) → Accepts p q
+accepts_unbegun nothing l job image q has same stands = absurd has
+accepts_unbegun (holding u v) l job image q has same stands =
+    λ m c st. stands m c job (has.2 m c st) (sym same)
 
 module _ (b later : BoardStance) (s after : Stationed) where
   -- the seat is as it was

@@ -127,6 +127,15 @@ fn serve_lease<B: Board, G: Gate>(
     stops
 }
 
+/// Gives a command back that was taken and not begun: it waits again.
+fn give_back(seat: &mut BoardSeat, lease: Lease, job: Job)
+    requires seat { Carries seat.old.holds lease job }
+    ensures seat { seat.new ≡ emptied seat.old }
+{
+    let queued = lease.preempt(job.into_image());
+    seat.put_back(queued);
+}
+
 /// Takes a command that waits: of the first user who has one, from the user behind the last on.
 fn take_next(seat: &mut BoardSeat, last: u8) -> Option<(u8, Lease, Job)>
     requires { IsIdle seat.old }
@@ -174,7 +183,11 @@ pub fn serve_board<R: Wait, B: Board, G: Gate>(
             }
             return (seat, station.into_board(), Ended::Stopped);
         };
-        seat.fill_each(rt, &lease, cache);
+        last = user;
+        if !seat.fill_each(rt, &lease, cache) {
+            give_back(&mut seat, lease, job);
+            continue;
+        }
         let stops = serve_lease(&mut seat, &mut station, user, lease, job, gate);
         if station.is_dead() {
             return (seat, station.into_board(), Ended::Dead);
@@ -182,7 +195,6 @@ pub fn serve_board<R: Wait, B: Board, G: Gate>(
         if stops {
             return (seat, station.into_board(), Ended::Stopped);
         }
-        last = user;
     }
     unreachable!()
 }
