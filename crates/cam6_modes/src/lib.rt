@@ -11,8 +11,8 @@
 //! `cam6_session`, with the program's turns (`specs/Turns.antt`).
 //!
 //! Stands on: `cam6_planes`, for the sides; `cam6_commands`, for the numbers of users and boards;
-//! `cam6_cache`, for the number of its tables; `cam6_core`, `cam6_session`, `cam6_server`, `clap`,
-//! `thiserror`.
+//! `cam6_cache`, for the number of its tables; `cam6_core`, `cam6_version`, `cam6_session`,
+//! `cam6_server`, `clap`, `thiserror`.
 //!
 //! Read next: `modes`, `words` and `slips`, the command line; then `streams` and `statuses`.
 #![tactic(auto)]

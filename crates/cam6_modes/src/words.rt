@@ -23,6 +23,7 @@ use cam6_cache::MAX_CAPACITY;
 use cam6_core::{MAX_BOARDS, MAX_USERS};
 use cam6_planes::Side;
 use cam6_server::Serving;
+use cam6_version::VERSION;
 use clap::builder::ValueParser;
 use clap::error::ErrorKind;
 use clap::{Arg, ArgMatches, Command};
@@ -34,54 +35,51 @@ const MAX_PORT: u64 = 65_535;
 /// The most seconds for which a silent client may keep its seat.
 const MAX_IDLE: u64 = 4_294_967_295;
 
-/// The program's version, and the toolchain that proves it.
-const VERSION: &str = "1 (Rattle logic dac8208d650f15bf)";
-
 /// What the statuses mean, and where more is said.
 const PROGRAM_TEXT: &str = "\
-Exit statuses: 0 end of input, help or version; 2 refused words; 3 read failed; 4 write failed;
-5 no memory; 6 turn bound reached; 7 network failed; 8 no thread for a board. Each but 0 is told on
-standard error.
+Exit statuses: 0 the input ended, or help or the version was asked for; 2 the arguments are refused;
+3 a read failed; 4 a write failed; 5 out of memory; 6 turn bound reached; 7 network failed; 8 no
+thread for a board. For each but 0 a line on standard error says why.
 
 A line to try: a blank machine has no rules.
   echo '{\"do\":\"rules\"}' | cam6
-Commands, rules, events and faults are in docs/MANUAL.md, rules to look at in docs/GALLERY.md.";
+docs/MANUAL.md has commands and rules, docs/SERVER.md users and events, docs/ERRORS.md the numbers of
+faults, docs/GALLERY.md rules to look at.";
 
 /// What `alone` answers.
 const ALONE_TEXT: &str = "\
-Each line is a command as JSON, and is answered by a line. The machine is blank at first. It ends with
-the input; typed at a terminal, by Ctrl-D.
+Each line is a command as JSON, and gets one line as its reply. The machine is blank at first. The
+program ends with its input. At a terminal Ctrl-D ends it.
 
-Exit statuses: 0 end of input; 2 refused words; 3 read failed; 4 write failed; 5 no memory; 6 turn
-bound reached.
+Exit statuses: 0 the input ended; 2 the arguments are refused; 3 a read failed; 4 a write failed; 5 out
+of memory; 6 turn bound reached.
 
-A line to try: at side 128, what plane 0 has in row 0.
+A line to try: row 0 of plane 0, at side 128.
   echo '{\"do\":\"row\",\"plane\":0,\"row\":0}' | cam6 alone --side 128";
 
 /// What `replay` answers.
 const REPLAY_TEXT: &str = "\
-Each line is an event as JSON: a user asks, a board leases his command, does a band of rows, fails.
-What comes of it is answered by a line. Users are numbered from 1, boards from 0.
+Each line is an event as JSON: a user asks, a board leases the command, does a band of rows, fails. One
+line says what comes of it. Users are numbered from 1, boards from 0.
 
-Exit statuses: 0 end of input; 2 refused words; 3 read failed; 4 write failed; 5 no memory; 6 turn
-bound reached.
+Exit statuses: 0 the input ended; 2 the arguments are refused; 3 a read failed; 4 a write failed; 5 out
+of memory; 6 turn bound reached.
 
-A line to try: user 1 asks which rules he has, and is answered at once.
+A line to try: user 1 asks for the names of their rules, which needs no board.
   echo '{\"event\":\"ask\",\"user\":1,\"command\":{\"do\":\"rules\"}}' | cam6 replay";
 
 /// What is said on a connection, with a session to try.
 const SEATS_TEXT: &str = "\
-The first line of a connection asks, within ten seconds, for the machine of a user, who are numbered
-from 1:
+The first line of a connection takes the seat of a user, within ten seconds. Users are numbered from
+1:
   {\"seat\":1}
-It is answered by {\"ok\":\"seat\"}, or by {\"fault\":80} where the user has a connection, and by
-{\"fault\":81} where there is no such user. Each line behind it is a command, as of `alone`, and is
-answered by a line.
+The reply is {\"ok\":\"seat\"}, or {\"fault\":80} if the user has a connection, or {\"fault\":81} if there is no
+such user. Each later line is a command, as for `alone`, and gets one line as its reply.
 
-Exit statuses: 0 as many connections as were to be served; 2 refused words; 5 no memory; 7 network
+Exit statuses: 0 all connections were served; 2 the arguments are refused; 5 out of memory; 7 network
 failed; 8 no thread for a board.
 
-A session to try, with one command, which lists the rules that there are:
+A session to try, with one command, which lists the rules:
   cam6 serve &
   printf '{\"seat\":1}\\n{\"do\":\"rules\"}\\n' | nc -N 127.0.0.1 6006";
 
@@ -197,7 +195,7 @@ pub fn program<'a>(alloc: Global) -> Result<Command<'a>, AllocError>
         .after_help(ALONE_TEXT)
         .arg(side_option(alloc))?;
     Command::new(alloc, "cam6")
-        .about("A CAM-6 cellular automata machine; without words, as `alone`")
+        .about("A CAM-6 cellular automata machine; without a command, as `alone`")
         .after_help(PROGRAM_TEXT)
         .version(VERSION)
         .subcommand(alone)?
@@ -211,7 +209,7 @@ fn replay<'a>(alloc: Global) -> Result<Command<'a>, AllocError>
         × (app_of command ≡ replay_of sides)) }
 {
     Command::new(alloc, "replay")
-        .about("Does the events of lines on standard input: users who share boards and tables")
+        .about("Plays events from standard input: users who share boards and tables")
         .after_help(REPLAY_TEXT)
         .arg(users_option(alloc))?
         .arg(boards_option(alloc))?
@@ -251,7 +249,7 @@ fn boards_option<'a>(alloc: Global) -> Arg<'a>
     ensures rule { rule_of result ≡ option_of_boards }
     ensures global { result.global ≡ false }
 {
-    number_option(alloc, "boards", 1, MAX_BOARDS as u64, "2").help("Boards")
+    number_option(alloc, "boards", 1, MAX_BOARDS as u64, "2").help("Boards that users share")
 }
 
 /// `--cache`.
@@ -259,7 +257,9 @@ fn cache_option<'a>(alloc: Global) -> Arg<'a>
     ensures rule { rule_of result ≡ option_of_tables }
     ensures global { result.global ≡ false }
 {
-    number_option(alloc, "cache", 1, MAX_CAPACITY as u64, "16").help("Tables that are kept")
+    number_option(alloc, "cache", 1, MAX_CAPACITY as u64, "16").help(
+        "Compiled tables that are kept",
+    )
 }
 
 /// `--port`.
@@ -267,7 +267,7 @@ fn port_option<'a>(alloc: Global) -> Arg<'a>
     ensures rule { rule_of result ≡ option_of_ports }
     ensures global { result.global ≡ false }
 {
-    number_option(alloc, "port", 1, MAX_PORT, "6006").help("The port, of 127.0.0.1")
+    number_option(alloc, "port", 1, MAX_PORT, "6006").help("The port of 127.0.0.1")
 }
 
 /// `--connections`.

@@ -17,10 +17,10 @@ ghost use Rattle.cam6_show_words.specs.DrawWords.{window_by as window_told, wind
 ghost use Rattle.cam6_show_words.specs.DrawWords.{window_of as window_of_words};
 
 use crate::draw_options::{DrawOptions, Unsaid, Way};
-use crate::programs::VERSION;
 use crate::refusals::{Refused, refusal, unasked};
 use cam6_planes::COLUMNS;
 use cam6_show_pictures::{Light, Look, MOST_SCALE, PALETTE, Window, palette_of};
+use cam6_version::VERSION;
 use clap::{Arg, ArgAction, ArgMatches, Command};
 use std::alloc::{AllocError, Global};
 
@@ -32,17 +32,17 @@ static PART: [&str; 4] = ["X", "Y", "W", "H"];
 
 /// What help says at its end.
 const HELP: &str = "\
-Each reply to `plane`, and each run of replies to `colours`, a row each, is one picture. Other
-replies are passed over.
+Each reply to `plane` is one picture. So is each run of replies to `colours`, a row each. Other replies
+are passed over.
 
 To try it: ./cam6 < FILE | ./cam6_draw --text --crop 0 0 80 48
 
 Exit status:
   0  all lines were replies, and all pictures were written
-  2  the words are refused
+  2  the arguments are refused
   3  a line is no reply, a picture breaks off, or a read failed
   4  a write failed
-  5  no memory
+  5  out of memory
   6  too many lines";
 
 /// Returns what the arguments ask for, or why they are refused. The first is the program's name.
@@ -273,7 +273,7 @@ fn program<'a>(alloc: Global) -> Result<Command<'a>, AllocError>
     ensures { IfOk result (λ command. app_of command ≡ program_of) }
 {
     Command::new(alloc, "cam6_draw")
-        .about("Draws the cells that lines of replies on standard input say, on standard output")
+        .about("Draws the cells of replies on standard input, on standard output")
         .version(VERSION)
         .after_help(HELP)
         .arg(ppm_option(alloc))?

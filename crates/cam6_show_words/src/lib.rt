@@ -7,8 +7,8 @@
 //! ends with them. `refusal_of` returns those of refused arguments, and `refuse` ends with them.
 //! `fault_text` says why a text isn't a pattern, and where.
 //!
-//! Stands on: `cam6_show_frames`, for the ends; `cam6_show_pictures`, for looks, and `cam6_patterns`, for planes and
-//! faults of texts; `cam6_planes`, for the sides; `clap`, `thiserror`.
+//! Stands on: `cam6_show_frames`, for the ends; `cam6_show_pictures`, for looks; `cam6_patterns`, for
+//! planes and faults of texts; `cam6_planes`, for the sides; `cam6_version`; `clap`, `thiserror`.
 //!
 //! Read next: `programs`; `refusals` and `statuses`, with `endings`; then `draw_options` and `draw_words`,
 //! `rle_options` and `rle_words`.

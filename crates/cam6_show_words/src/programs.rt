@@ -1,8 +1,5 @@
 //! The two programs.
 
-/// Their version, and the toolchain that proves them.
-pub(crate) const VERSION: &str = "1 (Rattle logic dac8208d650f15bf)";
-
 /// A program. Faults are reported in its name.
 #[derive(Clone, Copy, Debug)]
 pub enum Program {

@@ -17,11 +17,11 @@ ghost use Rattle.cam6_show_words.specs.RleWords.{planes_option as option_of_plan
 ghost use Rattle.cam6_show_words.specs.RleWords.{replies_option as option_of_replies};
 ghost use Rattle.cam6_show_words.specs.RleWords.{rule_option as option_of_rules};
 
-use crate::programs::VERSION;
 use crate::refusals::{Refused, refusal, unasked};
 use crate::rle_options::{Place, RleOptions};
 use cam6_patterns::ChosenPlanes;
 use cam6_planes::{COLUMNS, Side};
+use cam6_version::VERSION;
 use clap::builder::ValueParser;
 use clap::{Arg, ArgAction, ArgMatches, Command};
 use std::alloc::{AllocError, Global};
@@ -31,12 +31,12 @@ const LAST_MOVE: u64 = COLUMNS as u64 - 1;
 
 /// What the program reads and writes, its statuses, and lines to try.
 const PROGRAM_TEXT: &str = "\
-The text of a pattern on standard input becomes command lines that set its planes, for cam6; its upper
-left corner lies at column 0 of row 0, or where a remark in it says, moved by --column and --row. With
+The text of a pattern on standard input becomes command lines that set its planes, for cam6. Its upper
+left corner lies at column 0 of row 0, or where a remark in it says. --column and --row move it. With
 --replies the replies of cam6 to `plane`, or to `colours` of all rows, become such texts.
 
-Exit statuses: 0 end of input; 2 refused words; 3 the text is no pattern, a line is no reply, a frame
-breaks off, or read failed; 4 write failed; 5 no memory; 6 too many lines.
+Exit statuses: 0 the input ended; 2 the arguments are refused; 3 the text is no pattern, a line is no
+reply, a frame breaks off, or a read failed; 4 a write failed; 5 out of memory; 6 too many lines.
 
 Lines to try: a glider, and out again.
   printf 'x = 3, y = 3\\nbo$2bo$3o!\\n' | cam6_rle --column 8 --row 8
@@ -335,7 +335,7 @@ fn replies_option<'a>(alloc: Global) -> Arg<'a>
     Arg::new(alloc, "replies")
         .long("replies")
         .action(ArgAction::Count)
-        .help("Reads replies, and writes a text for each frame")
+        .help("Reads replies, and writes a text for each picture")
 }
 
 /// `--rule`.
@@ -345,5 +345,5 @@ fn rule_option<'a>(alloc: Global) -> Arg<'a>
 {
     Arg::new(alloc, "rule")
         .long("rule")
-        .help("The name of a rule that a text's header tells")
+        .help("The name of a rule for the header of a text")
 }
