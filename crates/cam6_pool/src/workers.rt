@@ -33,7 +33,7 @@ fn next_band<B: Board>(station: &Station<B>) -> u8 {
     u8::try_from(rows / BAND as u16).unwrap_or(u8::MAX)
 }
 
-/// Loads the board with a lease, whose tables the seat has filled.
+/// Loads the board with a lease. The seat has filled its tables.
 fn load<B: Board>(seat: &mut BoardSeat, station: &mut Station<B>, user: u8, lease: Lease, job: Job)
     requires seat { Carries seat.old.holds lease job }
     requires tables { TablesFit lease.work seat.old.tables }
@@ -46,7 +46,7 @@ fn load<B: Board>(seat: &mut BoardSeat, station: &mut Station<B>, user: u8, leas
     }
 }
 
-/// Does a band. What is finished is told as done, and what is lost waits again.
+/// Does a band. What is finished is put as done, and what is lost waits again.
 fn band<B: Board>(seat: &mut BoardSeat, station: &mut Station<B>)
     requires loaded { IsLoaded station.old.at }
     requires serves { Serves seat.old.holds station.old.at }
@@ -73,8 +73,8 @@ fn preempt<B: Board>(seat: &mut BoardSeat, station: &mut Station<B>)
     }
 }
 
-/// Does what the gate wants next: a band, or the command comes off the board. Whether the gate stops
-/// the worker.
+/// Does what the gate wants next: a band, or the command comes off the board. Returns whether the gate
+/// stops the worker.
 fn go_on<B: Board, G: Gate>(
     seat: &mut BoardSeat,
     station: &mut Station<B>,
@@ -102,8 +102,8 @@ fn go_on<B: Board, G: Gate>(
     }
 }
 
-/// Serves a lease, whose tables the seat has filled: it is put back, or told as done. Whether the gate
-/// stopped the worker.
+/// Serves a lease until it is put back or put as done. The seat has filled its tables. Returns whether
+/// the gate stopped the worker.
 fn serve_lease<B: Board, G: Gate>(
     seat: &mut BoardSeat,
     station: &mut Station<B>,
@@ -136,7 +136,7 @@ fn give_back(seat: &mut BoardSeat, lease: Lease, job: Job)
     seat.put_back(queued);
 }
 
-/// Takes a command that waits: of the first user who has one, from the user behind the last on.
+/// Takes a command that waits: that of the first user who has one, from the user after the last on.
 fn take_next(seat: &mut BoardSeat, last: u8) -> Option<(u8, Lease, Job)>
     requires { IsIdle seat.old }
     ensures { TakesNext seat.old result seat.new }
@@ -155,10 +155,10 @@ fn take_next(seat: &mut BoardSeat, last: u8) -> Option<(u8, Lease, Job)>
 }
 
 /// Serves users with a board until the gate ends it, or the board fails. Users take turns: each time
-/// it goes on from the user behind the one whom it served last. Each table is filled under the cache's
+/// it goes on from the user after the one whom it served last. Each table is filled under the cache's
 /// lock, and no lock is held while bands are done. A lease that it has at its end is put back first:
-/// with its half-done step where the gate stopped it, from its home where the board failed. The seat
-/// can serve again, with this board or another one.
+/// with its half-done step if the gate stopped it, from its home if the board failed. The seat can
+/// serve again, with this board or another one.
 pub fn serve_board<R: Wait, B: Board, G: Gate>(
     rt: &R,
     mut seat: BoardSeat,

@@ -34,8 +34,8 @@ pub record ComesBack (h : Held) (q : StoredQueued) (bands at_home : ℕ) : Type 
 abbrev pub GoesHome : Held → StoredQueued → Type 0
 GoesHome h q = ComesBack h q (held_home h) (held_home h)
 
--- a band goes on with what is held; it is the last one where one was left, and then the board is
--- free, and what is finished is done with whatever it stood for; or the board fails
+-- a band goes on with what is held; it is the last one if one was left, and then the board is free,
+-- and what is finished is done with whatever it stood for; or the board fails
 abbrev pub BandGives : Manned → Banded → Manned → Type 0
 BandGives (loaded u h) (More left) (loaded v k) =
     (v ≡ u) × (left ≡ held_left k) × GoesOn h k
@@ -68,7 +68,7 @@ abbrev pub is_lost_off : Preempted → Bool
 is_lost_off (off.Lost u q) = true
 is_lost_off preempted = false
 
--- by how often it had failed before and after: once more at least where it failed
+-- by how often it had failed before and after: once more at least if it failed
 abbrev pub Rises : Bool → ℕ → ℕ → Type 0
 Rises true before after = before < after
 Rises false before after = before ≤ after

@@ -21,7 +21,7 @@ pub struct DeskWay {
 }
 
 impl DeskWay {
-    /// Reads the words behind `desks`.
+    /// Reads the words after `desks`.
     pub fn read(sizes: &str) -> Result<DeskWay, Unplayable> {
         let (users, rest) = sizes.split_once(' ').ok_or(Unplayable::Unread)?;
         let (boards, limit) = rest.split_once(' ').unwrap_or((rest, ""));

@@ -170,7 +170,7 @@ impl<B: Board> Leased<B> {
         requires { lease_left self ≡ 0 }
     {
         let Leased { lease, mut board } = self;
-        // Where no band is left, the image is at rest.
+        // If no band is left, the image is at rest.
         let _left = lease.left();
         match board.unload() {
             Ok(image) => {

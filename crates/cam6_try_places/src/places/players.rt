@@ -192,7 +192,7 @@ fn finished(leased: Leased<SoftBoard>) -> (PlacePlayer, PlaceAnswer)
     }
 }
 
-/// The command is out on the board, or it waits where the board has failed.
+/// The command is out on the board, or it waits if the board has failed.
 fn out(leased: Result<Leased<SoftBoard>, Waiting<SoftBoard>>) -> PlacePlayer {
     match leased {
         Ok(leased) => PlacePlayer::Out(leased),

@@ -13,7 +13,7 @@ pub struct PlaceWay {
 }
 
 impl PlaceWay {
-    /// Reads the words behind `places`.
+    /// Reads the words after `places`.
     pub fn read(rest: &str) -> Result<PlaceWay, Unplayable> {
         Ok(PlaceWay {
             limit: limit_of(rest)?,
