@@ -45,7 +45,7 @@ path_of() {
 # The path of a crate's program, or of the one that an argument names, if there is one.
 program_of() {
   local program=$top/crates/$1/out/$1 how="'./build' builds it"
-  [[ $1 != cam6_play_* ]] || how="'rt run' in crates/$1 builds it"
+  [[ $1 != cam6_try_* ]] || how="'rt run' in crates/$1 builds it"
   [[ -z ${2-} ]] || program=$(path_of "$2")
   if [[ ! -x $program ]]; then
     echo "$script: there is no program $program; $how" >&2

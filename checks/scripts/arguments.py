@@ -19,8 +19,8 @@ from argparse import ArgumentParser
 from collections.abc import Iterator
 from typing import Any
 
-# How each session and each host ends: the statement's own words for it, the status and the line on standard error. Of the
-# turn bound, which no input of a test reaches, the statement alone says so.
+# How each session and each host ends: the statement's own words for it, the status and the line on standard error. No
+# input of a test reaches the turn bound, so only the statement has it.
 ENDS = [
     ("failure EndOfInput", None),
     ("failure ReadFault", (3, "cam6: read failed")),
@@ -179,7 +179,7 @@ def threads_of(process: subprocess.Popen, wanted: int) -> int:
 
 
 def hosts_are_so(program: str) -> Iterator[tuple[str, bool]]:
-    """A host reads no input, listens where it is told, has the users and boards that its arguments say, and ends after its
+    """A host reads no input, listens at its port, has the users and boards that its arguments say, and ends after its
     connections with status 0. Each board has a thread, beside the program's first one and one for a user."""
     for words, users, boards in HOSTS:
         with socket.socket() as free:

@@ -1,4 +1,4 @@
-"""Commands by chance for a machine: rules of all kinds and broken ones, cycles of them, pictures, steps both ways,
+"""Random commands for a machine: rules of all kinds and broken ones, cycles of them, pictures, steps both ways,
 looks at all that can be shown, machines that are saved and loaded, and commands that are refused.
 """
 
@@ -18,7 +18,7 @@ RULE_NAMES = ["R", "S", "T", "U", "a", "b", "~", "--", "!" * 24, "{}", "rule-1"]
 NO_RULE_NAMES = ["", "-", "x" * 25, "a b", 'a"b', "a\\b", "é", "a\x7f", "\x00", "a\n"]
 SAVE = {"do": "save"}
 NUMBERS = [0, 1, 3, 4, 15, 16, 127, 128, 255, 256, 511, 512, 65535, 65536, 2**63, 2**64 - 1]
-# How often what is asked for.
+# How often each is asked for.
 WEIGHTS = {
     "picture": 5,
     "steps": 12,
@@ -42,8 +42,8 @@ MOST_KEPT = 3
 
 
 class Asker:
-    """What a user asks for, by chance. `most` is how many cells may be stepped by one command. A user has machines that
-    were saved, or makes others, by somebody else's commands."""
+    """The random commands of a user. `most` is how many cells one command may step. A user has machines that were
+    saved, or makes others, by another user's commands."""
 
     def __init__(self, machine: Any, random: Random, most: int = 70_000, is_loading: bool = True) -> None:
         self.machine, self.random, self.most = machine, random, most
@@ -115,7 +115,7 @@ class Asker:
         return {"do": "rule", "name": name, "half": half, "hood": hood, "minor": minor, "text": text}
 
     def ask_rules_and_cycle(self) -> dict[str, Any]:
-        """Rules and a cycle of them, all of which can be undone or not; a cycle that is there frees its rules first. Then
+        """Rules and a cycle of them, either all reversible or any; a cycle that is there frees its rules first. Then
         pictures, steps and looks at what comes of them."""
         names = self.random.sample(RULE_NAMES, self.random.choice([1, 2, 2, 3]))
         halves = self.random.choice(["AAA", "ABA", "BAB", "ABB", "BBB"])
@@ -140,7 +140,7 @@ class Asker:
         return {"do": "cycle", "entries": [self.entry(halves) for _ in range(number)]}
 
     def ask_other_cycle(self) -> dict[str, Any]:
-        """A cycle of any rules, or of such as can be undone."""
+        """A cycle of any rules, or of rules that can be undone."""
         rules, is_undone = self.machine.rules, self.random.random() < 0.5
         return self.cycle_of([name for name in rules if not is_undone or not rules[name].cause()])
 
@@ -190,7 +190,7 @@ class Asker:
         return {"do": "load", "machine": machine}
 
     def other_machine(self) -> dict[str, Any]:
-        """What is saved of a machine by chance."""
+        """What is saved of a random machine."""
         machine = type(self.machine)(self.random.choice([128, 128, 128, 256]))
         most = machine.torus.side**2
         asker = Asker(machine, self.random, most, is_loading=False)

@@ -1,5 +1,5 @@
 #!/usr/bin/env python3
-"""Writes banks_signals.example of cam6_play_sessions/data: signals on wires in Banks's rule, by plain steps.
+"""Writes banks_signals.example of cam6_try_sessions/data: signals on wires in Banks's rule, by plain steps.
 
 Shares nothing with the program. What is known by hand is compared with the steps here.
 """
@@ -60,7 +60,7 @@ def after(cells: set[tuple[int, int]], steps: int) -> set[tuple[int, int]]:
     return cells
 
 
-# Two holes on a slant, of which the one in an edge of the wire goes first.
+# Two holes on a slant. The one in an edge of the wire goes first.
 TO_THE_CORNER = {(25, 44), (26, 45)}
 EAST, WEST = {(25, 82), (26, 81)}, {(57, 82), (56, 81)}
 

@@ -1,6 +1,5 @@
 #!/usr/bin/env python3
-"""The lines of an example of steps over blocks, as critters.py and gases.py write them, and a picture
-without a pattern.
+"""The lines of an example of steps over blocks, as critters.py and gases.py write them, and a random picture.
 
 Shares nothing with the program.
 """
@@ -23,7 +22,7 @@ def after(step: Callable[..., Any], cells: set[tuple[int, int]], steps: int, sid
 
 
 def is_set(x: int, y: int) -> bool:
-    """A picture without a pattern."""
+    """A random picture."""
     return ((x + 512 * y) * 0x9E3779B97F4A7C15) % 2**64 >> 61 < 3
 
 

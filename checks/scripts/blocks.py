@@ -1,10 +1,10 @@
 #!/usr/bin/env python3
-"""Writes inverses.example of cam6_play_sessions/data, and with the word `refused` inverses_refused.example: the tables
-that undo those of rules, and rules for which there is none.
+"""Writes inverses.example of cam6_try_sessions/data, and with the argument `refused` inverses_refused.example: the
+inverses of rules' tables, and rules without one.
 
 Shares nothing with the program. A rule is a plain formula over what a place of a block sees; each of the 256
 states of a block is tried at each of the four phases, and for each state the ones that become it are looked for.
-Where it can be said by hand which states meet, it is compared here.
+If it can be said by hand which states meet, it is compared here.
 """
 
 from __future__ import annotations
@@ -136,7 +136,7 @@ def other_row(see: View) -> int:
 
 
 def falling(see: View) -> int:
-    """A grain falls where there is room below it."""
+    """A grain falls if there is room below it."""
     return see.center | other_row(see) if see.below else see.center & other_row(see)
 
 

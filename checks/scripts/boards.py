@@ -1,5 +1,5 @@
 #!/usr/bin/env python3
-"""Writes jobs_at_each_side.example of cam6_play_places/data: jobs of billiard balls and of Critters, by plain
+"""Writes jobs_at_each_side.example of cam6_try_places/data: jobs of billiard balls and of Critters, by plain
 steps over whole blocks.
 
 Shares nothing with the program: it knows no bands, and undoes a block by looking for the one that becomes it.

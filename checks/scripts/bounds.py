@@ -1,10 +1,9 @@
-"""Holds the program `cam6`, serving, to its bounds: how long a seat may be waited for, by how many and with how much, how
-long a peer may be silent or read nothing, how long a user waits beside others whose tables are filled without end, what happens
-when no connection can be accepted, and how it ends. In the host of
-each a user goes on, one line after another, and each of his replies must be the one that `cam6 alone` gives to the same
-lines.
+"""Holds the program `cam6`, serving, to its bounds: how long clients may wait for a seat, how many of them and with how many
+bytes; how long a client may be silent or read nothing; how long a user waits beside others who have tables filled without
+end; what happens when no connection can be accepted; and how the host ends. In each of these hosts a user goes on, one line
+after another. Each of their replies must be the one that `cam6 alone` gives to the same lines.
 
-Says what passed, a line each, and what failed. The last line is 'N passed, M failed'.
+Prints what passed, a line each, and what failed. The last line is 'N passed, M failed'.
 """
 
 from __future__ import annotations
@@ -25,7 +24,7 @@ from rule_texts import doubled
 
 # How many may wait for a seat, beside one for each user; how many of them with a long line.
 MORE, LONG = 64, 8
-# Seconds within which a seat is to be had, for which a peer may read nothing, and that a busy machine may add.
+# Seconds within which a seat must be taken, for which a client may read nothing, and that a busy machine may add.
 SEAT, SEND, GRACE = 10, 60, 5
 LOAD = '{"do":"load",'
 
@@ -120,7 +119,8 @@ def slow_first_line() -> None:
 
 
 def endless_first_lines() -> None:
-    """They are answered as soon as it is certain that they are too long, which the peer may read while he still sends."""
+    """They are answered as soon as it is certain that they are too long. The client may read this while it still
+    sends."""
     host = Host("--users", "1")
     for what, text, size in (("a first line", '{"seat":1', 16385), ("a first line that begins as a load", LOAD, 2097153)):
         peer = Peer(host.port)
@@ -179,7 +179,7 @@ def fills_up(peer: connections.Peer) -> None:
 
 
 def reads_nothing() -> None:
-    """A peer that reads nothing leaves its seat, whether or not he has shut his own side."""
+    """A client that reads nothing loses its seat, whether or not it has shut its own side."""
     host = Host("--users", "3")
     steady = Steady(host.port, 3)
     peers = [Peer(host.port, user) for user in (1, 2)]
@@ -252,7 +252,8 @@ def seconds(peer: Peer, line: str) -> float:
 
 
 class Dear(threading.Thread):
-    """A user with sixteen dear rules, who does a step and undoes it without end. A cache of sixteen tables never has the next."""
+    """A user with sixteen expensive rules, who does a step and undoes it without end. A cache of sixteen tables never has
+    the next."""
 
     def __init__(self, host: Host, user: int) -> None:
         super().__init__()
@@ -360,7 +361,7 @@ def never_gives_up() -> None:
 
 
 def last_words() -> None:
-    """What a first line is refused by comes, whatever was sent behind it."""
+    """The answer that refuses a first line comes, whatever was sent after that line."""
     host = Host("--users", "1")
     seated = Peer(host.port, 1)
     more = '{"do":"rules"}\n' * 1400
@@ -418,7 +419,7 @@ def main() -> int:
         except (OSError, AttributeError) as error:
             check(part.__name__, False, repr(error))
 
-    # What waits for a minute does so beside the others, which are done one after another.
+    # The part that waits for a minute does so beside the others, which are done one after another.
     slow = threading.Thread(target=tried, args=(parts[0],))
     slow.start()
     for part in parts[1:]:

@@ -1,6 +1,6 @@
 """Lines that were changed: in bytes, in the spelling of their JSON, or in what it says.
 
-What a changed line says, if anything, isn't known here: that is told by `lines`, which reads it.
+This script doesn't know what a changed line says, if anything. `lines` reads it and finds out.
 """
 
 from __future__ import annotations
@@ -92,7 +92,7 @@ def copied(value: Any) -> Any:
 
 
 class Breaker:
-    """Changes lines by chance."""
+    """Changes lines at random."""
 
     def __init__(self, random: Random) -> None:
         self.random = random
@@ -116,7 +116,7 @@ class Breaker:
         return self.random.choice(self.bytes)(line)
 
     def spelled(self, value: Any) -> bytes:
-        """A line in any spelling; one that is to load a machine begins mostly as it may be long."""
+        """A line in any spelling. One that is to load a machine mostly begins so that it may be long."""
         speller = Speller(self.random)
         is_load = isinstance(value, dict) and list(value) == ["do", "machine"] and value["do"] == "load"
         if is_load and self.random.random() < 0.8:
@@ -227,7 +227,7 @@ class Breaker:
         return self.random.choice(padded)
 
     def around(self, line: bytes) -> bytes:
-        """Something that is no JSON before a line or behind it, or a CR, which is space."""
+        """Something that is no JSON before a line or after it, or a CR, which is space."""
         more = self.random.choice([*NO_SPACES, b"\r", b"\r", b"\r"])
         return line + more if self.random.random() < 0.7 else more + line
 

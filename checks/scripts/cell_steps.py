@@ -46,19 +46,19 @@ def moved(cells: set[tuple[int, int]], columns: int, rows: int) -> set[tuple[int
 
 
 def drawn(column: int, row: int, picture: str, mark: str = "#") -> set[tuple[int, int]]:
-    """The cells that have this mark in a picture, whose upper left cell is at this column and row."""
+    """The cells that have this mark in a picture with its upper left cell at this column and row."""
     lines = enumerate(picture.split())
     return {(column + i, row + j) for j, line in lines for i, cell in enumerate(line) if cell in mark}
 
 
 def mixed(number: int) -> int:
-    """A number of 64 bits that shows no pattern."""
+    """A random number of 64 bits, made from this one."""
     number = number * 0x9E3779B97F4A7C15 % 2**64
     return (number ^ number >> 29) * 0xBF58476D1CE4E5B9 % 2**64
 
 
 def without_a_pattern(columns: Sequence[int], rows: Sequence[int], eighths: int) -> set[tuple[int, int]]:
-    """So many eighths of an area's cells, more or less, without a pattern."""
+    """About so many eighths of an area's cells, at random."""
     return {(x, y) for x in columns for y in rows if mixed(x + 512 * y + 1) >> 61 < eighths}
 
 
@@ -101,7 +101,7 @@ def print_count(states: set[int], count: int) -> None:
 
 
 def print_picture(cells: set[tuple[int, int]]) -> None:
-    """Rows: as a picture where the cells lie close together, else by their digits."""
+    """Rows: as a picture if the cells lie close together, else by their digits."""
     columns, rows = ([cell[i] for cell in cells] for i in (0, 1))
     if not cells or max(columns) - min(columns) > 72 or max(rows) - min(rows) > 40:
         print_rows(cells, SIDE)

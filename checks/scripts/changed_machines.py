@@ -1,6 +1,6 @@
-"""Saved machines that were changed by chance, so that most of them are the text of no machine.
+"""Saved machines with random changes, so that most of them are the text of no machine.
 
-Which of them are one isn't known here: that is told by the machine, which judges what it is to load.
+This script doesn't know which of them are one: the machine judges what it is to load.
 """
 
 from __future__ import annotations
@@ -25,7 +25,7 @@ def changed(random: Random, machine: dict[str, Any]) -> dict[str, Any]:
 
 
 def without_rows(machine: dict[str, Any]) -> dict[str, Any]:
-    """A machine of few bytes, that is none."""
+    """A text of few bytes that is no machine's."""
     return machine | {"planes": [[], [], [], []]}
 
 

@@ -1,9 +1,8 @@
 """Serves connections by the program, well-behaved ones and others, and looks at what comes back.
 
-PROGRAM is the program `cam6`, and FAILING what fails calls of its sockets (failing.c), as a library that is loaded into it.
-In all that is tried a user goes on beside it, one line after another, and each of his replies must be the one
-that `cam6 alone` gives to the same lines. Says what passed, a line each, and what failed. The last line is
-'N passed, M failed'.
+PROGRAM is the program `cam6`. FAILING is a library that is loaded into it and makes calls of its sockets fail (failing.c).
+Beside all that is tried a user goes on, one line after another. Each of their replies must be the one that `cam6 alone`
+gives to the same lines. Prints what passed, a line each, and what failed. The last line is 'N passed, M failed'.
 """
 
 from __future__ import annotations
@@ -23,7 +22,8 @@ from collections.abc import Callable
 from functools import cache
 from typing import Any
 
-# The program, and what fails calls of its sockets. Other scripts take the hosts and peers of this one.
+# The program, and the library that makes calls of its sockets fail. Other scripts take the hosts and peers of this
+# one.
 program, failing = "", ""
 passed, failed = 0, 0
 
@@ -37,14 +37,14 @@ PARITY = (
 CYCLE = '{"do":"cycle","entries":[{"a":"P","b":"-","grid":"EVEN","phase":0}]}'
 
 
-# What makes a machine blank again that has had these alone.
+# What makes a machine blank again, if it had no other commands than these.
 AFRESH = [
     '{"do":"cycle","entries":[{"a":"-","b":"-","grid":"EVEN","phase":0}]}', '{"do":"drop","name":"P"}',
     '{"do":"side","side":256}']
 
 
 def begin(path: str, library: str = "") -> None:
-    """Has everything here be done by this program, and by this library that fails calls."""
+    """Has everything here done by this program, with this library that makes calls fail."""
     global program, failing
     program, failing = path, library
 
@@ -73,7 +73,7 @@ def check(what: str, is_so: bool, told: Any = "") -> None:
 
 
 def alone(lines: list[str]) -> list[str]:
-    """What the machine alone replies."""
+    """What a private machine replies."""
     text = "".join(line + "\n" for line in lines)
     said = subprocess.run([program], input=text.encode(), stdout=subprocess.PIPE, check=True)
     return said.stdout.decode().splitlines()
@@ -98,7 +98,7 @@ class Peer:
         self.socket.sendall(text.encode() if isinstance(text, str) else text)
 
     def read(self) -> str | None:
-        """The next line, or None where the connection has ended."""
+        """The next line, or None if the connection has ended."""
         line = self.file.readline()
         return line.decode().rstrip("\n") if line.endswith(b"\n") else None
 
@@ -136,7 +136,7 @@ class Host:
         self.first = self.process.stderr.readline().decode()
 
     def status(self) -> tuple[int, str, str] | None:
-        """The exit status, and what was said, where it ends by itself."""
+        """The exit status and what was printed, if it ends by itself."""
         try:
             out, err = self.process.communicate(timeout=PATIENCE)
         except subprocess.TimeoutExpired:
@@ -150,7 +150,7 @@ class Host:
         self.process.communicate()
 
     def of_process(self, name: str) -> int:
-        """A number that the system tells of the process."""
+        """A number that the system knows of the process."""
         with open("/proc/%d/status" % self.process.pid) as lines:
             for line in lines:
                 if line.startswith(name + ":"):
@@ -170,8 +170,8 @@ def replies() -> list[str]:
 
 
 class Steady(threading.Thread):
-    """A user who goes on, one line after another, beside whatever happens; at least for two rounds, of which the first
-    is done when it has begun."""
+    """A user who goes on, one line after another, beside whatever happens; at least for two rounds. The first is
+    done when it has begun."""
 
     def __init__(self, port: int, user: int) -> None:
         super().__init__()
@@ -190,7 +190,7 @@ class Steady(threading.Thread):
         self.begun.set()
 
     def go_on(self) -> None:
-        # Whoever had the seat before has closed, which the host may not have seen yet.
+        # The client that had the seat before has closed, but the host may not have seen that yet.
         peer = seat_when_free(self.port, self.user)
         if peer is None:
             self.wrong = "no seat"
@@ -212,7 +212,7 @@ class Steady(threading.Thread):
 
 
 def seat_when_free(port: int, user: int) -> Peer | None:
-    """A connection of the user's, once he has none any more."""
+    """A connection of the user's, after they have no other one any more."""
     for _ in range(PATIENCE * 50):
         peer = Peer(port, user)
         if peer.said == '{"ok":"seat"}':
@@ -271,7 +271,7 @@ def words_refused() -> None:
 
 
 def has(host: Host, users: int, side: int) -> bool:
-    """Whether so many users have a seat there, and none behind them, and this is the largest side."""
+    """Whether so many users have a seat there, and no more, and this is the largest side."""
     last = Peer(host.port, users)
     sides = [last.ask('{"do":"side","side":%d}' % n) for n in (128, 256, 512)]
     said = [last.said, Peer(host.port, users + 1).said, *sides]
@@ -338,8 +338,8 @@ def closes_within_a_run(port: int) -> None:
 
 
 def runs_behind_a_reset(port: int) -> None:
-    """A peer asks for so many runs at once, and goes. The command that is under way is done, and those whose answers were
-    sent before it was seen that he is gone; no other is."""
+    """A client asks for so many runs at once, and goes. The command that is under way is done, and so are those with
+    answers that were sent before the host saw that the client is gone. No other is done."""
     peer = seat_when_free(port, 1)
     for line in [PARITY, CYCLE, cell(7)]:
         peer.ask(line)
@@ -357,13 +357,13 @@ def runs_behind_a_reset(port: int) -> None:
     peer.close()
 
 
-# Commands that change rows, each with the steps of a run behind it, and what shows all of them.
+# Commands that change rows, each with the steps of a run after it, and what shows all of them.
 CHANGES = [PARITY, CYCLE] + [line for y in range(5) for line in (cell(40 * y), row(40 * y), run(1))]
 SHOWN = '{"do":"plane","plane":0}'
 
 
 def at_once(fails: tuple[str, int, int]) -> tuple[list[str], str]:
-    """What a user is answered who sends all changes at once, and what his plane then is, where a call fails."""
+    """The answers to a user who sends all changes at once, and what their plane then is, if a call fails."""
     host = Host("--users", "1", "--boards", "1", fails=fails)
     said, plane = [], None
     try:
@@ -524,7 +524,7 @@ def without_threads(port: int, host: Host) -> None:
 
 
 def without_descriptors(port: int, host: Host) -> None:
-    """The host may open no file more than it has, and a few. Who isn't accepted yet waits for his answer."""
+    """The host may open only a few more files than it has. A client that isn't accepted yet waits for its answer."""
     process = host.process.pid
     limits = resource.prlimit(process, resource.RLIMIT_NOFILE)
     highest = max(int(number) for number in os.listdir("/proc/%d/fd" % process))

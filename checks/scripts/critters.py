@@ -1,7 +1,7 @@
 #!/usr/bin/env python3
-"""Writes critters.example of cam6_play_sessions/data: the book's Critters, by plain steps over blocks.
+"""Writes critters.example of cam6_try_sessions/data: the book's Critters, by plain steps over blocks.
 
-Shares nothing with the program. Where a flight is known by hand, the steps are compared with it here.
+Shares nothing with the program. If a flight is known by hand, the steps are compared with it here.
 """
 
 from __future__ import annotations
@@ -42,7 +42,7 @@ LEFT = {(4, 65), (3, 66), (3, 67), (4, 68)}
 
 
 def gliders(steps: int, side: int) -> set[tuple[int, int]]:
-    """Two gliders, of which each moves two columns in four steps; by hand."""
+    """Two gliders. Each moves two columns in four steps; by hand."""
     return moved(RIGHT, steps // 2 - 8, side) | moved(LEFT, -(steps // 2), side)
 
 

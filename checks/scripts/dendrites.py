@@ -1,5 +1,5 @@
 #!/usr/bin/env python3
-"""Writes dendrites.example of cam6_play_sessions/data: growth from a seed by cells with one set neighbour, by plain steps.
+"""Writes dendrites.example of cam6_try_sessions/data: growth from a seed by cells with one set neighbour, by plain steps.
 
 Shares nothing with the program. The counts of four neighbours, which are known by a formula, are compared with it here.
 """
@@ -16,7 +16,7 @@ SEED = {(64, 64)}
 
 
 def after(steps: int, ways: list[tuple[int, int]]) -> set[tuple[int, int]]:
-    """What grows of the seed: in each step the other cells that have a single set neighbour are set too."""
+    """What grows from the seed: in each step the other cells that have a single set neighbour are set too."""
     cells = SEED
     for _ in range(steps):
         cells = cells | {cell for cell in near(cells, ways) if set_beside(cell, cells, ways) == 1}

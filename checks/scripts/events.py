@@ -1,7 +1,7 @@
 #!/usr/bin/env python3
-"""Writes schedules_of_events.example of cam6_play_sessions/data: schedules of events by chance, at a host that many users
-share, and their outcomes. With `SEED EVENTS` it writes one schedule by this seed, of so many lines of events; behind
-them come those that bring all users to rest and show their planes.
+"""Writes schedules_of_events.example of cam6_try_sessions/data: random schedules of events, at a host that many users
+share, and their outcomes. With `SEED EVENTS` it writes one schedule by this seed, of so many lines of events. After them
+come those that bring all users to rest and show their planes.
 
 Shares nothing with the program: the outcomes are those of the model in `hosts`, which is in plain steps over cells.
 """
@@ -64,7 +64,7 @@ def rule_line(name: str, half: str, hood: str, minor: str, text: str) -> dict[st
 
 
 def shortened(line: str) -> str:
-    """The line as an example may say it: texts by their words, and how many zeros there are one behind another."""
+    """The line as an example may say it: texts by their words, and how many zeros there are one after another."""
     for text, word in WORDS.items():
         line = line.replace(f'"text":"{text}"', f'"text":"«{word}»"')
     return re.sub("0{9,}|f{9,}", lambda found: f"«{len(found[0])}*{found[0][0]}»", line)
@@ -76,7 +76,7 @@ def plane_masks() -> list[int]:
 
 
 class Asker:
-    """What a user asks for, by chance."""
+    """The random commands of a user."""
 
     def __init__(self, machine: Machine, random: Random) -> None:
         self.machine, self.random = machine, random
@@ -111,7 +111,7 @@ class Asker:
         return {"do": "set", "plane": plane, "row": self.row(), "bits": self.digits()}
 
     def chosen_rules(self) -> Iterator[tuple[str, str]]:
-        """Rules for names: now and then such as can't be undone."""
+        """Rules for names: now and then some that can't be undone."""
         choice = self.random.random()
         among = REVERSIBLE if choice < 0.6 else REVERSIBLE | OTHERS
         if choice > 0.96 and self.machine.torus.side == 128:
@@ -244,7 +244,7 @@ class Schedule:
         print(shortened(f"> {compact(event)} => {compact(outcome)}"))
 
     def bands(self, board: int, number: int) -> Any:
-        """So many bands, of which the last one's outcome is told."""
+        """So many bands. Prints the last one's outcome."""
         if number == 1:
             return self.event("band", board=board)
         for _ in range(number):
@@ -301,7 +301,7 @@ class Schedule:
         self.event(word, **named)
 
     def evictions(self) -> None:
-        """A table leaves the cache, or of a small one all, and once more where there is none."""
+        """A table leaves the cache, or all tables of a small one, and then one more although none is left."""
         times = len(self.host.keys) + 1 if 0 < len(self.host.keys) < 8 and self.random.random() < 0.5 else 1
         for _ in range(times):
             self.event("evict")

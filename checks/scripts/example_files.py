@@ -1,8 +1,8 @@
 """Worked examples, played through the machine and the host of `machines` instead of the program: what comes back must
 be what the file says. So the files judge what `fuzz` is judged by.
 
-Shares nothing with the program. It reads files as docs/GALLERY.md tells, and knows the ways `session`, `readings`,
-`texts`, `tables` and `events`; parts of other ways it passes over.
+Shares nothing with the program. It reads files as docs/EXAMPLES.md says, and knows the ways `session`, `readings`,
+`texts`, `tables` and `events`. It skips parts of other ways.
 """
 
 from __future__ import annotations
@@ -34,7 +34,7 @@ def written_out(text: str, named: dict[str, bytes]) -> bytes:
 
 
 class Rows:
-    """Rows that a file tells, all zeros but for those that it names."""
+    """Rows that a file says, all zeros but for those that it names."""
 
     def __init__(self, side: int) -> None:
         self.side = side
@@ -63,7 +63,7 @@ class Rows:
 
 
 class Part:
-    """Lines that are played in one way: each with whether an LF is sent behind it, and what must come back."""
+    """Lines that are played in one way: each with whether an LF is sent after it, and what must come back."""
 
     def __init__(self, way: str) -> None:
         self.way, self.sent, self.wanted = way, [], b""
@@ -157,7 +157,7 @@ def event_answers(way: str, sent: list[tuple[bytes, bytes]]) -> list[bytes]:
 
 
 def event_answer(replay: Replay, line: bytes) -> bytes:
-    """What comes of a line of events, or of the last of several."""
+    """The outcome of a line of events, or of the last of several."""
     if bands := re.fullmatch(rb"bands ([0-9]+) ([1-9][0-9]*)", line):
         return [replay.answer(b'{"event":"band","board":%s}' % bands[1]) for _ in range(int(bands[2]))][-1]
     if reply := re.fullmatch(rb"reply ([0-9]+) (.*)", line, re.DOTALL):
@@ -185,7 +185,7 @@ def table_answer(text: bytes, half: str, hood: str, minor: str) -> bytes:
 
 
 def answers(part: Part) -> list[bytes] | None:
-    """What comes back of a part's lines, or None where its way isn't known."""
+    """What comes back for a part's lines, or None if its way isn't known."""
     word, *rest = part.way.split()
     if word == "session":
         return session_answers(part.way, part.sent)

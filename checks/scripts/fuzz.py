@@ -1,19 +1,19 @@
 #!/usr/bin/env python3
-"""Lines by chance, of a seed, with what must come back of each, for `cam6 alone` and `cam6 replay`.
+"""Random lines by a seed, with what must come back for each, for `cam6 alone` and `cam6 replay`.
 
     fuzz.py play PROGRAM SEED..        plays the four kinds of each seed, and says how it went
     fuzz.py sent KIND SEED             prints the lines that are sent
     fuzz.py wanted KIND SEED           prints what must come back
-    fuzz.py least PROGRAM KIND SEED    prints few of the lines, of which the program answers the last one otherwise
+    fuzz.py least PROGRAM KIND SEED    prints as few lines as still make the program answer the last one otherwise
     fuzz.py examples FILE..            plays worked examples through the plain machine instead of the program
 
-A `session` is of commands to the machine of one user: all that there are, with rules of all words, cycles, steps,
-looks, machines that are saved and loaded, and each fault. A `replay` is of events by chance at a host of some users and
-boards, who ask for such commands; in the end all are brought to rest, and show their machines. In a `broken_session`
-and a `broken_replay` many lines are changed, in their bytes, in their spelling or in what they say.
+A `session` has commands to the machine of one user: all kinds, with rules of all words, cycles, steps, looks, machines
+that are saved and loaded, and each fault. A `replay` has random events at a host of some users and boards. Its users
+ask for such commands. In the end all are brought to rest, and show their machines. In a `broken_session` and a
+`broken_replay` many lines are changed, in their bytes, in their spelling or in what they say.
 
 Shares nothing with the program: what comes back is what `machines` says, which reads lines and texts by itself,
-evaluates words at each cell, and looks for the state that an undone block was. A line is left out where it would take
+evaluates words at each cell, and looks for the state that an undone block was. A line is left out if it would take
 too long, or exact arithmetic, to say what comes of it.
 """
 
@@ -43,12 +43,12 @@ MOST_CELLS, MOST_BANDS = 170_000, 200
 # How often a line is broken, and one that loads a machine.
 BROKEN, BROKEN_LOAD = 0.4, 0.8
 LINE_FAULTS = [plain({"fault": number}) for number in (1, 2, 3, 4)]
-# A program that takes so many seconds for a play doesn't end at all.
+# A program that takes longer than so many seconds for a play counts as one that never ends.
 PATIENCE = 120
 
 
 class Play:
-    """Lines, what must come back of each, and the words with which the program is begun."""
+    """Lines, what must come back for each, and the arguments of the program."""
 
     def __init__(self, kind: str, seed: str) -> None:
         self.random = Random(f"{kind} {seed}")
@@ -166,7 +166,7 @@ class Schedule(Play):
         self.event("ask", user=user, command=self.askers[user].command())
 
     def evictions(self) -> None:
-        """A table leaves the cache, or of a small one all, and once more where there is none."""
+        """A table leaves the cache, or all tables of a small one, and then one more although none is left."""
         is_whole = len(self.host.keys) < 5 and self.random.random() < 0.5
         for _ in range(len(self.host.keys) + 1 if is_whole else 1):
             self.event("evict")
@@ -183,7 +183,7 @@ class Schedule(Play):
         self.event(word, **named)
 
     def any_load(self) -> None:
-        """A command that would load a machine alone, by itself or in an ask: it is no event."""
+        """A command that loads a machine, by itself or in an ask: it is no event."""
         load = self.askers[1].load()
         self.say(self.random.choice([load, {"event": "ask", "user": 1, "command": load}]))
 
@@ -237,7 +237,7 @@ class Schedule(Play):
             self.show(user)
 
     def to_end(self, board: int) -> None:
-        """The bands that are left; or, where these are too many, the command is taken off the board."""
+        """The bands that are left; or, if these are too many, the command is taken off the board."""
         left = self.user_on(board).left
         if left <= MOST_BANDS:
             self.bands(board, left)
@@ -298,7 +298,8 @@ def differs(program: str, play: Schedule | Session, lines: list[bytes]) -> int |
 
 
 def least(program: str, play: Schedule | Session) -> list[bytes]:
-    """Lines that are left where as many are left out as can be, so that the last one is answered otherwise still."""
+    """The lines that remain after as many as possible are left out, so that the last one is still answered
+    otherwise."""
     first = differs(program, play, play.lines)
     lines = play.lines[: first + 1] if first is not None else []
     size = len(lines) // 2
@@ -312,7 +313,7 @@ def least(program: str, play: Schedule | Session) -> list[bytes]:
 
 
 def numbers(lines: list[bytes]) -> str:
-    """How often each fault and each refusal is told."""
+    """How often each fault and each refusal comes."""
     found = Counter(number for line in lines for number in re.findall(rb'"(?:fault|refused)":([0-9]+)', line))
     return " ".join(f"{int(number)}:{count}" for number, count in sorted(found.items(), key=lambda pair: int(pair[0])))
 

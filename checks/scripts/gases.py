@@ -1,7 +1,7 @@
 #!/usr/bin/env python3
-"""Writes gases.example of cam6_play_sessions/data: particles of the book's two lattice gases, by plain steps over blocks.
+"""Writes gases.example of cam6_try_sessions/data: particles of the book's two lattice gases, by plain steps over blocks.
 
-Shares nothing with the program. Where a flight is known by hand, the steps are compared with it here.
+Shares nothing with the program. If a flight is known by hand, the steps are compared with it here.
 """
 
 from __future__ import annotations

@@ -1,8 +1,8 @@
 """Sends a million lines to the program, alone and over a connection, and looks whether its memory grows.
 
 The lines are of a byte each, and then commands of all kinds, again and again; LINES is how many are sent, if it
-isn't a million. Each reply is compared: with what is said by hand, and with the plain machine of `hosts`. Tells the
-memory that the program holds behind the first hundredth of the lines and behind all. The last line is 'N passed, M
+isn't a million. Each reply is compared: with what is said by hand, and with the plain machine of `hosts`. Prints the
+memory that the program holds after the first hundredth of the lines and after all. The last line is 'N passed, M
 failed'.
 """
 
@@ -35,7 +35,7 @@ def row(number: int) -> dict[str, Any]:
     return {"do": "row", "plane": 0, "row": number}
 
 
-# What is done again and again: behind it the machine is what it was after the first time.
+# What is done again and again: after it the machine is what it was after the first time.
 ROUND = [
     PARITY, IDLE | {"entries": [{"a": "P", "b": "-", "grid": "EVEN", "phase": 0}]}, cell(1), {"do": "run", "n": 1},
     IDLE, {"do": "drop", "name": "P"}, {"do": "rules"}, {"do": "clear", "plane": 0},
@@ -108,7 +108,8 @@ def are_answered(lines: Lines, times: int, send: Callable[..., Any], read: Calla
 def is_held(
     name: str, lines: Lines, number: int, process: int, send: Callable[..., Any], read: Callable[..., Any]
 ) -> None:
-    """Sends the lines until there were so many: whether all came back, and no more memory is held in the end."""
+    """Sends the lines until there were so many. Returns whether all came back, and no more memory is held in the
+    end."""
     times = -(-number // lines.number)
     early = max(1, times // 100)
     if not are_answered(lines, early, send, read):

@@ -1,5 +1,5 @@
 #!/usr/bin/env python3
-"""Writes numbers_in_events.example, keys_in_events.example and hostile_events.example of cam6_play_sessions/data: events
+"""Writes numbers_in_events.example, keys_in_events.example and hostile_events.example of cam6_try_sessions/data: events
 in every spelling, and lines that are none. Each part ends with all users at rest, and with looks at their machines.
 
 Shares nothing with the program: what each spelling says stands in `spellings`, by hand, and outcomes are those of the
@@ -47,7 +47,7 @@ def lease(user: int = 1, board: int = 0) -> dict[str, Any]:
 
 
 RUN = ask({"do": "run", "n": 20})
-# Each event, and what is told before it, so that it can happen.
+# Each event, and what comes before it, so that it can happen.
 EVENTS = [
     (ask(RULES), []),
     (lease(), [RUN]),
@@ -63,7 +63,7 @@ EVENTS = [
 class Events(ToldEvents):
     def __init__(self, name: str, *comments: str) -> None:
         named = {"RULE": compact(RULE), "CYCLE": compact(CYCLE), "REPLY": '{"ok":"collect","reply":'}
-        super().__init__("cam6_play_sessions", name, *comments, SOURCE, **named)
+        super().__init__("cam6_try_sessions", name, *comments, SOURCE, **named)
 
     def begin(self, title: str, *events: dict[str, Any]) -> None:
         """Two users with a ball each; then these events."""
@@ -159,7 +159,7 @@ def keys() -> Events:
 
 
 def as_said(event: dict[str, Any], pairs: list[tuple[str, Any]]) -> int | dict[str, Any]:
-    """The event that these keys say, of which the last ones count; or that it is none."""
+    """The event that these keys say, or that they say none. If a key is there twice, the last one counts."""
     said = dict(pairs)
     is_read = said.keys() == event.keys() and all(
         said[key] == event[key] or said[key] == OTHERS.get(key, said) for key in said

@@ -1,10 +1,10 @@
 #!/usr/bin/env python3
 """Writes numbers_in_lines.example, texts_in_lines.example, keys_in_lines.example, blanks_in_lines.example,
-nested_lines.example and longest_lines.example of cam6_play_sessions/data: commands in every spelling, and lines that
+nested_lines.example and longest_lines.example of cam6_try_sessions/data: commands in every spelling, and lines that
 are none. Each session ends with looks at the machine, which no refused line has changed.
 
 Shares nothing with the program: what each spelling says stands in `spellings`, by hand, and replies are those of the
-machine alone in `hosts`.
+private machine in `hosts`.
 """
 
 from __future__ import annotations
@@ -68,7 +68,7 @@ COMMANDS = [
 class Lines(ToldLines):
     def __init__(self, name: str, *comments: str, **named: str) -> None:
         named = {"BALLS": BALLS, "CYCLE": compact(CYCLE), "MAP": compact(PICTURE[-1])} | named
-        super().__init__("cam6_play_sessions", name, *comments, SOURCE, **named)
+        super().__init__("cam6_try_sessions", name, *comments, SOURCE, **named)
 
     def begin(self, title: str | None = None, is_cycled: bool = True) -> None:
         """A blank machine with a rule, and with pictures; a cycle goes round once, so that its position isn't 0."""
@@ -195,7 +195,7 @@ def words(told: Lines) -> None:
 
 
 def all_escaped(value: Any, spelling: str) -> str:
-    """A value whose keys and texts are escapes alone."""
+    """A value with keys and texts of nothing but escapes."""
     if isinstance(value, str):
         return f'"{escaped(value, spelling)}"'
     if isinstance(value, list):
@@ -246,7 +246,7 @@ def settings(told: Lines) -> None:
 
 
 def with_setting(template: str, text: str) -> str:
-    """A line with a setting, and with the last entry of the cycle where it is one."""
+    """A line with a setting, and with the last entry of the cycle if it is one."""
     return template.replace("%s", text, 1).replace("%s", compact(CYCLE["entries"][1]))
 
 
@@ -280,7 +280,7 @@ def keys() -> Lines:
 
 
 def as_said(command: dict[str, Any], pairs: list[tuple[str, Any]]) -> int | dict[str, Any]:
-    """The command that these keys say, of which the last ones count; or that it is none."""
+    """The command that these keys say, or that they say none. If a key is there twice, the last one counts."""
     said = dict(pairs)
     is_read = said.keys() == command.keys() and all(
         said[key] == command[key] or said[key] == OTHERS.get(key, said) for key in said
@@ -572,7 +572,7 @@ def long_lines(size: int) -> Iterator[tuple[str, Any]]:
 
 
 def long_rules() -> Iterator[tuple[str, dict[str, Any]]]:
-    """Rules with texts of 8,192 bytes and of one more, and lines of 16,384 that say a text, or none."""
+    """Rules with texts of 8,192 bytes and of one more, and lines of 16,384 bytes that say a text, or none."""
     front, text, ok = before(KEPT, "text"), ": R ;", {"ok": "rule"}
     too_long = {"fault": 28, "token": 0}
     for size, answer in [(8192, ok), (8193, too_long), (16_000, too_long)]:

@@ -1,10 +1,10 @@
 #!/usr/bin/env python3
-"""Writes machines_never_saved.example, loads_in_lines.example and long_loads.example of cam6_play_sessions/data: lines
+"""Writes machines_never_saved.example, loads_in_lines.example and long_loads.example of cam6_try_sessions/data: lines
 that would load what is the text of no machine, lines that say a machine in another spelling than the plainest, and
 lines that say none. Each session ends with looks at the machine, which no refused line has changed.
 
-Shares nothing with the program: which fault a line has is told here, by hand; what each spelling says stands in
-`spellings`. Replies are those of the machine alone in `hosts`.
+Shares nothing with the program: which fault a line has is said here, by hand; what each spelling says stands in
+`spellings`. Replies are those of the private machine in `hosts`.
 """
 
 from __future__ import annotations
@@ -35,7 +35,7 @@ class Loads(ToldMachines):
         super().__init__(name, *comments, SOURCE)
 
     def begin(self, title: str, limit: int = 256) -> None:
-        """A machine with a ball, and with pictures where there is room for them; its cycle has gone on by one."""
+        """A machine with a ball, and with pictures if there is room for them; its cycle has gone on by one."""
         self.title, self.limit = title.removesuffix("."), limit
         self.session(f"{self.title}.", limit)
         self.do(RULE, CYCLE, *(PICTURE if limit > 128 else PICTURE[2:]), STEP)
@@ -271,7 +271,7 @@ def lines() -> Loads:
 
 
 def tokens_of(line: str) -> list[str]:
-    """The words of a line, of which no text has a bracket, a comma, a colon or a quote."""
+    """The words of a line. None of its texts has a bracket, a comma, a colon or a quote."""
     for sign in '[]{},:"':
         line = line.replace(sign, f"\n{sign}\n")
     words, quoted = [], None
@@ -556,7 +556,7 @@ def others(told: Loads) -> None:
 
 
 def ends(told: Loads) -> None:
-    """Lines without an LF, each alone in its input or behind others."""
+    """Lines without an LF, each alone in its input or after others."""
     for line, meaning in [
         (said(load(blank(128))), load(blank(128))), (said(load(blank(128)))[:-1], NO_JSON),
         (HEAD + " " * LINE_LIMIT, NO_JSON), (HEAD[:-1] + " " * LINE_LIMIT, TOO_LONG), (HEAD, NO_JSON),

@@ -1,10 +1,10 @@
-"""The model of a host that many users share: machines alone, and what an event changes and answers.
+"""The model of a host that many users share: private machines, and what an event changes and answers.
 
 Shares nothing with the program. A machine is a set of cells; a step evaluates a rule's words at each cell, on what the
-cell sees by `wirings`, and a step undone looks for the state that each block was, by `undoing`. Nobody else's commands,
-no band and no board is in a machine: a command is done as a whole when it is asked for. Of what a board does there are
-two numbers, how many bands are left and how many would be left if all were lost that isn't at home; and of the cache
-there are its keys, in the order of their last use.
+cell sees by `wirings`, and a step undone looks for the state that each block was, by `undoing`. A machine has no other
+user's commands, no bands and no boards: a command is done as a whole when it is asked for. A board has two numbers: how
+many bands are left, and how many would be left if all that isn't at home were lost. The cache has its keys, in the
+order of their last use.
 """
 
 from __future__ import annotations
@@ -25,9 +25,9 @@ NO_RULES = {
 
 
 class Rule(undoing.Rule):
-    """A rule's words at a cell. What it sees is a number: CENTER is bit 0 and CENTER' bit 4, as in the state of a block
-    of which it is the first place, and each other name of the rule has a bit behind them. `blocks` is the rule at the
-    places of whole blocks."""
+    """A rule's words at a cell. What it sees is a number: CENTER is bit 0 and CENTER' bit 4, as in the state of a
+    block with this cell at its first place. Each other name of the rule has a bit after them. `blocks` is the rule
+    at the places of whole blocks."""
 
     def __init__(self, half: str, hood: str, minor: str, text: str) -> None:
         super().__init__(half, hood, minor, text)
@@ -126,7 +126,7 @@ def sorted_by_keys(values: dict[str, Any]) -> dict[str, Any]:
 
 
 class Machine:
-    """A user's machine. Each command's answer is what its reply tells besides its word, or the number of its fault."""
+    """A user's machine. Each command's answer is what its reply has besides its word, or the number of its fault."""
 
     def __init__(self, limit: int) -> None:
         self.limit, self.torus = limit, self.blank(min(256, limit))
@@ -137,7 +137,7 @@ class Machine:
         return Torus(side)
 
     def rule(self, half: str, hood: str, minor: str, text: str) -> Rule:
-        """The rule of a text, or what is answered where it is none."""
+        """The rule of a text, or what is answered if it isn't one."""
         return NO_RULES.get(text) or rule_of(half, hood, minor, text)
 
     def do(self, command: dict[str, Any]) -> dict[str, Any]:
@@ -310,7 +310,7 @@ class Machine:
         return {}
 
     def saved(self, machine: dict[str, Any]) -> Machine | None:
-        """The machine that was saved so, whatever its limit; or None, where none was."""
+        """The machine that was saved so, whatever its limit; or None, if none was."""
         new, cycle = type(self)(max(SIDES)), machine["cycle"]
         new.torus = self.torus_of(machine.get("side", 256), machine["planes"])
         if new.torus is None:
@@ -324,7 +324,7 @@ class Machine:
         return new if new.position < max(1, len(cycle)) else None
 
     def torus_of(self, side: int, planes: list[list[str]]) -> Torus | None:
-        """The torus of this side with these planes, or None where there is none."""
+        """The torus of this side with these planes, or None if there is none."""
         if side not in SIDES or any(len(rows) != side for rows in planes):
             return None
         if any(len(digits) != side // 4 for rows in planes for digits in rows):
@@ -338,14 +338,14 @@ class Machine:
 
 
 class User:
-    """A user, who rests, is queued, is out on a board, or whose command is finished."""
+    """A user, who rests, is queued, is out on a board, or has a finished command."""
 
     def __init__(self, limit: int) -> None:
         self.machine, self.status = Machine(limit), "resting"
         self.left = self.home = 0
 
     def ask(self, command: dict[str, Any]) -> None:
-        """Does the whole command, whose reply is given when it is finished; the step of a command has so many bands."""
+        """Does the whole command. Its reply is given when it is finished. The step of a command has so many bands."""
         self.reply = self.machine.do(command)
         self.bands = self.machine.torus.side // 16
         self.left = self.home = command["n"] * self.bands if "position" in self.reply else 0
@@ -353,7 +353,7 @@ class User:
         self.is_back = command["do"] == "back"
 
     def tables(self) -> list[tuple[tuple[str, ...], bool]]:
-        """The keys of the tables that the command wants, in their order."""
+        """The keys of the tables that the command needs, in their order."""
         return [(self.machine.rules[name].key, self.is_back) for _, _, name in self.machine.uses()]
 
 
@@ -380,7 +380,7 @@ class Host:
         self.capacity, self.keys = capacity, []
 
     def is_refused(self, number: int, user: int | None, board: int | None) -> bool:
-        """Whether the condition of a refusal holds; of an event that names no user or no board it is None."""
+        """Whether the condition of a refusal holds. The user or board is None if the event names none."""
         if number == 101:
             return user not in [None, *self.users] or board not in [None, *self.boards]
         return {

@@ -1,4 +1,4 @@
-"""Lines: what one of bytes says as JSON, and which command or event it is; or its fault.
+"""Lines: what the bytes of one say as JSON, and which command or event that is; or the line's fault.
 
 Shares nothing with the program. The reader of JSON is as strict as serde_json is: a text is UTF-8 without a byte order
 mark, no control character stands by itself in a string, a surrogate has its other half, lists and objects are 127 deep
@@ -153,7 +153,7 @@ class Reader:
 
 
 def is_too_large(digits: bytes, whole: int, exponent: bytes) -> bool:
-    """Whether the digits, of which so many stand before the point, are too large for a float with this exponent."""
+    """Whether the digits, with so many of them before the point, are too large for a float with this exponent."""
     first, power = digits.lstrip(b"0"), exponent.lstrip(b"+-").lstrip(b"0") or b"0"
     if not first or len(power) > 9:
         return bool(first) and not exponent.startswith(b"-")
@@ -259,7 +259,7 @@ COMMANDS = {
 
 
 def is_one_of(value: Any, key: str, table: dict[str, dict[str, Callable[..., Any]]]) -> bool:
-    """Whether the value is an object whose key has a word of the table, and the keys of the word."""
+    """Whether the value is an object that has a word of the table at its key, and the keys of the word."""
     word = value.get(key) if isinstance(value, dict) else None
     return is_text(word) and word in table and is_object(value, **{key: is_text}, **table[word])
 
@@ -316,7 +316,7 @@ def read_line(line: bytes, is_said: Callable[..., Any]) -> int | dict[str, Any]:
 
 
 def lines_of(text: bytes) -> list[bytes]:
-    """The lines of bytes, of which the last may lack its LF."""
+    """The lines of bytes. The last one may lack its LF."""
     lines = text.split(b"\n")
     return lines if lines[-1] else lines[:-1]
 

@@ -1,9 +1,9 @@
 """A machine, and a host that many users share, for whatever lines may say: rules of any text, and planes of any cells.
 
-Shares nothing with the program. What else a command does, and what an event does, is said by `hosts`; here a rule is
-read by `texts`, and a torus is four planes of rows. A step looks, row by row, at what the cells see under each name of
-the rule, and asks the rule's words at each cell; what they said to the same sight is kept. A step undone looks for the
-state that each block was.
+Shares nothing with the program. `hosts` says what else a command does, and what an event does. Here `texts` reads a
+rule, and a torus is four planes of rows. A step looks, row by row, at what the cells see under each name of the rule,
+and asks the rule's words at each cell; what they said to the same sight is kept. A step undone looks for the state
+that each block was.
 """
 
 from __future__ import annotations
@@ -59,7 +59,7 @@ class Rule(undoing.Rule):
 
 @cache
 def rule_of(half: str, hood: str, minor: str, text: str) -> Rule | dict[str, int]:
-    """The rule of a text, or what is answered where it is none."""
+    """The rule of a text, or what is answered if it isn't one."""
     try:
         rule = Rule(half, hood, minor, text)
     except TextFault as fault:
@@ -240,7 +240,7 @@ class User(hosts.User):
 
 
 class Host(hosts.Host):
-    """The host, whose machines do their steps once these are finished."""
+    """The host. Its machines do their steps after these are finished."""
 
     def __init__(self, limits: list[int], boards: int, capacity: int) -> None:
         super().__init__([], boards, capacity)

@@ -1,9 +1,9 @@
 #!/usr/bin/env python3
-"""Writes many_users.example of cam6_play_places/data: 32 users with rules, pictures and runs of their own, which eight
-workers do at once while a gate takes commands off boards by chance.
+"""Writes many_users.example of cam6_try_places/data: 32 users with rules, pictures and runs of their own, which eight
+workers do at once while a gate takes commands off boards at random.
 
-Shares nothing with the program: what each user is answered is what a machine alone of `hosts` does, in plain steps over
-cells. Nobody else's commands, no band and no board is in it, and whatever the gate answers is the same to it.
+Shares nothing with the program: each user's replies are those of a private machine of `hosts`, in plain steps over
+cells. It has no other user's commands, no bands and no boards, and does the same whatever the gate answers.
 """
 
 from __future__ import annotations
@@ -41,7 +41,7 @@ BACK = (4, 12, 24)
 
 
 def shortened(line: str) -> str:
-    """The line as an example may say it: texts by their words, and how many zeros there are one behind another."""
+    """The line as an example may say it: texts by their words, and how many zeros there are one after another."""
     for word, (_, _, _, text) in WAYS.items():
         line = line.replace(f'"text":"{text}"', f'"text":"«{word}»"')
     return re.sub("0{9,}|f{9,}", lambda found: f"«{len(found[0])}*{found[0][0]}»", line)
@@ -69,7 +69,7 @@ class User:
         self.line("user", command, compact(self.machine.do(command)))
 
     def entries(self) -> list[dict[str, Any]]:
-        """The user's rules on the even grid, and behind it those of blocks on the odd one."""
+        """The user's rules on the even grid, and after it those of blocks on the odd one."""
         entry = {"a": "-", "b": "-", "grid": "EVEN", "phase": self.number % 4}
         for word in self.words:
             entry[WAYS[word][0].lower()] = word

@@ -20,7 +20,7 @@ BLINKER = "#CXRLE Pos=-1,254\nx = 3, y = 1\n3o!\n"
 WIRE = "x = 6, y = 3, rule = WireWorld\n.4C$C..AB\nC$.4C!\nbehind the end there may be anything\n"
 SPACED = "#C\n#P 2 -3\n\n  x=4,y = 5 , rule = B3/S23\n  b2o\tb $\r\n3$ 4o\n!\n"
 
-# Words that are refused, and replies that show no frames: the status, and what stands on standard error.
+# Arguments that are refused, and replies that show no frames: the status, and what stands on standard error.
 ROW = '{"colours":"' + 128 * "0" + '","ok":"colours"}\n'
 FAULTS = [
     (["--planes", ""], "", 2, "cam6_rle: --planes wants one to four of the digits 0 to 3"),
@@ -34,7 +34,7 @@ FAULTS = [
     (["--replies"], 127 * ROW, 3, "cam6_rle: line 127 breaks off a frame\n"),
 ]
 
-# Texts that are no patterns: the text, the words, and the line, the column and the cause.
+# Texts that are no patterns: the text, the arguments, and the line, the column and the cause.
 MALFORMED = [
     ("", [], (0, 1, "a header")),
     ("#C only a remark\n", [], (1, 1, "a header")),
@@ -138,7 +138,7 @@ class Tally:
         self.check(f"{words} with {text[:40]!r}: {err!r}", (found, out) == (status, "") and told in err)
 
     def there_and_back(self, name: str, states: dict[tuple[int, int], int], side: int, rule: str = "") -> None:
-        """Planes by chance as replies, their text, and the lines that it says."""
+        """Random planes as replies, their text, and the lines that it says."""
         replies = replies_of(states, side)
         words = ["--replies"] + (["--rule", rule] if rule else [])
         status, text, err = self.run(self.rle, words, replies)

@@ -1,9 +1,9 @@
 #!/usr/bin/env python3
-"""Writes schedules.example of cam6_play_places/data: runs and backs under schedules without a pattern, on a board
-that loses its image now and then and from which the command is taken off, by whole steps over blocks.
+"""Writes schedules.example of cam6_try_places/data: runs and backs under random schedules, on a board that loses its
+image now and then and has the command taken off it, by whole steps over blocks.
 
-Shares nothing with the program: it knows no bands but two numbers, how many are left and how many would be left
-if all were lost that isn't at home.
+Shares nothing with the program: it knows no bands but two numbers, how many are left, and how many would be left if
+all that isn't at home were lost.
 """
 
 from __future__ import annotations
@@ -64,7 +64,7 @@ class User(Session):
         print(f"> finish => {compact(reply)}")
 
     def schedule(self, count: Left) -> None:
-        """Leases up to one at whose end no band is left."""
+        """Leases up to one that leaves no band."""
         losses = 2
         while True:
             print(f"> lease {self.random.randrange(256)} => left {count.left}")

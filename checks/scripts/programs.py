@@ -1,6 +1,6 @@
 #!/usr/bin/env python3
-"""Writes tables_with_programs.example of cam6_play_sessions/data: steps by rules whose tables are made by few operations
-on words, by some more, or by no short list of them, under each of the thirty wirings.
+"""Writes tables_with_programs.example of cam6_try_sessions/data: steps by rules with tables that few operations on
+words make, or some more, or no short list of them, under each of the thirty wirings.
 
 Shares nothing with the program. Replies are those of the machine of `machines`, which asks a rule's words at each cell;
 there is no table, no list of operations and no band of rows.
@@ -22,7 +22,7 @@ from told_lines import Told, compact, shown, write_examples
 from undoing import TM, TURNING
 
 SIDES = (128, 256, 512)
-# How many steps make planes without a pattern of a row in sixteen.
+# How many steps make random planes from a row in sixteen.
 MIXING = 12
 # The rows that are looked at after one step, after two and after seventeen: those beside the edges of the torus and
 # beside those of the first sixteen rows, and some others.
@@ -40,7 +40,7 @@ RULE, TEXT = '{{"do":"rule","half":"{}","hood":"', '","text":": '
 
 
 def drawn(seed: int, count: int, most: int) -> str:
-    """Numbers without a pattern, as a list of cases."""
+    """Random numbers, as a list of cases."""
     random = Random(seed)
     return "{ " + " ".join(str(random.randint(0, most)) for _ in range(count)) + " }"
 
@@ -63,7 +63,7 @@ def joined(names: list[str], word: str) -> str:
 
 
 def number(word: str, names: list[str]) -> str:
-    """A definition of the number whose bits the names show."""
+    """A definition of the number with the bits that the names show."""
     return f": {word} " + " ".join([names[0], *(f"DUP + {name} +" for name in names[1:])]) + " ;"
 
 
@@ -101,11 +101,11 @@ class Texts:
         return f": L {left} ; : M {right} ; : R {low} CENTER XOR {self.low} {high} CENTER' XOR {self.high} ;"
 
     def pairs(self) -> str:
-        """Both bits without a pattern, by eight names."""
+        """Both bits at random, by eight names."""
         return f"{number('I', self.names[:-2][-8:])} : R I «PAIRS» {self.both} ;"
 
     def halves(self) -> str:
-        """The lower bit without a pattern, by seven names."""
+        """The lower bit at random, by seven names."""
         return f"{number('I', self.names[::-1][:7])} : R I «HALVES» CENTER XOR {self.low} ;"
 
     def products(self) -> str:
@@ -115,7 +115,7 @@ class Texts:
         return f": R {joined(both, 'XOR')} {self.low} {self.minor[1]} CENTER XOR {self.high} ;"
 
     def without_structure(self) -> str:
-        """Two numbers by six names each are compared, or by six and four where there are no more."""
+        """Two numbers by six names each are compared, or by six and four if there are no more."""
         first, second = number("I", self.names[:6]), number("J", self.names[6:])
         low, high = "I «LEFT» J «RIGHT» < CENTER' XOR", "I «DOWN» J «UP» < CENTER XOR"
         return f"{first} {second} : R {low} {self.low} {high} {self.high} ;"
@@ -145,7 +145,7 @@ class Steps(Told):
     """The sessions of the example."""
 
     def __init__(self, name: str, *comments: str) -> None:
-        super().__init__("cam6_play_sessions", name, *comments)
+        super().__init__("cam6_try_sessions", name, *comments)
         for word, cases in LISTS.items():
             self.let(word, cases)
         # Between two rows that come back, between a row and a count, and between two counts.
@@ -178,7 +178,7 @@ class Steps(Told):
             self.told(compact(command), command)
 
     def fill(self) -> None:
-        """Planes without a pattern, which are made alike in each session of a side."""
+        """Random planes, which are made alike in each session of a side."""
         if self.side not in self.filled:
             lines, replies = self.mixed()
             self.let(f"FILL{self.side}", LF.join(lines))
@@ -237,7 +237,7 @@ class Steps(Told):
             self.rule(f"{half}{i}", half, hood, minor, text)
 
     def cycle(self, *entries: tuple[str, str, str, int]) -> None:
-        """A cycle, which is told once."""
+        """A cycle, which is said once."""
         key = compact({"do": "cycle", "entries": [entry_of(*entry) for entry in entries]})
         if key not in self.cycles:
             self.cycles[key] = f"CYCLE{len(self.cycles)}"
@@ -252,7 +252,7 @@ class Steps(Told):
         return f'{shown_rows}{counts},"ok":"count"}}'
 
     def look(self, rows: tuple[int, ...], name: str | None = None) -> None:
-        """Rows of all planes, and how many cells each plane has. What has a name is told once."""
+        """Rows of all planes, and how many cells each plane has. What has a name is said once."""
         if rows not in self.looks:
             self.looks[rows] = f"LOOK{len(self.looks)}"
             lines = [{"do": "row", "plane": plane, "row": y} for plane in range(4) for y in rows]
@@ -285,7 +285,7 @@ def nine_entries(shift: int) -> list[tuple[str, str, str, int]]:
 
 
 def other(hood: str, minor: str) -> tuple[str, str]:
-    """The wiring of half B beside one of half A, by which each of the fifteen is had by both halves."""
+    """The wiring of half B beside one of half A, so that both halves have each of the fifteen."""
     hoods, minors = list(wirings.HOODS), list(wirings.MINORS)
     return hoods[(hoods.index(hood) + 1) % 5], minors[(minors.index(minor) + 1) % 3]
 
@@ -347,7 +347,7 @@ def shortest(steps: Steps) -> None:
 
 
 def changed_by_upper() -> str:
-    """The lower plane is changed by what the upper one shows, by a list without a pattern."""
+    """The lower plane is changed by what the upper one shows, by a random list."""
     names = ["CENTER'", "OPP'", "CW'", "CCW'", "&PHASE", "&PHASE'"]
     return f"{number('I', names)} : R CENTER I «BITS» XOR >PLN0 ;"
 
@@ -359,7 +359,7 @@ def changed_by_lower() -> str:
 
 
 def there_and_back(steps: Steps) -> None:
-    """Seventeen steps and back to the start, into the past behind it, and to the start again."""
+    """Seventeen steps and back to the start, into the past before it, and to the start again."""
     for side in SIDES:
         steps.session("Rules of blocks, there and back.", side)
         steps.fill()

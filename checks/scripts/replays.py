@@ -1,26 +1,26 @@
 #!/usr/bin/env python3
-"""Plays the sessions of worked examples at a host that two users share, under schedules by chance, and compares all
-that comes back.
+"""Plays the sessions of worked examples at a host that two users share, under random schedules, and compares all that
+comes back.
 
     replays.py PROGRAM PLAYER EXAMPLE..                     plays each session by three seeds, and says how it went
     replays.py print PROGRAM PLAYER EXAMPLE SESSION SEED    prints a play: its lines, and what must come back
 
-A session's user is one of the two, by chance; the other one has commands of his own, with rules of the same names.
-Boards do their steps band by band, commands are taken off them inside a step and behind whole ones, boards fail and
+A session's user is one of the two, at random. The other one has commands of their own, with rules of the same names.
+Boards do their steps band by band, commands are taken off them inside a step and after whole ones, boards fail and
 are repaired, tables leave the cache, and events are refused. Each user must be given the replies that `cam6 alone`
-gives to his lines, one by one. All other outcomes are those of the model in `hosts`, here without machines: a command
-has as many bands as its steps, if `alone` replies that they are done, and of a host it is known who has which board,
-how many bands are left, and how many would be left if all were lost that isn't at home. Whether a table is kept isn't
-known, so that an evict may be refused or not; nothing else may be otherwise.
+gives to their lines, one by one. All other outcomes are those of the model in `hosts`, here without machines: a
+command has as many bands as its steps, if `alone` replies that they are done. Of a host the model knows who has which
+board, how many bands are left, and how many would be left if all that isn't at home were lost. It doesn't know
+whether a table is kept, so an evict may be refused or not. Nothing else may be otherwise.
 
-A line that is JSON and no command is asked for too, and comes back at once with its fault. One that is no JSON stands
-by itself, with the fault that it has alone, and so does one that is no command and that no ask can hold, as it is too
-long or nested too deep. A command that no ask can hold is left out, which is said: so is each that loads a machine. One
+A line that is JSON and no command is asked for too, and comes back at once with its fault. A line that isn't JSON
+stands by itself, with the fault that it has alone. So does one that is no command and too long or nested too deep for
+an ask. A command that no ask can hold is left out, and so is each that loads a machine. The script prints this. A line
 that would load a machine if it were spelled otherwise is no command in an ask, and no event by itself.
 
 A play has about 300,000 bands at most: boards lose no more than the session has, nor more than makes up that number,
-where these are more than 1,000. A session of more bands is played by one seed, and one of more than 1,500,000 by none,
-which is said.
+if these are more than 1,000. A session of more bands is played by one seed, and one of more than 1,500,000 by none.
+The script prints this.
 """
 
 from __future__ import annotations
@@ -48,7 +48,7 @@ LINE_LIMIT, MOST_NESTED = 16_384, 127
 LINE_FAULTS = [b'{"fault":%d}' % number for number in (1, 2, 3, 4)]
 NO_COMMAND, OTHER_SPELLING = LINE_FAULTS[2:]
 EVICTED = (b'{"ok":"evict"}', b'{"refused":109}')
-# Of a play: replies that are compared, bands, commands taken off inside a step and behind one, and lost by failures.
+# Of a play: replies that are compared, bands, commands taken off inside a step and after one, and lost by failures.
 COUNTED = ("replies", "bands", "inside", "behind", "lost")
 
 
@@ -63,7 +63,7 @@ class Command:
 
 
 def lines_of(text: bytes) -> list[bytes]:
-    """The lines of a text, of which the last may lack its LF."""
+    """The lines of a text. The last one may lack its LF."""
     lines = text.split(b"\n")
     return lines if lines[-1] else lines[:-1]
 
@@ -102,7 +102,7 @@ def ran(program: str, words: list[str], lines: list[bytes]) -> tuple[bytes, int]
 
 
 def alone(program: str, limit: int, lines: list[bytes]) -> list[tuple[bytes, bytes]]:
-    """Each line with what a machine alone answers to it."""
+    """Each line with what a private machine answers to it."""
     text, status = ran(program, ["alone", "--side", str(limit)], lines)
     answers = lines_of(text)
     if len(answers) != len(lines) or status != 0:
@@ -167,7 +167,7 @@ def limits_of(player: str, path: str) -> list[int]:
 
 
 class Other:
-    """What the other user asks for, by chance: rules, pictures, a few steps, and what comes of them."""
+    """What the other user asks for, at random: rules, pictures, a few steps, and what comes of them."""
 
     def __init__(self, random: Random, session: Session) -> None:
         self.random, self.limit = random, session.limit
@@ -208,7 +208,7 @@ class Other:
 
 
 class User:
-    """A user, who rests, is queued, is out on a board, or whose command is finished. All his replies are known."""
+    """A user, who rests, is queued, is out on a board, or has a finished command. All their replies are known."""
 
     def __init__(self, commands: list[Command]) -> None:
         self.commands, self.status = deque(commands), "resting"
@@ -220,7 +220,7 @@ class User:
         self.status = "queued" if self.left else "finished"
 
     def may_ask(self) -> bool:
-        """Whether he has a command that he may ask for now, or a line that has its fault at any time."""
+        """Whether the user has a command that they may ask for now, or a line that has its fault at any time."""
         return bool(self.commands) and (self.status == "resting" or self.commands[0].is_fault)
 
     def tables(self) -> list[Any]:
@@ -228,7 +228,7 @@ class User:
 
 
 class Host(hosts.Host):
-    """The model, in which it isn't known which tables are kept."""
+    """The model, which doesn't know which tables are kept."""
 
     def __init__(self, users: list[User], boards: int) -> None:
         super().__init__([], boards, 0)
@@ -239,7 +239,7 @@ class Host(hosts.Host):
 
 
 class Play:
-    """Lines, and what must come back of each, until both users rest and have no more to ask for."""
+    """Lines, and what must come back for each, until both users rest and have no more to ask for."""
 
     def __init__(self, random: Random, users: list[User], boards: int, spare: int) -> None:
         self.random, self.host, self.spare = random, Host(users, boards), spare
@@ -351,7 +351,7 @@ class Play:
 
 
 def play_of(program: str, session: Session, seed: int) -> tuple[Play, list[str]]:
-    """A play, and the words with which the program plays it."""
+    """A play, and the arguments with which the program plays it."""
     random = Random(f"{session.name} {seed}")
     others, _ = commands_of(program, session.limit, Other(random, session).lines)
     users = [User(session.commands), User(others)]
@@ -367,7 +367,7 @@ def is_wanted(wanted: bytes | tuple[bytes, bytes], came: bytes) -> bool:
 
 
 def how_it_went(program: str, session: Session, seed: int) -> str:
-    """That all came back, with the numbers of what is counted; or what else did."""
+    """That all came back, with the numbers of what is counted; or what differed."""
     play, words = play_of(program, session, seed)
     text, status = ran(program, ["replay", *words], play.lines)
     came = lines_of(text)

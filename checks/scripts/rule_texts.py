@@ -1,6 +1,6 @@
-"""Texts of rules by chance: such as leave values where they are wanted, rules that can be undone, and broken ones.
+"""Random texts of rules: texts that leave values where they are needed, rules that can be undone, and broken ones.
 
-Which of them are rules isn't known here: that is told by the machine, which judges each text.
+This script doesn't know which of them are rules: the machine judges each text.
 """
 
 from __future__ import annotations
@@ -40,7 +40,7 @@ def for_half(text: str, half: str) -> str:
 
 
 class Writer:
-    """Writes a text by chance for a half under a wiring. It looks at few neighbours, so that it is soon tried at all
+    """Writes a random text for a half under a wiring. It looks at few neighbours, so that it is soon tried at all
     addresses."""
 
     def __init__(self, random: Random, half: str, hood: str, minor: str) -> None:
@@ -193,7 +193,7 @@ def changed(random: Random, tokens: list[str]) -> list[str]:
 
 
 def doubled(name: str, first: str, times: int) -> str:
-    """Definitions of which each has the one before it twice."""
+    """Definitions. Each has the one before it twice."""
     text = f": {name}0 {first} ;"
     for k in range(1, times + 1):
         text += f" : {name}{k} {name}{k - 1} {name}{k - 1} ;"
@@ -230,7 +230,7 @@ def limits(random: Random, half: str) -> list[str]:
 
 
 def broken_text(random: Random, half: str, hood: str, minor: str) -> str:
-    """A text with a few changes, which may be none of a rule."""
+    """A text with a few changes, which may not be that of a rule."""
     if random.random() < 0.2:
         return spaced(random, changed(random, tokens_of(block_text(random, half, "N/MARG-HV", "&/PHASES"))))
     return spaced(random, changed(random, Writer(random, half, hood, minor).text()))

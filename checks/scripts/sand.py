@@ -1,5 +1,5 @@
 #!/usr/bin/env python3
-"""Writes sand.example of cam6_play_sessions/data: grains that fall and slide, by plain steps over blocks.
+"""Writes sand.example of cam6_try_sessions/data: grains that fall and slide, by plain steps over blocks.
 
 Shares nothing with the program. The first steps of a grain are compared with those by hand here.
 """
@@ -25,7 +25,7 @@ SAND = {(x, y) for x in range(43, 64) for y in range(42, 48)}
 
 
 def step(grains: set[tuple[int, int]], walls: set[tuple[int, int]], n: int) -> set[tuple[int, int]]:
-    """In each block a grain falls where there is room below it, and else to the other side where its way there is free."""
+    """In each block a grain falls if there is room below it, and else to the other side if its way there is free."""
     stepped = set(grains)
     full = grains | walls
     for upper_left, upper_right, lower_right, lower_left in blocks(grains, n):

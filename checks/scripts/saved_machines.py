@@ -1,8 +1,8 @@
 #!/usr/bin/env python3
-"""Writes saved_machines.example and saved_and_loaded.example of cam6_play_sessions/data, and saved_by_events.example of
-cam6_play_sessions/data: machines that are saved, and what is loaded of them.
+"""Writes saved_machines.example and saved_and_loaded.example of cam6_try_sessions/data, and saved_by_events.example of
+cam6_try_sessions/data: machines that are saved, and machines that are loaded.
 
-Shares nothing with the program: replies are those of the machine alone in `hosts`, and faults are told by hand.
+Shares nothing with the program: replies are those of the private machine in `hosts`, and faults are said by hand.
 """
 
 from __future__ import annotations
@@ -86,7 +86,7 @@ def other_lines(told: ToldMachines) -> None:
 
 # Machines of all kinds.
 
-# A token of a comment has letters of one to four bytes, and what has an escape of its own or is told by its number.
+# A token of a comment has letters of one to four bytes, and some with an escape of their own or by their number.
 SEEN = "".join(map(chr, [1, 7, 8, 11, 12, 31, 34, 47, 92, 127, 128, 160, 233, 0x7FF, 0x20AC, 0x2028, 0xFEFF, 0xFFFF]))
 SEEN += "\U0001f600\U0010ffff"
 TURNING = [rule_line(name, *REVERSIBLE[word]) for name, word in [("~", "PHASED"), ("{}", "GAS"), ("x", "KEPT")]]
@@ -125,7 +125,7 @@ def sessions() -> ToldMachines:
 
 
 def after(*commands: dict[str, Any], limit: int = 256) -> dict[str, Any]:
-    """What is saved behind commands."""
+    """What is saved after commands."""
     told = ToldMachines("unwritten")
     told.session(limit=limit)
     for command in commands:
@@ -205,11 +205,11 @@ def most(told: ToldMachines) -> None:
 class Events(ToldEvents):
     def __init__(self, name: str, *comments: str) -> None:
         zeros = {f"BLANK_{number}": said(blank(number)["planes"]) for number in (128, 256)}
-        super().__init__("cam6_play_sessions", name, *comments, SOURCE, **zeros)
+        super().__init__("cam6_try_sessions", name, *comments, SOURCE, **zeros)
 
 
 def refused_events(told: Events) -> None:
-    """Lines that would load a machine alone, or be refused by it."""
+    """Lines that a private machine would load, or refuse."""
     for planes in ([[], [], [], []], [["0" * 32], [], [], []]):
         command = load(blank(128, planes=planes))
         told.tell(said({"event": "ask", "user": 1, "command": command}), 3)

@@ -1,11 +1,11 @@
 """Saves machines by the program and loads them, of as many bytes as a machine has and at the largest lines, and looks
 at what comes back.
 
-A machine with sixteen rules of 8,192 bytes goes from one run to another, is run and undone; its line is cut behind
+A machine with sixteen rules of 8,192 bytes goes from one run to another, is run and undone; its line is cut after
 each so many BYTES, a thousand if it isn't said; lines are sent that are as long as they may be, and longer, to `cam6
-alone`, `cam6 replay` and `cam6 serve`; machines go from one limit to another, and from a host to a machine alone. So
-many LOADS, a hundred if it isn't said, hold no memory behind them. What has to come back is told by hand, or by the
-plain machine of `hosts`. Tells the memory that is held, and how long a load and a save take. The last line is 'N
+alone`, `cam6 replay` and `cam6 serve`; machines go from one limit to another, and from a host to a private machine.
+So many LOADS, a hundred if it isn't said, hold no memory after them. What has to come back is said by hand, or by the
+plain machine of `hosts`. Prints the memory that is held, and how long a load and a save take. The last line is 'N
 passed, M failed'.
 """
 
@@ -35,10 +35,10 @@ RULES, STILL = {"do": "rules"}, {"do": "run", "n": 0}
 # A rule that does as many words at each address as it may have, and reads each line: no two addresses are alike.
 NAMES = "CENTER CENTER' NORTH SOUTH WEST EAST N.WEST N.EAST S.WEST S.EAST &CENTER &CENTER'".split()
 LONGEST = ": A " + "".join(f"{name} DROP " for name in NAMES) + "1 DROP " * 20 + "; : R " + "A " * 64 + ";"
-# What more may be held behind long lines than before the first, and than behind the first, in kB: a machine with its
+# What more may be held after long lines than before the first, and than after the first, in kB: a machine with its
 # rules, and what the library keeps of room that was given back.
 MOST_HELD, MOST_GROWN = 16_000, 400
-# The room of a long line is 2,048 kB, so less is held behind one only if it was given back.
+# The room of a long line is 2,048 kB, so less is held after one only if it was given back.
 LESS_THAN_THE_ROOM = 1_800
 
 
@@ -85,7 +85,7 @@ class Seat:
 
 
 def commented(text: str, filler: str) -> str:
-    """A rule's text behind a comment that takes it to as many bytes as a text may have."""
+    """A rule's text after a comment that takes it to as many bytes as a text may have."""
     size = MOST_BYTES_OF_A_TEXT - len(f"(  ) {text}".encode())
     times, rest = divmod(size, len(filler.encode()))
     return f"( {filler * times}{'x' * rest} ) {text}"
@@ -112,7 +112,7 @@ def large_machine() -> dict[str, Any]:
 
 
 def with_control_characters(machine: dict[str, Any]) -> dict[str, Any]:
-    """The same, where all comments are of letters that are six times as long in a line."""
+    """The same, with comments of letters that are six times as long in a line."""
     texts = [REVERSIBLE[rule["name"].rpartition("_")[0]][3] for rule in machine["rules"]]
     rules = [rule | {"text": commented(text, "\x01")} for rule, text in zip(machine["rules"], texts)]
     return machine | {"rules": rules}
@@ -336,7 +336,7 @@ def peak(pid: int) -> int:
 
 
 def is_held(it: Alone | Seat, what: str, lines: list[tuple[bytes, bytes]], number: int, most: int = MOST_HELD) -> None:
-    """Sends lines again and again, with a short one behind each: whether they are answered, and no memory is held."""
+    """Sends lines again and again, with a short one after each: whether they are answered, and no memory is held."""
     pid = it.process.pid
     it.ask(plain(RULES))
     before, wrong = held(pid), 0

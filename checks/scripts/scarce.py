@@ -1,8 +1,8 @@
 """Refuses each request for memory in turn, one in a run, until a run meets none, and looks at what comes back.
 
-CAM6 is the program `cam6`, PLAYER the one of cam6_play_sessions, and REFUSING what refuses requests (refusing.c), as a
-library that is loaded into them. What has to come back is said by hand or by the plain machines of `hosts`. Tells of
-each part how many requests were refused, and how that was seen; and what failed. The last line is 'N passed, M failed',
+CAM6 is the program `cam6`, and PLAYER the one of cam6_try_sessions. REFUSING is a library that is loaded into them and
+refuses requests (refusing.c). What has to come back is said by hand or by the plain machines of `hosts`. Prints for
+each part how many requests were refused and how that was seen, and what failed. The last line is 'N passed, M failed',
 over the runs in which a request was refused.
 """
 
@@ -47,7 +47,7 @@ def cell(row: int) -> dict[str, Any]:
 
 
 FIRST = [PARITY, cycle("P"), cell(0), RUN, {"do": "plane", "plane": 0}, {"do": "count", "mask": 2}]
-# Each command, and looks at what it changed behind it.
+# Each command, and looks at what it changed after it.
 EACH = [
     PARITY, RULES, cycle("P"), cell(1), ROW, RUN, ROW, {"do": "plane", "plane": 0},
     {"do": "map", "colours": list(range(15, -1, -1))}, {"do": "colours", "row": 1}, {"do": "count", "mask": 2},
@@ -55,7 +55,7 @@ EACH = [
     {"do": "clear", "plane": 0}, ROW, {"do": "rule"} | {key: value for key, value in PARITY.items() if key != "do"},
     cycle("P"), cell(2), {"do": "run", "n": 2}, ROW, {"do": "side", "side": 128}, RULES, {"do": "fly"}]
 SAVE = {"do": "save"}
-# A line for which the buffer grows, and one behind it.
+# A line for which the buffer grows, and one after it.
 LONG = [{"do": "load", "machine": {"x": "x" * 20000}}, RULES]
 TURNED = [
     {"do": "side", "side": 128}, TURN, cycle("T"), {"do": "set", "plane": 0, "row": 5, "bits": "8" + "0" * 31}, RUN]
@@ -141,7 +141,8 @@ class Part:
         self.bounds = bounds or {}
 
     def run(self, once: Callable[..., Any]) -> tuple[int, int]:
-        """`once` runs with the request of a number refused: whether that was met, how it was seen, and what is told."""
+        """`once` runs with the request of a number refused: whether that was met, how it was seen, and what is
+        printed."""
         number = 1
         while True:
             was_met, how, told = once(number)
@@ -170,8 +171,7 @@ def whole_lines(text: str) -> list[str] | None:
 
 
 def ended(ran: Ran, wants: list[list[str]]) -> str | None:
-    """How a run of cam6 went that has to write one of these lists of lines, or a front of one where there is no
-    memory."""
+    """How a run of cam6 went that has to write one of these lists of lines, or a prefix of one if memory runs out."""
     got = whole_lines(ran.out)
     if got is None or (ran.status, ran.err) not in [(0, ""), (5, "cam6: no memory\n")]:
         return None
@@ -195,7 +195,8 @@ def of_cam6(words: list[str], text: str, wants: Callable[..., Any]) -> Callable[
 
 
 def of_words(words: list[str], status: int) -> Callable[..., Any]:
-    """Runs cam6 on words for which it tells something and ends, by the same text whether or not a request is refused."""
+    """Runs cam6 on arguments by which it prints something and ends. The text is the same whether or not a request is
+    refused."""
     ample = functools.cache(lambda: Ran(0, CAM6, words, ""))
 
     def once(number):
@@ -209,7 +210,7 @@ def of_words(words: list[str], status: int) -> Callable[..., Any]:
 
 
 def taken_up(got: list[str], want: list[str]) -> str | None:
-    """How a session went that is taken up again where there was no memory: `again` stands before a reply, and `done` in
+    """How a session went that is taken up again after memory ran out: `again` stands before a reply, and `done` in
     place of one."""
     marks = [line for line in got if line in ("again", "done")]
     if len(marks) > 1:
@@ -232,7 +233,7 @@ def of_session(commands: list[dict[str, Any]]) -> Callable[..., Any]:
 
 
 def driven(ran: Ran, how_of: Callable[..., Any]) -> tuple[bool, str, str]:
-    """How a run of the driver went, whose lines are looked at."""
+    """How a run of the driver went, by its lines."""
     got = whole_lines(ran.out)
     told = "status %d, %r, %r" % (ran.status, ran.err, ran.out[-300:])
     if ran.status != 0 and not ran.out:
@@ -291,7 +292,7 @@ TWO_TEXTS = [
 
 @remembered
 def outcomes(events: list[dict[str, Any]], without: int | None = None) -> list[str]:
-    """What comes of events, where one of them is an ask that finds no memory."""
+    """The outcomes of events, if one of them is an ask that runs out of memory."""
     host = Host([256, 256], 1, 1)
     return [compact({"refused": 0} if number == without else host.apply(event))
             for number, event in enumerate(events)]
@@ -356,8 +357,8 @@ def of_replay(events: list[dict[str, Any]]) -> Callable[..., Any]:
 
 
 class Served:
-    """A host for one user, and his lines, one after another. Where his connection ends before a reply he sits down
-    again, and goes on with that line."""
+    """A host for one user, and their lines, one after another. If the connection ends before a reply, the user
+    sits down again, and goes on with that line."""
 
     def __init__(self, number: int) -> None:
         self.refusal = Refusal(number)
@@ -373,7 +374,7 @@ class Served:
         self.file = None
 
     def sit_down(self) -> bool:
-        """A connection of the user's, or None where the host is gone."""
+        """A connection of the user's, or None if the host is gone."""
         for _ in range(PATIENCE * 50):
             try:
                 stream = socket.create_connection(("127.0.0.1", self.port), timeout=PATIENCE)
@@ -463,7 +464,7 @@ def of_server(commands: list[dict[str, Any]]) -> Callable[..., Any]:
     return once
 
 
-# A machine's text wants some thousands of requests, of which one of so many is refused.
+# A machine's text takes some thousands of requests. One of so many is refused.
 STEPS = {"a machine saved and loaded, taken up again": 17, "cam6 serve, a machine saved and loaded": 41}
 # A host of one board starts one thread for it, for which memory is asked once.
 BOUNDS = {"cam6 serve, each command": {AT_A_THREAD: (1, 1)}}

@@ -1,9 +1,9 @@
 """Plays worked examples at the program as a host on the network: each `host` part at connections to a host of its own, and
-the lines of each `session` part over one connection to a host of one user and one board. Other parts are passed over.
+the lines of each `session` part over one connection to a host of one user and one board. Other parts are skipped.
 
-FOLDER has the examples, and TOLD what is to be told of each: that all lines came back, or, of one that is wrong on purpose,
-the first line that came back as another. Nothing is waited for without end: a line that does not come within ten seconds is
-`nothing`. As many examples are played at a time as there are processors. The last line is 'N passed, M failed'.
+FOLDER has the examples, and TOLD what must be printed for each: that all lines came back, or, of one that is wrong on
+purpose, the first line that came back as another. Nothing is waited for without end: a line that does not come within ten
+seconds is `nothing`. As many examples are played at a time as there are processors. The last line is 'N passed, M failed'.
 """
 
 from __future__ import annotations
@@ -129,7 +129,7 @@ class Connections:
         self.host, self.peers = host, {}
 
     def answer(self, line: bytes) -> bytes:
-        """What comes back of a line."""
+        """What comes back for a line."""
         if line == b"ended":
             return self.host.ended()
         number, _, rest = line.partition(b" ")
@@ -204,7 +204,7 @@ def deed(peer: Peer, rest: bytes) -> bytes:
 
 
 def host_answers(program: str, way: str, sent: list[tuple[bytes, bytes]]) -> bytes:
-    """What comes back of lines for a host, up to one of which nothing comes."""
+    """What comes back for lines for a host, up to the first one for which nothing comes."""
     users, boards, limit, connections = re.fullmatch(r"host (\d+) (\d+)(?: within (\d+))? connections (\d+)", way).groups()
     host = Host(program, users, boards, limit or "256", connections)
     there = Connections(host)
@@ -272,7 +272,7 @@ def first_other(answers: bytes, wanted: bytes) -> int:
 
 
 def play(program: str, path: str) -> str | None:
-    """What is told of an example, or None if no part of it is played here."""
+    """What is printed of an example, or None if no part of it is played here."""
     before, is_played, said = 0, False, "all lines came back"
     for part in Example(path).parts:
         if answers_of := WAYS.get(part.way.split()[0]):

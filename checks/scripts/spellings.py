@@ -115,5 +115,5 @@ def other_words(word: str) -> list[str]:
 
 
 def padded(text: str, size: int) -> str:
-    """With as many blanks behind it as take it to so many bytes."""
+    """The text with blanks after it, up to so many bytes."""
     return text + " " * (size - len(text))

@@ -104,12 +104,12 @@ class Reader:
         raise TextFault(number, self.at)
 
     def token(self) -> str | None:
-        """The next token; behind the last one there is None, with a number of its own."""
+        """The next token; after the last one there is None, with a number of its own."""
         self.at = min(self.at, len(self.tokens)) + 1
         return self.tokens[self.at - 1] if self.at <= len(self.tokens) else None
 
     def word(self) -> str | None:
-        """The next token behind comments."""
+        """The next token after comments."""
         token = self.token()
         while token == "(":
             token = self.token()

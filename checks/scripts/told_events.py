@@ -1,4 +1,4 @@
-"""Lines of events and what comes of them, as an example of cam6_play_sessions says them.
+"""Lines of events and what comes of them, as an example of cam6_try_sessions says them.
 
 Shares nothing with the program: the outcomes are those of the model in `hosts`.
 """
@@ -13,7 +13,7 @@ from undoing import compact
 
 
 class ToldEvents(Told):
-    """Parts of an example, in each of which a new host is told lines."""
+    """Parts of an example. In each a new host takes lines."""
 
     def part(self, title: str | None, boards: int, capacity: int, limits: list[int]) -> None:
         """Begins with a host of a user for each limit."""
@@ -34,7 +34,7 @@ class ToldEvents(Told):
         return outcome
 
     def bands(self, board: int, number: int) -> None:
-        """So many bands, of which the last one's outcome is told."""
+        """So many bands, with the last one's outcome."""
         for _ in range(number):
             outcome = self.host.apply({"event": "band", "board": board})
         if number > 0:

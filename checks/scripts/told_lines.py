@@ -1,7 +1,8 @@
-"""Lines and what comes of them, as an example of cam6_play_sessions says them.
+"""Lines and what comes of them, as an example of cam6_try_sessions says them.
 
-Shares nothing with the program. What a line says is told with it, by a plain command or by its fault; replies are those
-of the machine alone in `hosts`. A text may have bytes that are no UTF-8, which stand in it as `text_of` has them.
+Shares nothing with the program. What a line says is given with it, by a plain command or by its fault. Replies are
+those of the private machine in `hosts`. A text may have bytes that are no UTF-8. They stand in it as `text_of` has
+them.
 """
 
 from __future__ import annotations
@@ -97,7 +98,7 @@ def write_examples(purpose: str, *examples: Callable[..., Any]) -> None:
 
 
 class ToldLines(Told):
-    """Sessions of an example, in each of which a blank machine is told lines."""
+    """Sessions of an example. In each a blank machine takes lines."""
 
     def session(self, title: str | None = None, limit: int = 256) -> None:
         self.machine = Machine(limit)
@@ -118,7 +119,7 @@ class ToldLines(Told):
                 self.say(f"= {y} {short(digits)}")
 
     def tell_last(self, text: str, meaning: int | dict[str, Any]) -> None:
-        """A line without an LF behind it."""
+        """A line without an LF after it."""
         answer = {"fault": meaning} if isinstance(meaning, int) else self.answer(meaning)
         self.say(f">> {self.shown(text)}\n< {self.shown(compact(answer))}")
 

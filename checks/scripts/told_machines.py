@@ -1,7 +1,7 @@
-"""Lines that save machines and load them, and what comes of them, as an example of cam6_play_sessions says them.
+"""Lines that save machines and load them, and what comes of them, as an example of cam6_try_sessions says them.
 
-Shares nothing with the program. A machine that is loaded is told to the machine alone in `hosts`; the fault of one that
-is refused, or of a line that is none, is told with it, by hand.
+Shares nothing with the program. The private machine in `hosts` loads what is loaded. The fault of a machine that is
+refused, or of a line that says none, is given with it, by hand.
 """
 
 from __future__ import annotations
@@ -73,7 +73,7 @@ class ToldMachines(ToldLines):
     """Sessions with lines of many bytes."""
 
     def __init__(self, name: str, *comments: str) -> None:
-        super().__init__("cam6_play_sessions", name, *comments, **NAMED)
+        super().__init__("cam6_try_sessions", name, *comments, **NAMED)
 
     def write(self, crates: str) -> None:
         """Texts that are named and don't occur are left out."""

@@ -1,6 +1,6 @@
 #!/usr/bin/env python3
-"""Writes gases_undone.example, halves_undone.example or into_the_past.example of cam6_play_sessions/data: with
-the word `gases`, `halves` or `past`.
+"""Writes gases_undone.example, halves_undone.example or into_the_past.example of cam6_try_sessions/data: with the
+argument `gases`, `halves` or `past`.
 
 Shares nothing with the program. A rule's words are evaluated at each place of each of the 256
 states of a block; an entry is undone by looking for the least state that becomes each block. There
@@ -49,7 +49,7 @@ class Rule:
         self.images = {}
 
     def bit(self, name: str, state: int, phase: int, place: int) -> int | None:
-        """What the place sees under a name, or None where it is no name."""
+        """What the place sees under a name, or None if it isn't a name."""
         upper = name.endswith("'")
         word = name.rstrip("'")
         if word in TURNS:
@@ -179,7 +179,7 @@ class Torus:
         self.rules, self.entries, self.position = {}, None, 0
 
     def change(self, rule: Rule, grid: str, phase: int, backward: bool) -> None:
-        """Makes of each block of the grid its image, or the least state whose image it is."""
+        """Makes of each block of the grid its image, or the least state with this image."""
         images = rule.map(phase)
         becomes = dict(enumerate(images))
         if backward:

@@ -1,5 +1,5 @@
 #!/usr/bin/env python3
-"""Writes wireworld.example of cam6_play_sessions/data: two clocks and a gate, by plain steps of heads and tails.
+"""Writes wireworld.example of cam6_try_sessions/data: two clocks and a gate, by plain steps of heads and tails.
 
 Shares nothing with the program. What is known by hand is compared with the steps here.
 """
@@ -31,7 +31,7 @@ OUTPUT = (67, 36)
 
 
 def step(heads: set[tuple[int, int]], tails: set[tuple[int, int]]) -> tuple[set[tuple[int, int]], set[tuple[int, int]]]:
-    """A head becomes a tail, a tail wire again, and wire a head where one or two heads lie beside it."""
+    """A head becomes a tail, a tail wire again, and wire a head if one or two heads lie beside it."""
     wire = near(heads, EIGHT) & WIRE - heads - tails
     return {cell for cell in wire if set_beside(cell, heads, EIGHT) in (1, 2)}, heads
 

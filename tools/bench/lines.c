@@ -3,7 +3,7 @@
 
    usage: lines PORT CONNECTIONS AT_ONCE SECONDS LINE [FIRST..]
 
-   Connection i sends the FIRST line of its number before it begins, where there is one, and waits for its
+   Connection i sends the FIRST line of its number before it begins, if there is one, and waits for its
    answer: `{"seat":1}` for cam6. For redis-server LINE is `SET KEY VALUE`, and no FIRST is needed. */
 #include <arpa/inet.h>
 #include <netinet/tcp.h>

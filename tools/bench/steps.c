@@ -157,7 +157,7 @@ static inline void filled(Row to, uint64_t word) {
 
 static uint64_t left_columns(const Wiring *wiring) { return wiring->grid ? ODD_COLUMNS : EVEN_COLUMNS; }
 
-// All ones where the bit is set.
+// All ones if the bit is set.
 static uint64_t spread(int number, int bit) { return -(uint64_t)(number >> bit & 1); }
 
 // What CW, CCW and OPP show in a row of a plane.
@@ -273,7 +273,7 @@ static void step_transpose(const Planes *old, Planes *new, const Wiring *wiring,
 
 enum { MOST_NODES = 8192, PLACES = 16384, MOST_SLOTS = 2048 };
 
-// An edge is twice a node, and one more where what is below is meant the other way round. Node 0 is
+// An edge is twice a node, and one more if what is below is meant the other way round. Node 0 is
 // the constant 0. Edges to where the line is 1 are never turned round, so that each function of the
 // lines has one node.
 typedef struct { int line, zero, one; } Node;
@@ -331,7 +331,7 @@ typedef enum {
   TURNED,  // ~b where x is 0, c where it is 1
 } Operation;
 
-// A value is a line, by its number, or a slot, by its number behind those of the lines.
+// A value is a line, by its number, or a slot, by its number after those of the lines.
 typedef struct { Operation operation; int x, b, c, to; } Instruction;
 typedef struct {
   Instruction instructions[MOST_NODES];
@@ -340,7 +340,7 @@ typedef struct {
   int value[2], is_turned[2], is_constant[2]; // of each plane that is written
 } Program;
 
-// The nodes below a diagram's roots, each behind those below it, with how often each is used.
+// The nodes below a diagram's roots, each after those below it, with how often each is used.
 static int nodes_in_order(const Diagram *diagram, int *order, int *uses) {
   static int state[MOST_NODES], stack[2 * MOST_NODES];
   int count = 0;
@@ -374,8 +374,8 @@ static int nodes_in_order(const Diagram *diagram, int *order, int *uses) {
 // Of each node that is done: its value, and whether the node is that value turned round.
 static int value_of[MOST_NODES], turned_of[MOST_NODES];
 
-// The instruction of a node whose nodes below are done. A node that is a line itself needs none: for
-// that the answer is 0.
+// The instruction of a node, if the nodes below it are done. A node that is a line itself needs none:
+// for that the answer is 0.
 static int instruction_of(const Node *node, int at, Instruction *in) {
   int zero = node->zero >> 1, one = node->one >> 1;
   int turned_zero = turned_of[zero] ^ (node->zero & 1), turned_one = turned_of[one];

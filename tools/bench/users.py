@@ -20,7 +20,7 @@ CYCLE = '{"do":"cycle","entries":[{"a":"L","b":"-","grid":"EVEN","phase":0}]}'
 
 
 class Host:
-    """A host with a connection for each of its users, whose machines have a cycle of Life and random cells."""
+    """A host with a connection for each of its users. Their machines have a cycle of Life and random cells."""
 
     def __init__(self, program: str, users: int, boards: int) -> None:
         with socket.socket() as free:
@@ -66,7 +66,7 @@ class Host:
 
 
 def cells() -> Iterator[str]:
-    """Rows without a pattern."""
+    """Random rows."""
     number = 7
     for row in range(0, 256):
         bits = 0

@@ -1,5 +1,5 @@
 """How long users wait for a command of one step, over connections to a host: alone on it, beside a machine of their own on
-standard input, beside another user whose tables are filled without end, and beside users who do what they can to keep others
+standard input, beside another user who has tables filled without end, and beside users who do what they can to keep others
 waiting. It prints medians, 99th percentiles and the longest waits, in microseconds.
 
 usage: waits.py PROGRAM [COUNT]     COUNT commands of each kind, 1,000 if it isn't said; a twentieth of it beside a user whose
@@ -165,7 +165,7 @@ def tell(what: str, found: list[float]) -> float:
 
 
 def lone(program: str, count: int) -> None:
-    """A user alone on a host of four users and two boards, beside a machine alone."""
+    """A user alone on a host of four users and two boards, beside a private machine."""
     machine, host = Alone(program), Host(program, "--users", "4", "--boards", "2")
     user = host.user(1)
     prepare(machine, parity_lines())
@@ -182,7 +182,7 @@ def lone(program: str, count: int) -> None:
 
 
 def bothered(program: str, count: int) -> None:
-    """A user beside another one, each of whose steps has sixteen tables filled, on a cache that holds one."""
+    """A user beside another one who has sixteen tables filled for each step, on a cache that holds one."""
     host = Host(program, "--users", "2", "--boards", "2", "--cache", "1")
     victim, other = host.user(1), host.user(2)
     prepare(victim, parity_lines())
@@ -204,7 +204,8 @@ def bothered(program: str, count: int) -> None:
 
 
 class Hostile:
-    """A user with sixteen dear rules, who does a step and undoes it without end. A cache of sixteen tables never has the next."""
+    """A user with sixteen expensive rules, who does a step and undoes it without end. A cache of sixteen tables never has
+    the next."""
 
     def __init__(self, host: Host, number: int, lines: list[bytes]) -> None:
         self.user = host.user(number)

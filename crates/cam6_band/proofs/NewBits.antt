@@ -10,7 +10,7 @@ use Rattle.cam6_wiring.specs.declared.wirings.Hood.{Hood}
 use Rattle.cam6_wiring.specs.declared.wirings.Minor.{Minor}
 use Rattle.cam6_lines.specs.Bands.{side_of}
 use Rattle.cam6_lines.specs.declared.bands.Band.{Band}
-use Rattle.cam6_table.specs.Bands.{ShowNewBits, new_bit}
+use Rattle.cam6_entries.specs.Bands.{ShowNewBits, new_bit}
 use Rattle.cam6_band.specs.Internal.HalfRows.{bit_put}
 use Rattle.cam6_band.specs.declared.half_rows.PlaneRows.{PlaneRows}
 

@@ -20,7 +20,7 @@ half_at (Some rule) tables index =
       minor = rule.minor;
     })
 
--- an entry's tables: half A's at the index, and half B's behind it
+-- an entry's tables: half A's at the index, and half B's after it
 abbrev pub tables_from : ℕ → Entry → List (List ℕ) → StepTables
 tables_from index entry tables =
     record {
@@ -30,8 +30,8 @@ tables_from index entry tables =
       phase = entry.phase;
     }
 
--- those of the entry at a position, if there is one: they stand behind those of the entries before
--- it
+-- the tables of the entry at a position, if there is an entry: they stand after those of the
+-- entries before it
 abbrev pub step_tables_at : List Entry → ℕ → List (List ℕ) → Option StepTables
 step_tables_at entries position tables =
     option_map (λ entry. tables_from (count_before entries position) entry tables)

@@ -12,17 +12,17 @@ use Rattle.cam6_wiring.specs.declared.names.Phase.{Phase}
 use Rattle.cam6_wiring.specs.declared.neighbours.Setting.{Setting}
 use Rattle.cam6_wiring.specs.declared.wirings.Hood.{Hood}
 use Rattle.cam6_wiring.specs.declared.wirings.Minor.{Minor}
-use Rattle.cam6_table.specs.NewBits.{bit_for}
+use Rattle.cam6_entries.specs.NewBits.{bit_for}
 use Rattle.cam6_band.specs.declared.tables.HalfTable.{HalfTable}
 use Rattle.cam6_band.specs.declared.tables.EntryTables.{EntryTables}
 
--- a half's table by its entries, and what names are on its address lines
+-- the entries of a half's table, and what names are on its address lines
 pub record HalfEntries : Type 0 where
   pub entries : List ℕ
   pub hood : Hood
   pub minor : Minor
 
--- what a step goes by: for each half a table or none, and the grid and the phase
+-- what a step uses: for each half a table or none, and the grid and the phase
 pub record StepTables : Type 0 where
   pub a : Option HalfEntries
   pub b : Option HalfEntries
@@ -43,8 +43,8 @@ values_of tables =
       phase = tables.phase;
     }
 
--- the new bit of a plane of a half at a cell of f: that of the entry at the address which the cell
--- shows. Without a table the bit stays
+-- the new bit of a plane of a half at a cell of f: the plane's bit of the entry at the address that
+-- the cell shows. Without a table the bit stays
 abbrev pub bit_by_table : ℕ → Cells → Setting → Option HalfEntries → Level → ℕ → ℕ → Bool
 bit_by_table s f setting None level x y = f (plane_of setting.half level) x y
 bit_by_table s f setting (Some half) level x y =

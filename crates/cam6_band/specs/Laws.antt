@@ -1,4 +1,4 @@
--- What follows of the tables by which a cycle is gone along.
+-- What follows of the tables that the steps of a cycle use.
 use Rattle.std.specs.Prelude.{◌≡◌, ℕ, List, [], slice_index_or, Some}
 use Rattle.std.specs.List.{slice_get}
 use Rattle.cam6_wiring.specs.declared.names.Half.{Half}
@@ -9,7 +9,7 @@ use Rattle.cam6_cycle.specs.declared.tables.Direction.{Direction}
 use Rattle.cam6_band.specs.ByTables.{StepTables, table_for}
 use Rattle.cam6_band.specs.AtPosition.{step_tables_at}
 
--- a half's table at a position is the one of its use
+-- a half's table at a position is the one that the cycle needs for this use of its rule
 abbrev pub GoesByItsUse : Type 0
 GoesByItsUse =
     (direction : Direction) (entries : List Entry) (tables : List (List ℕ)) (position : ℕ)

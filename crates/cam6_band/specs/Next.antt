@@ -12,7 +12,7 @@ abbrev pub IsNext : Cells → Cells → Next → Type 0
 IsNext o p (More mid) = Partway o p mid
 IsNext o p (Whole rest) = cells rest.planes ≡ p
 
--- sixteen more rows are done, whatever of, and some are left or none. Side and limit stay
+-- sixteen more rows are done, of whatever step, and some are left or none. Side and limit stay
 abbrev pub GoesOn : Stored → ℕ → Next → Type 0
 GoesOn planes done (More mid) =
     (mid.planes.side ≡ planes.side) × (mid.planes.limit ≡ planes.limit)

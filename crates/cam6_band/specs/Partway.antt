@@ -15,7 +15,7 @@ pub record Mid : Type 0 where
   pub done : ℕ
   pub saved : List SavedRow
 
--- each saved row is, of planes f of s columns, the row with its number
+-- each saved row is the row of planes f with its number, at their s columns
 abbrev pub AreRowsOf : ℕ → Cells → List SavedRow → Type 0
 AreRowsOf s f saved = AllByRecursion (λ row. IsRow s f row.number row.row) saved
 
@@ -24,8 +24,8 @@ abbrev pub IsSaved : ℕ → List SavedRow → Type 0
 IsSaved number [] = ⊥
 IsSaved number (row ∷ saved) = (row.number ≡ number) ⊎ IsSaved number saved
 
--- the step from planes o to planes p is partly done: the rows that are done are those of p, and the
--- others those of o. The saved rows are rows of o; once a row is done, the first one and the one
+-- the step from planes o to planes p is partly done. The rows that are done are those of p, and the
+-- others those of o. The saved rows are rows of o. Once a row is done, the first row and the one
 -- done last are among them
 pub record Partway (o p : Cells) (mid : Mid) : Type 0 where
   pub new : (q x y : ℕ) → q < 4 → x < width mid.planes → y < mid.done →

@@ -17,7 +17,7 @@ use std::marker::Model;
 /// Rows of a band.
 pub const BAND: usize = 16;
 
-/// An image in the middle of a step: its first rows are new, and the others are old. It can't be
+/// An image in the middle of a step. Its first rows are new, and the others are old. It can't be
 /// dropped: it goes on, or it is abandoned.
 pub struct MidStep {
     pub(crate) image: Planes,
@@ -72,7 +72,7 @@ impl MidStep {
         self.image.limit()
     }
 
-    /// Makes the next sixteen rows, by the tables that the step goes by.
+    /// Makes the next sixteen rows, by the tables of the step.
     pub fn band(mut self, tables: &EntryTables) -> Next
         ensures next { let s = width self.planes in (o : Cells) →
             Partway o (step_by s (values_of tables.now) o) self →
@@ -101,7 +101,7 @@ impl MidStep {
         Next::More(self)
     }
 
-    /// Takes the step to another image, to go on there; its own becomes spare.
+    /// Moves the step to another image, to go on there. Its own image becomes spare.
     pub fn move_into(self, spare: Spare) -> (MidStep, Spare)
         requires { width self.planes ≤ side_number spare.planes.limit }
         ensures partway { (o p : Cells) → Partway o p self → Partway o p result.0 }
@@ -127,7 +127,7 @@ impl MidStep {
         (moved, Spare { planes: image })
     }
 
-    /// Gives the step up: its old planes can't be had back.
+    /// Gives the step up. Its old planes are lost.
     pub fn abandon(self) -> Spare
         ensures limit { result.planes.limit ≡ self.planes.limit }
     {
@@ -141,7 +141,7 @@ impl MidStep {
     }
 }
 
-/// A step of which no row is made yet.
+/// A step with no row made yet.
 pub(crate) fn begun(planes: Planes) -> MidStep
     ensures partway { (p : Cells) → Partway (cells planes) p result }
     ensures done { result.done ≡ 0 }

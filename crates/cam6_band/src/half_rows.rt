@@ -7,19 +7,19 @@ ghost use Rattle.cam6_planes.specs.Stored.{width};
 ghost use Rattle.cam6_wiring.specs.Name.{plane_of, other_half};
 ghost use Rattle.cam6_wiring.specs.declared.names.Level.{Level};
 ghost use Rattle.cam6_lines.specs.Bands.{IsBandOf, IsWithin};
-ghost use Rattle.cam6_table.specs.Bands.{ShowNewBits};
+ghost use Rattle.cam6_entries.specs.Bands.{ShowNewBits};
 ghost use Rattle.cam6_band.specs.Limits.{band};
 ghost use Rattle.cam6_band.specs.Internal.HalfRows.{rows_of, bit_put};
 ghost use Rattle.cam6_band.specs.Internal.NewRows.{IsOutside};
 
 use crate::tables::HalfTable;
+use cam6_entries::BandRows;
 use cam6_lines::{Band, HEIGHT};
 use cam6_planes::{Planes, WORDS};
-use cam6_table::BandRows;
 use cam6_wiring::{Half, Level, Setting};
 
-/// A plane's new rows of a band. They are put only if they were written: else every cell keeps its
-/// bit.
+/// A plane's new rows of a band. They are put only if they were written. Otherwise every cell keeps
+/// its bit.
 #[derive(Drop)]
 pub(crate) struct PlaneRows {
     rows: BandRows,

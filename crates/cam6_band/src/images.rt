@@ -14,7 +14,7 @@ pub struct AtRest {
     pub(crate) planes: Planes,
 }
 
-/// An image of which nobody wants to know what it shows.
+/// An image that may be overwritten: nobody needs what it shows.
 #[derive(Drop)]
 pub struct Spare {
     pub(crate) planes: Planes,
@@ -50,7 +50,7 @@ impl AtRest {
         &mut self.planes
     }
 
-    /// Begins a step. Each of its bands is then to go by the same tables.
+    /// Begins a step. Each of its bands has to use the same tables.
     pub fn begin(self, _tables: &EntryTables) -> MidStep
         ensures partway { (p : Cells) → Partway (cells self.planes) p result }
         ensures done { result.done ≡ 0 }

@@ -1,10 +1,10 @@
-//! What follows of the tables by which a cycle is gone along: a law is the contract of a function
-//! that does nothing but to call another law.
+//! What follows of the tables that the steps of a cycle use. The law is the contract of a function
+//! that only calls another law.
 ghost use Rattle.cam6_band.specs.Laws.{GoesByItsUse};
 
 use cam6_cycle::laws::each_use_has_its_table;
 
-/// Whichever way a cycle is gone along, each half goes by the table of its use.
+/// In either direction, each half uses the table that the cycle needs for this use of its rule.
 pub fn each_half_goes_by_its_use()
     ensures law { GoesByItsUse }
 {

@@ -17,9 +17,10 @@ use cam6_lines::{Band, HEIGHT};
 use cam6_planes::{CellRow, Planes};
 use cam6_wiring::{Half, Setting};
 
-/// Writes the sixteen new rows from row `y` on over the old ones, of which the last is saved. The
-/// rows to the south of them are still old; to the south of the last row lies the old row 0. A
-/// half's new rows may hang on the other half's old ones: so both are made before any is written.
+/// Writes the sixteen new rows from row `y` on over the old ones, and saves the last old one. The
+/// rows to the south of them are still old. To the south of the image's last row lies the old row
+/// 0. A half's new rows may depend on the other half's old ones. So both are made before any is
+/// written.
 pub(crate) fn step_band(
     image: &mut Planes,
     last: &mut CellRow,
@@ -44,7 +45,7 @@ pub(crate) fn step_band(
     }
 }
 
-/// The same where half A has this table. Its rows are made first and written last.
+/// As `step_band`, if half A has this table. Its rows are made first and written last.
 #[inline(never)]
 fn step_halves(
     image: &mut Planes,
@@ -103,7 +104,7 @@ fn step_half(
     }
 }
 
-/// The same where the half has this table.
+/// As `step_half`, if the half has this table.
 #[inline(never)]
 fn step_by_table(
     image: &mut Planes,
@@ -150,7 +151,7 @@ fn old_rows<'a>(image: &'a Planes, last: &'a CellRow, first: &'a CellRow, y: usi
     }
 }
 
-/// The row to the south of row `y`, where the first row is saved apart.
+/// The row to the south of row `y`. The first row is saved apart.
 fn row_to_the_south<'a>(image: &'a Planes, first: &'a CellRow, y: usize) -> &'a CellRow
     requires { y < width image.now }
     ensures within { y + 1 < width image.now →

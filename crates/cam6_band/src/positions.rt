@@ -1,4 +1,4 @@
-//! The tables by which a step goes along a cycle.
+//! The tables that a step along a cycle uses.
 ghost use Rattle.std.specs.Prelude.{◌≡◌, ◌<◌, ◌≤◌, ◌+◌, length, Some};
 ghost use Rattle.std.specs.Option.{option_map};
 ghost use Rattle.cam6_cycle.specs.Along.{entry_index, position_after};
@@ -8,10 +8,10 @@ ghost use Rattle.cam6_band.specs.AtPosition.{tables_from, step_tables_at, half_a
 
 use crate::tables::{EntryTables, HalfTable};
 use cam6_cycle::{Cycle, Direction, Entry, HalfRule};
-use cam6_table::Table;
+use cam6_entries::Table;
 
-/// The tables by which a step goes this way from a position, among tables that lie as the cycle
-/// needs them, one for each use of a rule; and the position after the step.
+/// Returns the tables that a step this way from a position uses, and the position after the step.
+/// `tables` lie as the cycle needs them, one for each use of a rule.
 pub fn go_by<'a>(
     cycle: &Cycle,
     position: usize,
@@ -34,7 +34,7 @@ pub fn go_by<'a>(
     (own, after)
 }
 
-/// An entry's tables: half A's at the index, and half B's behind it, if they have rules.
+/// An entry's tables: half A's at the index, and half B's after it, if they have rules.
 fn tables_from<'a>(entry: Entry, index: usize, tables: &'a [Table]) -> EntryTables<'a>
     requires room { index + 2 ≤ length tables.now }
     ensures { values_of result ≡ tables_from index entry tables.now }

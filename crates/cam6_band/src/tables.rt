@@ -1,8 +1,8 @@
-//! What a step goes by: the tables of a cycle's entry.
+//! What a step uses: the tables of a cycle's entry.
 ghost use Rattle.std.specs.Prelude.{◌≡◌};
 ghost use Rattle.cam6_band.specs.ByTables.{setting_by, values_of};
 
-use cam6_table::Table;
+use cam6_entries::Table;
 use cam6_wiring::{Grid, Half, Hood, Minor, Phase, Setting};
 
 /// A half's table, and what names are on its address lines.

@@ -16,7 +16,7 @@ use Rattle.cam6_wiring.specs.declared.names.Name.TheVariants as name
 use Rattle.cam6_wiring.specs.declared.names.Phase.{Phase}
 use Rattle.cam6_wiring.specs.declared.wirings.Hood.{Hood}
 use Rattle.cam6_wiring.specs.declared.wirings.Minor.{Minor}
-use Rattle.cam6_table.specs.NewBits.{bit_for}
+use Rattle.cam6_entries.specs.NewBits.{bit_for}
 use Rattle.cam6_block.specs.Blocks.{corner_bit, state_of, corner_sees, corners_on, corner_address}
 use Rattle.cam6_block.specs.Blocks.{corner_bits}
 use Rattle.cam6_block.specs.BlockMaps.{Reading, by_table, block_map, IsOneToOne}

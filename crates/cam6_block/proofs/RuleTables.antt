@@ -1,7 +1,7 @@
 -- What is said of the table that a rule's code filled is said of the words of its text.
 use Rattle.std.proofs.Common.{◌≡◌, ℕ, List, Some, None, Result, Ok, Err, IsOk, IfOk, IfErr}
 use Rattle.std.proofs.Common.{refl, sym, ap, subst, length, ◌∙◌}
-use Rattle.cam6_table.specs.Limits.{addresses}
+use Rattle.cam6_entries.specs.Limits.{addresses}
 use Rattle.std.proofs.Math.Path.{fun_ext}
 use Rattle.cam6_wiring.specs.declared.wirings.Wiring.{Wiring}
 use Rattle.cam6_forth.specs.Trees.{tree_of}

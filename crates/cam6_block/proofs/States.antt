@@ -9,7 +9,7 @@ use Rattle.cam6_wiring.specs.declared.names.Level.TheVariants.{Lower, Upper}
 use Rattle.cam6_wiring.specs.declared.names.Phase.{Phase}
 use Rattle.cam6_wiring.proofs.Numbers.{number_of-lt, bit_at-number_of}
 use Rattle.cam6_wiring.proofs.LinesOfNames.{bit_number-one}
-use Rattle.cam6_table.specs.NewBits.{bit_for}
+use Rattle.cam6_entries.specs.NewBits.{bit_for}
 use Rattle.cam6_block.specs.Blocks.{corner_bit, state_of, first_bit, corner_bits, corner_sees}
 use Rattle.cam6_block.specs.BlockMaps.{Reading, block_map}
 

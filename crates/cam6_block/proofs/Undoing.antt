@@ -6,7 +6,7 @@ use Rattle.cam6_wiring.specs.Name.{phase_number}
 use Rattle.cam6_wiring.specs.declared.names.Phase.{Phase}
 use Rattle.cam6_wiring.specs.declared.wirings.Hood.{Hood}
 use Rattle.cam6_wiring.specs.declared.wirings.Minor.{Minor}
-use Rattle.cam6_table.specs.NewBits.{bit_for}
+use Rattle.cam6_entries.specs.NewBits.{bit_for}
 use Rattle.cam6_table.proofs.TrueTables.{true_table}
 use Rattle.cam6_block.specs.Blocks.{corner_address, corner_bits}
 use Rattle.cam6_block.specs.BlockMaps.{Reading, by_table, made, block_map, preimage}

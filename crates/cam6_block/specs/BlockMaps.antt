@@ -12,7 +12,7 @@ use Rattle.cam6_forth.specs.Tree.{Part}
 use Rattle.cam6_forth.specs.Trees.{tree_of}
 use Rattle.cam6_table.specs.declared.faults.RuleFault.{RuleFault}
 use Rattle.cam6_table.specs.Meaning.{meaning}
-use Rattle.cam6_table.specs.NewBits.{bit_for}
+use Rattle.cam6_entries.specs.NewBits.{bit_for}
 use Rattle.cam6_block.specs.Blocks.{block_states, state_of, corner_sees}
 
 -- two new bits, as a number, by what is seen
@@ -45,7 +45,7 @@ block_map read phase state =
 abbrev pub IsOneToOne : (ℕ → ℕ) → Type 0
 IsOneToOne f = (a b : ℕ) → a < block_states → b < block_states → f a ≡ f b → a ≡ b
 
--- the first of n numbers, from k on, at which p holds, or the one behind them all
+-- the first of n numbers, from k on, at which p holds, or the one after them all
 abbrev pub first_from : (ℕ → Bool) → ℕ → ℕ → ℕ
 first_from p zero k = k
 first_from p (suc n) k = if p k then k else first_from p n (suc k)
@@ -54,7 +54,7 @@ first_from p (suc n) k = if p k then k else first_from p n (suc k)
 unfoldable pub preimage : (ℕ → ℕ) → ℕ → ℕ
 preimage f successor = first_from (λ state. f state == successor) block_states 0
 
--- blocks that see nothing but themselves, of which no two have one successor at any phase
+-- blocks see nothing but themselves, and at no phase do two block states have one successor
 pub record IsReversible (read : Reading) (hood : Hood) (minor : Minor) : Type 0 where
   pub blocks : is_margolus hood ≡ true
   pub alone : minor ≢ Centers

@@ -18,7 +18,7 @@ use Rattle.cam6_wiring.specs.declared.names.Rotation.TheVariants.{CounterClockwi
 use Rattle.cam6_wiring.specs.declared.wirings.Hood.{Hood}
 use Rattle.cam6_wiring.specs.declared.wirings.Minor.{Minor}
 
--- a block has so many block states: a bit at each of four corners in each of two planes
+-- the number of block states: a bit at each of four corners in each of two planes
 abbrev pub block_states : ℕ
 block_states = 256
 
@@ -57,8 +57,8 @@ is_right corner = (corner % 4 == 1) || (corner % 4 == 2)
 abbrev pub is_low : ℕ → Bool
 is_low corner = (corner % 4 == 2) || (corner % 4 == 3)
 
--- what a corner sees in its block under each name; of what lies beside the block, and of the other
--- half, nothing
+-- what a corner sees in its block under each name; it sees nothing of what lies beside the block,
+-- nor of the other half
 abbrev pub corner_sees : Phase → ℕ → ℕ → Sees
 corner_sees phase state corner (name.Beside Center level) = corner_bit state level corner
 corner_sees phase state corner (name.Beside _ level) = false

@@ -3,18 +3,18 @@ use Rattle.std.specs.Prelude.{◌≡◌, ◌≢◌, ◌<◌, ◌%◌, ℕ, List,
 use Rattle.cam6_wiring.specs.declared.names.Phase.{Phase}
 use Rattle.cam6_wiring.specs.declared.wirings.Hood.{Hood}
 use Rattle.cam6_wiring.specs.declared.wirings.Minor.{Minor}
-use Rattle.cam6_table.specs.Limits.{addresses}
+use Rattle.cam6_entries.specs.Limits.{addresses}
 use Rattle.cam6_block.specs.Blocks.{block_states, corner_bits, corner_address}
 use Rattle.cam6_block.specs.BlockMaps.{Reading, block_map, preimage}
 
--- no corner shows this address, at whatever phase and of whatever state
+-- no corner shows this address, at any phase and of any state
 abbrev pub IsHidden : Hood → Minor → ℕ → Type 0
 IsHidden hood minor address =
     (phase : Phase) (state corner : ℕ) → state < block_states → corner < 4 →
     corner_address hood minor phase state corner ≢ address
 
--- at the address that a corner shows stand the bits that the corner has in the least state with
--- this successor; an address that no corner shows has its own two lowest bits
+-- the entry at the address that a corner shows is the corner's bits in the least state with this
+-- successor. An address that no corner shows has its own two lowest bits
 pub record IsInverted (read : Reading) (hood : Hood) (minor : Minor) (entries : List ℕ) :
     Type 0 where
   pub whole : length entries ≡ addresses

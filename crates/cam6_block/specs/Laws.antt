@@ -21,7 +21,7 @@ TrueTableHasTheBlockMap =
     block_map (by_table wiring.hood wiring.minor entries) phase state
     ≡ block_map (by_words wiring parts) phase state
 
--- a map of block states to block states of which no two have one successor takes each state
+-- a one-to-one map of block states to block states takes each state
 abbrev pub TakesEach : Type 0
 TakesEach =
     (f : ℕ → ℕ) → ((state : ℕ) → state < block_states → f state < block_states) → IsOneToOne f →

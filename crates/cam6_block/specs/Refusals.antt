@@ -36,7 +36,7 @@ IsRefused read hood minor (not_reversible.Meeting phase a b) =
 abbrev pub has_met : (ℕ → ℕ) → ℕ → Bool
 has_met f state = nat_lt (preimage f (f state)) state
 
--- the least state of which this is so, behind the smaller one with its successor, if there is any
+-- the least state of which this is so, if there is any, and before it that smaller state
 unfoldable pub meeting_of : (ℕ → ℕ) → Option (ℕ × ℕ)
 meeting_of f =
     let b = first_from (has_met f) block_states 0 in
@@ -47,7 +47,7 @@ abbrev pub or_at_later_phase : Phase → Option (ℕ × ℕ) → Option NotRever
 or_at_later_phase phase None later = later
 or_at_later_phase phase (Some pair) later = Some (not_reversible.Meeting phase pair.0 pair.1)
 
--- the meeting at the least phase, if there is any
+-- the meeting at the least phase that has one, if any has
 abbrev pub first_meeting : Reading → Option NotReversible
 first_meeting read =
     or_at_later_phase P0 (meeting_of (block_map read P0))

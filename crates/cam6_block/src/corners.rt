@@ -3,7 +3,7 @@ ghost use Rattle.std.specs.Prelude.{◌≡◌, ◌<◌, ◌+◌, [], ◌∷◌, 
 ghost use Rattle.cam6_wiring.specs.Seen.{number_of, line_shows};
 ghost use Rattle.cam6_wiring.specs.declared.names.Level.TheVariants.{Lower, Upper};
 ghost use Rattle.cam6_wiring.specs.Wiring.{hood_names, minor_names, is_margolus};
-ghost use Rattle.cam6_table.specs.Limits.{addresses};
+ghost use Rattle.cam6_entries.specs.Limits.{addresses};
 ghost use Rattle.cam6_block.specs.Blocks.{corner_bit, corner_bits, corner_sees, corner_address};
 ghost use Rattle.cam6_block.specs.Blocks.{is_right, is_low};
 
@@ -15,8 +15,8 @@ pub(crate) const CORNERS: u8 = 4;
 /// States of a block.
 pub(crate) const STATES: u16 = 256;
 
-/// The address that a corner shows: it sees its block on lines 0 to 7, and on the others what its
-/// block's state has no part in.
+/// The address that a corner shows. It sees its block on lines 0 to 7. What it sees on the others
+/// doesn't depend on its block's state.
 #[tactic(auto, unfolding(crate::specs::Blocks::corner_address))]
 pub(crate) fn corner_address(hood: Hood, minor: Minor, phase: Phase, state: u8, corner: u8) -> u16
     requires margolus { is_margolus hood ≡ true }
@@ -68,7 +68,7 @@ fn bits_beside(state: u8, level: Level, corner: u8) -> u8
     clockwise + 2 * counter_clockwise + 4 * opposite
 }
 
-/// The bit that a state has at a corner; corner 4 is corner 0 again.
+/// The bit that a state has at a corner. Corner 4 is corner 0 again.
 #[tactic(auto, unfolding(crate::specs::Blocks::corner_bit))]
 fn bit_at(state: u8, level: Level, corner: u8) -> u8
     ensures bit { result ≡ number_of (corner_bit state level corner ∷ []) }
@@ -94,7 +94,7 @@ fn hood_lines(hood: Hood, phase: Phase, corner: u8) -> u8
     }
 }
 
-/// Lines 10 and 11. Of the other half's centres a block sees nothing.
+/// Lines 10 and 11. A block sees nothing of the other half's centres.
 fn minor_lines(minor: Minor, phase: Phase, corner: u8) -> u8
     ensures lines { result ≡ number_of (map (line_shows (corner_sees phase 0 corner))
         (minor_names minor)) }

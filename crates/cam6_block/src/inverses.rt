@@ -3,7 +3,7 @@ ghost use Rattle.std.specs.Prelude.{◌≡◌, ◌<◌, ◌%◌, ℕ, true, IfOk
 ghost use Rattle.std.specs.Prelude.{slice_index};
 ghost use Rattle.cam6_wiring.specs.declared.names.Phase.{Phase};
 ghost use Rattle.cam6_wiring.specs.Wiring.{is_margolus};
-ghost use Rattle.cam6_table.specs.Limits.{addresses};
+ghost use Rattle.cam6_entries.specs.Limits.{addresses};
 ghost use Rattle.cam6_block.specs.BlockMaps.{by_table, block_map};
 ghost use Rattle.cam6_block.specs.BlockMaps.{IsOneToOne, IsReversible};
 ghost use Rattle.cam6_block.specs.Inverted.{IsInverted};
@@ -18,8 +18,8 @@ use cam6_wiring::{Hood, Minor, Phase};
 /// The phases, each at its number.
 const PHASES: [Phase; 4] = [Phase::P0, Phase::P1, Phase::P2, Phase::P3];
 
-/// Writes the table that undoes the blocks of `table`, or says why there is none; then `out` stays
-/// as it was. It takes no memory.
+/// Writes the table that undoes the blocks of `table` to `out`. If `table` is not reversible,
+/// returns the reason and leaves `out` unchanged. Does not allocate.
 pub fn invert(table: &Table, hood: Hood, minor: Minor, out: &mut Table) -> Result<(), NotReversible>
     ensures inverted { IfOk result (λ _.
         IsInverted (by_table hood minor table.now) hood minor out.new) }

@@ -9,12 +9,12 @@ pub fn a_true_table_has_the_block_map()
     ensures law { TrueTableHasTheBlockMap }
 {}
 
-/// A map of block states of which no two have one successor takes each state.
+/// A one-to-one map of block states takes each state.
 pub fn one_to_one_takes_each_state()
     ensures law { TakesEach }
 {}
 
-/// Two corners that show one address take the same bits of what they were.
+/// Two corners that show one address get the same bits back.
 pub fn corners_that_show_one_address_agree()
     ensures law { CornersAgree }
 {}

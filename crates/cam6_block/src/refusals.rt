@@ -9,15 +9,15 @@ use crate::successors::successor;
 use cam6_table::Table;
 use cam6_wiring::{Hood, Minor, Phase};
 
-/// Why a table has no inverse; the causes are tried in this order.
+/// Why a table has no inverse. The causes are tried in this order.
 #[derive(Clone, Copy, Debug, PartialEq, Eq)]
 pub enum NotReversible {
     /// The neighbourhood has no blocks.
     Hood,
     /// The blocks see the other half's centres.
     Centres,
-    /// At this phase, the least one at which it is so, two block states have one successor: `b` is the
-    /// least state for which there is a smaller one, and `a` is that smaller one.
+    /// At this phase two block states have one successor, and at no lower phase. `b` is the least
+    /// state that has the successor of a smaller one, and `a` is that smaller one.
     Meeting { phase: Phase, a: u8, b: u8 },
 }
 

@@ -1,7 +1,7 @@
-//! The table of a rule's code, by the direction in which a cycle is gone along.
+//! The table of a rule's code, by the direction of a step along a cycle.
 ghost use Rattle.std.specs.Prelude.{◌≡◌, ◌<◌, ℕ, List, length, Some, IsOk, IfOk, IfErr, OnErr};
 ghost use Rattle.cam6_cycle.specs.declared.tables.Direction.TheVariants.{Forward, Backward};
-ghost use Rattle.cam6_table.specs.Limits.{addresses};
+ghost use Rattle.cam6_entries.specs.Limits.{addresses};
 ghost use Rattle.cam6_table.specs.Codes.{result_at};
 ghost use Rattle.cam6_table.specs.Tables.{AreEntries};
 ghost use Rattle.cam6_table.specs.RuleTexts.{IsCodeFor};
@@ -15,9 +15,9 @@ use cam6_cycle::Direction;
 use cam6_table::{Code, ENTRIES, Table, fill};
 use cam6_wiring::Wiring;
 
-/// Fills the table of a rule's code: forward, the one of its words; backward, the one that undoes
-/// its blocks, by way of the straight one, or says why there is none. The table gets its program
-/// here, which goes with its copies. It takes no memory.
+/// Fills `out`, the table of a rule's code. Forward it is the table of the rule's words. Backward
+/// it undoes the rule's blocks, and is made from `straight`. If no table undoes them, returns the
+/// reason. `out` gets its program here, and its copies have it too. Does not allocate.
 pub fn fill_by(
     code: &Code,
     wiring: Wiring,
@@ -27,11 +27,11 @@ pub fn fill_by(
 ) -> Result<(), NotReversible>
     // The code stops at no address.
     requires runs { (address : ℕ) → address < addresses → IsOk (result_at code.now address) }
-    // Of whatever text this is the code.
+    // This holds for every text of which this is the code.
     ensures table { IfOk result (λ _. (text : List ℕ) → IsCodeFor wiring text code.now →
         IsTableBy direction wiring text out.new) }
 
-    // Backward alone a rule is refused, for its cause; one that can be undone isn't.
+    // Only backward a rule is refused, for its cause. One that can be undone isn't.
     ensures refused { IfErr result (λ cause. (direction ≡ Backward) × ((text : List ℕ) →
         IsCodeFor wiring text code.now →
         cause_of (reading_of wiring text) wiring.hood wiring.minor ≡ Some cause)) }

@@ -3,7 +3,7 @@ ghost use Rattle.std.specs.Prelude.{◌≡◌, ◌<◌, [], ◌∷◌, true};
 ghost use Rattle.cam6_wiring.specs.Seen.{number_of};
 ghost use Rattle.cam6_wiring.specs.declared.names.Level.TheVariants.{Lower, Upper};
 ghost use Rattle.cam6_wiring.specs.Wiring.{is_margolus};
-ghost use Rattle.cam6_table.specs.NewBits.{bit_for};
+ghost use Rattle.cam6_entries.specs.NewBits.{bit_for};
 ghost use Rattle.cam6_block.specs.Blocks.{corner_sees};
 ghost use Rattle.cam6_block.specs.BlockMaps.{by_table, block_map};
 ghost use Rattle.cam6_block.specs.declared.corners.TheConstants.{CORNERS};

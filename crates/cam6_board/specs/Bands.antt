@@ -1,4 +1,4 @@
--- What one band makes of a job.
+-- What one band does to a job.
 use Rattle.std.specs.Prelude.{ℕ, zero, suc, ◌≡◌, ◌+◌, List, length, Option, Some}
 use Rattle.cam6_planes.specs.Cells.{Cells}
 use Rattle.cam6_planes.specs.Stored.{width}
@@ -12,17 +12,17 @@ use Rattle.cam6_board.specs.declared.images.Image.TheVariants.{Rest, Mid}
 use Rattle.cam6_board.specs.Images.{planes_in, IsOnTheWay, IsBehindBand, GoesOn}
 use Rattle.cam6_board.specs.Jobs.{StoredJob}
 
--- the tables by which the step of a job goes, among tables that lie as its cycle needs them
+-- the tables that the step of a job uses, among tables that lie as its cycle needs them
 abbrev pub step_of : StoredJob → List (List ℕ) → Option StepTables
 step_of job tables =
     step_tables_at job.cycle (entry_index job.direction (length job.cycle) job.position) tables
 
--- how the end of a step is told, with so many steps still to be done
+-- how a step ends, with so many steps still to be done
 abbrev pub end_of : ℕ → BandEnd
 end_of zero = LastEnd
 end_of (suc steps) = StepEnd
 
--- within a step the position and the steps stay; behind it the position has moved by one, and one
+-- within a step the position and the steps stay; after it the position has moved by one, and one
 -- step less is to be done
 abbrev pub Counts : Image → StoredJob → BandEnd → StoredJob → Type 0
 Counts (Mid mid) before end after =

@@ -7,7 +7,7 @@ use Rattle.cam6_board.specs.Images.{planes_in, rows_of}
 use Rattle.cam6_board.specs.Jobs.{StoredJob}
 use Rattle.cam6_board.specs.Bands.{Moves}
 
--- nothing, or a job and the tables by which it goes
+-- nothing, or a job and the tables that it uses
 pub data Load : Type 0 where
   empty : Load
   loaded : StoredJob → List (List ℕ) → Load
@@ -22,7 +22,7 @@ abbrev pub IsLoaded : Load → Type 0
 IsLoaded empty = ⊥
 IsLoaded (loaded job tables) = ⊤
 
--- there is a job, of which steps are still to be done
+-- there is a job with steps that are still to be done
 abbrev pub HasWork : Load → Type 0
 HasWork empty = ⊥
 HasWork (loaded job tables) = 0 < job.steps

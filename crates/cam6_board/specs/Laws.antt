@@ -1,4 +1,4 @@
--- What follows of jobs and their bands.
+-- Laws of jobs and their bands.
 use Rattle.std.specs.Prelude.{ℕ, ◌≡◌, ◌<◌, ◌≤◌, ◌+◌, ◌*◌, ◌↔◌, List, length, true}
 use Rattle.cam6_planes.specs.Side.{side_number}
 use Rattle.cam6_band.specs.Limits.{band}
@@ -13,7 +13,7 @@ use Rattle.cam6_board.specs.Running.{Banded, AreBands, job_behind, bands_of_step
 use Rattle.cam6_board.specs.Standing.{GoesAlong, IsStepsOn, steps_behind}
 
 -- a band of a job that goes along a machine's cycle takes it on as the machine moves: within a step
--- it is as many steps on as before, and behind one, done or undone, it is one more
+-- it is as many steps on as before, and after one, done or undone, it is one more
 abbrev pub BandsFollowTheMachine : Type 0
 BandsFollowTheMachine =
     (m : Machine) (tables : List (List ℕ)) (n : ℕ) (before after : StoredJob) (end : BandEnd) →
@@ -22,7 +22,7 @@ BandsFollowTheMachine =
     GoesAlong m tables after × IsStepsOn m (steps_behind end n) after
 
 -- the bands of so many steps, one after another from rest, are these steps by the words of the
--- rules, or these steps undone, and the image is at rest behind them
+-- rules, or these steps undone, and the image is at rest after them
 abbrev pub BandsAreSteps : Type 0
 BandsAreSteps =
     (m : Machine) (tables : List (List ℕ)) (n steps : ℕ) (job : StoredJob)
@@ -32,14 +32,14 @@ BandsAreSteps =
     (is_rest (job_behind job bands).image ≡ true)
     × IsStepsOn m (n + steps) (job_behind job bands)
 
--- each band leaves one band less, and is told as the last one where no step is to be done then
+-- each band leaves one band less, and ends as the last one exactly if no step is to be done then
 abbrev pub EachBandIsOneLess : Type 0
 EachBandIsOneLess =
     (tables : List (List ℕ)) (before after : StoredJob) (end : BandEnd) →
     0 < before.steps → Moves tables before end after →
     (bands_left after + 1 ≡ bands_left before) × ((end ≡ LastEnd) ↔ (after.steps ≡ 0))
 
--- a job at rest takes as many bands as its steps have, and no more: behind that many, and behind no
+-- a job at rest takes as many bands as its steps have, and no more: after that many, and after no
 -- fewer, no step is to be done
 abbrev pub JobsEnd : Type 0
 JobsEnd =

@@ -7,18 +7,18 @@ use Rattle.cam6_board.specs.Images.{planes_in, rows_of}
 use Rattle.cam6_board.specs.Jobs.{StoredJob}
 use Rattle.cam6_board.specs.Bands.{Moves}
 
--- how a band ended, and the job behind it
+-- how a band ended, and the job after it
 pub record Banded : Type 0 where
   pub end : BandEnd
   pub job : StoredJob
 
--- bands one after another by the same tables, each of a job of which steps are still to be done
+-- bands one after another by the same tables, each of a job with steps that are still to be done
 abbrev pub AreBands : List (List ℕ) → StoredJob → List Banded → Type 0
 AreBands tables job [] = ⊤
 AreBands tables job (one ∷ later) =
     (0 < job.steps) × Moves tables job one.end one.job × AreBands tables one.job later
 
--- the job behind them
+-- the job after them
 abbrev pub job_behind : StoredJob → List Banded → StoredJob
 job_behind job [] = job
 job_behind job (one ∷ later) = job_behind one.job later
@@ -27,7 +27,6 @@ job_behind job (one ∷ later) = job_behind one.job later
 abbrev pub bands_of_step : StoredJob → ℕ
 bands_of_step job = width (planes_in job.image) / band
 
--- the bands that a job has still to be moved by: sixteen rows of each step, but for the rows that
--- are done
+-- the bands that a job still needs: sixteen rows of each step, but for the rows that are done
 abbrev pub bands_left : StoredJob → ℕ
 bands_left job = (job.steps * width (planes_in job.image) - rows_of job.image) / band

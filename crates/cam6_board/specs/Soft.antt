@@ -1,4 +1,4 @@
--- What a board holds that never fails.
+-- What a board that never fails holds.
 use Rattle.std.specs.Prelude.{List, ℕ, Option, Some, None}
 use Rattle.cam6_board.specs.Held.{Load, empty, loaded}
 use Rattle.cam6_board.specs.Jobs.{StoredJob}

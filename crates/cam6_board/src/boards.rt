@@ -17,14 +17,14 @@ pub enum BandEnd {
     LastEnd,
 }
 
-/// The board failed: what it held is lost. The planes are of the limit of those that were, and
-/// nothing is said of their bits.
+/// The board failed: what it held is lost. The planes have the limit of the lost ones. Nothing is
+/// said of their bits.
 #[derive(Drop)]
 pub struct BoardFault {
     pub spare: Spare,
 }
 
-/// A board: it holds one job at a time, with the tables by which the job goes.
+/// A board: it holds one job at a time, with the tables that the job uses.
 pub trait Board: Drop {
     ghost use Rattle.cam6_board.specs.Held.{Load, empty, loaded, rows_held, IsLoaded, HasWork};
     ghost use Rattle.cam6_board.specs.Held.{MovesHeld, GivesBack, IsOfLimit};
@@ -40,7 +40,7 @@ pub trait Board: Drop {
     fn faults(&self) -> u64
         ensures { result ≡ fault_count self.now };
 
-    /// The rows of the step under way that are done: 0 at rest, and none on an empty board.
+    /// The rows of the step under way that are done: 0 at rest, and `None` on an empty board.
     fn rows(&self) -> Option<u16>
         ensures { result ≡ rows_held (held self.now) };
 

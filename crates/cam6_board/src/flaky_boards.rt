@@ -53,7 +53,7 @@ impl FlakyBoard {
         })
     }
 
-    /// Whether the call that is being made is one of the list. It is counted, and so is its fault.
+    /// Returns whether the call that is being made is one of the list. Counts it, and its fault.
     fn fails(&mut self) -> bool
         ensures fails { result ≡ is_due self.old.due }
         ensures due { self.new.due ≡ later self.old.due }
@@ -76,7 +76,7 @@ fn is_due(due: &[u64]) -> bool
     due.iter().any(|call| *call == 1)
 }
 
-/// One call more has been.
+/// Counts one more call.
 fn count_call(due: &mut Vec<u64>)
     ensures { due.new.items ≡ later due.old.items }
 {
@@ -102,14 +102,14 @@ impl Board for FlakyBoard {
 
     fn rows(&self) -> Option<u16> {
         match &self.job {
-            Some(job) => Some(job.image().rows()),
+            Some(job) => Some(job.image().rows_done()),
             None => None,
         }
     }
 
     fn load(&mut self, job: Job, tables: &Tables) -> Result<(), BoardFault>
         requires { self.old.load ≡ empty }
-        // It fails exactly where this call is one of the list.
+        // It fails exactly if this call is one of the list.
         ensures fails { is_err result ≡ is_due self.old.due }
         ensures due { self.new.due ≡ later self.old.due }
         ensures faults { self.new.faults ≡ faults_after self.old.due self.old.faults }

@@ -9,7 +9,7 @@ ghost use Rattle.cam6_band.specs.ByTables.{step_by, values_of};
 use cam6_band::{AtRest, EntryTables, MidStep, Next, Spare};
 use cam6_planes::Side;
 
-/// An image at rest, or one in the middle of a step, which can't be dropped but is given up.
+/// An image at rest, or one in the middle of a step. A step can't be dropped, so it is abandoned.
 pub enum Image {
     Rest(AtRest),
     Mid(MidStep),
@@ -28,7 +28,7 @@ impl Image {
     ghost use Rattle.cam6_board.specs.Images.{planes_in, rows_of, is_rest, IsOnTheWay};
     ghost use Rattle.cam6_board.specs.Images.{IsBehindBand, GoesOn};
 
-    /// The largest side that the image may take on.
+    /// The largest side that the image may have.
     pub fn limit(&self) -> Side
         ensures { result ≡ (planes_in self.now).limit }
     {
@@ -48,7 +48,7 @@ impl Image {
     }
 
     /// The rows of the step that are done, whole bands of them: 0 at rest.
-    pub fn rows(&self) -> u16
+    pub fn rows_done(&self) -> u16
         ensures rows { result ≡ rows_of self.now }
         ensures within { result < width (planes_in self.now) }
         ensures bands { result % band ≡ 0 }
@@ -69,7 +69,7 @@ impl Image {
         }
     }
 
-    /// The image at rest, or the step under way, which has to be spent.
+    /// Returns the image at rest, or the step under way. A step has to be spent.
     pub fn into_rest(self) -> Result<AtRest, MidStep>
         ensures rest { IfOk result (λ rest. self ≡ Image.Rest rest) }
         ensures step { IfErr result (λ step. self ≡ Image.Mid step) }
@@ -94,7 +94,7 @@ impl Image {
         }
     }
 
-    /// The step under way, or one that is begun.
+    /// Returns the step under way, or begins one.
     fn into_step(self, tables: &EntryTables) -> MidStep
         ensures partway { (o p : Cells) → IsOnTheWay o p self → Partway o p result }
         ensures done { result.done ≡ rows_of self }
@@ -106,7 +106,7 @@ impl Image {
         }
     }
 
-    /// Gives the image up.
+    /// Gives the image up, and returns its planes as spare.
     pub fn into_spare(self) -> Spare
         ensures { result.planes.limit ≡ (planes_in self).limit }
     {

@@ -8,7 +8,7 @@ use crate::images::Image;
 use crate::worked::Worked;
 use cam6_band::go_by;
 use cam6_cycle::{Cycle, Direction};
-use cam6_table::Table;
+use cam6_entries::Table;
 use std::marker::Model;
 
 /// So many steps of an image along a cycle, one way from a position. Within a step the position is
@@ -78,7 +78,7 @@ impl Job {
         self.image.into_image()
     }
 
-    /// The position in the cycle, which the job has always.
+    /// Returns the position in the cycle. The clause `within` gives the job's invariant.
     pub fn position(&self) -> usize
         ensures position { result ≡ self.now.position }
         ensures within { result < length self.now.cycle }
@@ -110,7 +110,7 @@ impl Job {
     }
 }
 
-/// How the end of a step is told, with so many steps still to be done.
+/// Returns how a step ends, with so many steps still to be done.
 fn end_of(steps: u16) -> BandEnd
     ensures { result ≡ end_of steps }
 {

@@ -1,8 +1,8 @@
-//! What follows of jobs and their bands. Each law is the contract of a function that does nothing.
+//! Laws of jobs and their bands. Each law is the contract of a function that does nothing.
 ghost use Rattle.cam6_board.specs.Laws.{BandsFollowTheMachine, BandsAreSteps, EachBandIsOneLess};
 ghost use Rattle.cam6_board.specs.Laws.{JobsEnd};
 
-/// A band takes a job on as the machine moves along whose cycle it goes.
+/// If a job goes along a machine's cycle, a band takes it on as the machine moves.
 pub fn a_band_follows_the_machine()
     ensures law { BandsFollowTheMachine }
 {}
@@ -12,7 +12,7 @@ pub fn bands_one_after_another_are_steps()
     ensures law { BandsAreSteps }
 {}
 
-/// Each band leaves one band less to be done, and the last one is told.
+/// Each band leaves one band less to be done, and the last one reports that it is.
 pub fn each_band_leaves_one_less()
     ensures law { EachBandIsOneLess }
 {}

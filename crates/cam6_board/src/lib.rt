@@ -1,14 +1,14 @@
 //! Modelled boards: a board holds one job at a time, moves it by a band a call, and may fail, which
 //! loses all that it holds.
 //!
-//! Contract: `Board` says it of every board, by cases on what it holds (`specs/Held.antt`): nothing,
-//! or a job with the tables by which it goes. A band moves the job by sixteen rows of the step by
-//! the tables of its position, the way that it goes along its cycle, and tells how it ends
-//! (`specs/Bands.antt`). A fault comes only where the count of faults rose in that call; after it
-//! the board holds nothing, and the fault carries planes of the limit of those that were lost, on
-//! whose bits nothing is said.
+//! Contract: `Board` is the contract of every board, by cases on what it holds (`specs/Held.antt`):
+//! nothing, or a job with the tables that the job uses. A band moves the job by sixteen rows of the
+//! step, by the tables of its position, the way that it goes along its cycle. It reports how it
+//! ends (`specs/Bands.antt`). If a call fails, the count of faults rose in it, and the board holds
+//! nothing after it. The fault carries planes with the limit of the lost ones. Nothing is said of
+//! their bits.
 //!
-//! Stands on: `cam6_planes`, `cam6_table`, `cam6_band`, `cam6_cycle`, `cam6_model` and `cam6_rules`.
+//! Stands on: `cam6_planes`, `cam6_entries`, `cam6_band`, `cam6_cycle`, `cam6_model` and `cam6_rules`.
 //!
 //! Read next: `images`, `jobs` and `tables`, what a board is loaded with; `boards`, what every board
 //! does; `soft_boards`, those that never fail, with `worked`, the image that is worked on;

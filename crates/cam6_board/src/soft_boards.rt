@@ -46,7 +46,7 @@ impl Board for SoftBoard {
 
     fn rows(&self) -> Option<u16> {
         match &self.job {
-            Some(job) => Some(job.image().rows()),
+            Some(job) => Some(job.image().rows_done()),
             None => None,
         }
     }

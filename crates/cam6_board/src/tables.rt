@@ -3,8 +3,8 @@ ghost use Rattle.std.specs.Prelude.{◌≡◌, ◌<◌, ◌≤◌, ℕ, length, 
 ghost use Rattle.cam6_cycle.specs.Limits.{max_tables};
 
 use cam6_cycle::MAX_TABLES;
+use cam6_entries::Table;
 use cam6_planes::NoMemory;
-use cam6_table::Table;
 use std::alloc::Global;
 use std::marker::Model;
 
@@ -28,7 +28,7 @@ impl Model for Tables {
 impl Tables {
     ghost use Rattle.std.specs.Prelude.{slice_set};
 
-    /// Tables of which nothing is said.
+    /// Allocates the tables. Nothing is said of their entries.
     pub fn blank(alloc: Global) -> Result<Tables, NoMemory> {
         let mut by_use = Vec::with_capacity(alloc, MAX_TABLES)?;
         for _use in 0..MAX_TABLES {

@@ -9,7 +9,7 @@ use crate::images::Image;
 use cam6_band::EntryTables;
 use std::marker::Model;
 
-/// An image, which is away only in the midst of a band. Contracts see the image.
+/// An image. It is away only in the midst of a band. Contracts see the image.
 #[derive(Drop)]
 pub(crate) struct Worked {
     image: Option<Image>,

@@ -2,7 +2,7 @@
 use Rattle.std.proofs.Common.{◌≡◌, ℕ, ◌<◌, Bool, true, false, List, length, arith}
 use Rattle.std.proofs.Common.{Ok, get_or, sym, ◌∙◌, subst}
 use Rattle.std.proofs.lemmas.List.{ext_get_or}
-use Rattle.cam6_table.specs.Limits.{addresses}
+use Rattle.cam6_entries.specs.Limits.{addresses}
 use Rattle.cam6_block.specs.BlockMaps.{Reading, reading_of, IsReversible}
 use Rattle.cam6_block.proofs.RuleTables.{same_reading}
 use Rattle.cam6_block.proofs.Undoing.{only_one}

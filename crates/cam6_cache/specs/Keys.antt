@@ -15,11 +15,11 @@ pub record TableKey : Type 0 where
   pub text : List ℕ
   pub inverted : Bool
 
--- a table that undoes a rule is asked for only where the rule can be undone
+-- a table that undoes a rule is asked for only if the rule can be undone
 abbrev pub IsReversibleKey : TableKey → Type 0
 IsReversibleKey key = IsReversible (reading_of key.wiring key.text) key.wiring.hood key.wiring.minor
 
--- a table that is to undo a rule is one by which a cycle is gone along backward
+-- a table that is to undo a rule is used backward along a cycle
 abbrev pub way_of : Bool → Direction
 way_of false = Forward
 way_of true = Backward

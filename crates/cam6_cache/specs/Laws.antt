@@ -1,4 +1,4 @@
--- What follows of keys and of what a cache keeps.
+-- Laws of keys and their tables.
 use Rattle.std.specs.Prelude.{◌≡◌, ℕ, true, List}
 use Rattle.cam6_table.specs.RuleTexts.{IsTableOf}
 use Rattle.cam6_block.specs.BlockMaps.{by_table, IsReversible}
@@ -17,7 +17,7 @@ IsTheOnlyTable =
     (key : TableKey) (first second : List ℕ) → IsTrueFor key first → IsTrueFor key second →
     first ≡ second
 
--- a key whose straight table has a reversible block map is a reversible key
+-- if the straight table of a key has a reversible block map, the key is reversible
 abbrev pub TableMakesReversible : Type 0
 TableMakesReversible =
     (key : TableKey) (entries : List ℕ) → IsTableOf key.wiring key.text entries →

@@ -42,15 +42,15 @@ impl Model for TableCache {
 
 impl TableCache {
     ghost use Rattle.std.specs.Prelude.{◌<◌, ◌≤◌, [], ◌⊎◌, true, not, length, IfOk, MatchBool};
-    ghost use Rattle.cam6_table.specs.Limits.{addresses};
+    ghost use Rattle.cam6_entries.specs.Limits.{addresses};
     ghost use Rattle.cam6_table.specs.RuleTexts.{IsCodeFor};
     ghost use Rattle.cam6_cache.specs.Keys.{IsReversibleKey, IsTrueFor};
     ghost use Rattle.cam6_cache.specs.Cached.{AreTrue, AreApart, is_cached, is_empty};
     ghost use Rattle.cam6_cache.specs.Cached.{with_first, without_last};
     ghost use Rattle.cam6_cache.specs.Limits.{max_capacity};
 
-    /// An empty cache of 1 to 64 tables. It takes the memory of a table and of places for so many;
-    /// each table that is cached takes its own.
+    /// Makes an empty cache of 1 to 64 tables. Allocates one table, and places for so many. Each
+    /// table that is cached allocates its own memory.
     pub fn new(alloc: Global, capacity: usize) -> Result<TableCache, NoMemory>
         requires least { 0 < capacity }
         requires most { capacity ≤ max_capacity }
@@ -70,7 +70,7 @@ impl TableCache {
         })
     }
 
-    /// How many tables are cached. Who takes a cache out of a lock learns here what holds of it.
+    /// Returns how many tables are cached. Its clauses also give the invariant of a cache.
     pub fn len(&self) -> usize
         ensures number { result ≡ length self.now.tables }
         ensures few { result ≤ self.now.capacity }
@@ -83,8 +83,8 @@ impl TableCache {
         self.tables.len()
     }
 
-    /// Makes `out` the key's true table, and says whether it was cached. The code is that of the
-    /// key's text. Memory is taken for what is newly cached alone; where it is refused nothing is
+    /// Makes `out` the key's true table, and returns whether it was cached. `code` is that of the
+    /// key's text. Allocates only for a table that is newly cached. If that fails, nothing is
     /// cached, and nobody sees it.
     pub fn load(&mut self, key: &Key, code: &Code, out: &mut Table) -> bool
         requires code { IsCodeFor key.now.wiring key.now.text code.now }
@@ -92,7 +92,7 @@ impl TableCache {
         ensures table { IsTrueFor key.now out.new }
         ensures whole { length out.new ≡ addresses }
         ensures hit { result ≡ is_cached key.now self.old.tables }
-        // A hit goes first; so does what was not there, or there was no memory for it and nothing
+        // A hit goes first. So does a table that was not there, or an allocation fails and nothing
         // changes.
         ensures cached { MatchBool result (self.new ≡ with_first key.now out.new self.old)
             ((self.new ≡ with_first key.now out.new self.old) ⊎ (self.new ≡ self.old)) }
@@ -109,7 +109,7 @@ impl TableCache {
         false
     }
 
-    /// Drops the table that was used longest ago, and says whether there was one.
+    /// Drops the table that was used longest ago, and returns whether there was one.
     pub fn evict_oldest(&mut self) -> bool
         ensures some { result ≡ not (is_empty self.old.tables) }
         ensures rest { self.new ≡ without_last self.old }

@@ -36,7 +36,7 @@ impl NamedKey {
         }
     }
 
-    /// The way along a cycle that is gone by the key's table.
+    /// The way along a cycle that uses the key's table.
     pub(crate) fn way(&self) -> Direction
         ensures { result ≡ way_of self.now.inverted }
     {
@@ -48,7 +48,7 @@ impl NamedKey {
     }
 }
 
-/// By the text alone: few keys of a cache differ in something else.
+/// Hashes only the text: few keys of a cache differ in anything else.
 impl Hash for NamedKey {
     ghost use Rattle.std.specs.Prelude.{string_bytes};
     ghost use Rattle.std.specs.Hash as fed;
@@ -105,7 +105,7 @@ impl Key {
         Ok(Key { named })
     }
 
-    /// Makes the key that of a text, at most `MAX_TEXT` bytes long. It takes no memory.
+    /// Makes the key that of a text, at most `MAX_TEXT` bytes long. Does not allocate.
     pub fn set(&mut self, half: Half, hood: Hood, minor: Minor, text: &str, inverted: bool)
         requires { length text.now ≤ max_text }
         ensures { self.new ≡ record {

@@ -11,7 +11,7 @@ pub fn a_key_has_one_true_table()
     ensures law { IsTheOnlyTable }
 {}
 
-/// A key whose straight table has a reversible block map is a reversible key.
+/// If the straight table of a key has a reversible block map, the key is reversible.
 pub fn a_table_that_can_be_inverted_makes_its_key_reversible()
     ensures law { TableMakesReversible }
 {}

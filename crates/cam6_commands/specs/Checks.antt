@@ -11,7 +11,7 @@ pub record RowOf : Type 0 where
   pub side : Side
   pub number : ℕ
 
--- the fault, where a test fails
+-- the fault, if a test fails
 abbrev pub unless : Bool → Fault → Option Fault
 unless ok fault = if ok then None else Some fault
 

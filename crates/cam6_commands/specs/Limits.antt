@@ -1,4 +1,4 @@
--- The limits of a machine.
+-- The limits of a machine, and of those who share boards.
 use Rattle.std.specs.Prelude.{ℕ}
 
 -- the most rules, and the most bytes of a rule's name
@@ -22,3 +22,10 @@ max_colour = 15
 -- the set of all states, as a mask
 abbrev pub max_mask : ℕ
 max_mask = 65535
+
+-- the most users who share boards, and the most boards
+abbrev pub max_users : ℕ
+max_users = 32
+
+abbrev pub max_boards : ℕ
+max_boards = 8

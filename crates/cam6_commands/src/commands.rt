@@ -1,4 +1,4 @@
-//! What a user asks of his machine.
+//! What a user asks of their machine.
 
 use crate::saved::SavedMachine;
 use crate::texts::Text;
@@ -25,7 +25,7 @@ pub enum Command {
         wiring: Wiring,
         text: Text,
     },
-    /// Forgets a rule. Those behind it close up.
+    /// Forgets a rule. Those after it close up.
     Drop {
         name: Text,
     },
@@ -52,7 +52,7 @@ pub enum Command {
     Plane {
         plane: u64,
     },
-    /// Takes on a side, with blank planes and the position 0.
+    /// Changes the side, with blank planes and the position 0.
     Side {
         side: u64,
     },
@@ -64,13 +64,13 @@ pub enum Command {
     Colours {
         row: u64,
     },
-    /// Asks how many cells have a state whose bit is set in the mask.
+    /// Asks how many cells have a state with its bit set in the mask.
     Count {
         mask: u64,
     },
     /// Asks for the whole machine.
     Save,
-    /// Takes on a machine that was saved, whole but for its limit.
+    /// Loads a machine that was saved, whole but for its limit.
     Load {
         machine: SavedMachine,
     },

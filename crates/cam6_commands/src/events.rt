@@ -5,7 +5,7 @@ use crate::commands::Command;
 /// An event, with its numbers as they were given. Users are numbered from 1, and boards from 0.
 #[derive(Debug, Drop)]
 pub enum Event {
-    /// A user gives his machine a command.
+    /// A user gives their machine a command.
     Ask(u64, Command),
     /// A user's command goes to a board.
     Lease(u64, u64),
@@ -15,10 +15,10 @@ pub enum Event {
     Preempt(u64),
     /// A board fails, and loses what it holds.
     Fail(u64),
-    /// A board that failed is there again.
+    /// A board that failed is idle again.
     Repair(u64),
     /// The table that was used longest ago leaves the cache.
     Evict,
-    /// A user collects the reply to his command.
+    /// A user collects the reply to their command.
     Collect(u64),
 }

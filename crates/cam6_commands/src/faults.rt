@@ -19,7 +19,7 @@ pub enum Fault {
     WrongHalf,
     /// The side is above the machine's limit.
     AboveLimit,
-    /// What is to be loaded was saved of no machine.
+    /// What is to be loaded isn't what is saved of any machine.
     NoMachine,
 }
 

@@ -3,10 +3,10 @@
 use crate::refused::Refused;
 use crate::replies::Reply;
 
-/// What comes of an event. The numbers are those of the bands that are left behind it.
+/// What comes of an event. The numbers are those of the bands that are left after it.
 #[derive(Debug, Drop)]
 pub enum Outcome {
-    /// There was no memory for a command, and nothing has changed.
+    /// An allocation failed for a command, and nothing has changed.
     NoMemory,
     Refused(Refused),
     Asked(u64),

@@ -20,8 +20,8 @@ pub enum Refusal {
         address: u16,
         fault: RuleFault,
     },
-    /// For a rule that can't be undone: the first entry of the cycle, counted from 0, that has one,
-    /// the half for which it has it, half A before half B, and why it can't be undone.
+    /// For a rule that can't be undone: the first entry of the cycle with one, counted from 0; its
+    /// half, with half A before half B; and why the rule can't be undone.
     NotReversible {
         entry: usize,
         half: Half,

@@ -7,7 +7,7 @@ ghost use Rattle.cam6_commands.specs.Numbers.{refused_number};
 pub enum Refused {
     /// There is no such user or board.
     NoSuchNumber,
-    /// The reply to the user's command before isn't collected yet.
+    /// The reply to the user's last command isn't collected yet.
     UserIsWaiting,
     UserIsNotQueued,
     BoardIsNotIdle,

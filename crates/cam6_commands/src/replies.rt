@@ -12,7 +12,7 @@ pub enum Reply {
     Refused(Refusal),
 }
 
-/// What is told of a command that was done. Each command has a form of its own.
+/// The reply to a command that was done. Each command has a form of its own.
 #[derive(Debug, Drop)]
 pub enum Done {
     Set,

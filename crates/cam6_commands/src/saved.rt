@@ -7,12 +7,12 @@ use cam6_planes::Bits;
 use cam6_wiring::Wiring;
 use std::marker::Model;
 
-/// A machine as it is saved. Whether there is such a machine is found out by the one that loads it.
+/// A machine as it is saved. The machine that loads it checks whether there is such a machine.
 #[derive(Debug, Drop)]
 pub struct SavedMachine {
     /// A colour for each state of a cell.
     pub colours: [u64; 16],
-    /// The cycle, which has no entries where none is set.
+    /// The cycle. It has no entries if none is set.
     pub cycle: NamedEntries,
     /// The rows of each of the four planes.
     pub planes: [BitRows; 4],

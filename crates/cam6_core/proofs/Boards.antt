@@ -11,6 +11,7 @@ use Rattle.cam6_slot.specs.Lefts.{queued_left, queued_home, home_after, bands_of
 use Rattle.cam6_slot.specs.Parking.{StoredQueued, IsQueued}
 use Rattle.cam6_station.specs.Calls.{GoesOn, ComesBack, BandGives, PreemptGives, FailGives}
 use Rattle.cam6_station.specs.declared.stations.Banded.TheVariants.{More, Last}
+use Rattle.cam6_station.specs.declared.stations.Preempted.TheVariants as off
 use Rattle.cam6_station.specs.Held.{Manned, Held, StandsHeld, held_left, held_home, held_bands}
 use Rattle.cam6_station.specs.Held as board
 use Rattle.cam6_core.specs.State.{State, with_user, with_board, IsNumber, or_dead}
@@ -251,14 +252,15 @@ module _ (s : State) (b : ℕ) where
 
   -- a preempt
   pub preempt_goes : PlacesHaveTheSide → (v : ℕ) (q : StoredQueued) → IsQueued q →
-      is_loaded (option_map posture it) ≡ true → PreemptGives (or_dead it) v q →
+      is_loaded (option_map posture it) ≡ true → PreemptGives (or_dead it) (off.Back v q) board.idle →
       IsNumber (length s.users) v →
       Moves s (event.Preempt b) (Preempted (queued_left q))
       (with_user (with_board s b board.idle) v (whereabouts.Queued q))
       × SparesOthers it s (with_user (with_board s b board.idle) v (whereabouts.Queued q))
   preempt_goes sides v q waits is gives number =
       let (u, h, at) = held_before it is in
-      let back = subst (λ (o : Option Manned). PreemptGives (or_dead o) v q) at gives in
+      let back = subst (λ (o : Option Manned). PreemptGives (or_dead o) (off.Back v q) board.idle)
+      at gives in
       subst (λ n. Moves s (event.Preempt b) (Preempted (queued_left q))
       (with_user (with_board s b board.idle) n (whereabouts.Queued q))
       × SparesOthers it s (with_user (with_board s b board.idle) n (whereabouts.Queued q)))

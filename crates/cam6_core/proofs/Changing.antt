@@ -6,9 +6,10 @@ use mathlib.Core.Logic.{dite}
 use native.Mathlib.Decide.{ℕ_discrete}
 use Rattle.cam6_slot.specs.Parking.{StoredQueued}
 use Rattle.cam6_station.specs.Calls.{BandGives, PreemptGives, FailGives}
-use Rattle.cam6_station.specs.Held.{Manned, idle, loaded, IsLoaded, IsAlive}
+use Rattle.cam6_station.specs.Held.{Manned, idle, loaded, dead, IsLoaded, IsAlive}
 use Rattle.cam6_station.specs.declared.stations.Banded.{Banded}
-use Rattle.cam6_station.specs.declared.stations.Banded.TheVariants.{More, Last}
+use Rattle.cam6_station.specs.declared.stations.Banded.TheVariants.{More, Last, Lost}
+use Rattle.cam6_station.specs.declared.stations.Preempted.TheVariants as off
 use Rattle.cam6_core.specs.State.{IsNumber, IsHeldWithin, AreHeldWithin, or_dead}
 use Rattle.cam6_core.specs.Internal.Returning.{IsOfUser, IsOfUserIf}
 use Rattle.cam6_core.proofs.Numbers.{one_of, within, set_here, set_else}
@@ -62,10 +63,12 @@ band_held n (loaded u h) (More left) (loaded v k) is gives =
     (subst (IsNumber n) (sym gives.0) is, tt)
 band_held n (loaded u h) (Last v f) idle is gives =
     (tt, subst (IsNumber n) (sym gives.0) is)
+band_held n (loaded u h) (Lost v q) dead is gives =
+    (tt, subst (IsNumber n) (sym gives.0) is)
 band_held n y r new is gives = absurd gives
 
 pub preempt_held : (n : ℕ) (y : Manned) (v : ℕ) (q : StoredQueued) → IsHeldWithin n y →
-    PreemptGives y v q → IsNumber n v
+    PreemptGives y (off.Back v q) idle → IsNumber n v
 preempt_held n (loaded u h) v q is gives = subst (IsNumber n) (sym gives.0) is
 preempt_held n y v q is gives = absurd gives
 

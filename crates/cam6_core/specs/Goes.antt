@@ -19,30 +19,30 @@ use Rattle.cam6_commands.specs.declared.outcomes.Outcome.{Outcome}
 use Rattle.cam6_commands.specs.declared.outcomes.Outcome.TheVariants.{NoMemory, Refused, Leased}
 use Rattle.cam6_commands.specs.declared.refused.Refused.{Refused as Reason}
 
--- memory may be wanted for a command of a user at rest
+-- a command of a user at rest may need memory
 abbrev pub MayWant : Option Whereabouts → Command → Type 0
 MayWant (Some (Resting r)) c = may_want_memory (machine_of r) c ≡ true
 MayWant x c = ⊥
 
--- so it may for an ask, and for no other event
+-- an ask may need memory, and no other event
 abbrev pub WantsMemory : State → Event → Type 0
 WantsMemory s (event.Ask u c) = MayWant (at_number s.users u) c
 WantsMemory s e = ⊥
 
--- whatever model the core agreed with, what comes of the event is the model's, and the core agrees
--- with the model behind it
+-- whatever model the core agreed with, the outcome of the event is the model's, and the core agrees
+-- with the model after the event
 abbrev pub Moves : State → Event → Outcome → State → Type 0
 Moves old e r new =
     (a : Model) → Good old a → (r ≡ (turn a e).1) × Good new (turn a e).0
 
--- of an event that isn't refused: where memory may be wanted there may be none, and then nothing
+-- an event that isn't refused: if it may need memory, it may run out of memory, and then nothing
 -- changes
 abbrev pub Takes : State → Event → Outcome → State → Type 0
 Takes old e NoMemory new = WantsMemory old e × (new ≡ old)
 Takes old e (Refused reason) new = ⊥
 Takes old e r new = Moves old e r new
 
--- one that is refused changes nothing
+-- a refused event has its reason as outcome and changes nothing
 abbrev pub Obeys : Option Reason → State → Event → Outcome → State → Type 0
 Obeys (Some reason) old e r new = (r ≡ Refused reason) × (new ≡ old)
 Obeys None old e r new = Takes old e r new
@@ -55,26 +55,26 @@ abbrev pub LoadsFor : Option Whereabouts → Cached → Cached → Type 0
 LoadsFor (Some (Queued q)) old new = IsBehindLoads q.work old new
 LoadsFor x old new = ⊥
 
--- that is so of a lease; of no other event is anything said here
+-- a lease does so; nothing is said here about any other event
 abbrev pub LoadsTables : Event → Outcome → State → State → Type 0
 LoadsTables (event.Lease u b) (Leased left) old new =
     LoadsFor (at_number old.users u) old.cache new.cache
 LoadsTables e r old new = ⊤
 
--- users are as they were, but for one
+-- all users but one are as they were
 abbrev pub SparesUsersBut : ℕ → State → State → Type 0
 SparesUsersBut u old new = (v : ℕ) → v ≢ u → at_number new.users v ≡ at_number old.users v
 
--- boards are as they were, but for one
+-- all boards but one are as they were
 abbrev pub SparesBoardsBut : ℕ → State → State → Type 0
 SparesBoardsBut b old new = (d : ℕ) → d ≢ b → slice_get new.boards d ≡ slice_get old.boards d
 
--- users are as they were, but for the one for whom a board is loaded
+-- if a board is loaded for a user, all other users are as they were; if not, all users are
 abbrev pub SparesOthers : Option Manned → State → State → Type 0
 SparesOthers (Some (loaded u h)) old new = SparesUsersBut u old new
 SparesOthers y old new = new.users ≡ old.users
 
--- whom and what an event doesn't touch
+-- which users and boards an event leaves as they were, and what it does to the cache
 abbrev pub Spares : Event → State → State → Type 0
 Spares (event.Ask u c) old new =
     SparesUsersBut u old new × (new.boards ≡ old.boards) × (new.cache ≡ old.cache)

@@ -16,9 +16,9 @@ use Rattle.cam6_core.specs.Model.{Seat, idle, loaded, dead, User, Model, user, s
 use Rattle.cam6_core.specs.declared.parts.Whereabouts.{Whereabouts}
 use Rattle.cam6_core.specs.declared.parts.Whereabouts.TheVariants as whereabouts
 
--- the command of a user whose machine alone is m: at rest it is that machine; what waits for a board
--- stands for the machine and the command, with the bands that are left and those from home, and is
--- what waits always; and what is finished is done with them
+-- a user's whereabouts fit a stage, if m is the user's private machine: at rest the machine is m;
+-- what is queued stands for m and the command, has as many bands left and from home, and is
+-- `IsQueued`; what is finished is done with m and the command
 abbrev pub UserFits : Machine → Whereabouts → Stage → Type 0
 UserFits m (whereabouts.Resting r) resting = stored.machine_of r ≡ m
 UserFits m (whereabouts.Queued q) (queued c left home) =
@@ -27,14 +27,14 @@ UserFits m whereabouts.Out (out b c) = ⊤
 UserFits m (whereabouts.Finished f) (finished c) = IsDone f m c
 UserFits m x stage = ⊥
 
--- the user is out on this board, and what it holds stands for his machine and his command: a lease of
--- this board, with a job and tables that fit it
+-- the user is out on this board, and what it holds stands for the user's machine and command: a
+-- lease of this board, with a job and tables that fit it
 abbrev pub IsOutWith : Machine → ℕ → Held → Stage → Type 0
 IsOutWith m b h (out d c) =
     (d ≡ b) × StandsHeld h m c × HeldFits h × (h.lease.board ≡ b)
 IsOutWith m b h stage = ⊥
 
--- a board is idle, dead, or holds what its user is out with, and as many bands are left
+-- a board is idle or dead, or it holds what its user is out with, and as many bands are left
 abbrev pub BoardFits : List User → ℕ → Manned → Seat → Type 0
 BoardFits us b board.idle idle = ⊤
 BoardFits us b board.dead dead = ⊤
@@ -48,13 +48,13 @@ abbrev pub IsLoadedFor : ℕ → Seat → Type 0
 IsLoadedFor u (loaded v left home) = v ≡ u
 IsLoadedFor u s = ⊥
 
--- where a user is out on a board, it is loaded for him
+-- if a user is out on a board, the board is loaded for this user
 abbrev pub IsOnHisBoard : List Seat → ℕ → Stage → Type 0
 IsOnHisBoard bs u (out b c) = IsLoadedFor u (seat bs b)
 IsOnHisBoard bs u stage = ⊤
 
--- as many users and as many boards, each as the model has it; whoever is out has a board; and each
--- cached table is its key's true one
+-- as many users and as many boards, each as the model has it; each user who is out has a board; and
+-- each cached table is its key's true one
 pub record Good (s : State) (a : Model) : Type 0 where
   pub users_long : length s.users ≡ length a.users
   pub boards_long : length s.boards ≡ length a.boards

@@ -1,10 +1,11 @@
 -- The headline: for every list of events (commands, leases, bands, preemptions inside a step, cache
--- evictions, board failures and repairs) and every user, the replies he is given are, in order,
--- those that his machine alone, evaluating rule words cell by cell, gives to his accepted commands;
--- so two lists that agree on these give him equal replies, as far as both have answered.
+-- evictions, board failures and repairs) and every user, the replies that the user is given are, in
+-- order, those of their machine alone to their accepted commands. The machine alone evaluates rule
+-- words cell by cell. So two lists that agree on a user's accepted commands give equal replies, as
+-- far as both have replied.
 --
--- Its premises, by name. Memory: an ask that finds no memory changes nothing and isn't accepted.
--- Turn: what an ask refuses, since its user is waiting, isn't accepted. Stop: a board fails by
+-- Its premises, by name. Memory: an ask that runs out of memory changes nothing and isn't accepted.
+-- Turn: an ask of a user who is waiting is refused and isn't accepted. Stop: a board fails by
 -- stopping and loses all that it holds; it is never silently wrong.
 use Rattle.std.specs.Prelude.{ℕ, ◌≡◌, ◌==◌, ◌&&◌, ◌⊎◌, List, [], ◌∷◌, ◌++◌, Option, Some, None}
 use Rattle.std.specs.Prelude.{if◌then◌else◌, ⊤}
@@ -24,12 +25,12 @@ use Rattle.cam6_core.specs.Runs.{accepted, GoThrough}
 use Rattle.cam6_core.specs.declared.parts.Whereabouts.{Whereabouts}
 use Rattle.cam6_core.specs.declared.parts.Whereabouts.TheVariants.{Resting}
 
--- the command of an event, where it is an ask of this user's that was accepted
+-- the command of an event, if it is an accepted ask of this user
 abbrev pub asked_by : ℕ → Event → Outcome → List Command
 asked_by u (event.Ask v c) r = if accepted r && (v == u) then c ∷ [] else []
 asked_by u e r = []
 
--- the reply of an event, where it is one that this user collected
+-- the reply of an event, if this user collected it
 abbrev pub given_to : ℕ → Event → Outcome → List Reply
 given_to u (event.Collect v) (Collected x) = if v == u then x ∷ [] else []
 given_to u e r = []
@@ -40,34 +41,34 @@ commands u [] rs = []
 commands u (e ∷ es) [] = []
 commands u (e ∷ es) (r ∷ rs) = asked_by u e r ++ commands u es rs
 
--- the replies that he is given, in order
+-- the replies that a user is given, in order
 unfoldable pub given : ℕ → List Event → List Outcome → List Reply
 given u [] rs = []
 given u (e ∷ es) [] = []
 given u (e ∷ es) (r ∷ rs) = given_to u e r ++ given u es rs
 
--- these are all of those but the last
+-- the first list is all of the second but its last reply
 abbrev pub AllButLast : List Reply → List Reply → Type 0
 AllButLast xs all = (x : Reply) × (all ≡ xs ++ x ∷ [])
 
--- what a user was given is all of these; where he is waiting, all but the last
+-- a user at rest was given all of these replies, and a waiting user all but the last
 abbrev pub AreGiven : Option Whereabouts → List Reply → List Reply → Type 0
 AreGiven None xs all = ⊥
 AreGiven (Some (Resting r)) xs all = xs ≡ all
 AreGiven (Some x) xs all = AllButLast xs all
 
--- each user was given the replies of the machine of his limit that nobody shares
+-- each user was given the replies of a private machine of their limit to their accepted commands
 abbrev pub Headline : List Side → List Event → List Outcome → State → Type 0
 Headline limits es rs new =
     (u : ℕ) (limit : Side) → at_number limits u ≡ Some limit →
     AreGiven (at_number new.users u) (given u es rs) (replies (blank limit) (commands u es rs))
 
--- so it is from a core that is new
+-- the headline, if the core was new
 abbrev pub HeadlineFromNew : State → List Event → List Outcome → State → Type 0
 HeadlineFromNew old es rs new =
     (limits : List Side) (boards : ℕ) → Good old (fresh limits boards) → Headline limits es rs new
 
--- the same replies, but that one of them may lack its last
+-- the same replies, but one list may lack the last
 abbrev pub AgreeAsFar : List Reply → List Reply → Type 0
 AgreeAsFar xs ys = (xs ≡ ys) ⊎ AllButLast xs ys ⊎ AllButLast ys xs
 
@@ -92,9 +93,9 @@ pub record Got (u : ℕ) (limit : Side) (cs : List Command) (xs : List Reply) (x
   pub given_then : given u events outcomes ≡ xs
   pub stands : at_number new.users u ≡ x
 
--- two lists of events that agree on a user's accepted commands give him equal replies, as far as
--- both have answered; equal ones where he is waiting behind neither. All else may differ: the other
--- users and his number among them, order, failures, boards and cache; his limit is the same.
+-- two lists of events that agree on a user's accepted commands give this user equal replies, as far
+-- as both have replied; all are equal if the user waits after neither. All else may differ: the
+-- other users, the user's number, order, failures, boards and cache; the limit is the same.
 abbrev pub RepliesAreOfCommands : Type 0
 RepliesAreOfCommands =
     (u v : ℕ) (limit : Side) (cs : List Command) (xs ys : List Reply)

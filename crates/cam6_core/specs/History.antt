@@ -1,4 +1,4 @@
--- A machine alone over the commands of its user. Lists have the newest first.
+-- A private machine over the commands of its user. Lists have the newest first.
 use Rattle.std.specs.Prelude.{List, [], ◌∷◌}
 use Rattle.cam6_planes.specs.declared.sides.Side.{Side}
 use Rattle.cam6_commands.specs.declared.commands.Command.{Command}
@@ -6,7 +6,7 @@ use Rattle.cam6_commands.specs.declared.replies.Reply.{Reply}
 use Rattle.cam6_model.specs.Alone.{reply, after}
 use Rattle.cam6_model.specs.Machine.{Machine, blank}
 
--- the machine of this limit that nobody shares, after these commands
+-- a private machine of this limit, after these commands
 abbrev pub alone : Side → List Command → Machine
 alone limit [] = blank limit
 alone limit (c ∷ earlier) = after (alone limit earlier) c

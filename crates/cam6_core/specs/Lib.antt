@@ -1,8 +1,7 @@
--- In the order of reading: a machine alone over its user's commands; what a core holds; which events
--- are refused; what events make of users and boards, by the machines alone; when a core agrees with
--- that; one event; a core to begin with; events one after another; the headline, and laws of runs.
+-- In the order of reading: a private machine over its user's commands; what a core holds; which
+-- events are refused; what events do to users and boards, by private machines; when a core agrees
+-- with that; one event; a core to begin with; events one after another; the headline, and laws.
 -- How the code goes about it stands apart.
-pub mod Limits
 pub mod History
 pub mod State
 pub mod Refusals

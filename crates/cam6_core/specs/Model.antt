@@ -1,4 +1,4 @@
--- What events make of users and boards: no image, job, table or cache is in it.
+-- What events do to users and boards. The model has no image, job, table or cache.
 use Rattle.std.specs.Prelude.{ℕ, ◌-◌, ◌==◌, List, [], ◌∷◌, Option, Some, None, slice_set}
 use Rattle.std.specs.Prelude.{if◌then◌else◌}
 use Rattle.std.specs.List.{slice_get}
@@ -29,8 +29,8 @@ pub data Seat : Type 0 where
   loaded : ℕ → ℕ → ℕ → Seat
   dead : Seat
 
--- the limit of a user's machine, the commands whose replies he has collected, the newest first, and
--- where the next one is
+-- the limit of a user's machine, the commands with collected replies, the newest first, and where
+-- the next command is
 pub record User : Type 0 where
   pub limit : Side
   pub done : List Command
@@ -40,7 +40,7 @@ pub record Model : Type 0 where
   pub users : List User
   pub boards : List Seat
 
--- a user who has asked for nothing, and one of a number that there isn't
+-- a user who has asked for nothing; `user` gives one also for a number that no user has
 abbrev pub newcomer : Side → User
 newcomer limit = record { limit = limit; done = []; stage = resting }
 
@@ -58,7 +58,7 @@ or_none (Some s) = s
 abbrev pub seat : List Seat → ℕ → Seat
 seat bs b = or_none (slice_get bs b)
 
--- a user's machine, before the command that he waits for
+-- a user's machine, before the command that the user waits for
 abbrev pub machine_of : User → Machine
 machine_of p = alone p.limit p.done
 
@@ -69,7 +69,7 @@ at_stage p stage = record p { stage = stage }
 abbrev pub begun : Command → ℕ → Stage
 begun c bands = if bands == 0 then finished c else queued c bands bands
 
--- the last band is done; and the command waits for a board again
+-- the stage after the last band, and the one in which the command waits for a board again
 abbrev pub over : Stage → Stage
 over (out b c) = finished c
 over s = s
@@ -91,7 +91,7 @@ module _ (a : Model) where
   abbrev pub with_seat : ℕ → Seat → Model
   with_seat b s = record a { boards = slice_set a.boards b s }
 
-  -- this isn't come to, as the event is refused
+  -- this case doesn't arise, as the event is refused
   abbrev pub stays : Model × Outcome
   stays = (a, outcome.Refused NoSuchNumber)
 
@@ -115,7 +115,7 @@ module _ (a : Model) where
       else (with_seat b (loaded u (left - 1) home), outcome.Banded (left - 1))
   band b s = stays
 
-  -- behind a whole step the command goes on from there also after a failure
+  -- after a whole step, home is there, so the command goes on from there even after a failure
   abbrev pub preempt : ℕ → Seat → Model × Outcome
   preempt b (loaded u left home) =
       let p = user a.users u in
@@ -140,7 +140,7 @@ module _ (a : Model) where
   )
   collect u p s = stays
 
--- what an event that isn't refused makes of users and boards, and what comes of it
+-- users and boards after an event that isn't refused, and its outcome
 abbrev pub turn : Model → Event → Model × Outcome
 turn a (event.Ask u c) = ask a u c (user a.users u) (user a.users u).stage
 turn a (event.Lease u b) = lease a u b (user a.users u) (user a.users u).stage

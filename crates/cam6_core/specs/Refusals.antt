@@ -27,8 +27,8 @@ pub data Posture : Type 0 where
   loaded : Posture
   dead : Posture
 
--- of each user and each board where it stands, none where there is no such user or board; and whether
--- no table is cached
+-- where each user and each board stands, `None` if there is no such user or board; and whether no
+-- table is cached
 pub record Standing : Type 0 where
   pub user : ℕ → Option Status
   pub board : ℕ → Option Posture
@@ -56,7 +56,7 @@ abbrev pub is_missing : {A : Type 0} → Option A → Bool
 is_missing None = true
 is_missing (Some x) = false
 
--- a command of the user's was accepted, and its reply isn't collected yet
+-- a command of the user was accepted, and its reply isn't collected yet; or there is no such user
 abbrev pub is_waiting : Option Status → Bool
 is_waiting (Some resting) = false
 is_waiting s = true
@@ -81,12 +81,12 @@ abbrev pub is_dead : Option Posture → Bool
 is_dead (Some dead) = true
 is_dead p = false
 
--- the first reason whose condition holds
+-- the first reason with a condition that holds
 abbrev pub first : List (Bool × Refused) → Option Refused
 first [] = None
 first (reason ∷ later) = if reason.0 then Some reason.1 else first later
 
--- of an event that needs a loaded board
+-- why an event that needs a loaded board is refused, if it is
 abbrev pub loaded_refusal : Option Posture → Option Refused
 loaded_refusal p = first
     ((is_missing p, why.NoSuchNumber) ∷ (is_dead p, why.BoardIsDead)

@@ -17,7 +17,7 @@ use Rattle.cam6_core.specs.Model.{User, user, Model, machine_of, turn}
 use Rattle.cam6_core.specs.Good.{Good}
 use Rattle.cam6_core.specs.Goes.{Goes, Spares}
 
--- an outcome is neither a refusal nor want of memory
+-- an outcome is neither a refusal nor `NoMemory`
 abbrev pub accepted : Outcome → Bool
 accepted NoMemory = false
 accepted (Refused reason) = false
@@ -35,7 +35,7 @@ posture_of idle = stands.idle
 posture_of (loaded u left home) = stands.loaded
 posture_of dead = stands.dead
 
--- of all users and boards of the model, by a cache that is empty or not
+-- where all users and boards of the model stand, with a cache that is empty or not
 abbrev pub model_standing : Model → Bool → Standing
 model_standing a no_table = record {
   user = λ u. option_map (λ (p : User). status_of p.stage) (at_number a.users u);
@@ -43,41 +43,41 @@ model_standing a no_table = record {
   no_table = no_table;
 }
 
--- memory may be wanted for an ask, by the user's machine alone, and for no other event
+-- an ask may need memory, by the user's private machine, and no other event
 abbrev pub MayWantMemory : Model → Event → Type 0
 MayWantMemory a (event.Ask u c) = may_want_memory (machine_of (user a.users u)) c ≡ true
 MayWantMemory a e = ⊥
 
--- what comes of an event that is refused for this reason, or isn't
+-- the outcome of an event that is refused for this reason, or isn't refused
 abbrev pub AnswersAs : Option Reason → Model → Event → Outcome → Type 0
 AnswersAs (Some reason) a e r = r ≡ Refused reason
 AnswersAs None a e NoMemory = MayWantMemory a e
 AnswersAs None a e (Refused reason) = ⊥
 AnswersAs None a e r = r ≡ (turn a e).1
 
--- what comes of an event is the model's, by a cache that is empty or not
+-- the outcome of an event is the model's, with a cache that is empty or not
 abbrev pub IsTheModels : Model → Event → Outcome → Type 0
 IsTheModels a e r =
     (no_table : Bool) × AnswersAs (refusal (model_standing a no_table) e) a e r
 
--- the model behind an event of which this came
+-- the model after an event with this outcome
 abbrev pub after_one : Model → Event → Outcome → Model
 after_one a e r = if accepted r then (turn a e).0 else a
 
--- and behind events of which these came
+-- the model after events with these outcomes
 unfoldable pub after_all : Model → List Event → List Outcome → Model
 after_all a [] rs = a
 after_all a (e ∷ es) [] = a
 after_all a (e ∷ es) (r ∷ rs) = after_all (after_one a e r) es rs
 
--- what comes of each event is the model's behind those before it
+-- the outcome of each event is the model's after the events before it
 unfoldable pub AreTheModels : Model → List Event → List Outcome → Type 0
 AreTheModels a [] [] = ⊤
 AreTheModels a [] (r ∷ rs) = ⊥
 AreTheModels a (e ∷ es) [] = ⊥
 AreTheModels a (e ∷ es) (r ∷ rs) = IsTheModels a e r × AreTheModels (after_one a e r) es rs
 
--- each event goes as one event does, one after another
+-- the events go one after another, each by `Goes` and `Spares`
 unfoldable pub GoThrough : State → List Event → List Outcome → State → Type 0
 GoThrough old [] [] new = new ≡ old
 GoThrough old [] (r ∷ rs) new = ⊥
@@ -85,8 +85,8 @@ GoThrough old (e ∷ es) [] new = ⊥
 GoThrough old (e ∷ es) (r ∷ rs) new =
     (mid : State) × Goes old e r mid × Spares e old mid × GoThrough mid es rs new
 
--- whatever model the core agreed with, what comes of the events is the model's, with the bands that
--- are left, and the core agrees with the model behind them
+-- whatever model the core agreed with, the outcomes of the events are the model's, with the bands
+-- that are left, and the core agrees with the model after them
 abbrev pub Counts : State → List Event → List Outcome → State → Type 0
 Counts old es rs new =
     (a : Model) → Good old a → AreTheModels a es rs × Good new (after_all a es rs)

@@ -31,7 +31,7 @@ with_user s u x = record s { users = with_number s.users u x }
 abbrev pub with_board : State → ℕ → Manned → State
 with_board s b y = record s { boards = slice_set s.boards b y }
 
--- a number of n users
+-- the number of one of n users
 abbrev pub IsNumber : ℕ → ℕ → Type 0
 IsNumber n u = (0 < u) × (u ≤ n)
 
@@ -45,7 +45,7 @@ abbrev pub AreHeldWithin : ℕ → List Manned → Type 0
 AreHeldWithin n boards =
     (b : ℕ) (y : Manned) → slice_get boards b ≡ Some y → IsHeldWithin n y
 
--- a board of a number that there may not be: then it is a dead one
+-- the board of a number, or a dead one if there is no such board
 abbrev pub or_dead : Option Manned → Manned
 or_dead None = dead
 or_dead (Some y) = y

@@ -12,7 +12,7 @@ use cam6_slot::laws::places_have_the_side;
 use cam6_station::Banded;
 
 impl Core {
-    /// Does an event, or refuses it. An ask alone takes memory, but for what is newly cached.
+    /// Does an event, or refuses it. Allocates only for an ask and for newly cached tables.
     pub fn apply(&mut self, event: Event) -> Outcome
         ensures goes { Goes self.old event result self.new }
         ensures loads { LoadsTables event result self.old self.new }
@@ -87,6 +87,7 @@ impl Core {
                 self.set_user(user as u64, Whereabouts::Finished(finished));
                 Outcome::Banded(0)
             }
+            Banded::Lost(_, _) => unreachable!(),
         }
     }
 

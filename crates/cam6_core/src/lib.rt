@@ -1,31 +1,31 @@
-//! All users and all boards, over whatever happens: commands, leases, bands, failures and repairs of
+//! All users and all boards, whatever happens: commands, leases, bands, failures and repairs of
 //! boards, tables that leave the cache, and replies that are collected.
 //!
-//! Contract: which events are refused is a table over where users and boards stand
-//! (`specs/Refusals.antt`), and a refused event changes nothing. What the others make of users and
-//! boards is said by the machines alone (`specs/Model.antt`): no image, job, table or cache is in
-//! it, and a reply is the one of the user's own machine. `Core::apply` keeps to it, whatever model
-//! the core agreed with before (`goes`, `specs/Goes.antt`): what comes of the event is the model's,
-//! and the core agrees with the model behind it (`specs/Good.antt`). An event leaves whoever it
-//! doesn't name, and what the other boards hold, as they were (`others`). An ask alone may find no
-//! memory, and then nothing changes. `run` folds this over any list of events: from a new core the
-//! replies that a user is given are, in order, those that his machine alone gives to his accepted
-//! commands (`headline`, `specs/Headline.antt`), and what comes of each event is the model's, with
-//! the bands that are left (`count`, `specs/Runs.antt`).
+//! Contract: `specs/Refusals.antt` has a table of the refused events, by where users and boards
+//! stand. A refused event changes nothing. A model of private machines says what every other event
+//! does to users and boards (`specs/Model.antt`). The model has no image, job, table or cache, and
+//! its replies are those of each user's own machine. `Core::apply` follows every model that the
+//! core agreed with before (`goes`, `specs/Goes.antt`). The outcome is the model's, and the core
+//! agrees with the model after the event (`specs/Good.antt`). An event changes one user and one
+//! board at most (`others`). Only an ask may run out of memory, and then nothing changes. `run`
+//! applies any list of events. From a new core, the replies that a user is given are, in order,
+//! those of their private machine to their accepted commands (`headline`, `specs/Headline.antt`).
+//! A waiting user lacks the last one. The outcome of each event is the model's, with the bands that
+//! are left (`count`, `specs/Runs.antt`).
 //!
-//! The laws: whatever goes one event after another has the headline and the count; and two lists of
-//! events that agree on a user's accepted commands give him equal replies, as far as both have
-//! answered.
+//! The laws: events that are applied one after another have the headline and the count. Two lists
+//! of events that agree on a user's accepted commands give that user equal replies, as far as both
+//! have replied.
 //!
-//! So, of two users and a board: user 1 asks for a run of one step at side 256 and is told of 16
-//! bands. Leased, moved by three bands and preempted, 13 are left. User 2 may use the board
-//! meanwhile. Leased again, behind 13 more bands user 1 collects the reply that his machine alone
-//! would give.
+//! So, with two users and a board: user 1 asks for a run of one step at side 256, which has 16
+//! bands. After a lease, three bands and a preemption, 13 bands are left. User 2 may use the board
+//! meanwhile. After another lease and 13 more bands, user 1 collects the reply that their private
+//! machine would give.
 //!
-//! Stands on: `cam6_station`, `cam6_slot`, `cam6_cache` and what they stand on.
+//! Stands on: `cam6_station`, `cam6_slot`, `cam6_board`, `cam6_cache` and what they stand on.
 //!
-//! Read next: `Event`, `Outcome` and `Refused` of `cam6_commands`; `parts`, what a core holds;
-//! `start`; `refusals`; `applying`, event by event, with `users_and_boards`, by which they go about
+//! Read next: `Event`, `Outcome` and `Refused` of `cam6_commands`; `parts`, what a core holds, with
+//! `soft_stations`, its boards; `start`; `refusals`; `applying`, event by event, with `users_and_boards`, by which they go about
 //! it; then `runs` and `laws`.
 #![tactic(auto)]
 
@@ -34,10 +34,10 @@ pub mod laws;
 mod parts;
 mod refusals;
 mod runs;
+mod soft_stations;
 mod start;
 mod users_and_boards;
 
-pub use cam6_commands::{Event, Outcome, Refused};
+pub use cam6_commands::{Event, MAX_BOARDS, MAX_USERS, Outcome, Refused};
 pub use parts::{Core, Whereabouts};
 pub use runs::run;
-pub use start::{MAX_BOARDS, MAX_USERS};

@@ -1,11 +1,12 @@
 //! What a core holds.
 
+use crate::soft_stations::SoftStation;
 use cam6_cache::TableCache;
 use cam6_slot::{Finished, Queued, Resting};
-use cam6_station::{Filling, Station};
+use cam6_station::Filling;
 use std::marker::Model;
 
-/// Where a user's machine and his command are.
+/// Where a user's machine and command are.
 #[derive(Drop)]
 pub enum Whereabouts {
     /// There is no command.
@@ -22,14 +23,14 @@ pub enum Whereabouts {
 #[derive(Drop)]
 pub struct Core {
     pub(crate) users: Vec<Whereabouts>,
-    pub(crate) boards: Vec<Station>,
+    pub(crate) boards: Vec<SoftStation>,
     pub(crate) cache: TableCache,
     pub(crate) filling: Filling,
 }
 
 impl Model for Core {
     ghost use Rattle.std.specs.Prelude.{◌≤◌, length};
-    ghost use Rattle.cam6_core.specs.Limits.{max_boards};
+    ghost use Rattle.cam6_commands.specs.Limits.{max_boards};
     ghost use Rattle.cam6_core.specs.State.{State, state, AreHeldWithin};
 
     ghost Value = { State };

@@ -12,7 +12,7 @@ use crate::parts::{Core, Whereabouts};
 use cam6_commands::{Event, Refused};
 
 impl Core {
-    /// The first reason against an event, if there is one.
+    /// Returns the first reason to refuse an event, or `None` if it isn't refused.
     pub(crate) fn refusal(&self, event: &Event) -> Option<Refused>
         ensures { result ≡ refusal (standing self.now) event.now }
     {
@@ -60,7 +60,7 @@ impl Core {
         None
     }
 
-    /// Of an event that needs a loaded board.
+    /// Returns why an event that needs a loaded board is refused, if it is.
     fn loaded_refusal(&self, board: u64) -> Option<Refused>
         ensures { result ≡ loaded_refusal ((standing self.now).board board) }
     {
@@ -123,7 +123,7 @@ impl Core {
 }
 
 impl Core {
-    /// The user of a number, if there is one.
+    /// Returns the user of a number, counted from 1, if there is one.
     fn user(&self, user: u64) -> Option<&Whereabouts>
         ensures { option_copied result ≡ at_number self.now.users user }
     {

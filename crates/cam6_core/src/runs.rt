@@ -8,10 +8,10 @@ use cam6_commands::{Event, Outcome};
 use cam6_planes::NoMemory;
 use std::alloc::Global;
 
-/// Does events one after another. Without memory for what comes of them none is done.
+/// Does events one after another. If the list of outcomes can't be allocated, does none of them.
 pub fn run(alloc: Global, core: &mut Core, events: Vec<Event>) -> Result<Vec<Outcome>, NoMemory>
-    // Where the core was new, the replies that each user is given are, in order, those that his
-    // machine alone, evaluating rule words cell by cell, gives to his accepted commands.
+    // If the core was new, the replies that each user is given are, in order, those of their
+    // machine alone to their accepted commands. It evaluates rule words cell by cell.
     ensures headline { IfOk result (λ outcomes.
         HeadlineFromNew core.old events.items outcomes.items core.new) }
     ensures count { IfOk result (λ outcomes.

@@ -4,25 +4,21 @@ ghost use Rattle.cam6_cache.specs.Limits.{max_capacity};
 ghost use Rattle.cam6_station.specs.Held.{idle};
 ghost use Rattle.cam6_core.specs.Fresh.{fresh};
 ghost use Rattle.cam6_core.specs.Good.{Good};
-ghost use Rattle.cam6_core.specs.Limits.{max_users, max_boards};
+ghost use Rattle.cam6_commands.specs.Limits.{max_users, max_boards};
+ghost use Rattle.cam6_commands.specs.declared.limits.TheConstants.{MAX_USERS, MAX_BOARDS};
 ghost use Rattle.cam6_core.specs.Internal.Starting.{AreNewcomers};
 
 use crate::parts::{Core, Whereabouts};
+use crate::soft_stations::SoftStation;
 use cam6_cache::TableCache;
 use cam6_machine::Machine;
 use cam6_planes::{NoMemory, Side};
 use cam6_slot::Resting;
-use cam6_station::{Filling, Station};
+use cam6_station::Filling;
 use std::alloc::Global;
 
-/// Users that a core can have at most.
-pub const MAX_USERS: usize = 32;
-
-/// Boards that a core can have at most.
-pub const MAX_BOARDS: usize = 8;
-
 impl Core {
-    /// So many users, each with a blank machine of his limit, idle boards, and an empty cache of so
+    /// So many users, each with a blank machine of their limit; idle boards; an empty cache of so
     /// many tables.
     pub fn new(
         alloc: Global,
@@ -70,12 +66,12 @@ fn newcomers(alloc: Global, users: usize, limits: &[Side]) -> Result<Vec<Whereab
 }
 
 /// So many idle boards.
-fn idle_boards(alloc: Global, boards: usize) -> Result<Vec<Station>, NoMemory>
+fn idle_boards(alloc: Global, boards: usize) -> Result<Vec<SoftStation>, NoMemory>
     ensures { IfOk result (λ made. made.items ≡ replicate boards idle) }
 {
     let mut made = Vec::with_capacity(alloc, boards)?;
     for _board in 0..boards {
-        made.push(Station::new(alloc)?)?;
+        made.push(SoftStation::new(alloc)?)?;
     }
     Ok(made)
 }

@@ -1,10 +1,10 @@
 //! One user's whereabouts or one board, taken or changed in its place.
-ghost use Rattle.std.specs.Prelude.{◌≡◌, ◌<◌, length, slice_set, Some};
+ghost use Rattle.std.specs.Prelude.{◌≡◌, ◌<◌, false, length, slice_set, Some};
 ghost use Rattle.std.specs.List.{slice_get};
 ghost use Rattle.cam6_cache.specs.Cached.{AreTrue};
 ghost use Rattle.cam6_slot.specs.Leases.{JobFits};
 ghost use Rattle.cam6_slot.specs.Lefts.{lease_left};
-ghost use Rattle.cam6_station.specs.Calls.{BandGives, PreemptGives, FailGives};
+ghost use Rattle.cam6_station.specs.Calls.{BandGives, PreemptGives, FailGives, is_lost};
 ghost use Rattle.cam6_station.specs.Held.{idle, dead, IsLoaded, IsAlive};
 ghost use Rattle.cam6_station.specs.Loading.{IsBehindLoads};
 ghost use Rattle.cam6_core.specs.State.{at_number, with_user, with_board, board_of, IsNumber};
@@ -13,11 +13,11 @@ ghost use Rattle.cam6_core.specs.Internal.Returning.{IsLoadedWith, IsOfUser, IsO
 use crate::parts::{Core, Whereabouts};
 use cam6_board::Job;
 use cam6_slot::{Lease, Queued};
-use cam6_station::Banded;
+use cam6_station::{Banded, Preempted};
 use std::mem;
 
 impl Core {
-    /// A user's whereabouts are taken, and he is out.
+    /// Takes a user's whereabouts, and leaves `Out` in their place.
     pub(crate) fn take_user(&mut self, user: u64) -> Whereabouts
         requires { IsNumber (length self.old.users) user }
         ensures was { at_number self.old.users user ≡ Some result }
@@ -27,7 +27,7 @@ impl Core {
         mem::replace(&mut self.users[(user - 1) as usize], Whereabouts::Out)
     }
 
-    /// A user is elsewhere from here on.
+    /// Replaces a user's whereabouts.
     pub(crate) fn set_user(&mut self, user: u64, whereabouts: Whereabouts)
         requires { IsNumber (length self.old.users) user }
         ensures { self.new ≡ with_user self.old user whereabouts }
@@ -35,7 +35,7 @@ impl Core {
         drop(mem::replace(&mut self.users[(user - 1) as usize], whereabouts));
     }
 
-    /// The number of an idle board, as a lease keeps it: boards are few.
+    /// Returns the number of an idle board as a lease keeps it. There are at most 8 boards.
     pub(crate) fn board_number(&self, board: u64) -> u8
         requires { slice_get self.now.boards board ≡ Some idle }
         ensures { result ≡ board }
@@ -44,7 +44,7 @@ impl Core {
         board as u8
     }
 
-    /// An idle board is loaded with a user's lease, whose tables are filled first.
+    /// Fills the tables of a user's lease, and then loads an idle board with it.
     pub(crate) fn load(&mut self, board: u64, user: u64, lease: Lease, job: Job)
         requires user { IsNumber (length self.old.users) user }
         requires board { slice_get self.old.boards board ≡ Some idle }
@@ -58,7 +58,7 @@ impl Core {
         ensures tables { AreTrue self.new.cache.tables }
         ensures capacity { self.new.cache.capacity ≡ self.old.cache.capacity }
     {
-        // A lease is what it always is, and so is the cache.
+        // `left` and `len` give the proof the invariants of the lease and of the cache.
         let _bands = lease.left();
         self.filling.fill(&mut self.cache, &lease);
         let _tables = self.cache.len();
@@ -70,23 +70,25 @@ impl Core {
     pub(crate) fn band_on(&mut self, board: u64) -> Banded
         requires { IsLoaded (board_of self.old board) }
         ensures gives { BandGives (board_of self.old board) result (board_of self.new board) }
+        ensures never { is_lost result ≡ false }
         ensures others { self.new ≡ with_board self.old board (board_of self.new board) }
         ensures user { IsOfUser (length self.old.users) result }
     {
         self.boards[board as usize].band()
     }
 
-    /// The command on a board is taken off it.
+    /// Takes the command off a board, and returns it with its user's number.
     pub(crate) fn preempt_on(&mut self, board: u64) -> (usize, Queued)
         requires { IsLoaded (board_of self.old board) }
-        ensures back { PreemptGives (board_of self.old board) result.0 result.1 }
+        ensures back { PreemptGives (board_of self.old board)
+            (Preempted.Back result.0 result.1) idle }
         ensures idle { self.new ≡ with_board self.old board idle }
         ensures user { IsNumber (length self.old.users) result.0 }
     {
         self.boards[board as usize].preempt()
     }
 
-    /// A board fails.
+    /// Fails a board, and returns the command that it held, if any, with its user's number.
     pub(crate) fn fail_on(&mut self, board: u64) -> Option<(usize, Queued)>
         requires { IsAlive (board_of self.old board) }
         ensures back { FailGives (board_of self.old board) result }
@@ -96,7 +98,7 @@ impl Core {
         self.boards[board as usize].fail()
     }
 
-    /// A dead board is idle.
+    /// Makes a dead board idle.
     pub(crate) fn repair_on(&mut self, board: u64)
         requires { slice_get self.old.boards board ≡ Some dead }
         ensures { self.new ≡ with_board self.old board idle }

@@ -24,7 +24,7 @@ abbrev pub previous : ℕ → ℕ → ℕ
 previous n zero = n - 1
 previous n (suc position) = position
 
--- the index of the entry by which a step goes this way from a position
+-- the index of the entry that a step this way from a position uses
 abbrev pub entry_index : Direction → ℕ → ℕ → ℕ
 entry_index Forward length position = position
 entry_index Backward length position = previous length position

@@ -29,7 +29,7 @@ AreFew =
     (direction : Direction) (entries : List Entry) → length entries ≤ max_entries →
     length (tables_needed direction entries) ≤ max_tables
 
--- behind the tables of the entries before it stand an entry's own, half A's first
+-- after the tables of the entries before it stand an entry's own, half A's first
 abbrev pub HaveTheirTables : Type 0
 HaveTheirTables =
     (direction : Direction) (entries : List Entry) (position : ℕ) (entry : Entry) →

@@ -1,5 +1,5 @@
--- In the order of reading: which entries are a cycle, and the ways along it; the tables that it
--- needs; what stands where none is used; and what follows.
+-- In the order of reading: which entries are a cycle, the ways along it, and the tables that it
+-- needs. Then what stands where none is used, and what follows.
 pub mod Limits
 pub mod Along
 pub mod Tables

@@ -1,4 +1,4 @@
--- The tables by which a cycle is gone along: one for each use of a rule.
+-- The tables that the steps of a cycle use: one for each use of a rule.
 use Rattle.std.specs.Prelude.{ℕ, List, [], ◌∷◌, ◌++◌, length, take, Option, Some, None}
 use Rattle.cam6_wiring.specs.declared.names.Half.{Half}
 use Rattle.cam6_wiring.specs.declared.names.Half.TheVariants.{A, B}
@@ -19,14 +19,13 @@ needed_for direction half None = []
 needed_for direction half (Some rule) =
     record { half = half; rule = rule; direction = direction } ∷ []
 
--- those of entries in their order: of each entry half A's before half B's
+-- the tables of entries in their order: half A's of each entry before its half B's
 abbrev pub tables_needed : Direction → List Entry → List NeededTable
 tables_needed direction [] = []
 tables_needed direction (entry ∷ entries) =
     needed_for direction A entry.a ++ needed_for direction B entry.b
     ++ tables_needed direction entries
 
--- how many tables stand before those of the entry at a position, whichever way the cycle is gone
--- along
+-- how many tables stand before those of the entry at a position, in either direction
 abbrev pub count_before : List Entry → ℕ → ℕ
 count_before entries position = length (tables_needed Forward (take position entries))

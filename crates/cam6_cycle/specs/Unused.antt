@@ -9,7 +9,7 @@ use Rattle.cam6_cycle.specs.declared.entries.Entry.{Entry}
 use Rattle.cam6_cycle.specs.declared.tables.Direction.TheVariants.{Forward}
 use Rattle.cam6_cycle.specs.declared.tables.NeededTable.{NeededTable}
 
--- an entry by which every plane stays: no rule for either half, the even grid, phase 0
+-- an entry that leaves every plane as it is: no rule for either half, the even grid, phase 0
 abbrev pub idle_entry : Entry
 idle_entry = record { a = None; b = None; grid = Even; phase = P0 }
 

@@ -41,7 +41,7 @@ impl Model for Cycle {
 }
 
 impl Cycle {
-    /// The cycle of these entries, if they are 1 to 16.
+    /// Returns the cycle of these entries, or `CycleFault` if they are not 1 to 16.
     pub fn new(entries: &[Entry]) -> Result<Cycle, CycleFault>
         ensures { result ≡ cycle_of entries.now }
     {
@@ -99,7 +99,7 @@ impl Cycle {
         (entries[before], before)
     }
 
-    /// The entry by which a step goes this way from a position, and the position after the step.
+    /// The entry that a step this way from a position uses, and the position after the step.
     pub fn go(&self, position: usize, direction: Direction) -> (Entry, usize)
         requires { position < length self.now }
         ensures entry { slice_get self.now (entry_index direction (length self.now) position)
@@ -113,7 +113,7 @@ impl Cycle {
         }
     }
 
-    /// The tables by which the cycle is gone along, one for each use of a rule: entry by entry,
+    /// The tables that the steps of the cycle use, one for each use of a rule: entry by entry,
     /// half A's before half B's.
     pub fn tables_needed(&self, direction: Direction) -> ArrayVec<NeededTable, MAX_TABLES>
         ensures tables { result.items ≡ tables_needed direction self.now }
@@ -134,7 +134,7 @@ impl Cycle {
         ensures before { (direction : Direction) →
             result ≡ length (tables_needed direction (take position self.now)) }
         ensures count { result ≡ count_before self.now position }
-        // Behind them there is room for both of the entry's own.
+        // After them there is room for both of the entry's own.
         ensures few { result + 2 ≤ max_tables }
     {
         let mut before = 0;

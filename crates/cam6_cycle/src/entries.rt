@@ -12,8 +12,8 @@ pub struct HalfRule {
     pub minor: Minor,
 }
 
-/// What a step is done by: for each half a rule or none, and the grid and the phase. A half without
-/// a rule keeps its planes.
+/// What a step uses: for each half a rule or none, and the grid and the phase. A half without a
+/// rule keeps its planes.
 #[derive(Clone, Copy, Debug, PartialEq, Eq)]
 pub struct Entry {
     pub a: Option<HalfRule>,
@@ -25,7 +25,7 @@ pub struct Entry {
 impl Default for Entry {
     ghost is_default = { λ entry. entry ≡ idle_entry };
 
-    /// An entry by which every plane stays.
+    /// An entry that leaves every plane as it is.
     fn default() -> Entry {
         Entry {
             a: None,

@@ -1,4 +1,4 @@
-//! What follows of cycles: each law is the contract of a function that does nothing.
+//! What follows of cycles. Each law is the contract of a function that does nothing.
 ghost use Rattle.cam6_cycle.specs.Laws.{UndoEachOther, AreFew, HaveTheirTables};
 
 /// Going on along a cycle and going back undo each other.
@@ -11,7 +11,7 @@ pub fn tables_are_few()
     ensures law { AreFew }
 {}
 
-/// Each rule of each entry has its table, behind those of the entries before it.
+/// Each rule of each entry has its table, after those of the entries before it.
 pub fn each_use_has_its_table()
     ensures law { HaveTheirTables }
 {}

@@ -1,18 +1,17 @@
 //! Cycles of entries, which the steps of a run take in turn.
 //!
-//! Contract: a cycle is a list of 1 to 16 entries (`Cycle::new`). `go` takes the entry by which a
-//! step goes this way or that from a position, and the position after the step
-//! (`specs/Along.antt`): `forward` takes the entry at the position and goes on to the next,
-//! `backward` goes back by one and takes the entry there, both round the cycle. The law: going one
-//! way and then the other leads to the same position, by the same entry. `tables_needed` lists a
-//! table for each use of a rule, entry by entry, half A's before half B's (`specs/Tables.antt`),
-//! and `tables_before` says where those of an entry begin. `copy` has the same entries. No call
-//! takes memory.
+//! Contract: a cycle is a list of 1 to 16 entries (`Cycle::new`). `go` returns the entry that a
+//! step from a position uses, and the position after the step (`specs/Along.antt`). `forward` takes
+//! the entry at the position and goes on to the next. `backward` goes back by one and takes the
+//! entry there. Both go round the cycle. The law: going one way and then the other leads to the
+//! same position, by the same entry. `tables_needed` lists a table for each use of a rule, entry by
+//! entry, half A's before half B's (`specs/Tables.antt`). `tables_before` says where those of an
+//! entry begin. `copy` has the same entries. No function allocates.
 //!
-//! So, of a cycle of two entries, the first with rule 0 for half A and rule 1 for half B, the second
-//! with rule 1 for half B alone: `forward(1)` takes the second and goes on to 0, `backward(0)` takes
-//! the second and stands at 1. Three tables are needed, of the rules 0, 1 and 1, and those of the
-//! second entry begin after two.
+//! So, take a cycle of two entries. The first has rule 0 for half A and rule 1 for half B, and the
+//! second has rule 1 for half B alone. `forward(1)` takes the second and goes on to 0.
+//! `backward(0)` takes the second and stands at 1. The cycle needs three tables, of the rules 0, 1
+//! and 1. Those of the second entry begin after two.
 //!
 //! Stands on: `cam6_wiring`, and on `arrayvec`.
 //!

@@ -1,4 +1,4 @@
-//! The tables that the steps of a cycle go by.
+//! The tables that the steps of a cycle use.
 ghost use Rattle.std.specs.Prelude.{◌≡◌, ◌<◌, ◌++◌};
 ghost use Rattle.arrayvec.specs.ArrayVec.{array_vec_len};
 ghost use Rattle.cam6_cycle.specs.Tables.{needed_for};
@@ -13,14 +13,14 @@ use cam6_wiring::{Half, Hood, Minor};
 /// Tables that a cycle can need: one for each half of each entry.
 pub const MAX_TABLES: usize = 2 * MAX_ENTRIES;
 
-/// Which way a cycle is gone along: by the rules' own tables, or by the inverted ones.
+/// Which way a step goes along a cycle: by the rules' own tables, or by the inverted ones.
 #[derive(Clone, Copy, Debug, PartialEq, Eq)]
 pub enum Direction {
     Forward,
     Backward,
 }
 
-/// A table that a half goes by: of this rule, its own or the inverted one.
+/// A table that a half uses: this rule's own table, or its inverted one.
 #[derive(Clone, Copy, Debug, PartialEq, Eq)]
 pub struct NeededTable {
     pub half: Half,

@@ -1,17 +1,17 @@
 //! The program `cam6_draw`: lines of replies on standard input, pictures on standard output.
 //!
-//! Contract: what the words ask for, and each end's exit status, are those of `cam6_words`; the bytes of
-//! a picture those of `Netpbm` and of `Terminal` in `cam6_pictures`; which frames are shown, and how they
-//! end, is the contract of `show_frames` in `cam6_frames`.
+//! Contract: what the arguments ask for, and each end's exit status, are those of `cam6_show_words`. The
+//! bytes of a picture are those of `Netpbm` and of `Terminal` in `cam6_show_pictures`. Which frames are
+//! shown, and how they end, is the contract of `show_frames` in `cam6_show_frames`.
 //!
-//! Stands on: `cam6_words`, `cam6_pictures`, `cam6_frames`.
+//! Stands on: `cam6_show_words`, `cam6_show_pictures`, `cam6_show_frames`.
 #![tactic(auto)]
 
-use cam6_frames::show_frames;
-use cam6_pictures::{Netpbm, Terminal};
-use cam6_words::{
-    DrawOptions, NO_MEMORY, Program, Refused, Way, ended, failed, options_of_draw, refuse,
-    unreadable,
+use cam6_show_frames::show_frames;
+use cam6_show_pictures::{Netpbm, Terminal};
+use cam6_show_words::{
+    DrawOptions, NO_MEMORY, Program, Refused, Way, ended, failed, options_of_draw, refusal_of_read,
+    refuse,
 };
 use std::env::Env;
 use std::io;
@@ -23,7 +23,7 @@ fn main(rt: HostRuntime) -> ExitCode {
     run(&rt)
 }
 
-/// Reads the words, and does what they ask for.
+/// Reads the arguments, and does what they ask for.
 fn run<R: Env + Input + Print + Eprint + AllocGlobal + Clock>(rt: &R) -> ExitCode {
     match options_given(rt) {
         Ok(options) => drawn(rt, &options),
@@ -35,7 +35,7 @@ fn options_given<R: Env + AllocGlobal>(rt: &R) -> Result<DrawOptions, Refused> {
     let alloc = rt.alloc();
     let args = match std::env::args(rt) {
         Ok(args) => args,
-        Err(e) => return Err(unreadable(alloc, Program::Draw, e.kind())),
+        Err(e) => return Err(refusal_of_read(alloc, Program::Draw, e.kind())),
     };
     let Ok(words) = args.collect::<Vec<String>>(alloc) else {
         return Err(Refused::NoMemory);
@@ -66,7 +66,7 @@ fn drawn<R: Input + Print + Eprint + AllocGlobal + Clock>(
     ended(rt, Program::Draw, end)
 }
 
-/// How long a picture stays, where there are so many a second.
+/// How long a picture stays if there are at most so many a second.
 fn pause_of(rate: Option<usize>) -> Option<Duration> {
     match rate {
         Some(rate) => Some(Duration::from_micros(1_000_000 / rate.max(1) as u64)),

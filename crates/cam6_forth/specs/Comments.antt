@@ -40,7 +40,7 @@ abbrev pub is_comment : Mode → Bool
 is_comment InComment = true
 is_comment mode = false
 
--- a token and others, unless it belongs to a comment, as the token that opens it does
+-- the token and those after it, but without the token if it opens a comment or belongs to one
 abbrev pub with_token : Mode → Mode → Token → List Token → List Token
 with_token InComment next token later = later
 with_token mode InComment token later = later

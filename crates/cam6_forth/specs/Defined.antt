@@ -9,7 +9,7 @@ pub record Defined : Type 0 where
   pub words : List Word
   pub size : ℕ
 
--- a rule: what it is written for, and its definitions, the last of which is the rule
+-- a rule: what it is written for, and its definitions; the last one is the rule
 pub record RuleWords : Type 0 where
   pub wiring : Wiring
   pub definitions : List Defined

@@ -1,5 +1,5 @@
--- The faults that a token can have after what is being written, each told by itself, and the order
--- in which they are tried.
+-- The faults that a token can have after what is being written, each defined by itself, and the
+-- order in which they are tried.
 use Rattle.std.specs.Prelude.{ℕ, ◌+◌, Bool, true, false, not, ◌&&◌, List, [], ◌∷◌, length, max}
 use Rattle.std.specs.Prelude.{Option, Some, None, is_some, if◌then◌else◌, nat_lt, nat_le}
 use Rattle.cam6_wiring.specs.declared.wirings.Wiring.{Wiring}
@@ -19,7 +19,7 @@ use Rattle.cam6_forth.specs.Tree.{case_size, meant}
 use Rattle.cam6_forth.specs.Unfinished.{OpenIf, Unfinished, Whole, Unnamed, Within, Braced}
 use Rattle.cam6_forth.specs.Unfinished.{opened_size}
 
--- the definitions before the body in which a token stands, where it stands in one
+-- the definitions before the body in which a token stands, if it stands in one
 abbrev pub before_body : Wiring → Unfinished → Option (List Defined)
 before_body wiring (Whole parts) = None
 before_body wiring (Unnamed parts) = None
@@ -59,7 +59,7 @@ abbrev pub wants_else : List OpenIf → Bool
 wants_else [] = false
 wants_else (open_if ∷ outer) = not (is_some open_if.first)
 
--- 22, in a body: `:`, `)` or `}`; ELSE or THEN without its IF, or a second ELSE; `;` where an IF
+-- 22, in a body: `:`, `)` or `}`; ELSE or THEN without its IF, or a second ELSE; `;` while an IF
 -- is open
 abbrev pub is_misplaced : List OpenIf → Kind → Bool
 is_misplaced open_ifs Colon = true
@@ -87,7 +87,7 @@ is_out_of_place (Unnamed parts) kind = false
 is_out_of_place (Within parts last) kind = is_misplaced last.open_ifs kind
 is_out_of_place (Braced parts last words) kind = is_no_case kind
 
--- a token's own size: a defined name has its definition's, or 1 where that is 0
+-- a token's own size: a defined name has its definition's, or 1 if that is 0
 abbrev pub defined_size : Option (ℕ × ℕ) → ℕ
 defined_size None = 0
 defined_size (Some (position, size)) = max size 1
@@ -124,7 +124,7 @@ is_too_large wiring (Braced parts last words) kind token =
     (case_own_size done kind token)
 is_too_large wiring unfinished kind token = false
 
--- 24: an IF where so many IFs of the same definition are open
+-- 24: an IF in a definition with max_open_ifs open IFs
 abbrev pub is_too_deep : Unfinished → Kind → Bool
 is_too_deep (Within parts last) If = not (nat_lt (length last.open_ifs) max_open_ifs)
 is_too_deep unfinished kind = false
@@ -160,7 +160,7 @@ between wiring unfinished kind token =
     ∷ (too_long, is_one_too_many unfinished kind)
     ∷ []
 
--- the first of faults that a token has, and else what comes next
+-- the first of these faults that a token has, or else what comes next
 abbrev pub first_of : Faults → Option ℕ → Option ℕ
 first_of [] next = next
 first_of ((number, has) ∷ later) next = if has then Some number else first_of later next

@@ -23,46 +23,46 @@ use Rattle.cam6_forth.specs.Unfinished.{Unnamed, Within, Braced, spell_unfinishe
 abbrev pub size_fault : ℕ → Option ℕ
 size_fault size = if nat_le size max_size then None else Some too_large
 
--- a single word, in a definition of this size, or what else such a token is there
+-- the fault of a single word in a definition of this size
 abbrev pub word_fault : ℕ → Result (SingleWord × ℕ) ℕ → Option ℕ
 word_fault size (Err number) = Some number
 word_fault size (Ok (said, more)) = size_fault (size + more)
 
--- outside definitions: `:`, unless there are too many, or `(`
+-- outside definitions: `:` may stand, unless there are too many definitions, and `(` may
 abbrev pub fault_outside : List Part → Kind → Option ℕ
 fault_outside parts Colon =
     if nat_lt (length parts) max_definitions then None else Some too_long
 fault_outside parts Open = None
 fault_outside parts kind = Some out_of_place
 
--- right after `:`: a name that isn't defined yet
+-- right after `:`: only a name that isn't defined yet may stand
 abbrev pub fault_naming : List Defined → Kind → Token → Option ℕ
 fault_naming done Other token =
     if is_some (definition_at token done) then Some not_definable else None
 fault_naming done kind token = Some not_definable
 
--- `;` stands where no IF is open
+-- `;` may stand if no IF is open
 abbrev pub end_of_body_fault : List OpenIf → Option ℕ
 end_of_body_fault [] = None
 end_of_body_fault (open_if ∷ outer) = Some out_of_place
 
--- IF, where fewer than so many are open
+-- IF may stand if fewer than max_open_ifs are open
 abbrev pub if_fault : List OpenIf → ℕ → Option ℕ
 if_fault open_ifs size =
     if nat_lt (length open_ifs) max_open_ifs then size_fault (size + 1) else Some too_many_ifs
 
--- ELSE stands where the innermost open IF has none yet
+-- ELSE may stand if the innermost open IF has none yet
 abbrev pub else_fault : List OpenIf → ℕ → Option ℕ
 else_fault [] size = Some out_of_place
 else_fault (open_if ∷ outer) size =
     if is_some open_if.first then Some out_of_place else size_fault (size + 1)
 
--- THEN stands where an IF is open
+-- THEN may stand if an IF is open
 abbrev pub then_fault : List OpenIf → Option ℕ
 then_fault [] = Some out_of_place
 then_fault (open_if ∷ outer) = None
 
--- in a body of so much size
+-- in a body of this size
 abbrev pub fault_inside : Wiring → List Defined → Opened → ℕ → Kind → Token → Option ℕ
 fault_inside wiring done last size Open token = None
 fault_inside wiring done last size Semicolon token = end_of_body_fault last.open_ifs
@@ -98,13 +98,13 @@ end_fault (Whole []) = Some no_definition
 end_fault (Whole (part ∷ parts)) = None
 end_fault unfinished = Some out_of_place
 
--- tokens that have no fault so far, and what is being written by them, comments left out
+-- these tokens have no fault so far, and spell what is being written, comments left out
 pub record AreSoundTokens (wiring : Wiring) (unfinished : Unfinished) (before : List Token) :
     Type 0 where
   pub spelled : uncommented Plain before ≡ spell_unfinished unfinished
   pub sound : IsSound wiring unfinished
 
--- tokens before a token that has this fault, outside comments
+-- a token outside comments has this fault after the tokens before it
 pub record HasTokenFault (wiring : Wiring) (all : List Token) (number token_number : ℕ) :
     Type 0 where
   pub before : List Token
@@ -117,7 +117,7 @@ pub record HasTokenFault (wiring : Wiring) (all : List Token) (number token_numb
   pub closed : is_comment (mode_after Plain before) ≡ false
   pub fault : token_fault wiring unfinished (kind_of token) token ≡ Some number
 
--- tokens at whose end this fault is: a comment is open, or what is being written may not end
+-- the end of the tokens has this fault: a comment is open, or what is being written may not end
 pub record HasEndFault (wiring : Wiring) (all : List Token) (number token_number : ℕ) :
     Type 0 where
   pub counted : token_number ≡ length all + 1

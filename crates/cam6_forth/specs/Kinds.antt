@@ -28,7 +28,7 @@ mark token = found token (
 abbrev pub is_digits : Token → Bool
 is_digits token = is_filled token && list_all is_ascii_digit token
 
--- the value of decimal digits that stand behind a value
+-- the value of decimal digits that stand after a value
 abbrev pub value_from : ℕ → Token → ℕ
 value_from value [] = value
 value_from value (digit ∷ digits) = value_from (value * 10 + (digit - 48)) digits
@@ -37,7 +37,7 @@ value_from value (digit ∷ digits) = value_from (value * 10 + (digit - 48)) dig
 unfoldable pub literal : Token → Option ℕ
 literal token = if nat_le (value_from 0 token) max_literal then Some (value_from 0 token) else None
 
--- the tokens that are reserved, digits apart
+-- the tokens that are reserved, except digits
 abbrev pub reserved_kind : Token → Option Kind
 reserved_kind token =
     option_or (mark token)

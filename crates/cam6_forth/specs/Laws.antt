@@ -34,7 +34,7 @@ HasRuleOrFault =
     ((parts : List Part) × IsTextOf wiring parts text)
     ⊎ ((number : ℕ) × (token_number : ℕ) × HasFault wiring text number token_number)
 
--- it has one fault, and none where it is a rule
+-- it has one fault, and none if it is a rule
 abbrev pub HasOneFault : Type 0
 HasOneFault =
     (wiring : Wiring) (text : List ℕ) (number token_number : ℕ) →
@@ -63,7 +63,7 @@ FaultIsFirst =
     HasTokenFault wiring all number token_number →
     Begins wiring (take (token_number - 1) all) × (Begins wiring (take token_number all) → ⊥)
 
--- where the end has a fault, the tokens begin a rule and are none
+-- if the end has a fault, the tokens begin a rule but are not one
 abbrev pub EndIsTooEarly : Type 0
 EndIsTooEarly =
     (wiring : Wiring) (all : List Token) (number token_number : ℕ) →
@@ -89,7 +89,7 @@ KnownIsSingle =
     (wiring : Wiring) (done : List Defined) (token : Token) (said : SingleWord) (size : ℕ) →
     word_at wiring done token ≡ Ok (said, size) → IsSingle wiring done token said size
 
--- of a text that is a rule something is kept
+-- something is kept of a text that is read as a rule
 abbrev pub AcceptedIsKept : Type 0
 AcceptedIsKept =
     (wiring : Wiring) (text : List ℕ) (definitions : List Defined) →

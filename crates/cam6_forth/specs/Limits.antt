@@ -33,7 +33,7 @@ unknown_word = 20
 abbrev pub not_definable : ℕ
 not_definable = 21
 
--- a token, or the end of the text, where none such may stand
+-- a token, or the end of the text, where it may not stand
 abbrev pub out_of_place : ℕ
 out_of_place = 22
 

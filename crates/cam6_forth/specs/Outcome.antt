@@ -1,4 +1,4 @@
--- What the calls answer. Where memory runs out, nothing is said of the reading.
+-- What the calls return. If memory runs out, nothing is said of the reading.
 use Rattle.std.specs.Prelude.{◌≡◌, ℕ, List, Result, Ok, Err, Vec}
 use Rattle.std.specs.declared.alloc.Global.{Global}
 use Rattle.cam6_wiring.specs.declared.wirings.Wiring.{Wiring}
@@ -45,13 +45,13 @@ IsRefused wiring text (Err (parse_fault.Text fault)) =
 IsRefused wiring text (Err parse_fault.NoMemory) = Unit {0}
 IsRefused wiring text (Ok rule) = Unit {0}
 
--- the answer is this rule, unless memory runs out
+-- the result is this rule, unless memory runs out
 abbrev pub IsThisRule : RuleWords → Result RuleWords ParseFault → Type 0
 IsThisRule rule (Ok given) = given ≡ rule
 IsThisRule rule (Err parse_fault.NoMemory) = Unit {0}
 IsThisRule rule (Err (parse_fault.Text fault)) = ⊥
 
--- the answer is this fault, unless memory runs out
+-- the result is this fault, unless memory runs out
 abbrev pub IsThisFault : ℕ → ℕ → Result RuleWords ParseFault → Type 0
 IsThisFault number token_number (Ok given) = ⊥
 IsThisFault number token_number (Err parse_fault.NoMemory) = Unit {0}

@@ -1,5 +1,5 @@
--- How a text is read, token by token: a fault is of the token at which it comes, by what stands
--- before it.
+-- How a text is read, token by token. A fault belongs to the token at which it comes, and depends
+-- only on what stands before that token.
 use Rattle.std.specs.Prelude.{ℕ, ◌+◌, Bool, true, false, not, ◌&&◌, ◌||◌, List, [], ◌∷◌, ◌++◌}
 use Rattle.std.specs.Prelude.{length, is_some, Result, Ok, Err, if◌then◌else◌, nat_lt, nat_le}
 use Rattle.cam6_wiring.specs.declared.wirings.Wiring.{Wiring}
@@ -19,9 +19,9 @@ use Rattle.cam6_forth.specs.Limits.{too_large, too_many_ifs, no_definition, too_
 use Rattle.cam6_forth.specs.Defined.{Defined}
 use Rattle.cam6_forth.specs.SingleWords.{word_of, definition_at}
 
--- what was read: the definitions, where the next token stands, whether a comment is open, and
--- of the definition that is read its name, its words, its size and its open IFs, the innermost
--- first, each with whether its ELSE has come
+-- what was read: the definitions, where the next token stands, and whether a comment is open. Then
+-- the name, the words, the size and the open IFs of the definition that is being read. Each IF has
+-- whether its ELSE has come, and the innermost is first
 pub record State : Type 0 where
   pub done : List Defined
   pub context : Context
@@ -50,7 +50,7 @@ grown size added state =
     then Ok (record state { size = state.size + size; words = state.words ++ added ∷ [] })
     else Err too_large
 
--- a word that a token says by itself, of so much more size
+-- a word that a token says by itself, with this much more size
 abbrev pub grown_by : ℕ → Result (SingleWord × ℕ) ℕ → State → Result State ℕ
 grown_by more (Err number) state = Err number
 grown_by more (Ok (added, size)) state = grown (size + more) (word.Single added) state
@@ -77,12 +77,12 @@ with_if state =
     then grown 1 word.If (record state { open_ifs = false ∷ state.open_ifs })
     else Err too_many_ifs
 
--- ELSE, where the innermost open IF has none yet
+-- ELSE, if the innermost open IF has none yet
 abbrev pub with_else : List Bool → State → Result State ℕ
 with_else (false ∷ outer) state = grown 1 word.Else (record state { open_ifs = true ∷ outer })
 with_else open_ifs state = Err out_of_place
 
--- THEN, where an IF is open
+-- THEN, if an IF is open
 abbrev pub with_then : List Bool → State → Result State ℕ
 with_then [] state = Err out_of_place
 with_then (has_else ∷ outer) state =
@@ -92,7 +92,7 @@ with_then (has_else ∷ outer) state =
 abbrev pub definition_read : State → Defined
 definition_read state = record { name = state.name; words = state.words; size = state.size }
 
--- `;`, where no IF is open
+-- `;`, if no IF is open
 abbrev pub with_definition : List Bool → State → Result State ℕ
 with_definition [] state =
     Ok (record state {
@@ -172,7 +172,7 @@ read_text wiring text =
     if nat_lt max_text (length text) then Err (too_long, 0)
     else read wiring beginning 1 (tokens text)
 
--- the token is of a definition's body
+-- the token stands in a definition's body
 abbrev pub is_in_body : Context → Bool
 is_in_body Outside = false
 is_in_body Naming = false

@@ -32,7 +32,7 @@ abbrev pub literal_word : Option ℕ → Result (SingleWord × ℕ) ℕ
 literal_word None = Err literal_range
 literal_word (Some value) = Ok (single.Literal value, 1)
 
--- a defined name has its definition's size, or 1 where that is 0
+-- a defined name has its definition's size, or 1 if that is 0
 abbrev pub defined_word : Option (ℕ × ℕ) → Result (SingleWord × ℕ) ℕ
 defined_word None = Err unknown_word
 defined_word (Some (position, size)) = Ok (single.Defined position, max size 1)
@@ -50,9 +50,10 @@ word_of wiring done (Name name) token =
 word_of wiring done Other token = defined_word (definition_at token done)
 word_of wiring done kind token = Err out_of_place
 
--- a token says this single word, of this size: a literal in range its value; a stack word, an
--- output word of the half and a neighbour name of the wiring what the tables of spellings say; each
--- has size 1. A name says the first definition of that name, and has its size, or 1 where that is 0
+-- a token says this single word, of this size. A literal in range says its value. A stack word, an
+-- output word of the half and a neighbour name of the wiring say what the tables of spellings have.
+-- Each has size 1. A name says the first definition of that name, and has its size, or 1 if that
+-- is 0
 abbrev pub IsSingle : Wiring → List Defined → Token → SingleWord → ℕ → Type 0
 IsSingle wiring done token (single.Literal value) size =
     (is_digits token ≡ true) × (literal token ≡ Some value) × (size ≡ 1)

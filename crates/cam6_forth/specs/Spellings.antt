@@ -19,7 +19,7 @@ use Rattle.cam6_forth.specs.declared.words.Target.TheVariants as target
 use Rattle.cam6_forth.specs.declared.words.Output.{Output}
 use Rattle.cam6_forth.specs.Tokens.{Token}
 
--- what a table says of a token
+-- what a table has for a token
 abbrev pub found : {T : Type 0} → Token → List (Token × T) → Option T
 found token [] = None
 found token (row ∷ rows) = if bytes_eq token row.0 then Some row.1 else found token rows

@@ -15,11 +15,11 @@ abbrev pub is_filled : Token → Bool
 is_filled [] = false
 is_filled (byte ∷ bytes) = true
 
--- the longest runs of other bytes
+-- the tokens of a text: its longest runs of other bytes
 abbrev pub tokens : List ℕ → List Token
 tokens text = filter is_filled (slice_split is_space text)
 
--- parts, the first of which has these bytes before it
+-- parts, with these bytes before the first one
 abbrev pub with_front : List ℕ → List (List ℕ) → List (List ℕ)
 with_front front [] = front ∷ []
 with_front front (part ∷ parts) = (front ++ part) ∷ parts

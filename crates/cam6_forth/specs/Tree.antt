@@ -161,7 +161,7 @@ pub record IsRule (wiring : Wiring) (parts : List Part) : Type 0 where
 abbrev pub rule_of : Wiring → List Part → RuleWords
 rule_of wiring parts = record { wiring = wiring; definitions = meant wiring [] parts }
 
--- a rule that some tree is
+-- the rule of some tree
 abbrev pub IsOfTree : RuleWords → Type 0
 IsOfTree rule =
     (parts : List Part) × IsRule rule.wiring parts × (rule ≡ rule_of rule.wiring parts)

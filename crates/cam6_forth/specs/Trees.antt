@@ -20,7 +20,7 @@ join (Cases words rest) last = Cases words (join rest last)
 abbrev pub with_item : Opened → Body → Opened
 with_item last item = record last { said = join last.said item }
 
--- an IF with its bodies, the last of which was said
+-- an IF with its first body, if its ELSE has come, and the body that was said since
 abbrev pub whole_if : Option Body → Body → Body
 whole_if None said = Choice said End
 whole_if (Some first) said = Either first said End

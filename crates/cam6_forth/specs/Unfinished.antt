@@ -11,8 +11,7 @@ use Rattle.cam6_forth.specs.SingleWords.{definition_at}
 use Rattle.cam6_forth.specs.Tree.{Body, Part, spell_body, spell, size_of, case_size}
 use Rattle.cam6_forth.specs.Tree.{depth_of, IsKnown, AreWords, AreDefinitions, meant}
 
--- an IF that is open: the items before it in its own body, and its first body where its ELSE has
--- come
+-- an IF that is open: the items before it in its own body, and its first body if its ELSE has come
 pub record OpenIf : Type 0 where
   pub before : Body
   pub first : Option Body
@@ -77,12 +76,12 @@ abbrev pub opened_size : Wiring → List Defined → Opened → ℕ
 opened_size wiring done last =
     open_size wiring done last.open_ifs + size_of wiring done last.said
 
--- a body that may stand in so many IFs
+-- a body that may stand within this many IFs
 pub record FitsAt (wiring : Wiring) (done : List Defined) (level : ℕ) (body : Body) : Type 0 where
   pub known : IsKnown wiring done body
   pub depth : level + depth_of body ≤ max_open_ifs
 
--- open IFs that may be open, and whose bodies may stand where they do
+-- open IFs that are not too many, and their bodies may stand where they do
 abbrev pub AreOpenIfs : Wiring → List Defined → List OpenIf → Type 0
 AreOpenIfs wiring done [] = Unit {0}
 AreOpenIfs wiring done (open_if ∷ outer) =
@@ -91,7 +90,7 @@ AreOpenIfs wiring done (open_if ∷ outer) =
     × (length outer < max_open_ifs)
     × AreOpenIfs wiring done outer
 
--- an opened definition that has no fault so far, when its braces have taken so much of its size
+-- an opened definition that has no fault so far, with the size that its open braces take
 pub record IsOpened (wiring : Wiring) (done : List Defined) (last : Opened) (more : ℕ) :
     Type 0 where
   pub name : kind_of last.name ≡ kind.Other

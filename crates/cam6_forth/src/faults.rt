@@ -10,11 +10,11 @@ pub(crate) enum TokenFault {
     UnknownWord,
     /// After `:`, a reserved token or a name already defined.
     NotDefinable,
-    /// A token, or the end of the text, where none such may stand.
+    /// A token, or the end of the text, where it may not stand.
     OutOfPlace,
     /// The definition's size passes `MAX_SIZE`.
     TooLarge,
-    /// An IF where `MAX_OPEN_IFS` of the definition are open.
+    /// An IF in a definition with `MAX_OPEN_IFS` open ones.
     TooManyIfs,
     /// An output word of the other half.
     OtherHalf,
@@ -57,7 +57,7 @@ pub struct TextFault {
 /// Why a text gives no rule.
 #[derive(Debug, Drop)]
 pub enum ParseFault {
-    /// Memory was asked for and refused.
+    /// An allocation failed.
     NoMemory,
     /// The text has a fault.
     Text(TextFault),

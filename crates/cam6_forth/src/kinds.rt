@@ -25,7 +25,7 @@ pub(crate) enum Kind {
     If,
     Else,
     Then,
-    /// Decimal digits alone, with their value where it is in range.
+    /// Decimal digits alone, with their value if it is in range.
     Digits(Option<u16>),
     Stack(StackWord),
     /// An output word, of whichever half.

@@ -19,13 +19,13 @@ pub fn a_text_is_a_rule_or_has_a_fault()
     ensures law { HasRuleOrFault }
 {}
 
-/// A text has at most one fault, and none where it is a rule.
+/// A text has at most one fault, and none if it is a rule.
 pub fn a_text_has_one_fault()
     ensures law { HasOneFault }
 {}
 
-/// Tokens that have no fault so far can be completed to the tokens of a rule. A text's limit of
-/// bytes is of the whole text, and not of its tokens.
+/// Tokens that have no fault so far can be completed to the tokens of a rule. The limit of bytes is
+/// on the whole text, and not on its tokens.
 pub fn tokens_without_a_fault_begin_a_rule()
     ensures law { CanBeCompleted }
 {}
@@ -40,7 +40,7 @@ pub fn a_fault_is_the_first()
     ensures law { FaultIsFirst }
 {}
 
-/// Where the end of a text has a fault, its tokens begin a rule and are none.
+/// If the end of a text has a fault, its tokens begin a rule but are not one.
 pub fn an_end_with_a_fault_is_too_early()
     ensures law { EndIsTooEarly }
 {}
@@ -60,7 +60,7 @@ pub fn a_known_token_is_a_single_word()
     ensures law { KnownIsSingle }
 {}
 
-/// Of a text that is a rule something is kept.
+/// Something is kept of a text that is a rule.
 pub fn something_of_a_rule_is_kept()
     ensures law { AcceptedIsKept }
 {}

@@ -1,26 +1,27 @@
 //! CAM Forth: a rule's text, and the rule or the first fault that it is read as.
 //!
-//! Contract: `parse` accepts a text exactly where its tokens, comments left out, spell a
-//! well-formed tree (`specs/Texts.antt`), and gives that tree's rule; any other text is refused
-//! with the number and the token of its first fault (`specs/Faults.antt`). Either may give way to
-//! want of memory, which is answered only for a text of which something is kept.
+//! Contract: `parse` accepts a text exactly if its tokens, comments left out, spell a well-formed
+//! tree (`specs/Texts.antt`), and returns that tree's rule. It refuses any other text with the
+//! number and the token of its first fault (`specs/Faults.antt`). It may run out of memory instead,
+//! but only if something of the text is kept.
 //!
 //! So `: P CENTER NORTH XOR >PLN0 ;` is a rule of half A under N/VONN, of one definition with four
-//! words; `: P CENTER FOO ;` has fault 20 at token 4, as no earlier definition is called FOO, and
+//! words. `: P CENTER FOO ;` has fault 20 at token 4, as no earlier definition is called FOO.
 //! `: P CENTER` has fault 22 at token 4, its end, as the definition is open.
 //!
-//! The laws: trees that are spelled alike are one, and the tree of a text can be read from it by a
-//! plain function; a text is a rule or has exactly one fault; of a text that is a rule something is
-//! kept; tokens without a fault begin a rule; a fault stays whatever follows its token; that token
-//! is the first with which the tokens begin no rule; a token has the first of its faults, 21 before
-//! 22 and 23 after all others; a token that is known in a body says a single word, the one that the
-//! tables of spellings say.
+//! The laws: trees that are spelled alike are one, and a plain function reads the tree of a text
+//! from it. A text is a rule or has exactly one fault. Something is kept of a text that is a rule.
+//! Tokens without a fault begin a rule. A fault stays whatever follows its token. That token is the
+//! first with which the tokens begin no rule. A token has the first of its faults, 21 before 22 and
+//! 23 after all others. A token that is known in a body says a single word, the one that the tables
+//! of spellings say.
 //!
 //! Stands on: `cam6_wiring`.
 //!
-//! Read next: `words`, the words of a body, and `rules`; `tokens` and `kinds`, how a text is cut
-//! and what a token is; `reader`, what was read so far; then `parser`; `laws`, what holds of trees,
-//! texts and faults by themselves.
+//! Read next: `words`, the words of a body, with `spellings`, their texts, and `rules`; `tokens` and
+//! `kinds`, how a text is cut and what a token is; `faults` and `limits`, why a text is refused;
+//! `reader`, what was read so far, with `open_ifs`; then `parser`; `laws`, what holds of trees, texts
+//! and faults by themselves.
 #![tactic(auto)]
 
 mod faults;

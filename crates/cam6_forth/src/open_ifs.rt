@@ -49,7 +49,7 @@ impl OpenIfs {
         self.len += 1;
     }
 
-    /// Takes the innermost one off.
+    /// Takes the innermost one off, and returns whether its ELSE has come.
     pub(crate) fn pop(&mut self) -> bool
         requires not_empty { 0 < length self.old }
         ensures { self.old ≡ result ∷ self.new }

@@ -1,4 +1,4 @@
-//! A rule's text is read as a rule, or as its first fault.
+//! Reads a rule's text as a rule, or as its first fault.
 ghost use Rattle.std.specs.Prelude.{◌≡◌, ℕ, List, Err, true};
 ghost use Rattle.cam6_forth.specs.declared.faults.ParseFault.TheVariants.{NoMemory, Text};
 ghost use Rattle.cam6_wiring.specs.Wiring.{wired};
@@ -18,7 +18,8 @@ use crate::tokens::first_token;
 use cam6_wiring::{Half, Hood, Minor, Wiring};
 use std::alloc::Global;
 
-/// The rule that a text says for this half, hood and minor, or the text's first fault.
+/// Reads a text as a rule for this half, hood and minor. Returns the rule, or the text's first
+/// fault.
 pub fn parse(
     alloc: Global,
     text: &str,
@@ -39,13 +40,13 @@ pub fn parse(
     // The same as a function of the text.
     ensures exact { IsReadAs
         (read_text (wired half hood minor) text.now) (wired half hood minor) result }
-    // Memory is wanted only where something of the text is kept.
+    // Memory can run out only if something of the text is kept.
     ensures memory { result ≡ Err NoMemory → keeps (wired half hood minor) text.now ≡ true }
 {
     parse_under(alloc, text, Wiring { half, hood, minor })
 }
 
-/// The same for a wiring.
+/// As `parse`, for a wiring.
 pub fn parse_under(alloc: Global, text: &str, wiring: Wiring) -> Result<Rule, ParseFault>
     // An accepted text is the tree of the rule, and a refused one has the fault.
     ensures accepted { IsAccepted wiring text.now result }
@@ -58,7 +59,7 @@ pub fn parse_under(alloc: Global, text: &str, wiring: Wiring) -> Result<Rule, Pa
         IsThisFault number token_number result }
     // The same as a function of the text.
     ensures exact { IsReadAs (read_text wiring text.now) wiring result }
-    // Memory is wanted only where something of the text is kept.
+    // Memory can run out only if something of the text is kept.
     ensures memory { result ≡ Err NoMemory → keeps wiring text.now ≡ true }
 {
     read_text(alloc, text, wiring)

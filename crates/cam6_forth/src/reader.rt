@@ -1,4 +1,4 @@
-//! A text is read token by token: what was read so far, and one more token.
+//! Reads a text token by token: what was read so far, and one more token.
 ghost use Rattle.std.specs.Prelude.{◌≡◌, ◌≢◌, ◌||◌, Ok, Err, MatchResult, true};
 ghost use Rattle.cam6_forth.specs.Limits.{fault_number};
 ghost use Rattle.cam6_forth.specs.SingleWords.{definition_at};
@@ -78,10 +78,10 @@ impl Reader {
         }
     }
 
-    /// One more token.
+    /// Reads one more token.
     pub(crate) fn advance(&mut self, wiring: Wiring, token: &[u8]) -> Result<(), AdvanceFault>
         ensures state { Steps (advance wiring self.old token.now) self.new result }
-        // Memory is wanted for a name, and in a body, alone.
+        // Memory can run out only at a definition's name and in a body.
         ensures memory { result ≡ Err NoMemory →
             (is_in_body self.old.context
             || then_so (advance wiring self.old token.now) (λ next. is_in_body next.context))
@@ -96,11 +96,11 @@ impl Reader {
             Context::Outside => self.outside(kind),
             Context::Naming => self.naming(kind, token),
             Context::Inside => self.inside(wiring, kind, token),
-            Context::Braces => self.braces(wiring, kind, token),
+            Context::Braces => self.between_braces(wiring, kind, token),
         }
     }
 
-    /// The definitions, at the end of the text, or its fault.
+    /// Returns the definitions at the end of the text, or the end's fault.
     pub(crate) fn finish(self) -> Result<Vec<Definition>, TokenFault>
         ensures { Finishes (finish self) result }
     {
@@ -172,7 +172,12 @@ impl Reader {
         }
     }
 
-    fn braces(&mut self, wiring: Wiring, kind: Kind, token: &[u8]) -> Result<(), AdvanceFault>
+    fn between_braces(
+        &mut self,
+        wiring: Wiring,
+        kind: Kind,
+        token: &[u8],
+    ) -> Result<(), AdvanceFault>
         ensures { Steps (braces wiring self.old kind token.now) self.new result }
     {
         match kind {

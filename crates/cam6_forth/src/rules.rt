@@ -1,4 +1,4 @@
-//! A rule as it was read: its definitions, the last of which is the rule.
+//! A rule as it was read: its definitions. The last one is the rule.
 ghost use Rattle.std.specs.Prelude.{◌≡◌};
 
 use crate::words::Word;
@@ -21,7 +21,7 @@ impl Model for Definition {
     ghost view = { λ d. record { name = d.name.items; words = d.words.items; size = d.size } };
 }
 
-/// A rule, as `parse` accepted it: the words of a tree.
+/// A rule that `parse` accepted: the words of a tree.
 #[derive(Debug, Drop)]
 pub struct Rule {
     wiring: Wiring,
@@ -61,7 +61,7 @@ impl Rule {
         self.wiring
     }
 
-    /// The definitions in their order; the last one is the rule.
+    /// The definitions in their order. The last one is the rule.
     pub fn definitions(&self) -> &[Definition]
         ensures definitions { result.now ≡ self.now.definitions }
         ensures tree { IsOfTree self.now }

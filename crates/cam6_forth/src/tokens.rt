@@ -1,10 +1,10 @@
-//! A text is cut into tokens.
+//! Cuts a text into tokens.
 ghost use Rattle.std.specs.Prelude.{◌≡◌, ◌<◌, [], ◌∷◌, ◌≤◌, MatchOption, length, take, drop};
 ghost use Rattle.std.specs.Prelude.{slice_index, true, false};
 ghost use Rattle.std.specs.List.{slice_split};
 ghost use Rattle.cam6_forth.specs.Tokens.{is_space, tokens, with_front};
 
-/// The first token, and the text after it.
+/// Returns the first token and the text after it, or `None` if the text has no token.
 pub(crate) fn first_token(text: &[u8]) -> Option<(&[u8], &[u8])>
     ensures token { MatchOption result (tokens text.now ≡ [])
         (λ cut. tokens text.now ≡ cut.0.now ∷ tokens cut.1.now) }

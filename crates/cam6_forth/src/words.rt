@@ -51,7 +51,7 @@ pub enum SingleWord {
     Name(Name),
     Stack(StackWord),
     Output(Target),
-    /// The definition at this position, counted from 0; it stands before the one that uses it.
+    /// The definition at this position, counted from 0. It stands before the one that uses it.
     Defined(usize),
 }
 

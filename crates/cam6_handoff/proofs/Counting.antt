@@ -5,12 +5,10 @@ use Rattle.std.specs.List.{slice_get}
 use Rattle.std.proofs.lemmas.List.{length-append}
 use Rattle.std.proofs.lemmas.Option.{same_Some, slice_get-get_or}
 use Rattle.cam6_planes.specs.declared.sides.Side.{Side}
-use Rattle.cam6_machine.specs.Stored.{StoredMachine, machine_of}
-use Rattle.cam6_model.specs.Machine.{blank}
 use Rattle.cam6_handoff.specs.Boot.{AreBlankDesksTo, AreIdleSeats, IsSeatOf}
 use Rattle.cam6_handoff.specs.Desks.{IsBlankDesk}
 use Rattle.cam6_handoff.specs.Holding.{BoardStance}
-use Rattle.cam6_handoff.specs.Standing.{Stance, standing}
+use Rattle.cam6_handoff.specs.Standing.{Stance}
 
 -- what stands in a list with one more at its end
 last_or_before : {A : Type 0} (xs : List A) (x : A) (i : ℕ) (y : A) →
@@ -23,13 +21,13 @@ last_or_before (z ∷ xs) x (suc i) y at = elim (last_or_before xs x i y at) [
   | inr last ↦ inr (ap suc last.0, last.1)
 ]
 
-pub one_more_desk : (n : ℕ) (limits : List Side) (desks : List Stance) (m : StoredMachine)
+pub one_more_desk : (n : ℕ) (limits : List Side) (desks : List Stance) (desk : Stance)
     (d : Side) → AreBlankDesksTo n limits desks → n < length limits →
-    machine_of m ≡ blank (get_or limits n d) →
-    AreBlankDesksTo (n + 1) limits (desks ++ standing (n + 1) m ∷ [])
-one_more_desk n limits desks m d made some new = record {
-  long = omega (arith, length-append desks (standing (n + 1) m ∷ []), made.long);
-  each = λ i limit x at there. elim (last_or_before desks (standing (n + 1) m) i x there) [
+    IsBlankDesk (n + 1) (get_or limits n d) desk →
+    AreBlankDesksTo (n + 1) limits (desks ++ desk ∷ [])
+one_more_desk n limits desks desk d made some new = record {
+  long = omega (arith, length-append desks (desk ∷ []), made.long);
+  each = λ i limit x at there. elim (last_or_before desks desk i x there) [
     | inl before ↦ made.each i limit x at before
     | inr last ↦
         let here : slice_get limits n ≡ Some limit =
@@ -37,7 +35,9 @@ one_more_desk n limits desks m d made some new = record {
         let same : get_or limits n d ≡ limit =
         same_Some (get_or limits n d) limit (sym (slice_get-get_or limits n d some) ∙ here) in
         let user : n + 1 ≡ suc i = omega (arith, last.0, made.long) in
-        subst (IsBlankDesk (suc i) limit) last.1 (user, new ∙ ap blank same)
+        subst (IsBlankDesk (suc i) limit) last.1
+        (subst (λ (l : Side). IsBlankDesk (suc i) l desk) same
+        (subst (λ (k : ℕ). IsBlankDesk k (get_or limits n d) desk) user new))
   ];
 }
 

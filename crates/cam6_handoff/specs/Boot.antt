@@ -21,7 +21,7 @@ pub record IsSeatOf (board count : ℕ) (seat : BoardStance) : Type 0 where
   pub users : seat.users ≡ count
   pub idle : IsIdle seat
 
--- so many boards have a seat each, in order
+-- so many boards have a seat each, in order, which holds nothing
 pub record AreIdleSeats (boards users : ℕ) (seats : List BoardStance) : Type 0 where
   pub long : length seats ≡ boards
   pub each : (i : ℕ) (seat : BoardStance) → slice_get seats i ≡ Some seat → IsSeatOf i users seat

@@ -1,4 +1,4 @@
--- What the calls of a desk give, by where it stands before and behind.
+-- What the calls of a desk give, by where it stands before and after.
 use Rattle.std.specs.Prelude.{◌≡◌, ◌<◌, ℕ, Option, Some, None, false}
 use Rattle.cam6_commands.specs.declared.commands.Command.{Command}
 use Rattle.cam6_commands.specs.declared.replies.Reply.{Reply}
@@ -26,7 +26,7 @@ WaitsFor u m c (waiting v asked) =
 WaitsFor u m c (standing v s) = ⊥
 WaitsFor u m c nowhere = ⊥
 
--- a command without bands is answered as the machine alone does it, and else the desk waits for it
+-- a command without bands is answered as by a private machine; for any other the desk waits
 abbrev pub PutOn : ℕ → Machine → Command → Put → Stance → Type 0
 PutOn u m c (Answered r) new = (bands_of m c ≡ 0) × (r ≡ reply m c) × StandsAt u (after m c) new
 PutOn u m c Waiting new = (0 < bands_of m c) × WaitsFor u m c new
@@ -36,7 +36,8 @@ PutGives (standing u s) c put new = PutOn u (machine_of s) c put new
 PutGives (waiting u asked) c put new = ⊥
 PutGives nowhere c put new = ⊥
 
--- a desk that waited has the machine alone's reply, and stands at the machine after the command
+-- no reply is there and nothing changes; or a desk that waited has the private machine's reply, and
+-- stands at the machine after the command
 abbrev pub CollectGives : Stance → Option Reply → Stance → Type 0
 CollectGives old None new = new ≡ old
 CollectGives (waiting u asked) (Some r) new =
@@ -45,14 +46,14 @@ CollectGives (waiting u asked) (Some r) new =
 CollectGives (standing u s) (Some r) new = ⊥
 CollectGives nowhere (Some r) new = ⊥
 
--- the machine alone's reply, and the desk at the machine after the command
+-- the private machine's reply, and the desk at the machine after the command
 abbrev pub AskGives : Stance → Command → Reply → Stance → Type 0
 AskGives (standing u s) c r new =
     (r ≡ reply (machine_of s) c) × StandsAt u (after (machine_of s) c) new
 AskGives (waiting u asked) c r new = ⊥
 AskGives nowhere c r new = ⊥
 
--- no memory is wanted for the command on the machine at which the desk stands
+-- the command needs no memory on the machine at which the desk stands
 abbrev pub WantsNone : Stance → Command → Type 0
 WantsNone (standing u s) c = may_want_memory (machine_of s) c ≡ false
 WantsNone (waiting u asked) c = ⊥

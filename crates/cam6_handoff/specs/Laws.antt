@@ -1,4 +1,4 @@
--- What follows of desks at the beginning.
+-- A law of desks at the beginning.
 use Rattle.std.specs.Prelude.{◌≡◌, ℕ, List, Some}
 use Rattle.std.specs.List.{slice_get}
 use Rattle.cam6_planes.specs.declared.sides.Side.{Side}

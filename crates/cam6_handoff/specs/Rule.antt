@@ -1,7 +1,7 @@
--- The rule of the hand-off table: what holds of a user's word, his slot and the views of all seats.
+-- The rule of the hand-off table: what holds of a user's word and slot, and of all seats' views.
 --
--- A user's word is 0 where his desk has the machine, 1 where his command waits for a board, 2 where
--- it is finished, and 3 + b where board b has it.
+-- A user's word is 0 if the user's desk has the machine, 1 if the command waits for a board, 2 if
+-- it is finished, and 3 + b if board b has it.
 use Rattle.std.specs.Prelude.{◌≡◌, ℕ, ◌+◌, ◌<◌, ◌≤◌, Bool, true, false, eqb, List, length}
 use Rattle.std.specs.Prelude.{slice_index, Option, Some, None}
 use mathlib.Core.Option.{some, none}
@@ -84,7 +84,7 @@ At views id v = get_elem? views id ≡ some v
 abbrev pub NoOne : (View → Bool) → List View → Type 0
 NoOne is views = (id : ℕ) (v : View) → At views id v → is v ≡ true → ⊥
 
--- none but the view of this seat is
+-- no view but that of this seat is one of these
 abbrev pub Only : (View → Bool) → List View → ℕ → Type 0
 Only is views one = (id : ℕ) (v : View) → At views id v → is v ≡ true → id ≡ one
 
@@ -118,8 +118,8 @@ module _ (words : List ℕ) (homes : List (maybe.Option Slot)) (views : List Vie
         Home (some (Some (Finished f))) → IsAskedDone asked f → Desk d (Waits u asked) →
         NoBoard → Row
 
--- a word and a slot for each user, and what his row says; no desk is cut but those that the first
--- seat counts, and there is one first seat
+-- a word and a slot for each user, and what the user's row says; no desk is cut but those that the
+-- first seat counts, and there is at most one first seat
 pub record Rule (users : ℕ) (s : Shared) : Type 0 where
   pub words : length s.words ≡ users
   pub slots : length s.homes ≡ users

@@ -4,7 +4,7 @@ use Rattle.cam6_machine.specs.Stored.{StoredMachine}
 use Rattle.cam6_slot.specs.Parking.{StoredQueued}
 
 -- the desk of a user, counted from 1, at a machine; or one that waits for what was asked; or nowhere,
--- which no desk ever does
+-- where no desk ever stands
 pub data Stance : Type 0 where
   standing : ℕ → StoredMachine → Stance
   waiting : ℕ → StoredQueued → Stance

@@ -1,5 +1,5 @@
--- What each kind of step tells: the word that it found, the view of its seat behind it, and the
--- word that it left. That is a step's first operand, and the second one of a step that looks first.
+-- What each kind of step says: the word that it found, the view of its seat after it, and the word
+-- that it left. That is a step's first operand, or the second one if the step looks first.
 use Rattle.std.specs.Prelude.{◌≡◌, ◌≢◌, ℕ, ◌+◌, ◌<◌, [], ◌∷◌, Some, None}
 use Rattle.atomic_table.specs.Table.{Step}
 use Rattle.atomic_table.specs.Seated.{TableId}
@@ -28,7 +28,7 @@ PutTells step before found after =
     after ≡ (Waits step.word q, []))
     × (step.first ≡ 1)
 
--- take: where 1 is found the board has the place and its own word is left, and else nothing changes
+-- take: if 1 is found, the board has the place and its own word is left; if not, nothing changes
 abbrev pub TakeTells : Step Slot → Seated → ℕ → Seated → Type 0
 TakeTells step before found after =
     (found ≡ 1 → (q : StoredQueued)
@@ -36,7 +36,7 @@ TakeTells step before found after =
     × (step.second ≡ 3 + board_in before.0))
     × (found ≢ 1 → after ≡ before)
 
--- the board's own word is found, it has nothing any more, and this one is left
+-- the board's own word is found, the board has nothing any more, and this word is left
 abbrev pub GiveTells : ℕ → Step Slot → Seated → ℕ → Seated → Type 0
 GiveTells left step before found after =
     (found ≡ 3 + board_in before.0) × (after ≡ (Idle (board_in before.0), []))
@@ -49,7 +49,7 @@ BackTells = GiveTells 1
 abbrev pub DoneTells : Step Slot → Seated → ℕ → Seated → Type 0
 DoneTells = GiveTells 2
 
--- collect: where 2 is found the desk has what it asked for and 0 is left, and else nothing changes
+-- collect: if 2 is found, the desk has what it asked for and 0 is left; if not, nothing changes
 abbrev pub CollectTells : Step Slot → Seated → ℕ → Seated → Type 0
 CollectTells step before found after =
     (found ≡ 2 → (f : StoredFinished)

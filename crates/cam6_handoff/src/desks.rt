@@ -18,7 +18,7 @@ use std::sync::{Arc, Wait};
 
 pub(crate) type HandTable = Table<Option<Place>, View, Counts, Handing, Global>;
 
-/// The desk of one user: it has his machine, or waits for what a command makes of it.
+/// The desk of one user: it has the user's machine, or waits for what a command makes of it.
 #[derive(Drop)]
 pub struct Desk {
     table: Arc<HandTable>,
@@ -45,7 +45,7 @@ impl Model for Desk {
 /// What comes of a command that is put at a desk.
 #[derive(Drop)]
 pub enum Put {
-    /// It is done.
+    /// It is done, with this reply.
     Answered(Reply),
     /// Its steps wait for a board.
     Waiting,
@@ -63,13 +63,13 @@ impl Desk {
         self.resting.is_none()
     }
 
-    /// Does a command without steps, and hands the steps of another over to whichever board takes
-    /// them. All memory of a command is taken here; where there is none the desk is as it was.
+    /// Does a command without steps, and hands the steps of any other to whichever board takes
+    /// them. Allocates all memory of the command. If that fails, the desk is as it was.
     pub fn put(&mut self, command: Command) -> Result<Put, NoMemory>
         requires { IsResting self.old }
         ensures gives { IfOk result (λ put. PutGives self.old command put self.new) }
         ensures err { OnErr result (self.new ≡ self.old) }
-        // Memory is wanted as by a machine alone.
+        // It may run out of memory only if a private machine may need some.
         ensures memory { WantsNone self.old command → IsOk result }
     {
         let resting = match self.resting.take() {
@@ -93,7 +93,7 @@ impl Desk {
         }
     }
 
-    /// The reply to what was put, if it is there. The desk has the machine again then.
+    /// Returns the reply to what was put, if it is there. Then the desk has the machine again.
     pub fn try_collect(&mut self) -> Option<Reply>
         ensures { CollectGives self.old result self.new }
     {
@@ -106,7 +106,7 @@ impl Desk {
         Some(reply)
     }
 
-    /// The reply to a command, waited for where a board does its steps.
+    /// Returns the reply to a command. Waits if a board does its steps.
     pub fn ask<R: Wait>(&mut self, rt: &R, command: Command) -> Result<Reply, NoMemory>
         requires { IsResting self.old }
         ensures gives { IfOk result (λ reply. AskGives self.old command reply self.new) }
@@ -119,7 +119,7 @@ impl Desk {
         }
     }
 
-    /// The reply to what was put, once it is there: what `ask` does behind a put that waits.
+    /// Waits for the reply to what was put, and returns it. `ask` calls it if a put waits.
     pub fn wait<R: Wait>(&mut self, rt: &R) -> Reply
         requires { is_waiting self.old ≡ true }
         ensures { CollectGives self.old (Some result) self.new }
@@ -144,7 +144,7 @@ impl Desk {
     }
 }
 
-/// A desk whose seat has taken its slot, with a machine.
+/// Makes a desk with a machine, from a seat that has taken its slot.
 pub(crate) fn desk_of(table: Arc<HandTable>, seat: Chair, user: usize, resting: Resting) -> Desk
     requires at { IsAt (arc_value table).shared.table_id (arc_value table).shared.key.users
         seat.table_id user }

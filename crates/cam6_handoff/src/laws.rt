@@ -1,4 +1,4 @@
-//! What follows of desks at the beginning. A law is the contract of a function that does nothing.
+//! A law of desks at the beginning. A law is the contract of a function that does nothing.
 ghost use Rattle.cam6_handoff.specs.Laws.{BlankDesksRest};
 
 /// Each desk that `boot` makes may be asked.

@@ -1,23 +1,24 @@
 //! The hand-off table: users' commands go between threads, from a desk to whichever board takes
 //! them and back, with one word and one slot for each user.
 //!
-//! Contract: each user has a desk (`specs/Boot.antt`). It has his machine, or waits for what a
-//! command makes of it (`specs/Standing.antt`). What is put at a desk is answered at once as the
-//! machine alone answers it, or waits for a board; what is collected there is the machine alone's
-//! reply, and the desk has the machine after the command (`specs/Desks.antt`), whatever other
-//! threads do. A board's seat holds no lease, or one whose place it took (`specs/Seats.antt`): what
-//! it puts back stands for whatever that place stood for, and what it puts as done is that machine
-//! after that command. Between any two steps the table keeps its rule (`specs/Rule.antt`), one row
-//! for each word. What a step tells of the words that it found and left is its type's
-//! (`specs/Steps.antt`). `Desk::ask` and `Desk::wait` alone may wait. All memory but that of
-//! commands is taken by `boot`.
+//! Contract: each user has a desk (`specs/Boot.antt`). It has the user's machine, or waits for what
+//! a command makes of it (`specs/Standing.antt`). A command that is put at a desk is answered at
+//! once, as a private machine answers it, or it waits for a board. Whatever other threads do, the
+//! desk collects the private machine's reply, and then has the machine after the command
+//! (`specs/Desks.antt`). A board's seat holds nothing, or the place that it took
+//! (`specs/Seats.antt`). What it puts back stands for whatever that place stood for. What it puts
+//! as done is that machine after that command. Between any two steps the table keeps its rule
+//! (`specs/Rule.antt`), one row for each word. The type of a step says which words it finds and
+//! leaves (`specs/Steps.antt`). Only `Desk::ask`, `Desk::wait` and `BoardSeat::fill_each` may wait.
+//! `boot` allocates all memory but that of commands.
 //!
 //! By reading, since no clause counts exchanges: each step is one exchange on one word, in one
-//! function of `steps`, and no call but those that wait tries one again.
+//! function of `steps`. The first take of a slot is one load. Only `Desk::ask` and `Desk::wait` try
+//! a step again.
 //!
-//! So, of two desks and two boards: desk 1 puts a run of one step and waits. Board 0 takes it, and
-//! board 1 finds nothing of user 1. Behind three bands board 0 puts it back, board 1 takes it, and
-//! behind the rest puts it as done. Desk 1 collects the reply that its machine alone would give.
+//! So, with two desks and two boards: desk 1 puts a run of one step and waits. Board 0 takes it,
+//! and board 1 finds nothing of user 1. After three bands board 0 puts it back. Board 1 takes it,
+//! and puts it as done after the rest. Desk 1 collects the reply that a private machine would give.
 //!
 //! Stands on: `cam6_slot`, `cam6_station`, `cam6_board`, `cam6_cache`, `cam6_machine`,
 //! `cam6_commands`, `cam6_model` and `cam6_planes`, and `atomic_table`.
@@ -35,8 +36,9 @@ mod start;
 mod steps;
 mod turns;
 
+pub use cam6_commands::{MAX_BOARDS, MAX_USERS};
 pub use desks::{Desk, Put};
 pub use queues::Queue;
 pub use rule::{Counts, Handing, View};
 pub use seats::BoardSeat;
-pub use start::{MAX_BOARDS, MAX_USERS, boot};
+pub use start::boot;

@@ -1,4 +1,4 @@
-//! Whose commands wait for a board.
+//! Which users' commands wait for a board.
 ghost use Rattle.std.specs.Prelude.{◌≡◌};
 ghost use Rattle.std.specs.Arc.{arc_value};
 
@@ -7,8 +7,7 @@ use crate::steps;
 use crate::turns::Turns;
 use std::sync::Arc;
 
-/// A look at the words of a table, by any thread. What it tells may have changed by the time that it
-/// is told.
+/// A look at the words of a table, by any thread. What it returns may already have changed.
 #[derive(Drop)]
 pub struct Queue {
     table: Arc<HandTable>,
@@ -18,8 +17,8 @@ pub struct Queue {
 }
 
 impl Queue {
-    /// Whether the command of another user than this one, who are numbered from 1, waits for a board
-    /// and may have one. It may not while a seat makes many tables, if the user's last one made many.
+    /// Whether the command of another user than `user`, counted from 1, waits for a board and may
+    /// have one. It may not while a seat makes many tables, if that user's last command made many.
     pub fn has_other(&self, user: usize) -> bool {
         for word in 0..self.users {
             let is_ready = self.table.shared.peek(word) == steps::READY;

@@ -41,7 +41,7 @@ pub enum View {
     },
 }
 
-/// The rule: one row for each user, by his word.
+/// The rule: one row for each user, by the user's word.
 pub struct Handing;
 
 impl TableRule<Option<Place>, View, Counts> for Handing {

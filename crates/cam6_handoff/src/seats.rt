@@ -1,5 +1,5 @@
 //! A board's seat.
-ghost use Rattle.std.specs.Prelude.{◌≡◌, ◌<◌, ◌≤◌, [], None};
+ghost use Rattle.std.specs.Prelude.{◌≡◌, ◌<◌, ◌≤◌, [], None, IsTrue};
 ghost use Rattle.std.specs.Arc.{arc_value};
 ghost use Rattle.cam6_slot.specs.Leases.{TablesFit};
 ghost use Rattle.cam6_slot.specs.Needs.{needs_of};
@@ -34,7 +34,7 @@ pub struct BoardSeat {
     turns: Arc<Turns>,
 }
 
-/// A command makes so many tables without a turn.
+/// The most tables that a command makes without a turn.
 const FEW: u8 = 2;
 
 impl Model for BoardSeat {
@@ -55,7 +55,7 @@ impl BoardSeat {
     ghost use Rattle.cam6_slot.specs.Leases.{TablesFit};
     ghost use Rattle.cam6_station.specs.Loading.{IsBehindLoads};
     ghost use Rattle.cam6_handoff.specs.Holding.{IsIdle, emptied};
-    ghost use Rattle.cam6_handoff.specs.Limits.{max_users};
+    ghost use Rattle.cam6_commands.specs.Limits.{max_users};
     ghost use Rattle.cam6_handoff.specs.Seats.{TakeGives, Accepts, AcceptsDone};
 
     /// The board's number.
@@ -73,14 +73,14 @@ impl BoardSeat {
         self.users
     }
 
-    /// A look at whose commands wait, for whatever decides when a board's command makes way.
+    /// Returns a look at the commands that wait, for whatever decides when to preempt a board.
     pub fn queue(&self) -> Result<Queue, NoMemory> {
         let table = Arc::clone(&self.table)?;
         let turns = Arc::clone(&self.turns)?;
         Ok(queue_of(table, self.users, turns))
     }
 
-    /// Takes the user's command onto this board, if it waits there.
+    /// Takes the command of `user`, counted from 1, onto this board, if it waits for one.
     pub fn try_take(&mut self, user: usize) -> Option<(Lease, Job)>
         requires idle { IsIdle self.old }
         requires a_user { 0 < user }
@@ -104,7 +104,7 @@ impl BoardSeat {
         steps::back(&self.table.shared, &mut self.seat, word, queued);
     }
 
-    /// Gives what is finished to the user's desk, and wakes it.
+    /// Gives what is finished to the user's desk, and wakes the desk.
     pub fn put_done(&mut self, finished: Finished)
         requires { AcceptsDone self.old.holds finished }
         ensures { self.new ≡ emptied self.old }
@@ -125,10 +125,11 @@ impl BoardSeat {
     }
 
     /// Fills the tables that a lease needs, each under the cache's lock, which others may have in
-    /// between. If more than a few of them aren't kept, the seat waits for its turn to make the others:
-    /// seats make many tables one after the other.
-    pub fn fill_each<R: Wait>(&mut self, rt: &R, lease: &Lease, cache: &Mutex<TableCache>)
-        ensures tables { TablesFit lease.now.work self.new.tables }
+    /// between. Returns whether it did. Seats make many tables one after the other. If the command
+    /// needs more than two that aren't kept, and another seat has the turn, the rest is not filled:
+    /// the command is to wait again, and is held back until that seat is done.
+    pub fn fill_each<R: Wait>(&mut self, rt: &R, lease: &Lease, cache: &Mutex<TableCache>) -> bool
+        ensures tables { IsTrue result → TablesFit lease.now.work self.new.tables }
         ensures others { self.new ≡ record self.old { tables = self.new.tables } }
     {
         let word = self.taken.unwrap_or(0);
@@ -138,18 +139,21 @@ impl BoardSeat {
         } else {
             fill_few(rt, &self.turns, &mut self.filling, lease, cache)
         };
-        if next < lease.needs() {
-            let turn = self.turns.turn.lock(rt);
-            self.turns.take(true);
-            let made = fill_rest(rt, &self.turns, &mut self.filling, lease, next, cache);
-            self.turns.take(false);
-            drop(turn);
-            self.turns.note(word, made > if is_dear { FEW } else { 0 });
+        if next == lease.needs() {
+            return true;
         }
+        if !self.turns.try_take() {
+            self.turns.note(word, true);
+            return false;
+        }
+        let made = fill_rest(rt, &self.turns, &mut self.filling, lease, next, cache);
+        self.turns.give_back();
+        self.turns.note(word, made > if is_dear { FEW } else { 0 });
+        true
     }
 
-    /// Whether the user's command, if it waits, is to wait on: another seat makes many tables, and the
-    /// user's last command made many too.
+    /// Whether the user's command, if it waits, must wait longer: another seat makes many tables,
+    /// and the user's last command made many too.
     pub fn is_held_back(&self, user: usize) -> bool
         requires { 0 < user }
     {
@@ -164,8 +168,8 @@ impl BoardSeat {
     }
 }
 
-/// Fills one table under the cache's lock: whether it was there. Who waits for the lock has it before
-/// another one who has had it already.
+/// Fills one table under the cache's lock, and returns whether it was there. A seat that waits for
+/// the lock has it before one that has already had it.
 fn fill_next<R: Wait>(
     rt: &R,
     turns: &Turns,
@@ -183,7 +187,7 @@ fn fill_next<R: Wait>(
     filling.fill_one(&mut cache, lease, index)
 }
 
-/// Fills tables of a lease, the first ones, until a few of them weren't there: how many it filled.
+/// Fills the first tables of a lease, until `FEW` weren't there. Returns how many it filled.
 fn fill_few<R: Wait>(
     rt: &R,
     turns: &Turns,
@@ -206,7 +210,7 @@ fn fill_few<R: Wait>(
     lease.needs()
 }
 
-/// Fills the tables of a lease from an index on: how many of them weren't there.
+/// Fills the tables of a lease from an index on. Returns how many weren't there, at most 255.
 fn fill_rest<R: Wait>(
     rt: &R,
     turns: &Turns,

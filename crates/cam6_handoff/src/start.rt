@@ -1,8 +1,10 @@
 //! The table at the beginning, and its seats.
-ghost use Rattle.std.specs.Prelude.{◌≡◌, ◌+◌, ◌<◌, ◌≤◌, [], IfOk, IsOk, length};
+ghost use Rattle.std.specs.Prelude.{◌≡◌, ◌+◌, ◌<◌, ◌≤◌, [], IfOk, IsOk, OnOk, length};
 ghost use Rattle.std.specs.Arc.{arc_value};
 ghost use Rattle.cam6_handoff.specs.Standing.{standing};
-ghost use Rattle.cam6_handoff.specs.Limits.{max_users, max_boards};
+ghost use Rattle.cam6_commands.specs.Limits.{max_users, max_boards};
+ghost use Rattle.cam6_commands.specs.declared.limits.TheConstants.{MAX_USERS, MAX_BOARDS};
+ghost use Rattle.cam6_handoff.specs.Desks.{IsBlankDesk};
 ghost use Rattle.cam6_handoff.specs.Boot.{AreBlankDesks, AreIdleSeats, IsSeatOf};
 ghost use Rattle.cam6_handoff.specs.Internal.Cutting.{IsFirstOf, behind_desk, new_desk};
 ghost use Rattle.cam6_handoff.specs.Internal.Cutting.{behind_board, new_board};
@@ -15,18 +17,13 @@ use crate::steps;
 use crate::steps::Chair;
 use crate::turns::Turns;
 use atomic_table::{Split, Table};
+use cam6_commands::MAX_USERS;
 use cam6_machine::Machine;
 use cam6_planes::{NoMemory, Side};
 use cam6_slot::Resting;
 use cam6_station::Filling;
 use std::alloc::Global;
 use std::sync::Arc;
-
-/// Users that a table can have at most.
-pub const MAX_USERS: usize = 32;
-
-/// Boards that a table can have at most.
-pub const MAX_BOARDS: usize = 8;
 
 struct DeskCut;
 
@@ -97,11 +94,53 @@ fn cut_desks(
     ensures desks { IfOk result (λ desks. AreBlankDesks limits.now desks.items) }
 {
     let mut desks = Vec::with_capacity(alloc, limits.len())?;
-    for user in 0..limits.len() {
-        let resting = Resting::new(Machine::new(alloc, limits[user])?);
-        desks.push(cut_desk(Arc::clone(table)?, first, user, resting))?;
-    }
+    add_desks(alloc, table, first, limits, &mut desks)?;
     Ok(desks)
+}
+
+/// Adds a desk for each user, with a blank machine of their limit.
+fn add_desks(
+    alloc: Global,
+    table: &Arc<HandTable>,
+    first: &mut Chair,
+    limits: &[Side],
+    desks: &mut Vec<Desk>,
+) -> Result<(), NoMemory>
+    requires of { IsFirstOf (arc_value table.now).shared.table_id
+        (arc_value table.now).shared.key.users first.old.table_id }
+    requires users { (arc_value table.now).shared.key.users ≡ length limits.now }
+    requires next { first.old.me ≡ (First 0 0, []) }
+    requires none { desks.old.items ≡ [] }
+    ensures of { OnOk result (first.new.table_id ≡ first.old.table_id) }
+    ensures next { OnOk result (first.new.me ≡ (First (length limits.now) 0, [])) }
+    ensures desks { OnOk result (AreBlankDesks limits.now desks.new.items) }
+{
+    for user in 0..limits.len() {
+        let desk = new_desk(alloc, table, first, user, limits[user])?;
+        desks.push(desk)?;
+    }
+    Ok(())
+}
+
+/// Cuts the next desk, with a blank machine of this limit.
+fn new_desk(
+    alloc: Global,
+    table: &Arc<HandTable>,
+    first: &mut Chair,
+    user: usize,
+    limit: Side,
+) -> Result<Desk, NoMemory>
+    requires of { IsFirstOf (arc_value table.now).shared.table_id
+        (arc_value table.now).shared.key.users first.old.table_id }
+    requires user { user < (arc_value table.now).shared.key.users }
+    requires next { first.old.me ≡ (First user 0, []) }
+    ensures of { OnOk result (first.new.table_id ≡ first.old.table_id) }
+    ensures next { OnOk result (first.new.me ≡ (First (user + 1) 0, [])) }
+    ensures desk { IfOk result (λ desk. IsBlankDesk (user + 1) limit desk) }
+{
+    let table = Arc::clone(table)?;
+    let resting = Resting::new(Machine::new(alloc, limit)?);
+    Ok(cut_desk(table, first, user, resting))
 }
 
 /// Cuts a seat for each board.
@@ -121,17 +160,83 @@ fn cut_seats(
 {
     let mut seats = Vec::with_capacity(alloc, usize::from(boards))?;
     let turns = Arc::new(alloc, Turns::new())?;
-    for board in 0..boards {
-        let filling = Filling::new(alloc)?;
-        let (table, turns) = (Arc::clone(table)?, Arc::clone(&turns)?);
-        let seat = cut_board(table, first, users, board, filling, turns);
-        seats.push(seat)?;
-    }
+    add_seats(alloc, table, first, users, boards, &turns, &mut seats)?;
     Ok(seats)
 }
 
-/// A table for so many users and boards: a desk for each user, with a blank machine of his limit,
-/// and a seat for each board, which holds nothing. All memory of the hand-off is taken here.
+/// Adds a seat for each board.
+fn add_seats(
+    alloc: Global,
+    table: &Arc<HandTable>,
+    first: &mut Chair,
+    users: usize,
+    boards: u8,
+    turns: &Arc<Turns>,
+    seats: &mut Vec<BoardSeat>,
+) -> Result<(), NoMemory>
+    requires of { IsFirstOf (arc_value table.now).shared.table_id users first.old.table_id }
+    requires users { (arc_value table.now).shared.key.users ≡ users }
+    requires a_user { 0 < users }
+    requires few { users ≤ max_users }
+    requires next { first.old.me ≡ (First users 0, []) }
+    requires none { seats.old.items ≡ [] }
+    ensures { OnOk result (AreIdleSeats boards users seats.new.items) }
+{
+    for board in 0..boards {
+        let seat = new_seat(alloc, table, first, users, board, turns)?;
+        seats.push(seat)?;
+    }
+    Ok(())
+}
+
+/// Cuts the next board's seat, with tables of its own.
+fn new_seat(
+    alloc: Global,
+    table: &Arc<HandTable>,
+    first: &mut Chair,
+    users: usize,
+    board: u8,
+    turns: &Arc<Turns>,
+) -> Result<BoardSeat, NoMemory>
+    requires of { IsFirstOf (arc_value table.now).shared.table_id users first.old.table_id }
+    requires users { (arc_value table.now).shared.key.users ≡ users }
+    requires a_user { 0 < users }
+    requires few { users ≤ max_users }
+    requires next { first.old.me ≡ (First users board, []) }
+    ensures of { OnOk result (first.new.table_id ≡ first.old.table_id) }
+    ensures next { OnOk result (first.new.me ≡ (First users (board + 1), [])) }
+    ensures seat { IfOk result (λ seat. IsSeatOf board users seat) }
+{
+    let (table, turns) = (Arc::clone(table)?, Arc::clone(turns)?);
+    let filling = Filling::new(alloc)?;
+    Ok(cut_board(table, first, users, board, filling, turns))
+}
+
+/// Cuts a desk for each user, and a seat for each board.
+fn cut(
+    alloc: Global,
+    table: &Arc<HandTable>,
+    first: &mut Chair,
+    users: usize,
+    boards: u8,
+    limits: &[Side],
+) -> Result<(Vec<Desk>, Vec<BoardSeat>), NoMemory>
+    requires of { IsFirstOf (arc_value table.now).shared.table_id users first.old.table_id }
+    requires users { (arc_value table.now).shared.key.users ≡ users }
+    requires a_user { 0 < users }
+    requires few { users ≤ max_users }
+    requires limits { length limits.now ≡ users }
+    requires next { first.old.me ≡ (First 0 0, []) }
+    ensures desks { IfOk result (λ made. AreBlankDesks limits.now made.0.items) }
+    ensures seats { IfOk result (λ made. AreIdleSeats boards users made.1.items) }
+{
+    let desks = cut_desks(alloc, table, first, limits)?;
+    let seats = cut_seats(alloc, table, first, users, boards)?;
+    Ok((desks, seats))
+}
+
+/// Makes a table for so many users and boards. Returns a desk for each user, with a blank machine
+/// of their limit, and an idle seat for each board. Allocates all memory of the hand-off.
 pub fn boot(
     alloc: Global,
     users: usize,
@@ -155,7 +260,8 @@ pub fn boot(
     };
     let (table, mut first) = HandTable::vacant(alloc, &words[..users], users, &counts)?;
     let table = Arc::new(alloc, table)?;
-    let desks = cut_desks(alloc, &table, &mut first, limits)?;
-    let seats = cut_seats(alloc, &table, &mut first, users, boards)?;
-    Ok((desks, seats))
+    let made = cut(alloc, &table, &mut first, users, boards, limits);
+    drop(first);
+    drop(table);
+    made
 }

@@ -1,4 +1,4 @@
-//! The steps, each one exchange on one word.
+//! The steps, each one exchange on one word, or one load.
 ghost use Rattle.std.specs.Prelude.{◌≡◌, ◌≢◌, ℕ, ◌<◌, [], ◌∷◌, MatchOption};
 ghost use Rattle.cam6_commands.specs.declared.commands.Command.{Command};
 ghost use Rattle.cam6_model.specs.Machine.{Machine};
@@ -23,7 +23,7 @@ pub(crate) const READY: u64 = 1;
 /// The command is finished.
 pub(crate) const DONE: u64 = 2;
 
-/// The first board has it; board b is b more.
+/// Board 0 has the command. The word of board b is b more.
 pub(crate) const OUT: u64 = 3;
 
 pub(crate) type Shelf = Shared<Option<Place>, View, Counts, Handing>;

@@ -1,17 +1,16 @@
 //! Seats that have many tables to make do so one after the other.
 
 use std::sync::Mutex;
-use std::sync::atomic::{AtomicBool, AtomicU32, Ordering};
+use std::sync::atomic::{AtomicU32, Ordering};
 
-/// What all seats of a table share: the turn to make many tables, and whose last command made many.
+/// What all seats of a table share: the turn, and which users' last commands made many tables.
 #[derive(Drop)]
 pub(crate) struct Turns {
-    /// Who holds it has the turn.
-    pub turn: Mutex<()>,
-    /// Who holds it has the cache's lock next.
+    /// The seat that holds it has the cache's lock next.
     pub next: Mutex<()>,
-    is_taken: AtomicBool,
-    /// A bit for each word.
+    /// 1 while a seat has the turn, and else 0.
+    taken: AtomicU32,
+    /// A bit for each word, 1 if the user's last command made many tables.
     dear: AtomicU32,
 }
 
@@ -23,16 +22,20 @@ fn bit_of(word: usize) -> u32 {
 impl Turns {
     pub fn new() -> Turns {
         Turns {
-            turn: Mutex::new(()),
             next: Mutex::new(()),
-            is_taken: AtomicBool::new(false),
+            taken: AtomicU32::new(0),
             dear: AtomicU32::new(0),
         }
     }
 
-    /// A seat has the turn, or has had it.
-    pub fn take(&self, is_taken: bool) {
-        self.is_taken.store(is_taken, Ordering::SeqCst);
+    /// Takes the turn, unless another seat has it. Returns whether it did.
+    pub fn try_take(&self) -> bool {
+        self.taken.fetch_or(1, Ordering::SeqCst) == 0
+    }
+
+    /// Gives the turn back, which this seat has.
+    pub fn give_back(&self) {
+        self.taken.store(0, Ordering::SeqCst);
     }
 
     /// Whether the last command of the word's user made many tables.
@@ -40,13 +43,13 @@ impl Turns {
         self.dear.load(Ordering::SeqCst) & bit_of(word) != 0
     }
 
-    /// Whether the command at a word is to wait without a board: until the turn is over, if the user's
-    /// last one made many tables too.
+    /// Whether the command at a word must wait without a board: a seat has the turn, and the user's
+    /// last command made many tables too.
     pub fn holds_back(&self, word: usize) -> bool {
-        self.is_taken.load(Ordering::SeqCst) && self.is_dear(word)
+        self.taken.load(Ordering::SeqCst) != 0 && self.is_dear(word)
     }
 
-    /// A command of the word's user made many tables, or it didn't.
+    /// Notes whether a command of the word's user made many tables.
     pub fn note(&self, word: usize, is_dear: bool) {
         let bit = bit_of(word);
         if is_dear {

@@ -5,7 +5,7 @@ use Rattle.std.specs.declared.io.ErrorKind.TheVariants.{OutOfMemory}
 use Rattle.cam6_modes.specs.declared.modes.Refused.{Refused}
 use Rattle.cam6_modes.specs.declared.modes.Refused.TheVariants.{Help, Words, NoMemory}
 
--- for want of memory, or because one is no UTF-8
+-- memory ran out, or a word isn't UTF-8
 abbrev pub IsUnreadable : Refused → ErrorKind → Type 0
 IsUnreadable (Help text) kind = ⊥
 IsUnreadable (Words text) kind =

@@ -1,10 +1,10 @@
 //! The program `cam6`: command lines on standard input, or lines of events, one line of an answer
 //! for each on standard output; or command lines of many users over connections.
 //!
-//! Contract: `told`, `closed` and `ended` end with the exit statuses that `cam6_modes` says of
-//! arguments that ask for nothing, of a host that can't go on, and of each end of a session. What
-//! the arguments ask for, and what is written for what is read, is said in `cam6_modes`. What users
-//! are answered over connections, by `serve_net`, is said in `cam6_server`.
+//! Contract: `told`, `closed` and `ended` end with the exit statuses of `cam6_modes`: for arguments
+//! that ask for nothing, for a host that can't go on, and for each end of a session. `cam6_modes`
+//! says what the arguments ask for, and what is written for what is read. `cam6_server` says what
+//! `serve_net` writes to users over connections.
 //!
 //! Stands on: `cam6_modes`; `cam6_session`, `cam6_server` and `cam6_planes` for what it hands on.
 //!
@@ -30,13 +30,13 @@ use std::io::{BufReader, ErrorKind, IsTerminal};
 use std::net::{Ipv4Addr, Net, TcpListener, TcpStream};
 use std::process::ExitCode;
 
-/// What is told where commands are typed.
+/// The greeting if commands are typed.
 const COMMANDS_ARE_TYPED: &str = "\
-cam6: a command a line, as {\"do\":\"rules\"}; Ctrl-D ends; see docs/MANUAL.md or cam6 --help\n";
+cam6: type a command a line, such as {\"do\":\"rules\"}. Ctrl-D ends. docs/MANUAL.md has the commands, docs/ERRORS.md the numbers.\n";
 
-/// What is told where events are typed.
+/// The greeting if events are typed.
 const EVENTS_ARE_TYPED: &str = "\
-cam6: an event a line, as {\"event\":\"evict\"}; Ctrl-D ends; see docs/MANUAL.md or cam6 --help\n";
+cam6: type an event a line, such as {\"event\":\"evict\"}. Ctrl-D ends. docs/SERVER.md has the events, docs/ERRORS.md the numbers.\n";
 
 fn main(rt: HostRuntime) -> ExitCode {
     run(
@@ -45,7 +45,7 @@ fn main(rt: HostRuntime) -> ExitCode {
     )
 }
 
-/// Reads the words, and does what they ask for. Users are served over a network by a closure.
+/// Reads the words, and does what they ask for. The closure `served` serves users over a network.
 fn run<R: Env + Input + Print + Eprint + AllocGlobal, F: Fn(Serving, u16) -> ExitCode>(
     rt: &R,
     served: &F,
@@ -65,9 +65,9 @@ where
     }
 }
 
-/// Tells why the words ask for nothing, and ends.
+/// Reports why the words ask for nothing, and ends.
 fn told(rt: &(impl Print + Eprint), refused: &Refused) -> ExitCode
-    // Help may end otherwise, where it can't be written.
+    // Help may end otherwise, if it can't be written.
     ensures { (refusal refused.now).0 ≢ 0 → exit_status result ≡ (refusal refused.now).0 }
 {
     let (status, text) = refusal_of(refused);
@@ -84,7 +84,7 @@ fn options_given<R: Env + AllocGlobal>(rt: &R) -> Result<Options, Refused> {
     let alloc = rt.alloc();
     let args = match std::env::args(rt) {
         Ok(args) => args,
-        Err(e) => return Err(unreadable(alloc, e.kind())),
+        Err(e) => return Err(refusal_of_read(alloc, e.kind())),
     };
     let Ok(words) = args.collect::<Vec<String>>(alloc) else {
         return Err(Refused::NoMemory);
@@ -92,8 +92,8 @@ fn options_given<R: Env + AllocGlobal>(rt: &R) -> Result<Options, Refused> {
     options(alloc, words.as_slice())
 }
 
-/// Why the words could not be had.
-fn unreadable(alloc: Global, kind: ErrorKind) -> Refused
+/// Returns why the words could not be read.
+fn refusal_of_read(alloc: Global, kind: ErrorKind) -> Refused
     ensures { IsUnreadable result kind }
 {
     match kind {
@@ -105,10 +105,10 @@ fn unreadable(alloc: Global, kind: ErrorKind) -> Refused
     }
 }
 
-/// Tells somebody who types what is read.
+/// Writes a greeting on standard error if the input is typed at a terminal.
 fn greet(rt: &impl Eprint, input: &impl IsTerminal, text: &str) {
     if input.is_terminal() {
-        // That it can't be told is no fault of what is typed.
+        // The session goes on if the greeting can't be written.
         let _ = rt.eprint(text);
     }
 }
@@ -152,7 +152,7 @@ fn over_network<
     let Ok(listener) = TcpListener::bind(&rt, (Ipv4Addr::LOCALHOST, port)) else {
         return closed(&rt, Fault::Network);
     };
-    // Whoever connects from here on is answered. That it can't be told is no fault of the host's.
+    // Whoever connects from here on is answered. The host goes on if this line can't be written.
     let _ = eprintln!(&rt; "listening on 127.0.0.1:{port}");
     match serve_net(rt, listener, &serving) {
         Ok(()) => ExitCode::SUCCESS,
@@ -183,7 +183,7 @@ fn ended(rt: &impl Eprint, end: End) -> ExitCode
 fn failed(rt: &impl Eprint, status: u8, text: &str) -> ExitCode
     ensures { exit_status result ≡ status }
 {
-    // Standard error is the last place to tell of a fault, so a fault of its own isn't told.
+    // Standard error is the last place for a report, so a failure to write there isn't reported.
     let _ = rt.eprint(text);
     ExitCode::from(status)
 }

@@ -2,10 +2,10 @@
 
 -- The row above a row.
 pub mod RowsAbove
--- The columns of words that are the same throughout.
-pub mod SameWords
--- Words whose columns are chosen by a mask.
-pub mod ChosenWords
+-- The columns of words that have the blocks' right columns.
+pub mod RightColumns
+-- Rows of words whose columns are chosen by a mask.
+pub mod ChosenRows
 -- The words of a unit's rows.
 pub mod RowsOfUnits
 -- What cells see in their blocks.

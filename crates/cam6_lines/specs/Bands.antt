@@ -14,8 +14,7 @@ side_of band = width band.planes.now
 abbrev pub IsWithin : Band → Type 0
 IsWithin band = band.first + height ≤ side_of band
 
--- these are, of planes f, the rows of a band with the row to its north and the one to its south
--- round the torus
+-- the band has its rows of planes f, the row to its north and the one to its south round the torus
 pub record IsBandOf (f : Cells) (band : Band) : Type 0 where
   pub rows : (p x r : ℕ) → p < 4 → x < side_of band → r < height →
       cells band.planes.now p x (band.first + r) ≡ f p x (band.first + r)

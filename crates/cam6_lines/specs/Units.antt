@@ -13,8 +13,7 @@ columns S512 = 256
 abbrev pub place : Side → ℕ → ℕ → ℕ
 place side r i = columns side * r + i
 
--- of what lines show, the lowest first, that of the lines for which a mask has a bit, and 0 on the
--- others
+-- what lines show if a mask has a bit for them, and 0 on the others; the lowest line comes first
 abbrev pub asked_for : ℕ → List Bool → List Bool
 asked_for mask [] = []
 asked_for mask (bit ∷ bits) = ((mask % 2 == 1) && bit) ∷ asked_for (mask / 2) bits

@@ -12,8 +12,8 @@ use cam6_wiring::Rows;
 /// Rows of a band.
 pub const HEIGHT: usize = 16;
 
-/// Sixteen rows of planes, with the row to their north and the one to their south, which may lie
-/// elsewhere: in the middle of a step the planes have new rows there.
+/// Sixteen rows of planes, with the row to their north and the one to their south. These two may
+/// lie elsewhere: in the middle of a step the planes have new rows there.
 #[derive(Clone, Copy)]
 pub struct Band<'a> {
     pub planes: &'a Planes,
@@ -40,8 +40,8 @@ impl<'a> Band<'a> {
         }
     }
 
-    /// The row above row `r` of the band, which for `r` up to 17 is one of the rows from the one to
-    /// the north of the band to the one to its south.
+    /// The row above row `r` of the band, with `r` up to 17. Above row 0 is the row to the north of
+    /// the band, and above row 17 the row to its south.
     #[inline(always)]
     pub(crate) fn above(&self, r: usize) -> &'a CellRow
         requires within { IsWithin self.now }

@@ -26,8 +26,8 @@ pub(crate) const PART: usize = 72;
 /// of the row to its south.
 pub(crate) type Part = [u64; PART];
 
-/// Writes what the cells of the unit see under a name, in each row of the part in which it is
-/// looked for.
+/// Writes what the cells of the unit see under a name, in each row of the part that is made for
+/// the name.
 pub(crate) fn put_part(part: &mut Part, setting: Setting, name: Name, band: &Band, unit: usize)
     requires within { IsWithin band.now }
     requires unit { columns band.now.planes.now.side * unit < side_of band.now }
@@ -47,8 +47,8 @@ pub(crate) fn put_part(part: &mut Part, setting: Setting, name: Name, band: &Ban
     }
 }
 
-/// As `put_part`, under any name. The functions below do the same for names that many lines have,
-/// each in a loop of its own, so that no row asks anew where its cells look.
+/// As `put_part`, under any name. The functions below do the same for names that many lines have.
+/// Each has a loop of its own, so that no row asks anew where its cells look.
 fn put_rows(part: &mut Part, setting: Setting, name: Name, band: &Band, unit: usize)
     requires within { IsWithin band.now }
     requires unit { columns band.now.planes.now.side * unit < side_of band.now }
@@ -76,7 +76,7 @@ fn put_here(part: &mut Part, p: usize, band: &Band, unit: usize)
     put_beside(part, Compass::Center, p, band, unit);
 }
 
-/// Writes what lies to their west.
+/// Writes what lies to the west of the cells in plane `p`.
 fn put_west(part: &mut Part, p: usize, band: &Band, unit: usize)
     requires plane { p < 4 }
     requires within { IsWithin band.now }
@@ -86,7 +86,7 @@ fn put_west(part: &mut Part, p: usize, band: &Band, unit: usize)
     put_beside(part, Compass::West, p, band, unit);
 }
 
-/// Writes what lies to their east.
+/// Writes what lies to the east of the cells in plane `p`.
 fn put_east(part: &mut Part, p: usize, band: &Band, unit: usize)
     requires plane { p < 4 }
     requires within { IsWithin band.now }
@@ -96,8 +96,8 @@ fn put_east(part: &mut Part, p: usize, band: &Band, unit: usize)
     put_beside(part, Compass::East, p, band, unit);
 }
 
-/// Writes what lies there in plane `p`. The first row and the last one, which lie elsewhere, are
-/// written apart from the others.
+/// Writes what lies in this direction in plane `p`. The first row and the last one lie elsewhere,
+/// so they are written apart from the others.
 #[inline(always)]
 fn put_beside(part: &mut Part, compass: Compass, p: usize, band: &Band, unit: usize)
     requires compass { first_beside compass ≡ 0 }
@@ -116,7 +116,7 @@ fn put_beside(part: &mut Part, compass: Compass, p: usize, band: &Band, unit: us
     put_row_beside(part, side, compass, p, &own, unit, HEIGHT + 1);
 }
 
-/// Writes row `j` of it, after the rows before.
+/// Writes row `j` for `put_beside`, after the rows before it.
 #[inline(always)]
 fn put_row_beside(
     part: &mut Part,
@@ -141,8 +141,8 @@ fn put_row_beside(
     put_row(part, at, seen_beside(side, compass, p, band, unit, j));
 }
 
-/// Writes what lies in their blocks of the even grid, whose columns are moved within their words.
-/// What it calls knows the grid and the rotation, so that its loop is compiled for them alone.
+/// Writes what lies in the cells' blocks of the even grid. The columns of a block lie in one word.
+/// Each call gets the grid and the rotation as constants, so its loop is compiled for them alone.
 #[inline(never)]
 fn put_in_even_blocks(part: &mut Part, rotation: Rotation, p: usize, band: &Band, unit: usize)
     requires plane { p < 4 }
@@ -177,7 +177,7 @@ fn put_in_even_blocks(part: &mut Part, rotation: Rotation, p: usize, band: &Band
     }
 }
 
-/// And of the odd grid, some of whose blocks lie in two words.
+/// As `put_in_even_blocks`, of the odd grid. The columns of some of its blocks lie in two words.
 #[inline(never)]
 fn put_in_odd_blocks(part: &mut Part, rotation: Rotation, p: usize, band: &Band, unit: usize)
     requires plane { p < 4 }
@@ -212,7 +212,7 @@ fn put_in_odd_blocks(part: &mut Part, rotation: Rotation, p: usize, band: &Band,
     }
 }
 
-/// Writes what lies in their blocks, where the band's rows are those of eight rows of blocks.
+/// Writes what lies in the cells' blocks, if the band is eight whole rows of blocks.
 #[inline(always)]
 fn put_from_upper(
     part: &mut Part,
@@ -236,8 +236,8 @@ fn put_from_upper(
     }
 }
 
-/// Writes it, where the band's first row lies in the blocks of the row to its north, and its last
-/// one in those of the row to its south.
+/// As `put_from_upper`, if the band's first row shares its blocks with the row to the band's north,
+/// and the last one with the row to its south.
 #[inline(always)]
 fn put_from_lower(
     part: &mut Part,
@@ -293,7 +293,7 @@ fn put_pair(
     put_row(part, words * (j + 1), lower);
 }
 
-/// Writes row `j` alone.
+/// As `put_pair`, for row `j` alone.
 #[inline(always)]
 fn put_row_in_block(
     part: &mut Part,
@@ -325,7 +325,7 @@ fn put_row_in_block(
     );
 }
 
-/// The first row of a part that is made for a name; as many are left out at its end.
+/// The first row of a part that is made for a name. As many rows are left out at its end.
 #[inline(always)]
 fn first_row(name: Name) -> usize
     ensures value { result ≡ first_row name }

@@ -12,8 +12,8 @@ use cam6_planes::Side;
 use cam6_wiring::{Hood, LINES, Minor, Name, names_of};
 use std::marker::Model;
 
-/// Which lines are asked for, under which wiring, and how they are seen: which parts they need, and
-/// where in these each line's unit is, at the narrow side and at the others.
+/// Which lines are asked for, under which wiring, and how they are seen. That is which parts they
+/// need, and where in these each line's unit is, at the narrow side and at the others.
 #[derive(Drop)]
 pub struct Plan {
     asked: u16,
@@ -45,7 +45,7 @@ impl Model for Plan {
 impl Plan {
     ghost use Rattle.cam6_lines.specs.Internal.Views.{AreViews};
 
-    /// How the lines for which the mask `asked` has a bit are seen under a wiring.
+    /// Returns the plan for the lines for which the mask `asked` has a bit, under a wiring.
     pub fn of(asked: u16, hood: Hood, minor: Minor) -> Plan
         ensures { result ≡ record { lines = asked; hood = hood; minor = minor } }
     {
@@ -79,7 +79,7 @@ impl Plan {
         }
     }
 
-    /// Whether it is for these lines under this wiring.
+    /// Returns whether the plan is for these lines under this wiring.
     pub fn is_for(&self, asked: u16, hood: Hood, minor: Minor) -> bool
         ensures { IsTrue result →
             self.now ≡ record { lines = asked; hood = hood; minor = minor } }

@@ -15,8 +15,8 @@ ghost use Rattle.cam6_lines.specs.Internal.Parts.{first_beside, first_row, row_a
 
 use crate::bands::Band;
 use crate::units::words_of_row;
-use crate::words::{chosen_word, right_columns, word_of};
-use cam6_planes::{Row, Side, moved_east, moved_west};
+use crate::words::right_columns;
+use cam6_planes::{Row, Side, chosen_word, moved_east, moved_west, word_of};
 use cam6_wiring::{Compass, Grid, Name, Rotation, Setting, side_in_block};
 
 /// Words of a row of a unit at most.
@@ -92,8 +92,8 @@ pub(crate) fn is_lower(grid: Grid, band: &Band, j: usize) -> bool
     side_in_block(grid, band.first + j - 1) == 1
 }
 
-/// What they see of plane `p` in their blocks. The block's other row lies to the south of its upper
-/// row, and to the north of its lower one.
+/// What the unit's cells see of plane `p` in their blocks. The block's other row lies to the south
+/// of its upper row, and to the north of its lower one.
 #[inline(always)]
 pub(crate) fn seen_in_block(
     side: Side,
@@ -144,7 +144,7 @@ fn other_row(lower: bool, j: usize) -> usize
     if lower { j - 1 } else { j + 1 }
 }
 
-/// What lies in their blocks one corner from them, where the left columns look along their row and
+/// What lies in the cells' blocks one corner from them. The left columns look along their row and
 /// the right ones across to the other row, or the other way round.
 #[inline(always)]
 fn along_or_across(
@@ -184,7 +184,7 @@ fn by_sides(grid: Grid, left: UnitRow, right: UnitRow) -> UnitRow
     ]
 }
 
-/// What they see of plane `p` beside them.
+/// What the unit's cells see of plane `p` beside them.
 #[inline(always)]
 pub(crate) fn seen_beside(
     side: Side,
@@ -209,7 +209,7 @@ pub(crate) fn seen_beside(
     columns_beside(row, compass, side, unit)
 }
 
-/// The row of a part that lies there, seen from row `j`.
+/// The row of a part that lies in this direction from row `j`.
 #[inline(always)]
 fn row_beside(compass: Compass, j: usize) -> usize
     requires first { first_beside compass ≤ j }
@@ -225,7 +225,7 @@ fn row_beside(compass: Compass, j: usize) -> usize
     }
 }
 
-/// Of a row of cells, at each column of the unit, what it has in the column that lies there.
+/// At each column of the unit, the row's bit in the column that lies in this direction.
 #[inline(always)]
 fn columns_beside(row: &Row, compass: Compass, side: Side, unit: usize) -> UnitRow
     requires { columns side * unit < side_number side }
@@ -239,7 +239,7 @@ fn columns_beside(row: &Row, compass: Compass, side: Side, unit: usize) -> UnitR
     }
 }
 
-/// What it has in the column itself.
+/// At each column of the unit, the row's bit in the column itself.
 #[inline(always)]
 fn columns_here(row: &Row, side: Side, unit: usize) -> UnitRow
     requires { columns side * unit < side_number side }
@@ -249,7 +249,7 @@ fn columns_here(row: &Row, side: Side, unit: usize) -> UnitRow
     words_here(row, words_of_row(side) * unit)
 }
 
-/// What it has to the west.
+/// At each column of the unit, the row's bit to the west.
 #[inline(always)]
 fn columns_west(row: &Row, side: Side, unit: usize) -> UnitRow
     requires { columns side * unit < side_number side }
@@ -259,7 +259,7 @@ fn columns_west(row: &Row, side: Side, unit: usize) -> UnitRow
     words_west(row, side.words(), words_of_row(side) * unit)
 }
 
-/// And to the east.
+/// At each column of the unit, the row's bit to the east.
 #[inline(always)]
 fn columns_east(row: &Row, side: Side, unit: usize) -> UnitRow
     requires { columns side * unit < side_number side }
@@ -278,8 +278,8 @@ fn words_here(row: &Row, first: usize) -> UnitRow
     [row[first], row[first + 1], row[first + 2], row[first + 3]]
 }
 
-/// The four words from word `first` on, each of whose columns has what the row of so many words has
-/// to the west of it.
+/// The four words from word `first` on. Each column has the bit to its west in the row of `words`
+/// words.
 #[inline(always)]
 fn words_west(row: &Row, words: usize, first: usize) -> UnitRow
     requires some { 0 < words }
@@ -297,8 +297,8 @@ fn words_west(row: &Row, words: usize, first: usize) -> UnitRow
     ]
 }
 
-/// And to the east of it. A row has an even number of words, and its units begin at even ones, so
-/// two of the four have their next word in the row whatever its side.
+/// As `words_west`, to the east. A row has an even number of words, and its units begin at even
+/// ones. So two of the four have their next word in the row, whatever its side.
 #[inline(always)]
 fn words_east(row: &Row, words: usize, first: usize) -> UnitRow
     requires most { words ≤ WORDS }
@@ -317,7 +317,7 @@ fn words_east(row: &Row, words: usize, first: usize) -> UnitRow
     ]
 }
 
-/// The word to the west of word `i` of so many, round the torus.
+/// The word to the west of word `i` of `words`, round the torus.
 #[inline(always)]
 fn word_before(words: usize, i: usize) -> usize
     requires words { 0 < words }
@@ -329,7 +329,7 @@ fn word_before(words: usize, i: usize) -> usize
     if i == 0 { words - 1 } else { i - 1 }
 }
 
-/// The word to the east of it.
+/// The word to the east of word `i` of `words`, round the torus.
 #[inline(always)]
 fn word_after(words: usize, i: usize) -> usize
     requires words { words ≤ WORDS }

@@ -54,7 +54,7 @@ impl UnitLines {
     }
 
     /// Makes what the cells of a unit of the band see on the lines for which a plan asks. The other
-    /// lines show 0. This and `lines` stay calls: inlined, they have the room zeroed twice.
+    /// lines show 0. This and `lines` are not inlined: inlined, they zero the room twice.
     #[inline(never)]
     pub fn put(&mut self, plan: &Plan, setting: Setting, band: &Band, unit: usize)
         requires within { IsWithin band.now }
@@ -114,7 +114,7 @@ fn put_parts(
     }
 }
 
-/// Makes a part, where it is needed and its line has a name.
+/// Makes a part, if it is needed and its line has a name.
 fn put_needed(
     part: &mut Part,
     needed: bool,

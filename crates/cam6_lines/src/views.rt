@@ -37,7 +37,7 @@ pub(crate) fn unit_of(parts: &[Part; LINES], view: Option<View>) -> &Unit
     }
 }
 
-/// The unit of words of a part from one on.
+/// The unit of words of a part, from word `start` on.
 #[inline]
 fn unit_at(parts: &[Part; LINES], home: usize, start: usize) -> &Unit
     requires home { home < LINES }
@@ -47,7 +47,7 @@ fn unit_at(parts: &[Part; LINES], home: usize, start: usize) -> &Unit
     parts[home][start..].first_chunk().unwrap()
 }
 
-/// How the lines are seen that are asked for.
+/// How the lines that are asked for are seen.
 pub(crate) fn views_of(
     asked: u16,
     names: &[Option<Name>; LINES],
@@ -62,7 +62,7 @@ pub(crate) fn views_of(
     views
 }
 
-/// How a line is seen, where it is asked for.
+/// How a line is seen, if it is asked for and has a name.
 fn view_of(side: Side, asked: bool, name: Option<Name>, line: usize) -> Option<View>
     requires { line < LINES }
     ensures { result ≡ view_of side asked name line }
@@ -76,7 +76,7 @@ fn view_of(side: Side, asked: bool, name: Option<Name>, line: usize) -> Option<V
     }
 }
 
-/// Which parts the lines need that are asked for.
+/// Which parts the lines that are asked for need.
 pub(crate) fn homes_of(asked: u16, names: &[Option<Name>; LINES]) -> [bool; LINES]
     ensures { AreHomes asked names.now result }
 {
@@ -87,7 +87,7 @@ pub(crate) fn homes_of(asked: u16, names: &[Option<Name>; LINES]) -> [bool; LINE
     homes
 }
 
-/// Marks the home of a line, where it is asked for and has a name.
+/// Marks the home of a line, if it is asked for and has a name.
 fn mark_home(homes: &mut [bool; LINES], asked: bool, name: Option<Name>, line: usize)
     requires { line < LINES }
     ensures marked { (known : Name) → asked ≡ true → name ≡ Some known →
@@ -111,7 +111,7 @@ fn is_asked(asked: u16, line: usize) -> bool
     asked >> line & 1 == 1
 }
 
-/// The line whose part a line with this name is seen from.
+/// The home of a line with this name: the line with the part in which it is seen.
 fn home_of(name: Name, line: usize) -> usize
     ensures line { result ≡ home_of name line }
     ensures within { line < LINES → result < LINES }

@@ -1,3 +1,3 @@
--- What callers see of entries; then how rows of words are transposed, which only this crate cites.
+-- What callers see of entries. Then how rows of words are transposed; only this crate cites that.
 pub mod Entries
 pub mod Transposed

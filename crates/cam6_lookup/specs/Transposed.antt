@@ -1,5 +1,5 @@
--- Sixteen rows of words whose bits are transposed. Position p of a word is its bit p; a word has four
--- lanes of sixteen positions.
+-- How the bits of sixteen rows of words are transposed. Position p of a word is its bit p. A word
+-- has four lanes of sixteen positions.
 use Rattle.std.specs.Prelude.{ℕ, ◌+◌, ◌*◌, ◌-◌, ◌/◌, ◌%◌, ◌<◌, ◌≡◌, ◌^◌, List, [], slice_index}
 use Rattle.std.specs.Prelude.{slice_index_or}
 use Rattle.std.specs.Int.{bit_at}

@@ -53,8 +53,8 @@ impl Digit {
         }
     }
 
-    /// What the first of two words that swap becomes: it keeps its positions with the digit 0, and
-    /// takes to the others those of the second.
+    /// Returns the first of two words after their swap. It keeps its positions with the digit 0,
+    /// and gets those of the second word at the others.
     #[inline(always)]
     pub(crate) fn first(self, first: u64, second: u64) -> u64
         ensures kept { (p : ℕ) → p < 64 → digit_of self p ≡ 0 → bit_at result p ≡ bit_at first p }
@@ -65,8 +65,8 @@ impl Digit {
         first & zeros | (second & zeros) << self.worth()
     }
 
-    /// What the second becomes: it keeps its positions with the digit 1, and takes to the others those
-    /// of the first.
+    /// Returns the second word after the swap. It keeps its positions with the digit 1, and gets
+    /// those of the first word at the others.
     #[inline(always)]
     pub(crate) fn second(self, first: u64, second: u64) -> u64
         ensures taken { (p : ℕ) → p < 64 → digit_of self p ≡ 0 →

@@ -14,7 +14,7 @@ use cam6_planes::{Row, Side};
 use cam6_wiring::Lines;
 
 /// Writes two rows: at each column the lowest bit, and the next, of the entry at the address that
-/// the lines show there. Of words past the side nothing is said.
+/// the lines show there. Words past the side may hold anything.
 pub fn look_up_rows(lower: &mut Row, upper: &mut Row, lines: &Lines, side: Side, entries: &[u8])
     requires { length entries.now ≡ 2 ^ LINES }
     ensures lower { (x : ℕ) → x < side_number side →
@@ -55,7 +55,7 @@ fn words(rows: &Sixteen, i: usize, entries: &[u8]) -> (u64, u64)
 /// The first position of each lane.
 const FIRST_POSITIONS: u64 = 0x0001_0001_0001_0001;
 
-/// Each lane with its bits one position further, and the first bit of `four`'s lane put in.
+/// Moves the bits of each lane one position further, and puts the first bit of `four`'s lane in.
 fn one_more(word: u64, four: u64) -> u64
     ensures first { (p : ℕ) → p < 64 → p % 16 ≡ 0 → (0 < p → bit_at word (p - 1) ≡ 0) →
         bit_at result p ≡ bit_at four p }

@@ -14,8 +14,8 @@ pub(crate) type Pair = [u64; 2];
 /// Sixteen rows of two words.
 pub(crate) type Sixteen = [Pair; 16];
 
-/// The addresses of 128 columns, from a word on: in its lane l of sixteen bits, row k has that of
-/// position 16 l + k of each word.
+/// Returns the addresses of 128 columns, from a word on. In its lane l of sixteen bits, row k has
+/// the address of position 16 l + k of each word.
 pub(crate) fn shown_addresses(lines: &Lines, word: usize) -> Sixteen
     requires { word + 2 ≤ WORDS }
     ensures { ShowAddresses result lines.now word }
@@ -41,28 +41,28 @@ fn round(rows: &Sixteen, digit: Digit) -> Sixteen
         cell result k i p ≡ cell rows.now (swapped_row digit k p) i (swapped_position digit k p) }
 {
     [
-        row_after(rows, 0, digit),
-        row_after(rows, 1, digit),
-        row_after(rows, 2, digit),
-        row_after(rows, 3, digit),
-        row_after(rows, 4, digit),
-        row_after(rows, 5, digit),
-        row_after(rows, 6, digit),
-        row_after(rows, 7, digit),
-        row_after(rows, 8, digit),
-        row_after(rows, 9, digit),
-        row_after(rows, 10, digit),
-        row_after(rows, 11, digit),
-        row_after(rows, 12, digit),
-        row_after(rows, 13, digit),
-        row_after(rows, 14, digit),
-        row_after(rows, 15, digit),
+        row_after_round(rows, 0, digit),
+        row_after_round(rows, 1, digit),
+        row_after_round(rows, 2, digit),
+        row_after_round(rows, 3, digit),
+        row_after_round(rows, 4, digit),
+        row_after_round(rows, 5, digit),
+        row_after_round(rows, 6, digit),
+        row_after_round(rows, 7, digit),
+        row_after_round(rows, 8, digit),
+        row_after_round(rows, 9, digit),
+        row_after_round(rows, 10, digit),
+        row_after_round(rows, 11, digit),
+        row_after_round(rows, 12, digit),
+        row_after_round(rows, 13, digit),
+        row_after_round(rows, 14, digit),
+        row_after_round(rows, 15, digit),
     ]
 }
 
 /// Row k after the round.
 #[inline]
-fn row_after(rows: &Sixteen, k: usize, digit: Digit) -> Pair
+fn row_after_round(rows: &Sixteen, k: usize, digit: Digit) -> Pair
     requires { k < 16 }
     ensures { (i p : ℕ) → i < 2 → p < 64 → bit_at (slice_index result i) p
         ≡ cell rows.now (swapped_row digit k p) i (swapped_position digit k p) }

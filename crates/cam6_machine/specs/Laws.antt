@@ -1,4 +1,4 @@
--- What follows of a machine that comes apart.
+-- Laws of a machine that comes apart.
 use Rattle.std.specs.Prelude.{◌≡◌, ◌≤◌, ℕ}
 use Rattle.cam6_planes.specs.Stored.{Stored}
 use Rattle.cam6_planes.specs.Side.{side_number}

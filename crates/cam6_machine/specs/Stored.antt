@@ -12,9 +12,9 @@ use Rattle.cam6_model.specs.Machine.{Machine, own_colours}
 use Rattle.cam6_model.specs.Always.{AreRules, IsEntry, IsPosition}
 use Rattle.cam6_rules.specs.Numbers.{named_entries, AreNumbered}
 
--- what is kept beside the planes: the largest side that they may take on, rules in their order, the
+-- what is kept beside the planes: the largest side that they may have, rules in their order, the
 -- cycle's entries by the numbers of their rules with a position among them, and a colour for each
--- of the sixteen states of a cell; no entries: no cycle is set
+-- of the sixteen states of a cell; without entries no cycle is set
 pub record StoredKept : Type 0 where
   pub limit : Side
   pub rules : List Rule
@@ -53,8 +53,8 @@ nothing_kept limit = record {
   colours = own_colours;
 }
 
--- what a machine always keeps: rules that are some, a few entries that name them by their numbers,
--- a position among the entries, and a colour for each state of a cell
+-- what a machine always keeps: rules that are `AreRules`, a few entries that name them by their
+-- numbers, a position among the entries, and a colour for each state of a cell
 pub record IsKept (kept : StoredKept) : Type 0 where
   pub rules : AreRules kept.rules
   pub numbered : AreNumbered kept.rules kept.cycle

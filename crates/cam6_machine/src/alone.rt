@@ -1,4 +1,4 @@
-//! A machine that nobody shares.
+//! A private machine.
 ghost use Rattle.std.specs.Prelude.{◌≡◌, IfOk};
 ghost use Rattle.cam6_model.specs.Machine.{blank};
 ghost use Rattle.cam6_machine.specs.Stored.{machine_of};
@@ -9,7 +9,7 @@ use cam6_commands::{Command, Reply};
 use cam6_planes::{NoMemory, Side};
 use std::alloc::Global;
 
-/// The replies of a blank machine of this limit to commands, in order, and the machine after them.
+/// Returns the replies of a blank machine of this limit to commands, and the machine after them.
 pub fn replies_alone(
     alloc: Global,
     limit: Side,

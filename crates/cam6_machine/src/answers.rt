@@ -1,4 +1,4 @@
-//! What steps along a cycle are answered.
+//! The replies to steps along a cycle.
 ghost use Rattle.std.specs.Prelude.{◌≡◌};
 ghost use Rattle.cam6_machine.specs.Internal.Ways.{reply_at, work_or_reply};
 
@@ -6,7 +6,7 @@ use crate::replies::Now;
 use cam6_commands::{Done, Reply, StepCount};
 use cam6_cycle::Direction;
 
-/// So many steps that are left to do; with none the position is replied.
+/// Returns so many steps that are left to do, or with none the reply with the position.
 pub(crate) fn work_or_reply(steps: StepCount, direction: Direction, position: usize) -> Now
     ensures { result ≡ work_or_reply steps direction position }
 {

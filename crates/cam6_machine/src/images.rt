@@ -18,7 +18,7 @@ use cam6_cycle::Direction;
 use cam6_planes::{Planes, Side};
 use std::marker::Model;
 
-/// An image at rest, which is away only in the midst of steps. Contracts see its planes.
+/// An image at rest. It is away only in the midst of steps. Contracts see its planes.
 #[derive(Drop)]
 pub(crate) struct Held {
     image: Option<AtRest>,
@@ -105,7 +105,7 @@ impl Held {
         image.planes_mut().set_side(side);
     }
 
-    /// Takes on a side, and the rows of four planes of it.
+    /// Changes the side, and writes the rows of four planes of it.
     pub(crate) fn put_planes(&mut self, side: Side, rows: &[BitRows; 4])
         requires within { side_number side ≤ side_number self.old.limit }
         requires rows { are_planes (side_number side) rows.now ≡ true }

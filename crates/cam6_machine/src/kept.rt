@@ -33,8 +33,8 @@ use cam6_wiring::Wiring;
 use std::alloc::Global;
 use std::marker::Model;
 
-/// All of a machine but its images: rules, cycle, position, colours and the limit of the side, with
-/// the tables of the cycle's rules, which stay filled from one command to the next.
+/// All of a machine but its images: rules, cycle, position, colours and the limit of the side. The
+/// tables of the cycle's rules are with it, and stay filled from one command to the next.
 #[derive(Drop)]
 pub struct Kept {
     alloc: Global,
@@ -80,8 +80,8 @@ impl Kept {
         })
     }
 
-    /// The largest side that the planes may take on. Whoever holds what a machine keeps learns here
-    /// what it always is.
+    /// Returns the largest side that the planes may have. The clause `kept` gives the invariant of
+    /// what a machine keeps.
     pub fn limit(&self) -> Side
         ensures limit { result ≡ self.now.limit }
         ensures kept { IsKept self.now }
@@ -121,14 +121,14 @@ impl Kept {
         &self.colours
     }
 
-    /// The position is the first again.
+    /// Sets the position to 0.
     pub(crate) fn begin_again(&mut self)
         ensures { self.new ≡ record self.old { position = 0 } }
     {
         self.position = 0;
     }
 
-    /// Comes to another position of the cycle.
+    /// Sets the position in the cycle.
     pub(crate) fn stand_at(&mut self, position: usize)
         requires { IsPosition (named_entries self.old.rules self.old.cycle) position }
         ensures { self.new ≡ record self.old { position = position } }
@@ -224,7 +224,7 @@ impl Kept {
         }
     }
 
-    /// The steps that a run has to do, or the reply where there are none.
+    /// Returns the steps that a run has to do, or the reply if there are none.
     pub(crate) fn work_of_run(&self, n: u64) -> Now
         ensures work { (planes : Stored) →
             work_in result ≡ work_of (machine_over planes self.now) (Command.Run n) }
@@ -240,8 +240,8 @@ impl Kept {
         }
     }
 
-    /// The steps that have to be undone, or the reply where there are none. Whether they can be is
-    /// found out by filling the tables for them.
+    /// Returns the steps that have to be undone, or the reply if there are none. Fills the tables
+    /// for them, to see whether they can be undone.
     pub(crate) fn work_of_back(&mut self, n: u64) -> Now
         ensures work { (planes : Stored) →
             work_in result ≡ work_of (machine_over planes self.old) (Command.Back n) }
@@ -278,8 +278,8 @@ impl Kept {
         })
     }
 
-    /// Takes on what was saved of a machine beside its planes, and hands its side and its planes
-    /// out; or says why it is refused.
+    /// Loads what was saved of a machine beside its planes, and returns its side and its planes. If
+    /// it is refused, returns why.
     pub(crate) fn load(
         &mut self,
         saved: SavedMachine,
@@ -312,7 +312,7 @@ impl Kept {
         }
     }
 
-    /// Takes an image so many steps one way along the cycle, and comes to the position behind them.
+    /// Takes an image so many steps one way along the cycle, and sets the position after them.
     pub(crate) fn go(&mut self, image: AtRest, n: u16, direction: Direction) -> AtRest
         requires accepted { refusal (machine_over image.planes self.old) (command_of n direction)
             ≡ None }

@@ -1,8 +1,7 @@
-//! What follows of a machine that comes apart. Each law is the contract of a function that does
-//! nothing.
+//! Laws of a machine that comes apart. Each law is the contract of a function that does nothing.
 ghost use Rattle.cam6_machine.specs.Laws.{JoinsWhatWasParted, KeptIsMachine};
 
-/// What is joined is the machine that was parted, but for the cells and the position handed in.
+/// What is joined is the machine that was parted, but for the side, cells and position handed in.
 pub fn what_is_joined_was_parted()
     ensures law { JoinsWhatWasParted }
 {}

@@ -22,7 +22,7 @@ pub(crate) struct LoadedPlanes {
     pub(crate) rows: [BitRows; 4],
 }
 
-/// A machine that was saved, as it is taken on.
+/// A machine that was saved, as it is loaded.
 #[derive(Drop)]
 pub(crate) struct Loaded {
     pub(crate) planes: LoadedPlanes,
@@ -32,8 +32,7 @@ pub(crate) struct Loaded {
     pub(crate) colours: [u8; 16],
 }
 
-/// What was saved as it is taken on, or why it isn't. The tables have room for the trial of its
-/// rules.
+/// Returns what was saved as it is loaded, or why it isn't. The tables have room to try its rules.
 pub(crate) fn tried_machine(
     alloc: Global,
     limit: Side,
@@ -42,7 +41,7 @@ pub(crate) fn tried_machine(
 ) -> Result<Result<Loaded, Fault>, NoMemory>
     ensures loaded { IfOk result (λ found. IsLoaded limit saved found) }
     ensures room { room.new ≡ room.old }
-    // Memory is wanted for rules alone.
+    // Only rules need memory.
     ensures memory { saved.rules ≡ [] → IsOk result }
 {
     let SavedMachine {
@@ -74,7 +73,7 @@ pub(crate) fn tried_machine(
     if side.number() > limit.number() {
         return Ok(Err(Fault::AboveLimit));
     }
-    // Rules are what rules always are.
+    // `len` gives the proof the invariant of rules.
     let _number = rules.len();
     Ok(Ok(Loaded {
         planes: LoadedPlanes { side, rows: planes },
@@ -85,7 +84,7 @@ pub(crate) fn tried_machine(
     }))
 }
 
-/// The cycle of these entries by the numbers of their rules; of no entries there is none.
+/// Returns the cycle of these entries by the numbers of their rules, or `None` for no entries.
 fn cycle_of(rules: &Rules, entries: &NamedEntries) -> Result<Option<Cycle>, Fault>
     ensures entries { is_ok result ≡ are_entries rules.now entries.now }
     ensures named { IfOk result (λ cycle.
@@ -141,7 +140,7 @@ fn is_row(side: Side, row: &Bits) -> bool
     row.as_slice().len() == side.number() / 8
 }
 
-/// Takes on a side, and the rows of four planes of it.
+/// Changes the side, and writes the rows of four planes of it.
 pub(crate) fn put_planes(planes: &mut Planes, side: Side, rows: &[BitRows; 4])
     requires within { side_number side ≤ side_number planes.old.limit }
     requires rows { are_planes (side_number side) rows.now ≡ true }

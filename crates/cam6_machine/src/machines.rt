@@ -20,8 +20,8 @@ use cam6_view::count;
 use std::alloc::Global;
 use std::marker::Model;
 
-/// One user's machine. All memory of a run is taken when the machine is made, and so is a second
-/// image, by which a step may go on elsewhere.
+/// One user's machine. Making it allocates all memory of a run, and a second image, so that a step
+/// may go on elsewhere.
 #[derive(Drop)]
 pub struct Machine {
     kept: Kept,
@@ -51,8 +51,8 @@ impl Machine {
     ghost use Rattle.cam6_model.specs.Memory.{keeps_text, has_rows, may_want_memory};
     ghost use Rattle.cam6_model.specs.Always.{IsMachine};
 
-    /// A machine with blank planes, no rules and no cycle, whose side is the lesser of 256 and the
-    /// limit.
+    /// Makes a machine with blank planes, no rules and no cycle. Its side is the lesser of 256 and
+    /// the limit.
     pub fn new(alloc: Global, limit: Side) -> Result<Machine, NoMemory>
         ensures machine { IfOk result (λ m. machine_of m ≡ blank limit) }
     {
@@ -63,8 +63,8 @@ impl Machine {
         })
     }
 
-    /// The largest side that the machine may take on. Whoever holds a machine learns here what it
-    /// always is.
+    /// Returns the largest side that the machine may have. The clause `machine` gives the machine's
+    /// invariant.
     pub fn limit(&self) -> Side
         ensures limit { result ≡ self.now.kept.limit }
         ensures machine { IsMachine (machine_of self.now) }
@@ -74,7 +74,7 @@ impl Machine {
         self.kept.limit()
     }
 
-    /// The machine comes apart: what it keeps, its image and the spare one.
+    /// Takes the machine apart: what it keeps, its image and the spare one.
     pub fn part(self) -> (Kept, AtRest, Spare)
         ensures kept { result.0 ≡ self.kept }
         ensures image { result.1.planes ≡ self.planes }
@@ -84,18 +84,18 @@ impl Machine {
         (self.kept, self.image.into_image(), self.spare)
     }
 
-    /// Answers a command, or says how many steps are to be done for it. All memory of a command is
-    /// taken here.
+    /// Replies to a command, or returns how many steps are to be done for it. Allocates all memory
+    /// of the command.
     pub fn now(&mut self, command: Command) -> Result<Now, NoMemory>
-        // Steps are left exactly where the command does some.
+        // Steps are left exactly if the command does some.
         ensures work { IfOk result (λ now. work_in now ≡ work_of (machine_of self.old) command) }
         ensures reply { IfOk result (λ now. IsReplyTo now (machine_of self.old) command) }
         ensures machine { IfOk result (λ now.
             machine_of self.new ≡ machine_then now (machine_of self.old) command) }
         ensures ready { IfOk result (λ now. CanWork now (machine_of self.new)) }
         ensures err { OnErr result (self.new ≡ self.old) }
-        // Memory is wanted where a text is kept, or the reply has rows. The rules of a machine that is
-        // loaded are kept before it is known whether it is refused.
+        // It may run out of memory only if a text is kept, or the reply has rows. A load keeps the
+        // rules before it knows whether it is refused.
         ensures memory { may_want_memory (machine_of self.old) command ≡ false → IsOk result }
     {
         match command {
@@ -245,7 +245,7 @@ impl Machine {
         }
     }
 
-    /// Does the steps of a command, and replies to it. It takes no memory.
+    /// Does the steps of a command, and replies to it. Does not allocate.
     pub fn work(&mut self, n: u16, direction: Direction) -> Reply
         requires accepted { refusal (machine_of self.old) (command_of n direction) ≡ None }
         ensures reply { result ≡ reply (machine_of self.old) (command_of n direction) }
@@ -256,13 +256,13 @@ impl Machine {
         reply_at(direction, self.kept.position())
     }
 
-    /// Answers a command and does its steps.
+    /// Does a command with its steps, and replies to it.
     pub fn reply_to(&mut self, command: Command) -> Result<Reply, NoMemory>
         ensures reply { IfOk result (λ r. r ≡ reply (machine_of self.old) command) }
         ensures machine { IfOk result (λ r.
             machine_of self.new ≡ after (machine_of self.old) command) }
         ensures err { OnErr result (self.new ≡ self.old) }
-        // Memory is wanted as by `now`.
+        // It may run out of memory only if `now` may.
         ensures memory { may_want_memory (machine_of self.old) command ≡ false → IsOk result }
     {
         match self.now(command)? {
@@ -277,8 +277,8 @@ impl Kept {
     ghost use Rattle.cam6_rules.specs.Numbers.{named_entries};
     ghost use Rattle.cam6_machine.specs.Stored.{machine_of, machine_over};
 
-    /// The machine that keeps this beside an image and a spare one, at a position of its cycle. It
-    /// takes no memory.
+    /// Makes the machine that keeps this beside an image and a spare one, at a position of its
+    /// cycle. Does not allocate.
     pub fn join(self, image: AtRest, spare: Spare, position: usize) -> Machine
         requires image { image.planes.limit ≡ self.limit }
         requires spare { spare.planes.limit ≡ self.limit }

@@ -1,5 +1,5 @@
-//! Whether a command is accepted, before anything is done: its numbers are looked at, and come back
-//! as what they are within.
+//! Whether a command is accepted, before anything is done: its numbers are checked, and come back
+//! with types that have their limits.
 ghost use Rattle.std.specs.Prelude.{◌≡◌, ◌≤◌, ◌*◌, List, length, Some};
 ghost use Rattle.std.specs.Result.{result_err};
 ghost use Rattle.std.specs.Prelude.{IfOk, nat_le};
@@ -67,7 +67,7 @@ pub(crate) fn accept_side(limit: Side, number: u64) -> Result<Side, Fault>
 
 /// The cycle and the steps of a run: at most 65,535, and then there is a cycle.
 pub(crate) fn accept_run(cycle: &Option<Cycle>, n: u64) -> Result<(&Cycle, StepCount), Fault>
-    // Whatever rules the numbers are of.
+    // For whatever rules the numbers are of.
     ensures refusal { (rules : List Rule) →
         result_err result ≡ run_refusal (named_entries rules (entries_of cycle.now)) n }
     ensures cycle { IfOk result (λ run. entries_of cycle.now ≡ run.0.now) }

@@ -13,9 +13,9 @@ ghost use Rattle.cam6_model.specs.Always.{HaveOwnNames};
 use crate::steps::step;
 use cam6_band::{AtRest, go_by};
 use cam6_cycle::{Cycle, Direction};
-use cam6_table::Table;
+use cam6_entries::Table;
 
-/// Goes so many steps one way along the cycle, and answers the image and the position after them.
+/// Goes so many steps one way along the cycle, and returns the image and the position after them.
 pub(crate) fn go_along(
     image: AtRest,
     cycle: &Cycle,

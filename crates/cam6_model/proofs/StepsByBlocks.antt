@@ -20,7 +20,7 @@ use Rattle.cam6_forth.proofs.OneTree.{tree_is_read}
 use Rattle.cam6_forth.proofs.TextLaws.{read_rule}
 use Rattle.cam6_table.specs.declared.faults.RuleFault.{RuleFault}
 use Rattle.cam6_table.specs.Meaning.{meaning, at_address}
-use Rattle.cam6_table.specs.NewBits.{bit_for}
+use Rattle.cam6_entries.specs.NewBits.{bit_for}
 use Rattle.cam6_table.specs.Tables.{least_stop}
 use Rattle.cam6_table.proofs.TrueTables.{at_seen}
 use Rattle.cam6_block.specs.Blocks.{corner_sees}

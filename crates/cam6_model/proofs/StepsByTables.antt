@@ -13,7 +13,7 @@ use Rattle.cam6_wiring.specs.declared.names.Half.TheVariants.{A, B}
 use Rattle.cam6_wiring.specs.declared.names.Level.{Level}
 use Rattle.cam6_wiring.specs.declared.neighbours.Setting.{Setting}
 use Rattle.cam6_forth.specs.Trees.{tree_of}
-use Rattle.cam6_table.specs.NewBits.{bit_for}
+use Rattle.cam6_entries.specs.NewBits.{bit_for}
 use Rattle.cam6_table.proofs.TrueTables.{true_table}
 use Rattle.cam6_block.specs.Blocks.{corner_sees, corner_address}
 use Rattle.cam6_block.specs.BlockMaps.{block_map, preimage, reading_of}

@@ -1,4 +1,4 @@
--- The machine alone: what it replies to each command, and what it then is.
+-- A private machine: what it replies to each command, and what it then is.
 use Rattle.std.specs.Prelude.{ℕ, zero, suc, List, [], ◌∷◌, Option, Some, None}
 use Rattle.cam6_cycle.specs.declared.tables.Direction.{Direction}
 use Rattle.cam6_cycle.specs.declared.tables.Direction.TheVariants.{Forward, Backward}
@@ -11,7 +11,7 @@ use Rattle.cam6_commands.specs.declared.refusals.Refusal.{Refusal}
 use Rattle.cam6_commands.specs.declared.replies.Reply.{Reply}
 use Rattle.cam6_commands.specs.declared.replies.Reply.TheVariants.{Done, Refused}
 
--- the first where there is a refusal, and else the second
+-- the first if there is a refusal, and else the second
 abbrev pub if_refused : {A : Type 0} → Option Refusal → (Refusal → A) → A → A
 if_refused None refused accepted = accepted
 if_refused (Some r) refused accepted = refused r
@@ -20,7 +20,7 @@ if_refused (Some r) refused accepted = refused r
 abbrev pub reply : Machine → Command → Reply
 reply m c = if_refused (refusal m c) (λ r. Refused r) (Done (accepted m c))
 
--- the machine after a command; one that is refused leaves it
+-- the machine after a command; a refused one leaves it as it was
 abbrev pub after : Machine → Command → Machine
 after m c = if_refused (refusal m c) (λ r. m) (effect m c)
 
@@ -45,7 +45,7 @@ work_of m (Run n) = if_refused (refusal m (Run n)) (λ r. None) (some_steps n Fo
 work_of m (Back n) = if_refused (refusal m (Back n)) (λ r. None) (some_steps n Backward)
 work_of m c = None
 
--- the command of which so many steps are the work
+-- the command that does so many steps
 abbrev pub command_of : ℕ → Direction → Command
 command_of n Forward = Run n
 command_of n Backward = Back n

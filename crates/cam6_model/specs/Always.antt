@@ -25,7 +25,7 @@ IsNamed rules half None = ⊤
 IsNamed rules half (Some name) =
     (rule : Rule) × (rule_named name rules ≡ Some rule) × (rule.wiring.half ≡ half)
 
--- an entry of a cycle, whose rules are there and of its halves, and whose phase is one
+-- an entry of a cycle: its rules are there and of its halves, and its phase is below 4
 abbrev pub IsEntry : List Rule → NamedEntry → Type 0
 IsEntry rules entry = IsNamed rules A entry.a × IsNamed rules B entry.b × (entry.phase < 4)
 

@@ -1,4 +1,4 @@
--- What a command that is not refused is answered, and what it does to the machine.
+-- The reply to a command that is not refused, and what it does to the machine.
 use Rattle.std.specs.Prelude.{ℕ, ◌/◌, List, [], ◌∷◌, map, if◌then◌else◌, Option, Some, None}
 use Rattle.std.specs.List.{range_with_len}
 use Rattle.std.specs.Str.{bytes_eq}
@@ -26,7 +26,7 @@ use Rattle.cam6_commands.specs.declared.replies.Done.TheVariants as done
 unfoldable pub plane_rows : ℕ → ℕ → Cells → ℕ → List (List ℕ)
 plane_rows s n f p = map (λ y. row_text n (λ x. f p x y)) (range_with_len 0 s)
 
--- a rule whose name is there keeps its number and gets the new rule; another goes last
+-- a new rule replaces the one of its name, in its place; if there is none of its name, it goes last
 abbrev pub with_rule : Rule → List Rule → List Rule
 with_rule new [] = new ∷ []
 with_rule new (rule ∷ rules) =
@@ -34,23 +34,23 @@ with_rule new (rule ∷ rules) =
     then record rule { wiring = new.wiring; text = new.text } ∷ rules
     else rule ∷ with_rule new rules
 
--- the rules but for the one of this name; those behind it close up
+-- the rules but for the one of this name; those after it close up
 abbrev pub without_rule : List ℕ → List Rule → List Rule
 without_rule name [] = []
 without_rule name (rule ∷ rules) =
     if bytes_eq name rule.name then rules else rule ∷ without_rule name rules
 
--- a side is taken on with no cell set and with position 0, also where it is the side already
+-- the side changes, with no cell set and with position 0, even if it is the side already
 abbrev pub with_side : Option Side → Machine → Machine
 with_side None m = m
 with_side (Some side) m = record m { side = side; planes = no_cells; position = 0 }
 
--- what was saved is taken on, whole, and the limit stays
+-- the machine becomes what was saved, whole, and the limit stays
 abbrev pub with_saved : Option Side → SavedMachine → Machine → Machine
 with_saved None saved m = m
 with_saved (Some side) saved m = restored side m.limit saved
 
--- what is told of a command that is not refused
+-- what is done for a command that is not refused
 abbrev pub accepted : Machine → Command → Done
 accepted m (Set plane row bits) = done.Set
 accepted m (Clear plane) = done.Clear

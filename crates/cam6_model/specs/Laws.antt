@@ -1,4 +1,4 @@
--- What follows of steps, what a machine always is, and what is saved of it and loaded.
+-- Laws of steps, of what a machine always is, and of what is saved of it and loaded.
 use Rattle.std.specs.Prelude.{◌≡◌, ◌≢◌, ◌↔◌, ℕ, ◌+◌, ◌<◌, ◌%◌, true, List, length, Option, Some, None}
 use Rattle.std.specs.Prelude.{IsOk, ⊤, ◌≤◌, [], slice_index, slice_index_or}
 use Rattle.std.specs.List.{AllByRecursion}
@@ -31,7 +31,7 @@ use Rattle.cam6_commands.specs.declared.commands.Command.TheVariants.{Run, Back,
 use Rattle.cam6_commands.specs.declared.commands.NamedEntry.{NamedEntry}
 use Rattle.cam6_commands.specs.declared.saved.SavedMachine.{SavedMachine}
 
--- by the tables of its rules, an entry steps any planes of a torus as by its rules' words
+-- an entry's step of any planes of a torus by the tables of its rules is the step by their words
 abbrev pub TrueTablesStep : Type 0
 TrueTablesStep =
     (s : ℕ) (entry : EntryRules) (tables : StepTables) (f : Cells) →
@@ -50,7 +50,7 @@ StepsAddUp =
     (direction : Direction) (m : Machine) (first later : ℕ) →
     moved direction (first + later) m ≡ moved direction later (moved direction first m)
 
--- steps one way change planes and position alone
+-- steps one way change only planes and position
 abbrev pub OnlyPlanesAndPosition : Type 0
 OnlyPlanesAndPosition =
     (direction : Direction) (m : Machine) (n : ℕ) →
@@ -71,12 +71,12 @@ BlankIsMachine = (limit : Side) → IsMachine (blank limit)
 abbrev pub LimitStays : Type 0
 LimitStays = (m : Machine) (c : Command) → (after m c).limit ≡ m.limit
 
--- and so is a machine after any command, of which the texts of rules are UTF-8
+-- a machine is still a machine after any command with texts of rules in UTF-8
 abbrev pub StaysMachine : Type 0
 StaysMachine =
     (m : Machine) (c : Command) → IsMachine m → HasText c → IsMachine (after m c)
 
--- a name that an entry has for a half is a rule's, which stops nowhere, whatever is seen
+-- a name that an entry has for a half is that of a rule that stops nowhere, whatever is seen
 abbrev pub IsRuled : Machine → NamedEntry → Type 0
 IsRuled m entry =
     (half : Half) (name : List ℕ) → name_for half entry ≡ Some name →
@@ -87,8 +87,8 @@ IsRuled m entry =
 abbrev pub RulesRun : Type 0
 RulesRun = (m : Machine) → IsMachine m → AllByRecursion (IsRuled m) m.cycle
 
--- a rule, where there is one, whose text has no fault and stops nowhere, and whose cells see their
--- blocks alone
+-- a rule, if there is one, has a text without a fault that stops nowhere, and its cells see only
+-- their blocks
 abbrev pub IsOfBlocks : Option Rule → Type 0
 IsOfBlocks None = ⊤
 IsOfBlocks (Some rule) =
@@ -110,8 +110,7 @@ InvertedTablesUndo =
     IsReversibleEntry entry → AreTablesFor Backward entry tables → torus s f ≡ f →
     step_by s tables f ≡ unstep s entry f
 
--- where every rule of the cycle can be undone, steps that are done and undone again give the
--- machine back
+-- if every rule of the cycle can be undone, steps done and then undone give the machine back
 abbrev pub UndoingUndoes : Type 0
 UndoingUndoes =
     (m : Machine) (n : ℕ) → IsMachine m → IsReversibleCycle m → unsteps n (steps n m) ≡ m
@@ -121,22 +120,22 @@ abbrev pub DoingRedoes : Type 0
 DoingRedoes =
     (m : Machine) (n : ℕ) → IsMachine m → IsReversibleCycle m → steps n (unsteps n m) ≡ m
 
--- a machine that goes back as far as it ran, where it isn't refused this, is the machine that it
--- was, and so is one that then runs as far as it went back
+-- a machine that doesn't refuse to go back so many steps can run and then go back as many, or go
+-- back and then run as many, and is the machine that it was
 abbrev pub BackGivesTheMachineBack : Type 0
 BackGivesTheMachineBack =
     (m : Machine) (n : ℕ) → IsMachine m → refusal m (Back n) ≡ None →
     (after (after m (Run n)) (Back n) ≡ m) × (after (after m (Back n)) (Run n) ≡ m)
 
--- a machine may go back so many steps exactly where it may run as many, and every rule of its cycle
+-- a machine may go back so many steps exactly if it may run as many, and every rule of its cycle
 -- can be undone
 abbrev pub BackNeedsReversibleRules : Type 0
 BackNeedsReversibleRules =
     (m : Machine) (n : ℕ) →
     (refusal m (Back n) ≡ None) ↔ ((refusal m (Run n) ≡ None) × IsReversibleCycle m)
 
--- what was saved of a machine is loaded by every machine within whose limit its side is, which then
--- is the machine that was saved, but for its limit
+-- what was saved of a machine is loaded by every machine with a limit that allows its side; that
+-- machine then is the saved one, but for its limit
 abbrev pub LoadGivesBack : Type 0
 LoadGivesBack =
     (m n : Machine) → IsMachine m → side_number m.side ≤ side_number n.limit →
@@ -148,21 +147,20 @@ abbrev pub AreBytes : List (List (List ℕ)) → Type 0
 AreBytes planes =
     (p y i : ℕ) → slice_index (slice_index_or (slice_index_or planes p []) y []) i < 256
 
--- nothing else is loaded: what isn't refused was saved of the machine that there is then
+-- nothing else is loaded: what a load doesn't refuse was saved of the machine that it makes
 abbrev pub LoadTakesSaved : Type 0
 LoadTakesSaved =
     (n : Machine) (saved : SavedMachine) → AreBytes saved.planes → HasText (Load saved) →
     refusal n (Load saved) ≡ None →
     IsMachine (after n (Load saved)) × (saved ≡ saved_of (after n (Load saved)))
 
--- two machines of which the same is saved differ in their limits alone
+-- two machines that are saved alike differ only in their limits
 abbrev pub SavedOfOne : Type 0
 SavedOfOne =
     (m n : Machine) → IsMachine m → IsMachine n → saved_of m ≡ saved_of n →
     n ≡ record m { limit = n.limit }
 
--- a machine that was saved, loaded under the same limit, answers whatever commands come as the one
--- that was saved
+-- a machine that was saved and loaded under the same limit replies to all commands as before
 abbrev pub LoadedAnswersAlike : Type 0
 LoadedAnswersAlike =
     (m n : Machine) (commands : List Command) → IsMachine m → m.limit ≡ n.limit →

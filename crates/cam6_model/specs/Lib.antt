@@ -1,7 +1,7 @@
 -- In the order of reading: the rules of a machine, entries of a cycle, what a cell becomes in a
 -- step, a step undone, the machine that a user has and its steps, both ways along a cycle, a machine
--- as it is saved, when a command is refused, what it does, the machine alone, what a machine always
--- is, and for which commands memory may be wanted. Then the tables of rules, and what follows.
+-- as it is saved, when a command is refused, what it does, a private machine, what a machine always
+-- is, and which commands may need memory. Then the tables of rules, and the laws.
 pub mod Rules
 pub mod Cycles
 pub mod Steps

@@ -12,9 +12,9 @@ use Rattle.cam6_model.specs.Steps.{step}
 use Rattle.cam6_model.specs.Undoing.{unstep, IsReversibleEntry}
 use Rattle.cam6_commands.specs.declared.commands.NamedEntry.{NamedEntry}
 
--- four planes on a torus of this side, the largest side that it may take on, rules in their order,
--- the cycle's entries with a position among them, and a colour for each of the sixteen states of a
--- cell; no entries: no cycle is set
+-- four planes on a torus of this side, the largest side that it may change to, rules in their
+-- order, the cycle's entries with a position among them, and a colour for each of the sixteen
+-- states of a cell; without entries no cycle is set
 pub record Machine : Type 0 where
   pub side : Side
   pub limit : Side

@@ -1,4 +1,4 @@
--- For which commands memory may be wanted.
+-- Which commands may need memory.
 use Rattle.std.specs.Prelude.{ℕ, Bool, true, false, ◌&&◌, ◌||◌, List, [], ◌∷◌, is_none}
 use Rattle.cam6_wiring.specs.declared.wirings.Wiring.{Wiring}
 use Rattle.cam6_commands.specs.declared.commands.NamedEntry.{NamedEntry}
@@ -36,6 +36,6 @@ has_rows (reply.Done (done.Plane rows)) = are_some rows
 has_rows (reply.Done (done.Save machine)) = true
 has_rows _ = false
 
--- memory may be wanted for a command: a text is kept, or the reply has rows
+-- whether a command may need memory: a text is kept, or the reply has rows
 abbrev pub may_want_memory : Machine → Command → Bool
 may_want_memory m c = keeps_text m c || has_rows (reply_to m c)

@@ -19,7 +19,7 @@ abbrev pub moved : Direction → ℕ → Machine → Machine
 moved Forward n m = steps n m
 moved Backward n m = unsteps n m
 
--- forward a machine can always go, and backward where every rule of its cycle can be undone
+-- a machine can always go forward, and backward if every rule of its cycle can be undone
 abbrev pub CanMove : Direction → Machine → Type 0
 CanMove Forward m = ⊤
 CanMove Backward m = IsReversibleCycle m

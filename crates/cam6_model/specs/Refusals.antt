@@ -189,14 +189,14 @@ entry_cause number entry =
     or_then (cause_refusal number half.A (rule_cause entry.a))
     (cause_refusal number half.B (rule_cause entry.b))
 
--- the first of a cycle's entries, from one of this number on, that has a rule which can't be undone
+-- the refusal for the first entry, from this number on, with a rule that can't be undone
 abbrev pub first_cause : List Rule → ℕ → List NamedEntry → Option Refusal
 first_cause rules number [] = None
 first_cause rules number (entry ∷ entries) =
     or_then (entry_cause number (entry_rules rules entry)) (first_cause rules (suc number) entries)
 
--- as a run can be refused, and then each rule of the cycle must be one that can be undone, also
--- where no step is to be undone
+-- a back is refused as a run is, and then for a rule of the cycle that can't be undone, even if no
+-- step is to be undone
 abbrev pub back_refusal : List Rule → List NamedEntry → ℕ → Option Refusal
 back_refusal rules cycle n =
     or_then (fault_refusal (run_refusal cycle n)) (first_cause rules 0 cycle)
@@ -212,7 +212,7 @@ are_rows s rows = (length rows == s) && list_all (is_row s) rows
 abbrev pub are_planes : ℕ → List (List (List ℕ)) → Bool
 are_planes s planes = (length planes == 4) && list_all (are_rows s) planes
 
--- a rule that may be defined behind these, under a name that none of them has
+-- a rule that may be defined after these, under a name that none of them has
 abbrev pub is_rule_after : List Rule → Rule → Bool
 is_rule_after before rule =
     is_none (rule_named rule.name before)
@@ -224,7 +224,7 @@ are_rules_after before [] = true
 are_rules_after before (rule ∷ rules) =
     is_rule_after before rule && are_rules_after (before ++ rule ∷ []) rules
 
--- no entries, where no cycle is set, or those of a cycle
+-- no entries, if no cycle is set, or those of a cycle
 abbrev pub are_entries : List Rule → List NamedEntry → Bool
 are_entries rules [] = true
 are_entries rules (entry ∷ entries) = is_none (cycle_refusal rules (entry ∷ entries))
@@ -242,7 +242,8 @@ is_saved side saved =
     && are_rules_after [] saved.rules && are_entries saved.rules saved.cycle
     && is_position saved.cycle saved.position
 
--- a machine that is loaded is one of one of the three sides, and then its side isn't above the limit
+-- what is loaded must be what is saved of a machine of one of the three sides, and then its side
+-- must not be above the limit
 abbrev pub loaded_refusal : Side → Option Side → SavedMachine → Option Fault
 loaded_refusal limit None saved = Some NoMachine
 loaded_refusal limit (Some side) saved =

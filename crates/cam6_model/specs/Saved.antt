@@ -33,7 +33,7 @@ saved_of m = record {
 abbrev pub saved_bit : List (List (List ℕ)) → Cells
 saved_bit planes p x y = byte_column (slice_index_or (slice_index_or planes p []) y []) x
 
--- the machine of this side and this limit of which this was saved
+-- the machine of this side and this limit that was saved so
 abbrev pub restored : Side → Side → SavedMachine → Machine
 restored side limit saved = record {
   side = side;

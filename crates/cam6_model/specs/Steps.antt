@@ -8,7 +8,7 @@ use Rattle.cam6_wiring.specs.declared.neighbours.Setting.{Setting}
 use Rattle.cam6_forth.specs.Trees.{tree_of}
 use Rattle.cam6_table.specs.declared.faults.RuleFault.{RuleFault}
 use Rattle.cam6_table.specs.Meaning.{meaning}
-use Rattle.cam6_table.specs.NewBits.{bit_for}
+use Rattle.cam6_entries.specs.NewBits.{bit_for}
 use Rattle.cam6_model.specs.Rules.{Rule}
 use Rattle.cam6_model.specs.Cycles.{EntryRules, rule_for, setting_for}
 
@@ -17,7 +17,7 @@ abbrev pub new_bit : Level → Result ℕ RuleFault → Bool
 new_bit level (Ok bits) = bit_for level bits
 new_bit level (Err fault) = false
 
--- what a rule's words mean where its names mean these bits
+-- what a rule's words mean if its names mean these bits
 abbrev pub words_mean : Rule → Sees → Result ℕ RuleFault
 words_mean rule sees = meaning rule.wiring (tree_of rule.text) sees
 

@@ -11,7 +11,7 @@ use Rattle.cam6_model.specs.Cycles.{EntryRules}
 abbrev pub IsTable : Direction → Rule → List ℕ → Type 0
 IsTable direction rule entries = IsTableBy direction rule.wiring rule.text entries
 
--- the same, where there is a rule
+-- the same, if there is a rule
 abbrev pub IsTableFor : Direction → Option Rule → List ℕ → Type 0
 IsTableFor direction None entries = ⊤
 IsTableFor direction (Some rule) entries = IsTable direction rule entries

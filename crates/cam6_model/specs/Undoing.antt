@@ -42,21 +42,21 @@ corner_number LowerLeft = 3
 abbrev pub corner_in_block : Grid → ℕ → ℕ → ℕ
 corner_in_block grid x y = corner_number (corner_of grid x y)
 
--- the new bit of a plane of a half at a cell of f: the cell's bit in what becomes of its block's
--- state. With nothing that becomes of it the bit stays
+-- the new bit of a plane of a half at a cell of f: the cell's bit in the state that its block's
+-- state changes to. Without a change the bit stays
 abbrev pub changed_cell :
     ℕ → Cells → Grid → Half → Option (ℕ → ℕ) → Level → ℕ → ℕ → Bool
 changed_cell s f grid half None level x y = f (plane_of half level) x y
 changed_cell s f grid half (Some change) level x y =
     corner_bit (change (block_state_at s f half grid x y)) level (corner_in_block grid x y)
 
--- planes whose blocks on a grid are changed, each half's by what becomes of a state
+-- planes with their blocks on a grid changed, each half's by its change of states
 unfoldable pub blockwise : ℕ → Grid → (Half → Option (ℕ → ℕ)) → Cells → Cells
 blockwise s grid changes f =
     torus s (λ p x y. on_plane p (λ half level.
     changed_cell s f grid half (changes half) level x y))
 
--- what becomes of a block by a rule, and by the rule undone: the least state that becomes this one
+-- how a rule changes a block's state, and the rule undone: to the least state that becomes this one
 abbrev pub done_by : Phase → Option Rule → Option (ℕ → ℕ)
 done_by phase rule = option_map (λ r. block_map (reading_of r.wiring r.text) phase) rule
 
@@ -70,8 +70,8 @@ abbrev pub unstep : ℕ → EntryRules → Cells → Cells
 unstep s entry f =
     blockwise s entry.grid (λ half. undone_by entry.phase (rule_for half entry)) f
 
--- a rule can be undone, where there is one: its blocks see themselves alone, and no two of their
--- states become one
+-- a rule can be undone, if there is one: its blocks see only themselves, and no two of their states
+-- become one
 abbrev pub IsReversibleRule : Option Rule → Type 0
 IsReversibleRule None = ⊤
 IsReversibleRule (Some rule) =

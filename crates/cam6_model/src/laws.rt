@@ -8,7 +8,7 @@ ghost use Rattle.cam6_model.specs.Laws.{BackGivesTheMachineBack, BackNeedsRevers
 ghost use Rattle.cam6_model.specs.Laws.{LoadGivesBack, LoadTakesSaved, SavedOfOne};
 ghost use Rattle.cam6_model.specs.Laws.{LoadedAnswersAlike};
 
-/// By the tables of an entry's rules, a step makes of planes what the rules' words make of them.
+/// A step by the tables of an entry's rules is the step by the rules' words.
 pub fn true_tables_step_as_words_do()
     ensures law { TrueTablesStep }
 {}
@@ -33,12 +33,12 @@ pub fn the_position_goes_round()
     ensures law { PositionGoesRound }
 {}
 
-/// A blank machine is a machine, of whatever limit: it is what a machine always is.
+/// A blank machine of any limit is what a machine always is (`specs/Always.antt`).
 pub fn the_blank_machine_is_one()
     ensures law { BlankIsMachine }
 {}
 
-/// After any command a machine is still a machine.
+/// After any command in UTF-8 a machine is still a machine.
 pub fn a_machine_stays_one()
     ensures law { StaysMachine }
 {}
@@ -53,57 +53,56 @@ pub fn the_limit_stays()
     ensures law { LimitStays }
 {}
 
-/// A step by rules that see their blocks alone changes each block as a whole.
+/// A step by rules that see only their blocks changes each block as a whole.
 pub fn a_step_changes_blocks()
     ensures law { StepChangesBlocks }
 {}
 
-/// By the tables that undo an entry's rules, a step is the entry's step undone.
+/// A step by the tables that undo an entry's rules is the entry's step undone.
 pub fn inverted_tables_undo_a_step()
     ensures law { InvertedTablesUndo }
 {}
 
-/// Steps that are done and then undone give the machine back, where every rule of the cycle can be
+/// Steps that are done and then undone give the machine back, if every rule of the cycle can be
 /// undone.
 pub fn undoing_gives_the_machine_back()
     ensures law { UndoingUndoes }
 {}
 
-/// And so do steps that are undone and then done.
+/// Steps that are undone and then done give it back too.
 pub fn doing_again_gives_the_machine_back()
     ensures law { DoingRedoes }
 {}
 
-/// A machine that may go back gives, run and then taken back as far, the machine that it was; and
-/// so it does taken back and then run.
+/// A machine that may go back, and that runs and then goes back as far, is the machine that it was.
+/// So is one that goes back and then runs.
 pub fn a_back_that_is_accepted_undoes_a_run()
     ensures law { BackGivesTheMachineBack }
 {}
 
-/// A machine may go back so many steps exactly where it may run as many, and every rule of its
-/// cycle can be undone.
+/// A machine may go back so many steps exactly if it may run as many, and every rule of its cycle
+/// can be undone.
 pub fn a_back_needs_rules_that_can_be_undone()
     ensures law { BackNeedsReversibleRules }
 {}
 
-/// What was saved of a machine is loaded by every machine within whose limit its side is, which is
-/// the one that was saved from then on, but for its limit.
+/// What was saved of a machine is loaded by every machine with a limit that allows its side. That
+/// machine then is the saved one, but for its limit.
 pub fn a_load_gives_the_saved_machine_back()
     ensures law { LoadGivesBack }
 {}
 
-/// What isn't refused by a load was saved of the machine that there is after it.
+/// What a load doesn't refuse was saved of the machine that the load makes.
 pub fn a_load_takes_nothing_else()
     ensures law { LoadTakesSaved }
 {}
 
-/// Machines of which the same is saved differ in their limits alone.
+/// Machines that are saved alike differ only in their limits.
 pub fn what_is_saved_is_of_one_machine()
     ensures law { SavedOfOne }
 {}
 
-/// A machine that was saved and loaded under the same limit answers whatever commands come as the
-/// one that was saved.
+/// A machine that was saved and loaded under the same limit replies to all commands as before.
 pub fn a_loaded_machine_answers_alike()
     ensures law { LoadedAnswersAlike }
 {}

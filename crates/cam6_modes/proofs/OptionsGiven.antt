@@ -6,7 +6,6 @@ use Rattle.std.specs.Borrow.{Bor}
 use Rattle.std.specs.List.{list_any}
 use Rattle.std.specs.Str.{bytes_eq}
 use Rattle.std.specs.Str.Parse.{digits_value, without_leading_plus}
-use Rattle.std.proofs.lemmas.Slice.Eq.{bytes_eq-Decides}
 use Rattle.clap.specs.Walk.{Row, Text, nothing_held, rows_after}
 use Rattle.clap.specs.ValueTests.{is_unsigned_in}
 use Rattle.clap.specs.Faults.{level_fault}
@@ -14,12 +13,14 @@ use Rattle.clap.specs.Simple.{Shape}
 use Rattle.clap.specs.declared.builder.value_parser.ValueParser.TheVariants.{Names, Unsigned}
 use Rattle.cam6_planes.specs.declared.sides.Side.{Side}
 use Rattle.cam6_planes.specs.declared.sides.Side.TheVariants.{S128, S256, S512}
+use Rattle.cam6_planes.specs.Side.{side_text}
+use Rattle.cam6_planes.proofs.SideTexts.{NamesSide, one_of_texts}
 use Rattle.cam6_cache.specs.Limits.{max_capacity}
-use Rattle.cam6_core.specs.Limits.{max_users, max_boards}
+use Rattle.cam6_commands.specs.Limits.{max_users, max_boards}
 use Rattle.cam6_modes.specs.CommandLine.{AreSides, Mode, TextsAt, max_connections, max_idle}
 use Rattle.cam6_modes.specs.CommandLine.{max_port}
 use Rattle.cam6_modes.specs.CommandLine.{number_at, number_said, served, served_at, shared}
-use Rattle.cam6_modes.specs.CommandLine.{shared_at, side_at, side_said, side_text}
+use Rattle.cam6_modes.specs.CommandLine.{shared_at, side_at}
 use Rattle.cam6_modes.proofs.SettingsGiven.{HasValue, Passes, Setting, arguments, value_given}
 
 -- the options, by where the three sides are
@@ -92,35 +93,9 @@ any_text : (test : Text → Bool) (texts : List (Bor Text))
 any_text test [] = refl
 any_text test (name ∷ rest) = ap (λ b. test name.now || b) (any_text test rest)
 
--- one of the three sides
-abbrev IsSideSaid : Text → Type 0
-IsSideSaid text = (limit : Side) × (side_said text ≡ Some limit)
-
-is_one : (text : Text) → list_any (λ name. bytes_eq name text)
-    (side_text S128 ∷ side_text S256 ∷ side_text S512 ∷ []) ≡ true → IsSideSaid text
-is_one text among = by_first (bytes_eq (side_text S128) text) refl among
-  where
-    by_third : (b : Bool) → bytes_eq (side_text S512) text ≡ b → b || false ≡ true → IsSideSaid text
-    by_third true is passes =
-        (S512, ap side_said (sym ((bytes_eq-Decides (side_text S512) text).0 is)))
-    by_third false is passes = let never : ⊥ = cc in absurd never
-
-    by_second : (b : Bool) → bytes_eq (side_text S256) text ≡ b
-        → b || (bytes_eq (side_text S512) text || false) ≡ true → IsSideSaid text
-    by_second true is passes =
-        (S256, ap side_said (sym ((bytes_eq-Decides (side_text S256) text).0 is)))
-    by_second false is passes = by_third (bytes_eq (side_text S512) text) refl passes
-
-    by_first : (b : Bool) → bytes_eq (side_text S128) text ≡ b
-        → b || (bytes_eq (side_text S256) text || (bytes_eq (side_text S512) text || false)) ≡ true
-        → IsSideSaid text
-    by_first true is passes =
-        (S128, ap side_said (sym ((bytes_eq-Decides (side_text S128) text).0 is)))
-    by_first false is passes = by_second (bytes_eq (side_text S256) text) refl passes
-
 module _ (sides : TextsAt) (are : AreSides sides) where
-  among_three : (text : Text) → Passes (side sides) text → IsSideSaid text
-  among_three text passes = is_one text
+  among_sides : (text : Text) → Passes (side sides) text → NamesSide text
+  among_sides text passes = one_of_texts text
       (sym (any_text (λ name. bytes_eq name text) sides.now
       ∙ ap (list_any (λ name. bytes_eq name text)) are) ∙ passes)
 
@@ -131,7 +106,7 @@ module _ (sides : TextsAt) (are : AreSides sides) where
 
   has_side : (rows : List Row) → HasValue (side sides) rows → HasSide rows
   has_side rows value =
-      let said = among_three value.0 value.2 in
+      let said = among_sides value.0 value.2 in
       (said.0, rw value.1 said.1)
 
   -- ---- where clap takes the words after `alone`, after `replay`, and after `serve`

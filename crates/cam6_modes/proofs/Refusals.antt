@@ -1,5 +1,5 @@
 -- What clap's error for the program's command line says of the refusal.
-use Rattle.std.proofs.Common.{◌≡◌, true, List, [], ◌∷◌, inl, inr, refl, ap, subst, ◌∙◌}
+use Rattle.std.proofs.Common.{◌≡◌, true, List, [], map, inl, inr, refl, ap, subst, ◌∙◌}
 use Rattle.std.specs.Borrow.{Bor}
 use Rattle.clap.proofs.OnLiterals.{clap_on_literals}
 use Rattle.clap.specs.Simple.{is_simple}
@@ -9,9 +9,9 @@ use Rattle.clap.specs.declared.error.Error.{Error}
 use Rattle.clap.specs.declared.error.kind.ErrorKind.{ErrorKind}
 use Rattle.clap.specs.declared.error.kind.ErrorKind.TheVariants.{OutOfMemory, DisplayHelp}
 use Rattle.clap.specs.declared.error.kind.ErrorKind.TheVariants.{DisplayVersion}
-use Rattle.cam6_planes.specs.declared.sides.Side.TheVariants.{S128, S256, S512}
+use Rattle.cam6_planes.specs.Side.{side_texts}
 use Rattle.cam6_modes.specs.CommandLine.{IsAsked, IsOfKind, IsProgram, Refuses, TextsAt}
-use Rattle.cam6_modes.specs.CommandLine.{program, side_text}
+use Rattle.cam6_modes.specs.CommandLine.{program}
 use Rattle.cam6_modes.specs.declared.modes.Refused.{Refused}
 use Rattle.cam6_modes.specs.declared.modes.Refused.TheVariants.{Help, Words, NoMemory}
 
@@ -26,8 +26,7 @@ at_first x = record { ref_ptr = (0, 0); now = x }
 -- there is one
 pub some_program : (app : App) × IsProgram app
 some_program =
-    let sides : TextsAt = at_first (at_first (side_text S128) ∷ at_first (side_text S256)
-    ∷ at_first (side_text S512) ∷ []) in
+    let sides : TextsAt = at_first (map at_first side_texts) in
     (program sides sides sides, (sides, sides, sides, refl, refl, refl, refl))
 
 pub matches_program : (of_alone of_replay of_serve : TextsAt)

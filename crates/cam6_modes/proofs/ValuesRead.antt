@@ -10,7 +10,8 @@ use Rattle.clap.specs.ValueTests.{is_unsigned_in}
 use Rattle.clap.specs.Matches.{first_value, found_of}
 use Rattle.clap.specs.declared.builder.value_parser.ValueParser.TheVariants.{Unsigned}
 use Rattle.clap.specs.declared.parser.matches.ArgMatches.{ArgMatches}
-use Rattle.cam6_modes.specs.CommandLine.{number_at, number_said, side_at, side_said}
+use Rattle.cam6_planes.specs.Side.{side_named}
+use Rattle.cam6_modes.specs.CommandLine.{number_at, number_said, side_at}
 
 text_at : (m : ArgMatches) (name : Text) (given : Option Text)
     → given ≡ first_value (found_of m) name → first_of name (rows_of (found_of m)) ≡ given
@@ -18,8 +19,8 @@ text_at m name given is = sym (is ∙ first_value-rows (found_of m) name)
 
 pub side_by : (m : ArgMatches) (given : Option Text)
     → given ≡ first_value (found_of m) (codes "side")
-    → side_at (rows_of (found_of m)) ≡ option_and_then side_said given
-side_by m given is = ap (option_and_then side_said) (text_at m (codes "side") given is)
+    → side_at (rows_of (found_of m)) ≡ option_and_then side_named given
+side_by m given is = ap (option_and_then side_named) (text_at m (codes "side") given is)
 
 pub number_by : (m : ArgMatches) (name : Text) (least most : ℕ) (given : Option Text)
     → given ≡ first_value (found_of m) name → number_at name least most (rows_of (found_of m))

@@ -13,25 +13,14 @@ use Rattle.clap.specs.declared.error.kind.ErrorKind.{ErrorKind}
 use Rattle.clap.specs.declared.error.kind.ErrorKind.TheVariants.{OutOfMemory, DisplayHelp}
 use Rattle.clap.specs.declared.error.kind.ErrorKind.TheVariants.{DisplayVersion}
 use Rattle.cam6_planes.specs.declared.sides.Side.{Side}
-use Rattle.cam6_planes.specs.declared.sides.Side.TheVariants.{S128, S256, S512}
+use Rattle.cam6_planes.specs.declared.sides.Side.TheVariants.{S256}
+use Rattle.cam6_planes.specs.Side.{side_named, side_text, side_texts}
 use Rattle.cam6_cache.specs.Limits.{max_capacity}
-use Rattle.cam6_core.specs.Limits.{max_users, max_boards}
+use Rattle.cam6_commands.specs.Limits.{max_users, max_boards}
 use Rattle.cam6_modes.specs.declared.modes.Options.{Options}
 use Rattle.cam6_modes.specs.declared.modes.Options.TheVariants.{Alone, Replay, Serve}
 use Rattle.cam6_modes.specs.declared.modes.Refused.{Refused}
 use Rattle.cam6_modes.specs.declared.modes.Refused.TheVariants.{Help, Words, NoMemory}
-
--- a side as a word
-abbrev pub side_text : Side → Text
-side_text S128 = codes "128"
-side_text S256 = codes "256"
-side_text S512 = codes "512"
-
--- the side that a word is, if it is one
-abbrev pub side_said : Text → Option Side
-side_said word = if bytes_eq word (side_text S128) then Some S128
-    else (if bytes_eq word (side_text S256) then Some S256
-    else (if bytes_eq word (side_text S512) then Some S512 else None))
 
 -- a whole number from a least to a most one, as a word
 abbrev pub number_said : ℕ → ℕ → Text → Option ℕ
@@ -44,7 +33,7 @@ TextsAt = Bor (List (Bor Text))
 
 -- it is to the three sides as words
 abbrev pub AreSides : TextsAt → Type 0
-AreSides sides = texts sides.now ≡ side_text S128 ∷ side_text S256 ∷ side_text S512 ∷ []
+AreSides sides = texts sides.now ≡ side_texts
 
 -- `--side`, one of the words that are referred to, or else 256
 abbrev pub side_option : TextsAt → Rule
@@ -144,18 +133,18 @@ IsProgram app =
 
 -- what the program is to do
 pub data Mode : Type 0 where
-  -- serve one machine, whose side is at most this
+  -- serve one machine of at most this side
   single : Side → Mode
-  -- let so many users share so many boards and a cache of so many tables, each with a machine whose
-  -- side is at most this
+  -- let so many users share so many boards and a cache of so many tables, each with a machine of at
+  -- most this side
   shared : ℕ → ℕ → ℕ → Side → Mode
-  -- serve so many users, boards and cached tables over a network, each user with a machine whose side
-  -- is at most this, for so many connections, with so many seconds for a silent client, at this port
+  -- serve so many users, boards and cached tables over a network, each user with a machine of at
+  -- most this side; for so many connections, with so many seconds for a silent client, at this port
   served : ℕ → ℕ → ℕ → Side → ℕ → ℕ → ℕ → Mode
 
 -- the side at the option `--side`, and the number at another one
 abbrev pub side_at : List Row → Option Side
-side_at rows = option_and_then side_said (first_of (codes "side") rows)
+side_at rows = option_and_then side_named (first_of (codes "side") rows)
 
 abbrev pub number_at : Text → ℕ → ℕ → List Row → Option ℕ
 number_at name least most rows =
@@ -216,7 +205,7 @@ IsOfKind (Help text) kind = IsAsked kind
 IsOfKind (Words text) kind = (IsAsked kind → ⊥) × (kind ≢ OutOfMemory)
 IsOfKind NoMemory kind = ⊤
 
--- help, the version and a refusal come only where clap has an error of such a kind
+-- help, the version and a refusal come only if clap has an error of such a kind
 abbrev pub Refuses : Kinds → Refused → Type 0
 Refuses kinds (Help text) = (kind : ErrorKind) × IsAmong kind kinds × IsAsked kind
 Refuses kinds (Words text) =

@@ -17,13 +17,13 @@ IsNew sharing limit s =
     Good s (fresh (replicate sharing.users limit) sharing.boards)
     × (s.cache ≡ record { tables = []; capacity = sharing.cache })
 
--- no memory was found for one, and nothing was read or written
+-- a new core couldn't be allocated, and nothing was read or written
 abbrev pub BeginsNothing : End → Option (List ℕ) → Option (List ℕ) → Option (List ℕ)
     → Option (List ℕ) → Type 0
 BeginsNothing end read remaining old new =
     (end ≡ NoMemory false) × (remaining ≡ read) × (new ≡ old)
 
--- a new core answers the reader's lines
+-- a new core answers the reader's lines, or there is no core and nothing was read or written
 abbrev pub AnswersReaderShared : Shared → Side → End → Option (List ℕ) → Option (List ℕ)
     → Option (List ℕ) → Option (List ℕ) → Type 0
 AnswersReaderShared sharing limit end read remaining old new =
@@ -31,8 +31,8 @@ AnswersReaderShared sharing limit end read remaining old new =
     AnswersReader by_core end read remaining old new s t)
     ⊎ BeginsNothing end read remaining old new
 
--- what came of the lines' events on a new core was written, or a front of it, and gives each user
--- the replies of his machine alone
+-- the outcomes of the lines' events on a new core were written, or a prefix of them, and give each
+-- user the replies of their private machine; or there is no core and nothing was read or written
 abbrev pub WritesOutcomesShared : Shared → Side → End → Option (List ℕ) → Option (List ℕ)
     → Option (List ℕ) → Option (List ℕ) → Type 0
 WritesOutcomesShared sharing limit end read remaining old new =

@@ -1,7 +1,7 @@
 -- How many share how much.
 use Rattle.std.specs.Prelude.{ℕ, ◌<◌, ◌≤◌}
 use Rattle.cam6_cache.specs.Limits.{max_capacity}
-use Rattle.cam6_core.specs.Limits.{max_users, max_boards}
+use Rattle.cam6_commands.specs.Limits.{max_users, max_boards}
 
 -- so many users, boards, and tables that a cache keeps
 pub record Shared : Type 0 where

@@ -1,4 +1,4 @@
--- Words that are often meant otherwise, and what is told of them.
+-- Words that are often meant otherwise, and the hints about them.
 use Rattle.std.specs.Prelude.{◌≡◌, ◌<◌, ℕ, List, [], ◌∷◌, ◌++◌, codes, length, Option, Some, None}
 use Rattle.std.specs.Prelude.{⊤, string_bytes}
 use Rattle.std.specs.Prelude.{Bool, ◌||◌, ◌&&◌, not, if◌then◌else◌, eqb}
@@ -56,11 +56,11 @@ slip_by None next = None
 slip_by (Some word) None = slip_at word
 slip_by (Some word) (Some next) = slip_at_two word next
 
--- of the words, of which the first is the program's name
+-- of all words, with the program's name as the first
 abbrev pub slip : List (List ℕ) → Option Slip
 slip words = slip_by (slice_get words 1) (slice_get words 2)
 
--- what is told of it
+-- the hint about it
 abbrev pub told_of : Option Slip → List ℕ
 told_of None = []
 told_of (Some SideByItself) =
@@ -72,14 +72,14 @@ told_of (Some ServingByItself) =
 told_of (Some FileAsWord) =
     codes "\ncam6: lines are read from standard input: cam6 < FILE, or cam6 replay < FILE\n"
 
--- refused words are told by this text, with what is told of a slip behind it; or there is no memory
--- for it
+-- refused words have this text, with the hint about a slip after it; or there is a hint, and it
+-- couldn't be allocated
 abbrev pub IsTold : Refused → List ℕ → List ℕ → Type 0
 IsTold (Help text) told slip_text = ⊥
 IsTold (Words text) told slip_text = string_bytes text ≡ told ++ slip_text
 IsTold NoMemory told slip_text = 0 < length slip_text
 
--- refused words end with what is told of a slip
+-- refused words end with the hint about a slip
 abbrev pub EndsWith : Refused → List ℕ → Type 0
 EndsWith (Help text) slip_text = ⊤
 EndsWith (Words text) slip_text =

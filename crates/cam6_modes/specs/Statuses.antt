@@ -1,5 +1,5 @@
 -- The exit status of a session that failed, of a host that can't go on, and of words that ask for
--- nothing, with what is told.
+-- nothing, with its text.
 use Rattle.std.specs.Prelude.{ℕ, List, Option, None, Some, codes, string_bytes}
 use Rattle.cam6_modes.specs.declared.modes.Refused.{Refused}
 use Rattle.cam6_modes.specs.declared.modes.Refused.TheVariants as refused
@@ -9,7 +9,7 @@ use Rattle.cam6_session.specs.declared.sessions.End.{End}
 use Rattle.cam6_session.specs.declared.sessions.End.TheVariants.{EndOfInput, ReadFault, TurnBound}
 use Rattle.cam6_session.specs.declared.sessions.End.TheVariants.{WriteFault, NoMemory}
 
--- none at the end of input, where the program succeeds
+-- `None` at the end of input: then the program succeeds
 abbrev pub failure : End → Option (ℕ × List ℕ)
 failure EndOfInput = None
 failure ReadFault = Some (3, codes "cam6: read failed\n")
@@ -17,8 +17,8 @@ failure WriteFault = Some (4, codes "cam6: write failed\n")
 failure (NoMemory done) = Some (5, codes "cam6: no memory\n")
 failure TurnBound = Some (6, codes "cam6: turn bound reached\n")
 
--- the network is a listener that can't be had, or a connection that can't be accepted; a thread is
--- one for a board
+-- `Network`: the host can't listen, or can't accept a connection; `NoThread`: no thread could be
+-- started for a board
 abbrev pub fault : Fault → ℕ × List ℕ
 fault host.NoMemory = (5, codes "cam6: no memory\n")
 fault host.Network = (7, codes "cam6: network failed\n")

@@ -1,12 +1,12 @@
-//! Words that are often meant otherwise, and what is told of them.
+//! Words that are often meant otherwise, and the hints about them.
 ghost use Rattle.std.specs.Prelude.{◌≡◌, map, string_bytes};
 ghost use Rattle.cam6_modes.specs.Slips.{begins, is_of_sharing, is_of_serving, is_plain, reads_lines};
 ghost use Rattle.cam6_modes.specs.Slips.{is_mode, slip, slip_at, slip_at_two, told_of};
 
-/// What words that are refused were meant to say.
+/// What refused words were meant to say.
 #[derive(Clone, Copy, Debug, PartialEq, Eq)]
 pub enum Slip {
-    /// The side of a machine alone.
+    /// The side of a private machine.
     SideByItself,
     /// Users, boards or tables.
     SharingByItself,
@@ -90,7 +90,7 @@ fn is_mode(word: &str) -> bool
     reads_lines(word) || word == "serve" || word == "help"
 }
 
-/// What is told of a slip, behind why the words are refused.
+/// Returns the hint about a slip, which stands after the reason why the words are refused.
 pub fn told_of(slip: Option<Slip>) -> &'static str
     ensures { result.now ≡ told_of slip }
 {

@@ -22,7 +22,7 @@ pub const NETWORK_FAILED: u8 = 7;
 /// A thread for a board could not be started.
 pub const NO_THREAD: u8 = 8;
 
-/// The status of a session that failed, with its line for standard error.
+/// Returns the status of a session that failed, with its line for standard error.
 pub fn failure_of(end: End) -> Option<(u8, &'static str)>
     ensures { option_map (λ f. (f.0, f.1.now)) result ≡ failure end }
 {
@@ -35,7 +35,7 @@ pub fn failure_of(end: End) -> Option<(u8, &'static str)>
     }
 }
 
-/// The status of a host that can't go on, with its line for standard error.
+/// Returns the status of a host that can't go on, with its line for standard error.
 pub fn fault_of(fault: Fault) -> (u8, &'static str)
     ensures { (result.0, result.1.now) ≡ fault_told fault }
 {
@@ -46,8 +46,8 @@ pub fn fault_of(fault: Fault) -> (u8, &'static str)
     }
 }
 
-/// The status of words that ask for nothing, and what is told: help for standard output, anything
-/// else for standard error.
+/// Returns the status of words that ask for nothing, and the text to write: help for standard
+/// output, anything else for standard error.
 pub fn refusal_of(refused: &Refused) -> (u8, &str)
     ensures { (result.0, result.1.now) ≡ refusal refused.now }
 {

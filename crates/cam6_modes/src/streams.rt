@@ -16,7 +16,7 @@ use std::io::{BufRead, Write};
 /// How often one session looks at its reader at most.
 const TURNS: u64 = 1_099_511_627_776;
 
-/// Answers each line of the reader by one line, as a blank machine of this limit does that gets all
+/// Answers each line of the reader by one line, as a blank machine of this limit that gets all
 /// commands among them.
 pub fn serve_streams<R: BufRead, W: Write>(
     alloc: Global,
@@ -26,9 +26,8 @@ pub fn serve_streams<R: BufRead, W: Write>(
 ) -> End
     ensures served { AnswersReaderAlone limit result (R.remaining reader.old)
         (R.remaining reader.new) (W.contents writer.old) (W.contents writer.new) }
-    // The texts of the machine's replies to all commands among the input's lines, and of the faults
-    // of the other lines, in the order of the lines, were written, or a front of them; all of them
-    // where the input's end was met.
+    // For each of the input's lines, in order, the text of the machine's reply or of the line's
+    // fault was written, or a prefix of these texts; all of them if the input's end was met.
     ensures headline { WritesRepliesAlone limit result (R.remaining reader.old)
         (W.contents writer.old) (W.contents writer.new) }
     ensures turns { SpendsItsTurns result max_turns
@@ -37,8 +36,8 @@ pub fn serve_streams<R: BufRead, W: Write>(
     serve_alone(alloc, limit, reader, writer, TURNS)
 }
 
-/// Does the event of each line of the reader, and tells what comes of it by one line, where so many
-/// users share so many boards and tables, each with a blank machine of this limit at the beginning.
+/// Does the event of each line of the reader, and writes its outcome as one line. So many users
+/// share so many boards and tables, each with a blank machine of this limit at the beginning.
 pub fn replay_streams<R: BufRead, W: Write>(
     alloc: Global,
     sharing: Sharing,
@@ -48,9 +47,9 @@ pub fn replay_streams<R: BufRead, W: Write>(
 ) -> End
     ensures served { AnswersReaderShared sharing limit result (R.remaining reader.old)
         (R.remaining reader.new) (W.contents writer.old) (W.contents writer.new) }
-    // What came of the events of the input's lines, and the faults of the other lines, in the order
-    // of the lines, were written, or a front of them; and each user was given the replies that his
-    // machine alone gives to his accepted commands.
+    // For each of the input's lines, in order, the text of the event's outcome or of the line's
+    // fault was written, or a prefix of these texts. Each user was given the replies of their
+    // private machine to their accepted commands.
     ensures headline { WritesOutcomesShared sharing limit result (R.remaining reader.old)
         (R.remaining reader.new) (W.contents writer.old) (W.contents writer.new) }
     ensures turns { SpendsItsTurns result max_turns

@@ -8,7 +8,7 @@ ghost use Rattle.cam6_modes.specs.CommandLine.{TextsAt, mode_of, number_at as nu
 ghost use Rattle.cam6_modes.specs.CommandLine.{number_option as option_of_numbers};
 ghost use Rattle.cam6_modes.specs.CommandLine.{replay as replay_of, serve as serve_of, served_at};
 ghost use Rattle.cam6_modes.specs.CommandLine.{shared_at, side_at};
-ghost use Rattle.cam6_modes.specs.CommandLine.{side_option as option_of_sides, side_said};
+ghost use Rattle.cam6_modes.specs.CommandLine.{side_option as option_of_sides};
 ghost use Rattle.cam6_modes.specs.CommandLine.{users_option as option_of_users};
 ghost use Rattle.cam6_modes.specs.CommandLine.{boards_option as option_of_boards};
 ghost use Rattle.cam6_modes.specs.CommandLine.{cache_option as option_of_tables};
@@ -23,13 +23,11 @@ use cam6_cache::MAX_CAPACITY;
 use cam6_core::{MAX_BOARDS, MAX_USERS};
 use cam6_planes::Side;
 use cam6_server::Serving;
+use cam6_version::VERSION;
 use clap::builder::ValueParser;
 use clap::error::ErrorKind;
 use clap::{Arg, ArgMatches, Command};
 use std::alloc::{AllocError, Global};
-
-/// The sides as words.
-static SIDES: [&str; 3] = ["128", "256", "512"];
 
 /// The last port.
 const MAX_PORT: u64 = 65_535;
@@ -37,66 +35,63 @@ const MAX_PORT: u64 = 65_535;
 /// The most seconds for which a silent client may keep its seat.
 const MAX_IDLE: u64 = 4_294_967_295;
 
-/// The program's version, and the toolchain that proves it.
-const VERSION: &str = "1 (Rattle logic dac8208d650f15bf)";
-
 /// What the statuses mean, and where more is said.
 const PROGRAM_TEXT: &str = "\
-Exit statuses: 0 end of input, help or version; 2 refused words; 3 read failed; 4 write failed;
-5 no memory; 6 turn bound reached; 7 network failed; 8 no thread for a board. Each but 0 is told on
-standard error.
+Exit statuses: 0 the input ended, or help or the version was asked for; 2 the arguments are refused;
+3 a read failed; 4 a write failed; 5 out of memory; 6 turn bound reached; 7 network failed; 8 no
+thread for a board. For each but 0 a line on standard error says why.
 
 A line to try: a blank machine has no rules.
   echo '{\"do\":\"rules\"}' | cam6
-Commands, rules, events and faults are in docs/MANUAL.md, rules to look at in docs/GALLERY.md.";
+docs/MANUAL.md has commands and rules, docs/SERVER.md users and events, docs/ERRORS.md the numbers of
+faults, docs/GALLERY.md rules to look at.";
 
 /// What `alone` answers.
 const ALONE_TEXT: &str = "\
-Each line is a command as JSON, and is answered by a line. The machine is blank at first. It ends with
-the input; typed at a terminal, by Ctrl-D.
+Each line is a command as JSON, and gets one line as its reply. The machine is blank at first. The
+program ends with its input. At a terminal Ctrl-D ends it.
 
-Exit statuses: 0 end of input; 2 refused words; 3 read failed; 4 write failed; 5 no memory; 6 turn
-bound reached.
+Exit statuses: 0 the input ended; 2 the arguments are refused; 3 a read failed; 4 a write failed; 5 out
+of memory; 6 turn bound reached.
 
-A line to try: at side 128, what plane 0 has in row 0.
+A line to try: row 0 of plane 0, at side 128.
   echo '{\"do\":\"row\",\"plane\":0,\"row\":0}' | cam6 alone --side 128";
 
 /// What `replay` answers.
 const REPLAY_TEXT: &str = "\
-Each line is an event as JSON: a user asks, a board leases his command, does a band of rows, fails.
-What comes of it is answered by a line. Users are numbered from 1, boards from 0.
+Each line is an event as JSON: a user asks, a board leases the command, does a band of rows, fails. One
+line says what comes of it. Users are numbered from 1, boards from 0.
 
-Exit statuses: 0 end of input; 2 refused words; 3 read failed; 4 write failed; 5 no memory; 6 turn
-bound reached.
+Exit statuses: 0 the input ended; 2 the arguments are refused; 3 a read failed; 4 a write failed; 5 out
+of memory; 6 turn bound reached.
 
-A line to try: user 1 asks which rules he has, and is answered at once.
+A line to try: user 1 asks for the names of their rules, which needs no board.
   echo '{\"event\":\"ask\",\"user\":1,\"command\":{\"do\":\"rules\"}}' | cam6 replay";
 
 /// What is said on a connection, with a session to try.
 const SEATS_TEXT: &str = "\
-The first line of a connection asks, within ten seconds, for the machine of a user, who are numbered
-from 1:
+The first line of a connection takes the seat of a user, within ten seconds. Users are numbered from
+1:
   {\"seat\":1}
-It is answered by {\"ok\":\"seat\"}, or by {\"fault\":80} where the user has a connection, and by
-{\"fault\":81} where there is no such user. Each line behind it is a command, as of `alone`, and is
-answered by a line.
+The reply is {\"ok\":\"seat\"}, or {\"fault\":80} if the user has a connection, or {\"fault\":81} if there is no
+such user. Each later line is a command, as for `alone`, and gets one line as its reply.
 
-Exit statuses: 0 as many connections as were to be served; 2 refused words; 5 no memory; 7 network
+Exit statuses: 0 all connections were served; 2 the arguments are refused; 5 out of memory; 7 network
 failed; 8 no thread for a board.
 
-A session to try, with one command, which lists the rules that there are:
+A session to try, with one command, which lists the rules:
   cam6 serve &
   printf '{\"seat\":1}\\n{\"do\":\"rules\"}\\n' | nc -N 127.0.0.1 6006";
 
-/// Reads the words, of which the first is the program's name.
+/// Reads the words. The first is the program's name.
 pub fn options(alloc: Global, words: &[String]) -> Result<Options, Refused>
-    // Of a simple command, clap's matches and the kinds of its errors are functions of the words.
+    // For a simple command, clap's matches and the kinds of its errors are functions of the words.
     ensures mode { IfOk result (λ options. (app : App) × IsProgram app
         × HasMode options (mode_of (subcommand_of app (map string_bytes words.now)))) }
     ensures refused { (app : App) × IsProgram app × MatchResult result
         (λ _. fault_of app (map string_bytes words.now) ≡ [])
         (Refuses (fault_of app (map string_bytes words.now))) }
-    // What is told of words that are often meant otherwise stands at the end.
+    // The hint about words that are often meant otherwise stands at the end.
     ensures slip { IfErr result
         (λ refused. EndsWith refused (what_is_told (slip (map string_bytes words.now)))) }
 {
@@ -169,13 +164,13 @@ fn side_given(matches: &ArgMatches<'_>) -> Side
     let Some(word) = matches.get_str("side") else {
         unreachable!()
     };
-    let Some(side) = side_of_word(word) else {
+    let Some(side) = Side::named(word) else {
         unreachable!()
     };
     side
 }
 
-/// The number at an option, a least to a most one.
+/// Returns the number at an option, from `least` to `most`.
 fn number_given(matches: &ArgMatches<'_>, name: &str, least: u64, most: u64) -> u64
     requires { IsSome (number_told name.now least most (rows_of (found_of matches.now))) }
     ensures number { number_told name.now least most (rows_of (found_of matches.now))
@@ -191,18 +186,6 @@ fn number_given(matches: &ArgMatches<'_>, name: &str, least: u64, most: u64) -> 
     number
 }
 
-/// The side that a word is.
-fn side_of_word(word: &str) -> Option<Side>
-    ensures { result ≡ side_said word.now }
-{
-    match word {
-        "128" => Some(Side::S128),
-        "256" => Some(Side::S256),
-        "512" => Some(Side::S512),
-        _ => None,
-    }
-}
-
 /// The program's command line.
 pub fn program<'a>(alloc: Global) -> Result<Command<'a>, AllocError>
     ensures { IfOk result (λ command. IsProgram (app_of command)) }
@@ -212,7 +195,7 @@ pub fn program<'a>(alloc: Global) -> Result<Command<'a>, AllocError>
         .after_help(ALONE_TEXT)
         .arg(side_option(alloc))?;
     Command::new(alloc, "cam6")
-        .about("A CAM-6 cellular automata machine; without words, as `alone`")
+        .about("A CAM-6 cellular automata machine; without a command, as `alone`")
         .after_help(PROGRAM_TEXT)
         .version(VERSION)
         .subcommand(alone)?
@@ -226,7 +209,7 @@ fn replay<'a>(alloc: Global) -> Result<Command<'a>, AllocError>
         × (app_of command ≡ replay_of sides)) }
 {
     Command::new(alloc, "replay")
-        .about("Does the events of lines on standard input: users who share boards and tables")
+        .about("Plays events from standard input: users who share boards and tables")
         .after_help(REPLAY_TEXT)
         .arg(users_option(alloc))?
         .arg(boards_option(alloc))?
@@ -266,7 +249,7 @@ fn boards_option<'a>(alloc: Global) -> Arg<'a>
     ensures rule { rule_of result ≡ option_of_boards }
     ensures global { result.global ≡ false }
 {
-    number_option(alloc, "boards", 1, MAX_BOARDS as u64, "2").help("Boards")
+    number_option(alloc, "boards", 1, MAX_BOARDS as u64, "2").help("Boards that users share")
 }
 
 /// `--cache`.
@@ -274,7 +257,9 @@ fn cache_option<'a>(alloc: Global) -> Arg<'a>
     ensures rule { rule_of result ≡ option_of_tables }
     ensures global { result.global ≡ false }
 {
-    number_option(alloc, "cache", 1, MAX_CAPACITY as u64, "16").help("Tables that are kept")
+    number_option(alloc, "cache", 1, MAX_CAPACITY as u64, "16").help(
+        "Compiled tables that are kept",
+    )
 }
 
 /// `--port`.
@@ -282,7 +267,7 @@ fn port_option<'a>(alloc: Global) -> Arg<'a>
     ensures rule { rule_of result ≡ option_of_ports }
     ensures global { result.global ≡ false }
 {
-    number_option(alloc, "port", 1, MAX_PORT, "6006").help("The port, of 127.0.0.1")
+    number_option(alloc, "port", 1, MAX_PORT, "6006").help("The port of 127.0.0.1")
 }
 
 /// `--connections`.
@@ -305,7 +290,7 @@ fn idle_option<'a>(alloc: Global) -> Arg<'a>
     )
 }
 
-/// An option that is a number, a least to a most one.
+/// Makes an option that is a number from `least` to `most`.
 fn number_option<'a>(
     alloc: Global,
     name: &'a str,
@@ -329,12 +314,12 @@ fn side_option<'a>(alloc: Global) -> Arg<'a>
 {
     Arg::new(alloc, "side")
         .long("side")
-        .value_parser(ValueParser::Names(SIDES.as_slice()))
-        .default_value("256")
+        .value_parser(ValueParser::Names(Side::texts()))
+        .default_value(Side::S256.text())
         .help("The largest side that a machine may have")
 }
 
-/// What clap's error means for the program; what is told of a slip stands behind its text.
+/// Returns what clap's error means for the program. The hint about a slip stands after its text.
 fn refusal(alloc: Global, error: clap::Error, slip: &str) -> Refused
     ensures kind { IsOfKind result (kind_of error) }
     ensures slip { EndsWith result slip.now }
@@ -343,12 +328,12 @@ fn refusal(alloc: Global, error: clap::Error, slip: &str) -> Refused
     refused(kind, error.to_string(alloc), slip)
 }
 
-/// What an error of clap's of this kind means for the program, with its text, or none for want of
-/// memory. What is told of a slip stands behind the text.
+/// Returns what an error of clap's of this kind means for the program. `text` is its text, or an
+/// error if that couldn't be allocated. The hint about a slip stands after the text.
 pub fn refused(kind: ErrorKind, text: Result<String, AllocError>, slip: &str) -> Refused
     ensures kind { IsOfKind result kind }
     ensures slip { EndsWith result slip.now }
-    // Memory is told to be wanted only where it is.
+    // `NoMemory` is returned only if an allocation failed or may have failed.
     ensures memory { result ≡ Refused.NoMemory →
         (kind ≡ ErrorKind.OutOfMemory) ⊎ (IsErr text ⊎ (0 < length slip.now)) }
 {
@@ -362,7 +347,7 @@ pub fn refused(kind: ErrorKind, text: Result<String, AllocError>, slip: &str) ->
     }
 }
 
-/// Refused words, with what is told of a slip.
+/// Refuses the words, with the hint about a slip after the text.
 fn with_slip(text: String, slip: &str) -> Refused
     ensures words { IsTold result (string_bytes text) slip.now }
 {

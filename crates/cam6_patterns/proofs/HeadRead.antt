@@ -4,6 +4,7 @@ use Rattle.std.proofs.Common.{ℕ, zero, suc, List, [], ◌∷◌, Bool, true, f
 use Rattle.std.proofs.Common.{Ok, length, cond, refl, sym, ap, arith, append_assoc, ne_eqb}
 use Rattle.std.specs.Prelude.{decimal, codes, ◌==◌, nat_lt, nat_le, if◌then◌else◌, option_and_then}
 use Rattle.std.proofs.lemmas.Bool.{ltb-true, ltb-false, le-ltb, lt-ltb, le-leb}
+use Rattle.cam6_patterns.specs.Pattern.{most_cells}
 use Rattle.cam6_patterns.specs.Header.{past_blanks, number_behind, number_at_front}
 use Rattle.cam6_patterns.specs.Header.{after_sign, extent_at_front, ends_header, extents_in}
 use Rattle.cam6_patterns.specs.Writing.{header}
@@ -83,7 +84,7 @@ digit_in_front byte later low high =
     rw (no_space, no_tab, no_return, from, to) (ap (λ m. Some (number_behind m later)) same)
 
 -- a number is read back
-number_in_front : (n : ℕ) (rest : List ℕ) → n ≤ 512
+number_in_front : (n : ℕ) (rest : List ℕ) → n ≤ most_cells
     → number_at_front (past_blanks (decimal n ++ rest)) ≡ Some (number_behind n rest)
 number_in_front n rest few =
     let begun : BeginsWithDigit (digits_by (n + 20) n) = digits_begin (n + 20) n (omega arith) in
@@ -119,7 +120,7 @@ abbrev free : ℕ → Type 0
 free b = b ≢ 10
 
 -- there is no LF in it
-pub line_without_lf : (width height : ℕ) (rule : List ℕ) → width ≤ 512 → height ≤ 512 → NoLf rule
+pub line_without_lf : (width height : ℕ) (rule : List ℕ) → width ≤ most_cells → height ≤ most_cells → NoLf rule
     → NoLf (head_line width height (rule_part rule))
 line_without_lf width height rule narrow low one_line =
     each_append free (codes "x = ")
@@ -161,7 +162,7 @@ height_behind wide =
     option_and_then (ended wide.0) (option_and_then (extent_at_front 121) (after_sign 44 wide.1))
 
 -- it says the width and the height
-line_says : (width height : ℕ) (rule : List ℕ) → width ≤ 512 → height ≤ 512
+line_says : (width height : ℕ) (rule : List ℕ) → width ≤ most_cells → height ≤ most_cells
     → extents_in (head_line width height (rule_part rule)) ≡ Some (width, height)
 line_says width height rule narrow low = by_rule (length rule == 0)
   where
@@ -180,7 +181,7 @@ line_says width height rule narrow low = by_rule (length rule == 0)
         (number_in_front height (codes ", rule = " ++ rule) low)
 
 -- the cells come behind it
-pub line_is_header : (side most width height : ℕ) (rule : List ℕ) → side ≤ 512 → width ≤ side
+pub line_is_header : (side most width height : ℕ) (rule : List ℕ) → side ≤ most_cells → width ≤ side
     → height ≤ side
     → on_head side most 1 None (head_line width height (rule_part rule))
     ≡ Ok (within (box None (width, height))

@@ -3,7 +3,7 @@ use Rattle.std.proofs.Common.{◌≡◌, ◌≢◌, ◌<◌, ◌+◌, ◌⊎◌,
 use Rattle.std.proofs.Common.{Bool, true, false, Result, Ok, length, cond, refl, ap, arith, ne_eqb, length-append}
 use Rattle.std.specs.Prelude.{nat_lt, ◌==◌}
 use Rattle.std.specs.List.{AllByRecursion}
-use Rattle.cam6_frames.specs.Lines.{lines, begin_line}
+use Rattle.cam6_show_frames.specs.Lines.{lines, begin_line}
 use Rattle.cam6_patterns.specs.Pattern.{Pattern}
 use Rattle.cam6_patterns.specs.Body.{Bounds, Read, Step, more, over, blank, is_counting, step}
 use Rattle.cam6_patterns.specs.Body.{and_then, line_read}

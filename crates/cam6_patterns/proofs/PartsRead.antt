@@ -6,6 +6,7 @@ use Rattle.std.specs.Prelude.{decimal, ◌==◌, nat_lt, nat_le, if◌then◌els
 use Rattle.std.proofs.lemmas.Bool.{ltb-false, ltb-true, le-ltb, lt-ltb, eqb-true}
 use Rattle.std.proofs.lemmas.Bool.Decides.{nat_tests}
 use Rattle.std.proofs.lemmas.Fmt.{AppendsLastDigit, decimal_from_appends, length-decimal-le_succ}
+use Rattle.cam6_patterns.specs.Pattern.{most_cells}
 use Rattle.cam6_patterns.specs.Writing.{counted}
 use Rattle.cam6_patterns.specs.Body.{Bounds, Read, Step, more, over, decimal_digit, sign, step}
 use Rattle.cam6_patterns.specs.Body.{times, is_counting, and_then, line_read}
@@ -49,16 +50,16 @@ module _ (b : Bounds) (line : ℕ) where
       rw (low, high) refl
 
   -- a digit behind a number
-  pub digit_read : (r : Read) (count : Option ℕ) (d n column : ℕ) → d < 10 → n ≤ 512
+  pub digit_read : (r : Read) (count : Option ℕ) (d n column : ℕ) → d < 10 → n ≤ most_cells
       → 10 * (if is_counting count then times count else 0) + d ≡ n
       → line_read b line ((48 + d) ∷ []) column (counting r count) ≡ Ok (more (counting r (Some n)))
   digit_read r count d n column small few is =
       let value : 10 * (if is_counting count then times count else 0) + (48 + d - 48) ≡ n =
       omega (arith, is) in
-      let fits : nat_lt 512 n ≡ false = le-ltb 512 n few in
+      let fits : nat_lt most_cells n ≡ false = le-ltb most_cells n few in
       ap (λ s. and_then (step b line column (counting r count) s)
       (line_read b line [] (column + 1))) (sign_of_digit d small)
-      ∙ ap (λ m. and_then (cond (nat_lt 512 m) (Err (record {
+      ∙ ap (λ m. and_then (cond (nat_lt most_cells m) (Err (record {
         line = line;
         column = column;
         cause = CountTooLarge;
@@ -81,14 +82,14 @@ appends = record {
   more = λ k n large. rw (le-ltb n 10 large) refl;
 }
 
-pub decimal_is : (n : ℕ) → n ≤ 512 → decimal n ≡ digits_by (n + 20) n
+pub decimal_is : (n : ℕ) → n ≤ most_cells → decimal n ≡ digits_by (n + 20) n
 decimal_is n few =
     let small : n < 2 ^ 64 = omega (arith, few) in
     let short : length (decimal n) ≤ n + 1 = length-decimal-le_succ n small in
     sym (decimal_from_appends digits_by appends (n + 20) n small (omega (arith, short)))
 
 module _ (b : Bounds) (line : ℕ) (r : Read) where
-  digits_read : (k n column : ℕ) → n < k → n ≤ 512
+  digits_read : (k n column : ℕ) → n < k → n ≤ most_cells
       → line_read b line (digits_by k n) column (counting r None)
       ≡ Ok (more (counting r (Some n)))
   digits_read zero n column fuel few = absurd (omega (arith, fuel))
@@ -96,7 +97,7 @@ module _ (b : Bounds) (line : ℕ) (r : Read) where
       by_size k n column few (nat_lt n 10) refl
       (λ ten. digits_read k (n / 10) column (omega (arith, ten, fuel)) (omega (arith, few)))
     where
-      by_size : (k n column : ℕ) → n ≤ 512 → (t : Bool) → nat_lt n 10 ≡ t
+      by_size : (k n column : ℕ) → n ≤ most_cells → (t : Bool) → nat_lt n 10 ≡ t
           → (10 ≤ n → line_read b line (digits_by k (n / 10)) column (counting r None)
           ≡ Ok (more (counting r (Some (n / 10)))))
           → line_read b line
@@ -112,7 +113,7 @@ module _ (b : Bounds) (line : ℕ) (r : Read) where
           ∙ digit_read b line r (Some (n / 10)) (n % 10) n at (omega arith) few (omega arith)
 
   -- a number is read as it is written
-  pub number_read : (n column : ℕ) → n ≤ 512
+  pub number_read : (n column : ℕ) → n ≤ most_cells
       → line_read b line (decimal n) column (counting r None) ≡ Ok (more (counting r (Some n)))
   number_read n column few =
       ap (λ ds. line_read b line ds column (counting r None)) (decimal_is n few)
@@ -135,7 +136,7 @@ number_length n = if n == 1 then 0 else length (decimal n)
 
 module _ (b : Bounds) (line : ℕ) (r : Read) where
   -- so many of a sign are read as the sign with that number
-  pub part_read : (n letter column : ℕ) (next : Step) → n ≤ 512
+  pub part_read : (n letter column : ℕ) (next : Step) → n ≤ most_cells
       → ((at : ℕ) → step b line at (counting r (count_of n)) (sign letter) ≡ Ok next)
       → line_read b line (counted n letter) column (counting r None) ≡ Ok next
   part_read n letter column next few leads = by_one (n == 1) refl

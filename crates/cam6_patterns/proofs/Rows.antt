@@ -7,7 +7,8 @@ use Rattle.std.specs.List.{list_all, AllByRecursion}
 use Rattle.std.proofs.Math.Nat.{mod-eq_of_lt}
 use Rattle.std.proofs.lemmas.List.{get_or-take, length-take-le, ext_get_or}
 use Rattle.cam6_planes.proofs.SideNumbers.{side_least, side_most}
-use Rattle.cam6_frames.specs.Frame.{colour_at, IsRowOf, IsFrame}
+use Rattle.cam6_show_frames.specs.Frame.{colour_at, IsRowOf, IsFrame}
+use Rattle.cam6_patterns.specs.Pattern.{most_cells}
 use Rattle.cam6_patterns.specs.Writing.{trimmed, trimmed_by, letter, counted, runs, runs_after}
 use Rattle.cam6_patterns.specs.Writing.{row_ends, row_by_row, filled}
 use Rattle.cam6_patterns.specs.Outcome.{Fills, FillsRow}
@@ -21,7 +22,7 @@ module _ (rows : List (List ℕ)) (frame : IsFrame rows) where
   pub its_row : (y : ℕ) → y < length rows → IsRowOf frame.0 (get_or rows y [])
   its_row y within = frame.2 y [] within
 
-  pub side_is_long : length rows ≤ 512
+  pub side_is_long : length rows ≤ most_cells
   side_is_long = omega (arith, frame.1, side_most frame.0)
 
   -- it is as wide as the frame is high
@@ -32,7 +33,7 @@ module _ (rows : List (List ℕ)) (frame : IsFrame rows) where
   rows_are_some = omega (arith, frame.1, side_least frame.0)
 
   -- its cells are the frame's colours
-  pub row_taken : (y : ℕ) (cells : List ℕ) → y < length rows → length cells ≡ 512
+  pub row_taken : (y : ℕ) (cells : List ℕ) → y < length rows → length cells ≡ most_cells
       → ((j : ℕ) → j < length rows → get_or cells j 0 ≡ colour_at rows j y)
       → take (length rows) cells ≡ get_or rows y []
   unfolding colour_at

@@ -7,7 +7,7 @@ use Rattle.std.specs.List.{AllByRecursion}
 use Rattle.std.proofs.lemmas.Bool.{eqb-true, eqb-false}
 use Rattle.std.proofs.lemmas.List.{length-replicate}
 use Rattle.std.proofs.lemmas.Grind.{replicate_next}
-use Rattle.cam6_patterns.specs.Pattern.{state_in}
+use Rattle.cam6_patterns.specs.Pattern.{most_cells, state_in}
 use Rattle.cam6_patterns.specs.Writing.{trimmed, trimmed_by, runs, row_ends, row_by_row}
 use Rattle.cam6_patterns.specs.Body.{Bounds, whole_rows}
 use Rattle.cam6_patterns.proofs.Rows.{each_trimmed}
@@ -145,7 +145,7 @@ pub record FitsIn (width states : ℕ) (row : List ℕ) : Type 0 where
   pub wide : length row ≤ width
   pub within : AllByRecursion (λ s. s < states) row
 
-module _ (b : Bounds) (few : b.states ≤ 16) (narrow : b.width ≤ 512) (low : b.height ≤ 512)
+module _ (b : Bounds) (few : b.states ≤ 16) (narrow : b.width ≤ most_cells) (low : b.height ≤ most_cells)
     (states : ℕ) (known : states ≤ b.states) where
   -- rows are read behind others, of which so many ends weren't written yet
   abbrev pub RowsRead : ℕ → List (List ℕ) → List (List ℕ) → List ℕ → Type 0

@@ -7,6 +7,7 @@ use Rattle.std.specs.List.{AllByRecursion}
 use Rattle.std.proofs.lemmas.Bool.{eqb-true, eqb-false}
 use Rattle.std.proofs.lemmas.List.{length-replicate}
 use Rattle.std.proofs.lemmas.Grind.{replicate_next}
+use Rattle.cam6_patterns.specs.Pattern.{most_cells}
 use Rattle.cam6_patterns.specs.Writing.{letter, counted, runs, runs_after, row_ends}
 use Rattle.cam6_patterns.specs.Body.{Bounds, Read, more, step, times}
 use Rattle.cam6_patterns.proofs.PartsRead.{counting, count_of, times_count, part_read}
@@ -22,7 +23,7 @@ reading rows cells = record { rows = rows; cells = cells; count = None }
 abbrev pub laid : ℕ → List (List ℕ) → List ℕ → List (List ℕ)
 laid n rows cells = cond (n == 0) rows (rows ++ cells ∷ replicate (n - 1) [])
 
-module _ (b : Bounds) (few : b.states ≤ 16) (narrow : b.width ≤ 512) (low : b.height ≤ 512) where
+module _ (b : Bounds) (few : b.states ≤ 16) (narrow : b.width ≤ most_cells) (low : b.height ≤ most_cells) where
   module _ (states : ℕ) (known : states ≤ b.states) (rows : List (List ℕ))
       (room : length rows < b.height) where
     -- a run is read behind the cells before it

@@ -6,6 +6,7 @@ use Rattle.std.specs.Prelude.{decimal, ◌==◌, nat_lt, nat_le}
 use Rattle.std.proofs.lemmas.Bool.{leb-true, le-ltb, lt-ltb, le-leb, lt-leb}
 use Rattle.std.proofs.lemmas.Bool.{eqb-true, eqb-false}
 use Rattle.std.proofs.lemmas.List.{length-replicate}
+use Rattle.cam6_patterns.specs.Pattern.{most_cells}
 use Rattle.cam6_patterns.specs.Writing.{letter, counted}
 use Rattle.cam6_patterns.specs.Body.{Bounds, more, cell, row_end, sign, step, times}
 use Rattle.cam6_patterns.proofs.Each.{each_append}
@@ -85,11 +86,11 @@ digits_without_lf (suc k) n = by_size (nat_lt n 10) (digits_without_lf k (n / 10
         (omega arith, tt)
 
 -- there is none in a number
-pub number_without_lf : (n : ℕ) → n ≤ 512 → NoLf (decimal n)
+pub number_without_lf : (n : ℕ) → n ≤ most_cells → NoLf (decimal n)
 number_without_lf n few = subst NoLf (sym (decimal_is n few)) (digits_without_lf (n + 20) n)
 
 -- nor in a part
-pub counted_without_lf : (n sign : ℕ) → n ≤ 512 → sign ≢ 10 → NoLf (counted n sign)
+pub counted_without_lf : (n sign : ℕ) → n ≤ most_cells → sign ≢ 10 → NoLf (counted n sign)
 counted_without_lf n sign few other = by_one (n == 1)
   where
     by_one : (t : Bool) → NoLf (cond t (sign ∷ []) (decimal n ++ sign ∷ []))

@@ -2,7 +2,7 @@
 use Rattle.std.proofs.Common.{◌≡◌, ◌≢◌, ◌<◌, ℕ, List, [], ◌∷◌, refl, ap, ◌∙◌}
 use Rattle.std.proofs.Common.{zero, suc, length, take, drop, get_or, ne_eqb, arith, sym, take_all, drop-cons, length-drop, ◌≤◌}
 use Rattle.std.proofs.lemmas.List.{drop_all}
-use Rattle.cam6_frames.specs.Lines.{lines, begin_line}
+use Rattle.cam6_show_frames.specs.Lines.{lines, begin_line}
 
 -- none of the first n bytes is an LF
 abbrev pub NoLfBelow : List ℕ → ℕ → Type 0

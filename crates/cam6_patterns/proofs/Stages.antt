@@ -1,6 +1,6 @@
 -- A text is read line by line.
 use Rattle.std.proofs.Common.{◌≡◌, ◌+◌, ℕ, List, [], ◌∷◌, Result, Ok, Err, refl, sym, ap, ◌∙◌}
-use Rattle.cam6_frames.specs.Lines.{lines}
+use Rattle.cam6_show_frames.specs.Lines.{lines}
 use Rattle.cam6_patterns.specs.Pattern.{Pattern}
 use Rattle.cam6_patterns.specs.Body.{Bounds, Read, more, over, whole_line_read}
 use Rattle.cam6_patterns.specs.Reading.{Stage, within, done, on_line, on_body, and_later, lines_read}

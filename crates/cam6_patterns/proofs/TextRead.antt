@@ -3,7 +3,7 @@ use Rattle.std.proofs.Common.{◌≡◌, ◌≤◌, ◌∙◌, ℕ, List, [], �
 use Rattle.std.proofs.Common.{refl, ap, arith, append-nil}
 use Rattle.std.specs.List.{AllByRecursion}
 use Rattle.std.proofs.lemmas.List.Elements.{recursion_from_All}
-use Rattle.cam6_frames.specs.Lines.{lines}
+use Rattle.cam6_show_frames.specs.Lines.{lines}
 use Rattle.cam6_patterns.specs.Pattern.{Pattern, most_cells, most_states}
 use Rattle.cam6_patterns.specs.Body.{Bounds, nothing_read}
 use Rattle.cam6_patterns.specs.Reading.{before, box, with_rows, and_later, lines_read, pattern_in}
@@ -42,10 +42,10 @@ module _ (side states most : ℕ) (rule : List ℕ) (rows : List (List ℕ)) (la
       recursion_from_All (FitsIn width states) rows
       (λ k d h. record { wide = omega (arith, fit.even k d h); within = fit.few k d h })
 
-  narrow : width ≤ 512
+  narrow : width ≤ most_cells
   narrow = omega (arith, fit.wide, largest)
 
-  low : length rows ≤ 512
+  low : length rows ≤ most_cells
   low = omega (arith, fit.high, largest)
 
   -- the cells behind the header

@@ -1,7 +1,7 @@
 -- The text of a frame.
 use Rattle.std.proofs.Common.{◌≡◌, ◌∙◌, ℕ, List, [], ◌++◌, length, get_or, sym, ap}
 use Rattle.std.specs.Prelude.{codes}
-use Rattle.cam6_frames.specs.Frame.{IsFrame}
+use Rattle.cam6_show_frames.specs.Frame.{IsFrame}
 use Rattle.cam6_patterns.specs.Writing.{header, filled, row_by_row, states_of, pattern_text}
 use Rattle.cam6_patterns.specs.Writing.{text_of_frame}
 use Rattle.cam6_patterns.proofs.Rows.{row_is_wide, rows_are_some}

@@ -5,7 +5,7 @@ use Rattle.std.proofs.Math.Nat.{mod-lt}
 use Rattle.std.specs.Prelude.{All, nat_lt, ◌==◌, if◌then◌else◌, option_map, option_and_then, codes}
 use Rattle.std.specs.List.{AllByRecursion}
 use Rattle.std.proofs.lemmas.Bool.{ltb-false}
-use Rattle.cam6_frames.specs.Lines.{lines}
+use Rattle.cam6_show_frames.specs.Lines.{lines}
 use Rattle.cam6_patterns.specs.Pattern.{Pattern, IsPattern, most_cells, most_states}
 use Rattle.cam6_patterns.specs.Faults.{fault}
 use Rattle.cam6_patterns.specs.Header.{if_none, number_at_front, turn_at_front, corner_at_front}

@@ -16,7 +16,7 @@ pub record Bounds : Type 0 where
   pub height : ℕ
   pub states : ℕ
 
--- what was read of the cells: the rows that ended, the cells of the one that didn't, and the number
+-- what was read of the cells: the rows that ended, the cells of the row that didn't, and the number
 -- that was read last, if what it counts didn't come yet
 pub record Read : Type 0 where
   pub rows : List (List ℕ)
@@ -31,7 +31,7 @@ nothing_read = record { rows = []; cells = []; count = None }
 abbrev pub whole_rows : Read → List (List ℕ)
 whole_rows read = if length read.cells == 0 then read.rows else read.rows ++ read.cells ∷ []
 
--- how many a number that was read, or wasn't, counts
+-- how many a number counts; 1 if there is none
 abbrev pub times : Option ℕ → ℕ
 times None = 1
 times (Some n) = n
@@ -66,14 +66,14 @@ pub data Step : Type 0 where
   more : Read → Step
   over : List (List ℕ) → Step
 
--- a digit behind those of the number that was read last
+-- a digit more in the number that was read last
 abbrev pub with_digit : ℕ → ℕ → Read → ℕ → Result Step PatternFault
 with_digit line column read d =
     let n = 10 * (if is_counting read.count then times read.count else 0) + d in
     if nat_lt most_cells n then fault line column CountTooLarge
     else Ok (more (record { rows = read.rows; cells = read.cells; count = Some n }))
 
--- so many cells of this state behind those of the row
+-- the counted cells of this state after those of the row
 abbrev pub with_cells : Bounds → ℕ → ℕ → Read → ℕ → Result Step PatternFault
 with_cells bounds line column read state =
     let cells = read.cells ++ replicate (times read.count) state in
@@ -82,7 +82,7 @@ with_cells bounds line column read state =
     else if nat_le bounds.height (length read.rows) then fault line column TooHigh
     else Ok (more (record { rows = read.rows; cells = cells; count = None }))
 
--- the row's end, and as many rows without a cell as are counted beyond it
+-- the ends of as many rows as are counted: of this one, and then of rows without a cell
 abbrev pub with_row_ends : Bounds → ℕ → ℕ → Read → Result Step PatternFault
 with_row_ends bounds line column read =
     if nat_lt bounds.height (length read.rows + times read.count) then fault line column TooHigh
@@ -104,7 +104,7 @@ step bounds line column read blank =
     if is_counting read.count then fault line column Unexpected else Ok (more read)
 step bounds line column read no_sign = fault line column Unexpected
 
--- and then the bytes behind it, unless the end was met
+-- and then the bytes after it, unless there was a fault or the end was met
 abbrev pub and_then : Result Step PatternFault → (Read → Result Step PatternFault)
     → Result Step PatternFault
 and_then (Err e) later = Err e

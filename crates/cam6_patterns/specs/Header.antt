@@ -1,10 +1,10 @@
--- The lines before the cells: remarks, of which one may say where the pattern lies, and the header.
+-- The lines before the cells: remarks, which may say where the pattern lies, and the header.
 use Rattle.std.specs.Prelude.{ℕ, ◌+◌, ◌*◌, ◌-◌, ◌%◌, List, [], ◌∷◌, codes}
 use Rattle.std.specs.Prelude.{Bool, true, ◌==◌, ◌||◌, ◌&&◌, nat_lt, nat_le, if◌then◌else◌}
 use Rattle.std.specs.Prelude.{Option, Some, None, option_map, option_and_then}
 use Rattle.cam6_patterns.specs.Pattern.{most_cells}
 
--- the first, or else the second
+-- the first if there is one, or else the second
 abbrev pub if_none : {A : Type 0} → Option A → Option A → Option A
 if_none None second = second
 if_none (Some x) second = Some x
@@ -13,7 +13,7 @@ if_none (Some x) second = Some x
 abbrev pub is_blank : ℕ → Bool
 is_blank b = (b == 32) || ((b == 9) || (b == 13))
 
--- without the blanks before it
+-- the bytes without the blanks at their front
 abbrev pub past_blanks : List ℕ → List ℕ
 past_blanks [] = []
 past_blanks (b ∷ bytes) = if is_blank b then past_blanks bytes else b ∷ bytes
@@ -21,7 +21,7 @@ past_blanks (b ∷ bytes) = if is_blank b then past_blanks bytes else b ∷ byte
 abbrev pub is_decimal : ℕ → Bool
 is_decimal b = nat_le 48 b && nat_lt b 58
 
--- the number that the digits at the front write behind those of n, and what comes after them
+-- the number of n's digits and the digits at the front, and what comes after them
 abbrev pub number_behind : ℕ → List ℕ → ℕ × List ℕ
 number_behind n [] = (n, [])
 number_behind n (b ∷ bytes) =
@@ -33,28 +33,29 @@ number_at_front [] = None
 number_at_front (b ∷ bytes) =
     if is_decimal b then Some (number_behind (b - 48) bytes) else None
 
--- what comes after these bytes, if they are the first
+-- what comes after the first bytes, if the others begin with them
 abbrev pub after : List ℕ → List ℕ → Option (List ℕ)
 after [] bytes = Some bytes
 after (x ∷ xs) [] = None
 after (x ∷ xs) (b ∷ bytes) = if x == b then after xs bytes else None
 
--- blanks and then this byte
+-- what comes after blanks and then this byte
 abbrev pub after_sign : ℕ → List ℕ → Option (List ℕ)
 after_sign x bytes = after (x ∷ []) (past_blanks bytes)
 
--- a letter, an equals sign and a number, with blanks between: "x = 12"
+-- the number after a letter and an equals sign, with blanks between, as in "x = 12"; and what comes
+-- after it
 abbrev pub extent_at_front : ℕ → List ℕ → Option (ℕ × List ℕ)
 extent_at_front letter bytes =
     option_and_then (λ rest. number_at_front (past_blanks rest))
     (option_and_then (after_sign 61) (after_sign letter bytes))
 
--- nothing more, or a comma, behind which there may be anything, as "rule = B3/S23"
+-- nothing more, or a comma; after it there may be anything, for example "rule = B3/S23"
 abbrev pub ends_header : List ℕ → Bool
 ends_header [] = true
 ends_header (b ∷ bytes) = b == 44
 
--- "x = 12, y = 7", or the same with a comma behind it: the width and the height
+-- "x = 12, y = 7", or the same with a comma after it: the width and the height
 abbrev pub extents_in : List ℕ → Option (ℕ × ℕ)
 extents_in line =
     option_and_then
@@ -63,7 +64,7 @@ extents_in line =
     (option_and_then (extent_at_front 121) (after_sign 44 wide.1)))
     (extent_at_front 120 line)
 
--- a whole number, of which that on a ring of most_cells counts: "-3" is 509
+-- a whole number modulo most_cells, and what comes after it: "-3" is most_cells - 3
 abbrev pub turn_at_front : List ℕ → Option (ℕ × List ℕ)
 turn_at_front [] = None
 turn_at_front (b ∷ bytes) =
@@ -71,7 +72,7 @@ turn_at_front (b ∷ bytes) =
     then option_map (λ n. ((most_cells - n.0 % most_cells) % most_cells, n.1)) (number_at_front bytes)
     else option_map (λ n. (n.0 % most_cells, n.1)) (number_at_front (b ∷ bytes))
 
--- two of them with this byte between them
+-- two such numbers with this byte between them
 abbrev pub corner_at_front : ℕ → List ℕ → Option (ℕ × ℕ)
 corner_at_front between bytes =
     option_and_then
@@ -79,7 +80,7 @@ corner_at_front between bytes =
     (option_and_then turn_at_front (after (between ∷ []) column.1)))
     (turn_at_front bytes)
 
--- what comes after the first place at which these bytes stand
+-- what comes after the first place where these bytes stand
 abbrev pub after_first : List ℕ → List ℕ → Option (List ℕ)
 after_first xs [] = None
 after_first xs (b ∷ bytes) = if_none (after xs (b ∷ bytes)) (after_first xs bytes)

@@ -22,8 +22,8 @@ HasCells rows p =
 abbrev pub IsOneLine : List ℕ → Type 0
 IsOneLine rule = All (λ b. (b ≡ 10) → ⊥) rule
 
--- the text of rows of so many states is read, where there may be as many or more, as a pattern with
--- their cells
+-- the text of rows of so many states is read as a pattern with their cells, if there may be as many
+-- states or more
 abbrev pub TextIsReadBack : Type 0
 TextIsReadBack =
     (side states most : ℕ) (rule : List ℕ) (rows : List (List ℕ)) → side ≤ most_cells →

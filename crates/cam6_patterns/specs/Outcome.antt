@@ -1,4 +1,4 @@
--- What the code's parts answer while a text is read. Where no memory is found, nothing is said.
+-- What the code's parts return while a text is read. If an allocation fails, nothing is said.
 use Rattle.std.specs.Prelude.{◌≡◌, ◌<◌, ◌⊎◌, ℕ, ◌%◌, [], Option, Some, None, Result, Ok, Err, ⊤, List, Vec, ◌+◌, ◌∷◌, ◌++◌}
 use Rattle.std.specs.declared.alloc.Global.{Global}
 use Rattle.cam6_patterns.specs.Pattern.{Pattern, most_cells}
@@ -15,13 +15,14 @@ use Rattle.cam6_patterns.specs.declared.faults.PatternFault.{PatternFault}
 use Rattle.cam6_patterns.specs.declared.reading.Unread.{Unread}
 use Rattle.cam6_patterns.specs.declared.reading.Unread.TheVariants.{Fault, NoMemory}
 
--- a number that stands for n, however large n is: the same on a ring of most_cells, and n itself,
+-- a number that stands for n, however large n is: it equals n modulo most_cells, and n itself
 -- unless both are above most_cells
 pub record StandsFor (n number : ℕ) : Type 0 where
   pub ring : number % most_cells ≡ n % most_cells
   pub size : (number ≡ n) ⊎ ((most_cells < number) × (most_cells < n))
 
--- the width and the height are said, if they are, by numbers that stand for them
+-- the width and the height are missing from both, or those of the second stand for those of the
+-- first
 abbrev pub AreExtents : Option (ℕ × ℕ) → Option (ℕ × ℕ) → Type 0
 AreExtents None None = ⊤
 AreExtents None (Some extents) = ⊥
@@ -57,22 +58,22 @@ RowsOf said p (Ok rows) = said ≡ Ok (with_rows p rows.items)
 RowsOf said p (Err (Fault f)) = said ≡ Err f
 RowsOf said p (Err NoMemory) = ⊤
 
--- the lines of a pattern's row y, where its first column lies at this one and its first row at this
--- one: the others are those of bit k and the bits behind it
+-- the lines of a pattern's row y from bit k on, with its first column at `first` and its first row
+-- at `top`
 abbrev pub lines_of_row : ℕ → ℕ → ℕ → Pattern → ℕ → ℕ → List ℕ → List ℕ
 lines_of_row side first top p y k [] = []
 lines_of_row side first top p y k (plane ∷ planes) =
     set_line side plane ((top + y) % side) (bit_placed side first p k y)
     ++ lines_of_row side first top p y (k + 1) planes
 
--- these parts were pushed behind a text whose last line has so many bytes; where more of them come,
--- that has now so many
+-- these parts were pushed after a text with `used` bytes in its last line; the last line now has
+-- `after` bytes, whatever parts come next
 abbrev pub Fills : List ℕ → ℕ → List (List ℕ) → List ℕ → ℕ → Type 0
 Fills old used parts new after =
     (more : List (List ℕ)) → old ++ filled used (parts ++ more) ≡ new ++ filled after more
 
--- so was a row, with the ends of those before it; where more of them come, so many rows' ends weren't
--- pushed yet
+-- the same for a row and the row ends before it; `left` row ends aren't pushed yet, whatever rows
+-- come next
 abbrev pub FillsRow : List ℕ → ℕ → ℕ → ℕ → List ℕ → List ℕ → ℕ → ℕ → Type 0
 FillsRow old used states ends row new after left =
     (rows : List (List ℕ)) → old ++ filled used (row_by_row states ends (row ∷ rows))

@@ -6,12 +6,12 @@ use Rattle.std.specs.List.{range_with_len}
 use Rattle.cam6_planes.specs.Digits.{row_text}
 use Rattle.cam6_patterns.specs.Pattern.{Pattern, state_in}
 
--- the column of a pattern that lies at column x of a torus of this side, where its first lies at
--- column first; or more than it has
+-- the column of a pattern that lies at column x of a torus of this side, if its first one lies at
+-- column first; the pattern may have fewer columns
 abbrev pub column_of : ℕ → ℕ → ℕ → ℕ
 column_of side first x = (x + (side - first % side)) % side
 
--- whether bit k of the state is set that lies at column x, in the pattern's row y
+-- whether bit k is set in the state at column x, in the pattern's row y
 abbrev pub bit_placed : ℕ → ℕ → Pattern → ℕ → ℕ → ℕ → Bool
 bit_placed side first p k y x =
     let column = column_of side first x in
@@ -24,8 +24,8 @@ set_line side plane row bits =
     ++ codes "\",\"do\":\"set\",\"plane\":" ++ decimal plane
     ++ codes ",\"row\":" ++ decimal row ++ codes "}\n"
 
--- the lines of the pattern's row y: plane by plane, of which the first has a state's lowest bit, the
--- others from bit k on
+-- the lines of the pattern's row y, plane by plane: the first of these planes takes bit k of a
+-- state, the next one bit k + 1
 abbrev pub row_lines : ℕ → ℕ → ℕ → Pattern → ℕ → ℕ → List ℕ → List ℕ
 row_lines side column row p y k [] = []
 row_lines side column row p y k (plane ∷ planes) =

@@ -1,7 +1,7 @@
--- The pattern that a run-length text is.
+-- The pattern of a run-length text.
 use Rattle.std.specs.Prelude.{ℕ, ◌+◌, List, [], ◌∷◌, length, ◌==◌, nat_lt, if◌then◌else◌}
 use Rattle.std.specs.Prelude.{Option, Some, None, Result, Ok, Err}
-use Rattle.cam6_frames.specs.Lines.{lines}
+use Rattle.cam6_show_frames.specs.Lines.{lines}
 use Rattle.cam6_patterns.specs.Pattern.{Pattern}
 use Rattle.cam6_patterns.specs.Faults.{fault}
 use Rattle.cam6_patterns.specs.Header.{past_blanks, extents_in, corner_in, if_none}
@@ -35,7 +35,7 @@ on_header side states line corner (Some extents) =
     else Ok (within (box corner extents)
     (record { width = extents.0; height = extents.1; states = states }) nothing_read)
 
--- a line before the cells: a remark, a line without a mark, or the header
+-- a line before the cells: a remark, a blank line, or the header
 abbrev pub on_head : ℕ → ℕ → ℕ → Option (ℕ × ℕ) → List ℕ → Result Stage PatternFault
 on_head side states line corner [] = Ok (before corner)
 on_head side states line corner (b ∷ bytes) =
@@ -59,14 +59,14 @@ on_body p bounds (Err e) = Err e
 on_body p bounds (Ok (over rows)) = Ok (done (with_rows p rows))
 on_body p bounds (Ok (more read)) = Ok (within p bounds read)
 
--- a line, by its number; behind the end there may be anything
+-- a line, by its number; after the end there may be anything
 abbrev pub on_line : ℕ → ℕ → ℕ → Stage → List ℕ → Result Stage PatternFault
 on_line side states line (before corner) bytes = on_head side states line corner bytes
 on_line side states line (within p bounds read) bytes =
     on_body p bounds (whole_line_read bounds line bytes read)
 on_line side states line (done p) bytes = Ok (done p)
 
--- at the end of the lines, of which there are n
+-- at the end of n lines
 abbrev pub at_end : ℕ → Stage → Result Pattern PatternFault
 at_end n (before corner) = fault n 1 NoHeader
 at_end n (within p bounds read) = fault n 1 NoEnd
@@ -84,6 +84,6 @@ lines_read side states [] n stage = at_end n stage
 lines_read side states (line ∷ later) n stage =
     and_later (on_line side states (n + 1) stage line) (lines_read side states later (n + 1))
 
--- the pattern that a text is, for a torus of this side and so many states; or the first fault
+-- the pattern of a text, for a torus of this side and so many states; or the first fault
 unfoldable pub pattern_in : ℕ → ℕ → List ℕ → Result Pattern PatternFault
 pattern_in side states text = lines_read side states (lines text) 0 (before None)

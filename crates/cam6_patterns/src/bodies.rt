@@ -57,7 +57,7 @@ impl Cells {
     ghost use Rattle.cam6_patterns.specs.Body.{whole_line_read};
     ghost use Rattle.cam6_patterns.specs.Outcome.{StepsTo};
 
-    /// No cell.
+    /// Nothing is read yet.
     pub(crate) fn new(alloc: Global) -> Cells
         ensures { result ≡ nothing_read }
     {
@@ -69,7 +69,7 @@ impl Cells {
         }
     }
 
-    /// All rows: the last one counts if it has a cell.
+    /// Returns all rows. A last one that didn't end counts if it has a cell.
     pub(crate) fn into_rows(self) -> Result<Vec<PatternRow>, AllocFailed<PatternRow>>
         ensures { IfOk result (λ rows. rows.items ≡ whole_rows self) }
     {
@@ -80,7 +80,7 @@ impl Cells {
         Ok(rows)
     }
 
-    /// Reads a line, by its number. The line's end counts as a blank.
+    /// Reads the line of this number. The line's end counts as a blank.
     pub(crate) fn read_line(
         &mut self,
         bounds: &Bounds,
@@ -101,7 +101,7 @@ impl Cells {
         self.unless_counting(line, column, Going::More)
     }
 
-    /// By what the byte says.
+    /// Reads a byte, by what it says.
     fn step(
         &mut self,
         bounds: &Bounds,
@@ -130,7 +130,7 @@ impl Cells {
         }
     }
 
-    /// A digit behind those of the number that was read last.
+    /// Adds a digit to the number that was read last.
     fn with_digit(&mut self, line: usize, column: usize, digit: u8) -> Result<Going, Unread>
         ensures { StepsTo (with_digit line column self.old digit) self.new result }
     {
@@ -142,7 +142,7 @@ impl Cells {
         Ok(Going::More)
     }
 
-    /// So many cells of this state behind those of the row.
+    /// Adds the counted cells of this state to the row.
     fn with_cells(
         &mut self,
         bounds: &Bounds,
@@ -168,7 +168,7 @@ impl Cells {
         Ok(Going::More)
     }
 
-    /// The row's end, and as many rows without a cell as are counted beyond it.
+    /// Ends as many rows as are counted: this one, and then rows without a cell.
     fn with_row_ends(
         &mut self,
         bounds: &Bounds,
@@ -202,7 +202,7 @@ impl Cells {
         }
     }
 
-    /// How many the number counts that was read last.
+    /// The number that was read last, or 1.
     fn times(&self) -> usize
         ensures { result ≡ times self.now.count }
     {
@@ -212,7 +212,7 @@ impl Cells {
         }
     }
 
-    /// No number may stand at the place.
+    /// Returns a fault if a number was read last, or else `going`.
     fn unless_counting(&self, line: usize, column: usize, going: Going) -> Result<Going, Unread>
         ensures { result ≡ (if is_counting self.now.count
             then Err (Fault (record { line = line; column = column; cause = Cause.Unexpected }))

@@ -3,11 +3,11 @@
 /// Why a text is no pattern.
 #[derive(Clone, Copy, Debug, PartialEq, Eq)]
 pub enum Cause {
-    /// A line that is no header stands where one must, or the text has none.
+    /// Another line stands in place of the header, or the text has no header.
     NoHeader,
-    /// A byte that says nothing of cells, or a number with nothing behind it.
+    /// A byte that says nothing of cells, or a number with nothing after it.
     Unexpected,
-    /// A number above 512.
+    /// A number that is larger than the columns of the largest torus.
     CountTooLarge,
     /// More columns than the torus has, or than the header says.
     TooWide,

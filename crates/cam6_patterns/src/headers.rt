@@ -12,10 +12,10 @@ ghost use Rattle.cam6_patterns.specs.Outcome.{StandsFor, AreExtents, LeadsTo, bo
 ghost use Rattle.cam6_planes.specs.Side.{side_number};
 
 use crate::faults::{Cause, PatternFault};
-use cam6_planes::Side;
+use cam6_planes::{COLUMNS, Side};
 
-/// How many columns and rows a pattern has at most, and a torus.
-pub(crate) const MOST_CELLS: usize = 512;
+/// The most columns and rows of a pattern, and of a torus.
+pub(crate) const MOST_CELLS: usize = COLUMNS;
 
 /// Where a pattern lies, and how large it is.
 #[derive(Clone, Copy)]
@@ -35,7 +35,7 @@ pub(crate) enum Head {
     Within(Extent),
 }
 
-/// A line before the cells, by its number: a remark, a line without a mark, or the header.
+/// Reads a line before the cells: a remark, a blank line, or the header.
 pub(crate) fn read_head(
     side: Side,
     number: usize,
@@ -49,7 +49,7 @@ pub(crate) fn read_head(
         return Ok(Head::Before(corner));
     };
     if *first == b'#' {
-        return Ok(Head::Before(either(corner_in(line), corner)));
+        return Ok(Head::Before(first_or_second(corner_in(line), corner)));
     }
     if past_blanks(line).is_empty() {
         return Ok(Head::Before(corner));
@@ -57,7 +57,8 @@ pub(crate) fn read_head(
     header(side, number, corner, extents_in(line))
 }
 
-/// The header: the pattern is no wider and no higher than the torus.
+/// Returns the box of a header. The pattern is no wider and no higher than the torus, or it is a
+/// fault.
 fn header(
     side: Side,
     number: usize,
@@ -79,7 +80,7 @@ fn header(
     Ok(Head::Within(boxed(corner, width, height)))
 }
 
-/// The box of a pattern, whose corner remarks may have said.
+/// The box of a pattern. Its corner is the one that remarks said, or column 0 of row 0.
 fn boxed(corner: Option<(usize, usize)>, width: usize, height: usize) -> Extent
     ensures { boxed result ≡ box corner (width, height) }
 {
@@ -99,8 +100,11 @@ fn boxed(corner: Option<(usize, usize)>, width: usize, height: usize) -> Extent
     }
 }
 
-/// The first, or else the second.
-fn either(first: Option<(usize, usize)>, second: Option<(usize, usize)>) -> Option<(usize, usize)>
+/// The first if there is one, or else the second.
+fn first_or_second(
+    first: Option<(usize, usize)>,
+    second: Option<(usize, usize)>,
+) -> Option<(usize, usize)>
     ensures { result ≡ if_none first second }
 {
     match first {
@@ -132,7 +136,7 @@ pub(crate) fn is_decimal(byte: u8) -> bool
     b'0' <= byte && byte < b':'
 }
 
-/// Without the blanks before it.
+/// The bytes without the blanks at their front.
 fn past_blanks(bytes: &[u8]) -> &[u8]
     ensures { result.now ≡ past_blanks bytes.now }
 {
@@ -158,7 +162,7 @@ fn number_at_front(bytes: &[u8]) -> Option<(usize, &[u8])>
     Some(number_behind(usize::from(*first - b'0'), later))
 }
 
-/// The number that the digits at the front write behind a first one, and what comes after them.
+/// The number of a first digit and the digits at the front, and what comes after them.
 fn number_behind(first: usize, bytes: &[u8]) -> (usize, &[u8])
     requires { first < 10 }
     ensures { (n : ℕ) × (number_behind first bytes.now ≡ (n, result.1.now))
@@ -188,7 +192,7 @@ fn lowered(number: usize) -> usize
     }
 }
 
-/// What comes after these bytes, if they are the first.
+/// What comes after `first`, if the bytes begin with it.
 fn after<'a>(first: &[u8], bytes: &'a [u8]) -> Option<&'a [u8]>
     ensures { MatchOption result (after first.now bytes.now ≡ None)
         (λ r. after first.now bytes.now ≡ Some r.now) }
@@ -206,7 +210,7 @@ fn after<'a>(first: &[u8], bytes: &'a [u8]) -> Option<&'a [u8]>
     Some(rest)
 }
 
-/// Blanks and then this byte.
+/// What comes after blanks and then this byte.
 fn after_sign(sign: u8, bytes: &[u8]) -> Option<&[u8]>
     ensures { MatchOption result (after_sign sign bytes.now ≡ None)
         (λ r. after_sign sign bytes.now ≡ Some r.now) }
@@ -214,7 +218,7 @@ fn after_sign(sign: u8, bytes: &[u8]) -> Option<&[u8]>
     after(&[sign], past_blanks(bytes))
 }
 
-/// A letter, an equals sign and a number, with blanks between.
+/// The number after a letter and an equals sign, with blanks between, and what comes after it.
 fn extent_at_front(letter: u8, bytes: &[u8]) -> Option<(usize, &[u8])>
     ensures { MatchOption result (extent_at_front letter bytes.now ≡ None)
         (λ r. (n : ℕ) × (extent_at_front letter bytes.now ≡ Some (n, r.1.now))
@@ -225,7 +229,7 @@ fn extent_at_front(letter: u8, bytes: &[u8]) -> Option<(usize, &[u8])>
     number_at_front(past_blanks(rest))
 }
 
-/// Nothing more, or a comma.
+/// Whether nothing more comes, or a comma.
 fn ends_header(bytes: &[u8]) -> bool
     ensures { result ≡ ends_header bytes.now }
 {
@@ -235,7 +239,7 @@ fn ends_header(bytes: &[u8]) -> bool
     }
 }
 
-/// The width and the height.
+/// The width and the height that a header says.
 fn extents_in(line: &[u8]) -> Option<(usize, usize)>
     ensures { AreExtents (extents_in line.now) result }
 {
@@ -249,7 +253,7 @@ fn extents_in(line: &[u8]) -> Option<(usize, usize)>
     }
 }
 
-/// A whole number on a ring of so many as a torus has at most, and what comes after it.
+/// A whole number modulo 512, and what comes after it.
 fn turn_at_front(bytes: &[u8]) -> Option<(usize, &[u8])>
     ensures { MatchOption result (turn_at_front bytes.now ≡ None)
         (λ r. turn_at_front bytes.now ≡ Some (r.0, r.1.now)) }
@@ -264,7 +268,7 @@ fn turn_at_front(bytes: &[u8]) -> Option<(usize, &[u8])>
     }
 }
 
-/// Two of them with this byte between them.
+/// Two such numbers with this byte between them.
 fn corner_at_front(between: u8, bytes: &[u8]) -> Option<(usize, usize)>
     ensures { result ≡ corner_at_front between bytes.now }
 {
@@ -274,7 +278,7 @@ fn corner_at_front(between: u8, bytes: &[u8]) -> Option<(usize, usize)>
     Some((column, row))
 }
 
-/// What comes after the first place at which these bytes stand.
+/// What comes after the first place where `wanted` stands.
 fn after_first<'a>(wanted: &[u8], bytes: &'a [u8]) -> Option<&'a [u8]>
     ensures { MatchOption result (after_first wanted.now bytes.now ≡ None)
         (λ r. after_first wanted.now bytes.now ≡ Some r.now) }
@@ -293,11 +297,11 @@ fn after_first<'a>(wanted: &[u8], bytes: &'a [u8]) -> Option<&'a [u8]>
 fn corner_in(line: &[u8]) -> Option<(usize, usize)>
     ensures { result ≡ corner_in line.now }
 {
-    let second = either(corner_after(b"#P ", line), corner_after(b"#R ", line));
-    either(corner_of_position(line), second)
+    let second = first_or_second(corner_after(b"#P ", line), corner_after(b"#R ", line));
+    first_or_second(corner_of_position(line), second)
 }
 
-/// Behind "Pos=" in a remark of Golly's.
+/// The corner after "Pos=" in a remark of Golly's.
 fn corner_of_position(line: &[u8]) -> Option<(usize, usize)>
     ensures { result
         ≡ option_and_then
@@ -308,7 +312,7 @@ fn corner_of_position(line: &[u8]) -> Option<(usize, usize)>
     corner_at_front(b',', after_first(b"Pos=", rest)?)
 }
 
-/// Behind these bytes, with a space between the numbers.
+/// The corner after these bytes, with a space between its numbers.
 fn corner_after(first: &[u8], line: &[u8]) -> Option<(usize, usize)>
     ensures { result ≡ option_and_then (corner_at_front 32) (after first.now line.now) }
 {

@@ -1,16 +1,17 @@
 //! Patterns as run-length text, as other programs keep them, and on a torus.
 //!
-//! Contract: `read_pattern` answers the pattern that a text is, or the first fault with its line and
-//! column (`specs/Reading.antt`); `PatternTexts` writes the text of each frame (`specs/Writing.antt`);
-//! `write_placed` writes the command lines that set the rows of a pattern's planes on a torus, over
-//! its seams (`specs/Placing.antt`).
+//! Contract: `read_pattern` returns the pattern of a text, or the first fault with its line and
+//! column (`specs/Reading.antt`). `PatternTexts` writes the text of each frame
+//! (`specs/Writing.antt`). `write_placed` writes the command lines that set the rows of a pattern's
+//! planes on a torus, over its seams (`specs/Placing.antt`).
 //!
 //! The law: the text of rows is read as a pattern with their cells.
 //!
-//! Stands on: `cam6_planes`, for the digits of rows; `cam6_frames`, for frames of replies; `hex`.
+//! Stands on: `cam6_planes`, for the digits of rows; `cam6_show_frames`, for frames of replies; `hex`;
+//! `arrayvec` and `itoa`, for numbers as they are written.
 //!
-//! Read next: `patterns` and `faults`; `reading`, with `headers` and `bodies`; `writing`; `placing`; then
-//! `laws`.
+//! Read next: `patterns` and `faults`; `reading`, with `headers` and `bodies`; `writing`, with `lines`;
+//! `placing`; then `laws`.
 #![tactic(auto)]
 
 mod bodies;

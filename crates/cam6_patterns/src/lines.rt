@@ -1,7 +1,7 @@
 //! The lines of a text, one after another.
 ghost use Rattle.std.specs.Prelude.{◌≡◌, ◌≢◌, ◌<◌, ◌≤◌, ℕ, [], ◌∷◌, MatchOption, length};
 ghost use Rattle.std.specs.Prelude.{slice_index};
-ghost use Rattle.cam6_frames.specs.Lines.{lines};
+ghost use Rattle.cam6_show_frames.specs.Lines.{lines};
 
 /// The first line, and what comes after it.
 pub(crate) fn first_line(text: &[u8]) -> Option<(&[u8], &[u8])>

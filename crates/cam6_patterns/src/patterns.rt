@@ -18,7 +18,7 @@ impl Model for PatternRow {
     ghost view = { λ r. r.states.items };
 }
 
-/// A pattern.
+/// A pattern: its size, the place of its upper left corner, and its rows.
 #[derive(Debug, Drop)]
 pub struct Pattern {
     pub(crate) width: usize,

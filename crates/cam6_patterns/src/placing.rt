@@ -4,18 +4,18 @@ ghost use Rattle.std.specs.Int.{bit_at};
 ghost use Rattle.cam6_planes.specs.Row.{bit_number};
 ghost use Rattle.cam6_patterns.specs.Pattern.{most_cells, state_in};
 ghost use Rattle.cam6_planes.specs.Side.{side_number};
-ghost use Rattle.cam6_frames.specs.Front.{WritesFront};
+ghost use Rattle.cam6_show_frames.specs.Front.{WritesFront};
 ghost use Rattle.cam6_patterns.specs.Placing.{placed};
 
 use crate::patterns::{Pattern, PatternRow};
 use arrayvec::ArrayVec;
-use cam6_frames::{Unshown, write_bytes};
 use cam6_planes::{BYTES, DIGITS, Side};
+use cam6_show_frames::{Unshown, write_bytes};
 use itoa::Buffer;
 use std::io::Write;
 use std::marker::Model;
 
-/// One to four planes, of which the first has a state's lowest bit. Contracts see a list.
+/// One to four planes. The first has a state's lowest bit. Contracts see a list.
 #[derive(Debug, Drop)]
 pub struct ChosenPlanes {
     pub(crate) count: usize,
@@ -38,7 +38,7 @@ impl ChosenPlanes {
     ghost use Rattle.std.specs.Prelude.{◌≡◌, ◌<◌, ◌≤◌, ◌^◌, length, take};
     ghost use Rattle.std.specs.List.{AllByRecursion};
 
-    /// The first so many of these planes.
+    /// The first `count` of these planes.
     pub fn new(count: usize, planes: [u8; 4]) -> ChosenPlanes
         requires some { 0 < count }
         requires few { count ≤ 4 }
@@ -48,7 +48,7 @@ impl ChosenPlanes {
         ChosenPlanes { count, planes }
     }
 
-    /// How many states their bits have.
+    /// Returns how many states their bits have.
     pub fn states(&self) -> u8
         ensures value { result ≡ 2 ^ length self.now }
         ensures few { result ≤ 16 }
@@ -68,8 +68,9 @@ impl ChosenPlanes {
     }
 }
 
-/// Writes the command lines that set the rows of a pattern's planes on a torus of a side, where its
-/// upper left corner is moved by so many columns and rows from where it says that it lies.
+/// Writes the command lines that set the rows of a pattern's planes on a torus of a side. The
+/// pattern says where its upper left corner lies, and is moved from there by so many columns and
+/// rows.
 pub fn write_placed<W: Write>(
     writer: &mut W,
     side: Side,
@@ -78,8 +79,8 @@ pub fn write_placed<W: Write>(
     planes: &ChosenPlanes,
     pattern: &Pattern,
 ) -> Result<(), Unshown>
-    requires column { column < 512 }
-    requires row { row < 512 }
+    requires column { column < most_cells }
+    requires row { row < most_cells }
     ensures { WritesFront result (W.contents writer.old) (W.contents writer.new)
         (placed (side_number side) column row planes.now pattern.now) }
 {
@@ -95,7 +96,7 @@ pub fn write_placed<W: Write>(
     Ok(())
 }
 
-/// A pattern on a torus: the column of its first, and the row of its first.
+/// A pattern on a torus, with its first column at `first` and its first row at `top`.
 #[derive(Drop)]
 struct Placement<'a> {
     side: Side,
@@ -112,14 +113,14 @@ impl Placement<'_> {
     ghost use Rattle.cam6_patterns.specs.Placing.{bit_placed, set_line};
     ghost use Rattle.cam6_patterns.specs.Outcome.{lines_of_row};
 
-    /// The lines of the pattern's row y.
+    /// Writes the lines of the pattern's row y.
     fn write_row<W: Write>(
         &self,
         writer: &mut W,
         planes: &ChosenPlanes,
         y: usize,
     ) -> Result<(), Unshown>
-        requires top { self.now.top < 1024 }
+        requires top { self.now.top < 2 * most_cells }
         requires row { y < most_cells }
         ensures { WritesFront result (W.contents writer.old) (W.contents writer.new)
             (lines_of_row (side_number self.now.side) self.now.first self.now.top
@@ -132,9 +133,9 @@ impl Placement<'_> {
         Ok(())
     }
 
-    /// The line that sets the row y of bit k in a plane.
+    /// The line that sets a row of a plane to bit k of the pattern's row y.
     fn set_line(&self, plane: u8, k: usize, y: usize) -> Line
-        requires top { self.now.top < 1024 }
+        requires top { self.now.top < 2 * most_cells }
         requires row { y < most_cells }
         ensures { let side = side_number self.now.side in
             result.items ≡ set_line side plane ((self.now.top + y) % side)
@@ -223,10 +224,10 @@ impl Placement<'_> {
 /// A command line that sets a row.
 type Line = ArrayVec<u8, LINE>;
 
-/// Room for the longest.
-const LINE: usize = 256;
+/// Room for the longest such line.
+const LINE: usize = DIGITS + 128;
 
-/// Bytes behind those of a line.
+/// Pushes bytes to a line that has room for them.
 fn push_all(line: &mut Line, bytes: &[u8])
     requires { length line.old.items + length bytes.now ≤ LINE }
     ensures { line.new.items ≡ line.old.items ++ bytes.now }
@@ -234,7 +235,7 @@ fn push_all(line: &mut Line, bytes: &[u8])
     line.try_extend_from_slice(bytes).unwrap();
 }
 
-/// The state at a column and a row.
+/// The state at a column and a row, or 0 if the rows leave it out.
 fn state_in(rows: &[PatternRow], x: usize, y: usize) -> u8
     ensures { result ≡ state_in rows.now x y }
 {

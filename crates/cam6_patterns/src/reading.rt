@@ -2,7 +2,7 @@
 ghost use Rattle.std.specs.Prelude.{◌≡◌, ◌≤◌, ◌+◌, ℕ, length, IfOk, MatchResult, Ok, Err};
 ghost use Rattle.cam6_planes.specs.Side.{side_number};
 ghost use Rattle.cam6_patterns.specs.Pattern.{most_states};
-ghost use Rattle.cam6_frames.specs.Lines.{lines};
+ghost use Rattle.cam6_show_frames.specs.Lines.{lines};
 ghost use Rattle.cam6_patterns.specs.Body.{nothing_read};
 ghost use Rattle.cam6_patterns.specs.Reading.{pattern_in, lines_read, within};
 ghost use Rattle.cam6_patterns.specs.Outcome.{boxed, bounds_of, RowsOf};
@@ -20,9 +20,9 @@ use std::alloc::{AllocError, AllocFailed, Global};
 /// Why no pattern was read.
 #[derive(Clone, Copy, Debug, PartialEq, Eq)]
 pub enum Unread {
-    /// The text is none.
+    /// The text isn't a pattern.
     Fault(PatternFault),
-    /// No memory was found for its rows.
+    /// An allocation for its rows failed.
     NoMemory,
 }
 
@@ -46,7 +46,8 @@ impl<T: Drop> From<AllocFailed<T>> for Unread {
     }
 }
 
-/// The pattern that a text is, for a torus of a side and cells of so many states.
+/// Returns the pattern of a text, for a torus of a side and cells of so many states, or its first
+/// fault.
 pub fn read_pattern(alloc: Global, side: Side, states: u8, text: &[u8]) -> Result<Pattern, Unread>
     requires { states ≤ most_states }
     ensures pattern { IfOk result (λ p. pattern_in (side_number side) states text.now ≡ Ok p) }
@@ -66,7 +67,7 @@ pub fn read_pattern(alloc: Global, side: Side, states: u8, text: &[u8]) -> Resul
 #[derive(Drop)]
 struct Start<'a> {
     extent: Extent,
-    /// How many lines came before it, with the header.
+    /// How many lines came before it, the header among them.
     lines: usize,
     rest: &'a [u8],
 }

@@ -8,19 +8,19 @@ ghost use Rattle.cam6_patterns.specs.Writing.{filled, counted, letter, trimmed, 
 ghost use Rattle.cam6_patterns.specs.Outcome.{Fills, FillsRow};
 
 use arrayvec::ArrayVec;
-use cam6_frames::{Frame, Screen, Unshown, write_bytes};
 use cam6_planes::COLUMNS;
+use cam6_show_frames::{Frame, Screen, Unshown, write_bytes};
 use itoa::Buffer;
 use std::alloc::{AllocError, Global};
 use std::io::Write;
 
-/// A writer of run-length texts, one behind the other.
+/// A writer of run-length texts, one after the other.
 #[derive(Drop)]
 pub struct PatternTexts<W> {
     writer: W,
     /// The name of a rule, or nothing.
     rule: String,
-    /// The text that is made.
+    /// The text that is being made.
     text: Vec<u8>,
 }
 
@@ -41,7 +41,7 @@ impl<W: Write> PatternTexts<W> {
 
 impl<W: Write> Screen for PatternTexts<W> {
     ghost use Rattle.std.specs.Prelude.{List, ℕ, Option, string_bytes};
-    ghost use Rattle.cam6_frames.specs.Front.{WritesFront};
+    ghost use Rattle.cam6_show_frames.specs.Front.{WritesFront};
     ghost use Rattle.cam6_patterns.specs.Writing.{text_of_frame};
 
     ghost picture = { λ s frame. text_of_frame (string_bytes s.rule) frame };
@@ -56,7 +56,7 @@ impl<W: Write> Screen for PatternTexts<W> {
     }
 }
 
-/// The text of a frame, in place of what was there.
+/// Replaces what is in the vector by the text of a frame.
 fn make_text(text: &mut Vec<u8>, rule: &[u8], frame: &Frame) -> Result<(), AllocError>
     ensures { OnOk result (text.new.items ≡ text_of_frame rule.now frame.now) }
 {
@@ -85,7 +85,7 @@ fn push_header(text: &mut Vec<u8>, side: usize, rule: &[u8]) -> Result<(), Alloc
     text.extend_from_slice(b"\n")
 }
 
-/// All rows of a frame, and the end, but not the LF behind it.
+/// All rows of a frame, and the end, but not the LF after it.
 fn push_rows(text: &mut Vec<u8>, states: u8, frame: &Frame) -> Result<(), AllocError>
     ensures { OnOk result (text.old.items ++ filled 0 (row_by_row states 0 frame.now)
         ≡ text.new.items ++ codes "\n") }
@@ -103,8 +103,8 @@ fn push_rows(text: &mut Vec<u8>, states: u8, frame: &Frame) -> Result<(), AllocE
     Ok(())
 }
 
-/// A row after the ends of others, which weren't written yet. Answers how many bytes the last line
-/// has, and how many rows' ends weren't written then.
+/// Pushes a row, and before it the row ends that aren't written yet. Returns how many bytes the
+/// last line has, and how many row ends are then not written yet.
 fn push_row(
     text: &mut Vec<u8>,
     used: usize,
@@ -164,7 +164,7 @@ fn push_runs(text: &mut Vec<u8>, used: usize, states: u8, cells: &[u8]) -> Resul
     push_part(text, used, counted(count, letter(states, state)).as_slice())
 }
 
-/// A part, on a new line where it doesn't fit. Answers how many bytes the last line has.
+/// Pushes a part, on a new line if it doesn't fit. Returns how many bytes the last line has.
 fn push_part(text: &mut Vec<u8>, used: usize, part: &[u8]) -> Result<usize, AllocError>
     ensures { IfOk result (λ after.
         Fills text.old.items used (part.now ∷ []) text.new.items after) }
@@ -178,13 +178,13 @@ fn push_part(text: &mut Vec<u8>, used: usize, part: &[u8]) -> Result<usize, Allo
     Ok(used + part.len())
 }
 
-/// How many bytes a line has at most.
+/// The most bytes of a line.
 const LINE_LENGTH: usize = 70;
 
 /// A number and a letter.
 type Part = ArrayVec<u8, 48>;
 
-/// So many of a sign: one has no number.
+/// A number and a letter, or the letter alone for 1.
 fn counted(count: usize, letter: u8) -> Part
     ensures { result.items ≡ counted count letter }
 {
@@ -209,7 +209,7 @@ fn letter(states: u8, state: u8) -> u8
     if state == 0 { b'.' } else { 64 + state }
 }
 
-/// Without the cells of state 0 behind the last of another one.
+/// The row without the cells of state 0 after its last cell of another state.
 fn trimmed(row: &[u8]) -> &[u8]
     ensures { result.now ≡ trimmed row.now }
 {
@@ -223,7 +223,7 @@ fn trimmed(row: &[u8]) -> &[u8]
     cells
 }
 
-/// Two states, or else sixteen.
+/// 2 if all cells are 0 or 1, or else 16.
 fn states_of(frame: &Frame) -> u8
     ensures { result ≡ states_of frame.now }
 {
@@ -250,7 +250,7 @@ fn are_two_states(cells: &[u8]) -> bool
     true
 }
 
-/// The cells of a row, and more behind them.
+/// The cells of a row, and zeros after them.
 fn row_cells(frame: &Frame, y: usize) -> [u8; COLUMNS]
     requires { y < length frame.now }
     ensures { take (length frame.now) result ≡ get_or frame.now y [] }

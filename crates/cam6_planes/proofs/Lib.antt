@@ -2,6 +2,10 @@
 
 -- The bits of a word that is shifted by one, with a bit of another word put in.
 pub mod Words
+-- Words whose columns are chosen by a mask.
+pub mod ChosenWords
+-- The columns of words that are the same throughout.
+pub mod SameWords
 -- A row of words, filled word by word.
 pub mod WordByWord
 -- The bytes of a word, of which the first is the highest.
@@ -20,5 +24,7 @@ pub mod CellsAt
 pub mod Blank
 -- What every side has.
 pub mod SideNumbers
+-- What the text of every side has.
+pub mod SideTexts
 -- A test of each number below a bound, which the check computes.
 pub mod AllBelow

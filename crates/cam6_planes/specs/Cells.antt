@@ -9,7 +9,7 @@ use Rattle.cam6_planes.specs.Stored.{Stored}
 abbrev pub Cells : Type 0
 Cells = ℕ → ℕ → ℕ → Bool
 
--- four planes of s by s cells: what f says, coordinates taken modulo s
+-- four planes of s by s cells: the bits of f, with coordinates taken modulo s
 abbrev pub torus : ℕ → Cells → Cells
 torus s f p x y = nat_lt p 4 && f p (x % s) (y % s)
 
@@ -21,7 +21,7 @@ no_cells p x y = false
 abbrev pub with_row : ℕ → Cells → ℕ → ℕ → (ℕ → Bool) → Cells
 with_row s f p y row = torus s (λ q u v. if (q == p) && (v == y) then row u else f q u v)
 
--- the same cells but for plane p, of which none is set
+-- the same cells but for plane p, in which no cell is set
 abbrev pub without_plane : ℕ → Cells → ℕ → Cells
 without_plane s f p = torus s (λ q x y. if q == p then false else f q x y)
 
@@ -33,6 +33,6 @@ stored_bit rows p x y = column_bit (slice_index_or (slice_index_or rows y []) p 
 abbrev pub cells : Stored → Cells
 cells v = torus (side_number v.side) (stored_bit v.rows)
 
--- these are, of planes f with s columns, row y of each plane
+-- these rows are row y of each of the planes f, at their s columns
 abbrev pub IsRow : ℕ → Cells → ℕ → List (List ℕ) → Type 0
 IsRow s f y rows = (p x : ℕ) → p < 4 → x < s → column_bit (slice_index_or rows p []) x ≡ f p x y

@@ -1,4 +1,4 @@
--- A row's hexadecimal digits and its bytes: those that are made of it, and the bytes that digits say.
+-- A row's hexadecimal digits and its bytes: how it makes them, and the bytes that digits mean.
 use Rattle.std.specs.Prelude.{ℕ, ◌+◌, ◌*◌, ◌/◌, Bool, List, map, codes, slice_index, length}
 use Rattle.std.specs.Prelude.{Option, option_and_then}
 use Rattle.std.specs.List.{range_with_len}
@@ -29,7 +29,7 @@ eight_columns row x = 16 * four_columns row x + four_columns row (x + 4)
 unfoldable pub row_bytes : ℕ → (ℕ → Bool) → List ℕ
 row_bytes n row = map (λ k. eight_columns row (8 * k)) (range_with_len 0 n)
 
--- the bytes of hexadecimal digits, of either case, as many as a row of one of the sides has
+-- the bytes of hexadecimal digits of either case, if a row of one of the sides has so many
 abbrev pub bits_of_digits : List ℕ → Option (List ℕ)
 bits_of_digits digits =
     option_and_then (λ side. result_ok (decode_sized digits (side_number side / 8)))

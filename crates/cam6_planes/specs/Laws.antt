@@ -6,7 +6,7 @@ use Rattle.cam6_planes.specs.declared.sides.Side.{Side}
 use Rattle.cam6_planes.specs.Row.{byte_column}
 use Rattle.cam6_planes.specs.Digits.{row_text, row_bytes, bits_of_digits}
 
--- as many bytes as a row of this side has, which show this bit at each of its columns
+-- these bytes are as many as a row of this side has, and show the row's bit at each of its columns
 pub record AreBitsOf (side : Side) (row : ℕ → Bool) (bytes : List ℕ) : Type 0 where
   pub long : 8 * length bytes ≡ side_number side
   pub columns : (x : ℕ) → x < side_number side → byte_column bytes x ≡ row x
@@ -18,13 +18,13 @@ DigitsAreReadBack =
     × (bits_of_digits (row_text (side_number side / 4) row) ≡ Some bytes)
     × AreBitsOf side row bytes
 
--- a row's bytes are as many as were asked for, are bytes, and show the row
+-- these are n numbers, each less than 256, that show the row
 pub record ShowsRow (n : ℕ) (row : ℕ → Bool) (bytes : List ℕ) : Type 0 where
   pub long : length bytes ≡ n
   pub small : (i : ℕ) → slice_index bytes i < 256
   pub columns : (x : ℕ) → x < 8 * n → byte_column bytes x ≡ row x
 
--- so it is with the bytes that are made of a row
+-- the bytes that are made of a row show it
 abbrev pub BytesShowTheRow : Type 0
 BytesShowTheRow = (n : ℕ) (row : ℕ → Bool) → ShowsRow n row (row_bytes n row)
 

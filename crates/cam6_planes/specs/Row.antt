@@ -3,7 +3,7 @@ use Rattle.std.specs.Prelude.{ℕ, ◌+◌, ◌-◌, ◌/◌, ◌%◌, Bool, tru
 use Rattle.std.specs.Prelude.{false, List, slice_index, ◌==◌}
 use Rattle.std.specs.Int.{bit_at}
 
--- the bit at column c of a 64-bit word, of which column 0 is the highest
+-- the bit at column c of a 64-bit word; column 0 is its highest bit
 unfoldable pub word_column : ℕ → ℕ → Bool
 word_column word c = bit_at word (63 - c) == 1
 
@@ -11,7 +11,7 @@ word_column word c = bit_at word (63 - c) == 1
 unfoldable pub column_bit : List ℕ → ℕ → Bool
 column_bit row x = word_column (slice_index row (x / 64)) (x % 64)
 
--- the bit at column x of a row of bytes, of each of which column 0 is the highest
+-- the bit at column x of a row of bytes; the first column of each byte is its highest bit
 unfoldable pub byte_column : List ℕ → ℕ → Bool
 byte_column bytes x = bit_at (slice_index bytes (x / 8)) (7 - x % 8) == 1
 

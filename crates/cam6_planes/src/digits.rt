@@ -1,4 +1,4 @@
-//! A row's hexadecimal digits and its bytes, made and read: four columns to a digit, from column 0 on.
+//! Makes and reads a row's hexadecimal digits and bytes: four columns to a digit, from column 0 on.
 ghost use Rattle.std.specs.Prelude.{◌≡◌, ◌<◌, ◌≤◌, ◌+◌, ◌-◌, ◌*◌, ◌/◌, ◌%◌, ◌==◌, ℕ, length};
 ghost use Rattle.std.specs.Int.{bit_at};
 ghost use Rattle.cam6_planes.specs.Row.{word_column, column_bit, byte_column};
@@ -10,7 +10,7 @@ use crate::row::{BYTES, DIGITS, Row};
 use crate::sides::Side;
 use std::marker::Model;
 
-/// The bits of a row of one of the three sides. Contracts see them as bytes, of which the first has
+/// The bits of a row of one of the three sides. Contracts see them as bytes. The first byte has
 /// columns 0 to 7.
 #[derive(Debug, Drop)]
 pub struct Bits {
@@ -35,8 +35,8 @@ impl Bits {
     }
 }
 
-/// The bits that digits of either case say, where they are as many as a row of one of the three
-/// sides has.
+/// Returns the bits of hexadecimal digits of either case. Returns `None` if a row of none of the
+/// three sides has so many digits, or if one of them is not a digit.
 pub fn bits_of_digits(digits: &[u8]) -> Option<Bits>
     ensures { result ≡ bits_of_digits digits.now }
 {
@@ -46,7 +46,7 @@ pub fn bits_of_digits(digits: &[u8]) -> Option<Bits>
     Some(Bits { side, bytes })
 }
 
-/// The side whose rows have so many digits.
+/// Returns the side with `count` digits in a row, or `None`.
 fn side_of_digits(count: usize) -> Option<Side>
     ensures { result ≡ side_of (4 * count) }
 {
@@ -56,8 +56,8 @@ fn side_of_digits(count: usize) -> Option<Side>
     Side::of(4 * count as u64)
 }
 
-/// Writes the row's lower case hexadecimal digits, four columns to a digit, as many as there is
-/// room for.
+/// Fills `text` with the row's lower case hexadecimal digits from column 0 on, four columns to a
+/// digit.
 pub(crate) fn write_hex(row: &Row, text: &mut [u8])
     requires bytes { length text.old % 2 ≡ 0 }
     requires row { length text.old ≤ DIGITS }
@@ -77,7 +77,7 @@ pub(crate) fn bits_of_row(row: &Row, side: Side) -> Bits
     }
 }
 
-/// The bytes of the row, of which the first has columns 0 to 7.
+/// The bytes of the row. The first has columns 0 to 7.
 fn bytes_of_row(row: &Row) -> [u8; BYTES]
     ensures { (x : ℕ) → x < 8 * BYTES → byte_column result x ≡ column_bit row.now x }
 {

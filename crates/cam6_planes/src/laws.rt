@@ -1,8 +1,8 @@
-//! The laws of a row's digits and of its bytes. Each is the contract of a function that does nothing.
+//! The laws of a row's digits and of its bytes. Each is the contract of an empty function.
 ghost use Rattle.cam6_planes.specs.Laws.{DigitsAreReadBack, BytesShowTheRow, NoOthersShowIt};
 ghost use Rattle.cam6_planes.specs.Laws.{BytesHaveItsDigits};
 
-/// The digits that are made of a row are read back as the bits of which they were made.
+/// Reading the digits of a row gives back the row's bits.
 pub fn digits_are_read_back()
     ensures law { DigitsAreReadBack }
 {}

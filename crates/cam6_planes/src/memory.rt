@@ -1,10 +1,10 @@
-//! The refusal of memory.
+//! The error of a failed allocation.
 
 use std::alloc::{AllocError, AllocFailed};
 use std::error::Error;
 use std::fmt;
 
-/// Memory was asked for and refused. It is answered for no other cause.
+/// An allocation failed. No function returns this error for any other reason.
 #[derive(Clone, Copy, Debug, PartialEq, Eq)]
 pub struct NoMemory;
 

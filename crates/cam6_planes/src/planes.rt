@@ -16,8 +16,8 @@ use crate::sides::Side;
 use std::alloc::Global;
 use std::marker::Model;
 
-/// Four bit planes, with room for those of the limit. A row of the storage holds that row of all
-/// four.
+/// Four bit planes, with room for planes of the limit's side. Each row of the storage holds that
+/// row of all four.
 #[derive(Drop)]
 pub struct Planes {
     side: Side,
@@ -43,7 +43,7 @@ impl Model for Planes {
 }
 
 impl Planes {
-    /// Planes of the limit's side, with every bit 0. No other call takes memory.
+    /// Allocates planes of the limit's side, with every bit 0. No other function here allocates.
     pub fn blank(alloc: Global, limit: Side) -> Result<Planes, NoMemory>
         ensures cells { IfOk result (λ planes. cells planes ≡ no_cells) }
         ensures side { IfOk result (λ planes. planes.side ≡ limit) }
@@ -74,7 +74,7 @@ impl Planes {
         self.limit
     }
 
-    /// Takes on a side, with every bit 0.
+    /// Changes the side, and sets every bit to 0. Does not allocate.
     pub fn set_side(&mut self, side: Side)
         requires { side_number side ≤ side_number self.old.limit }
         ensures cells { cells self.new ≡ no_cells }
@@ -111,7 +111,7 @@ impl Planes {
         row
     }
 
-    /// Row `y` of all four planes; of its words past the side nothing is said.
+    /// Lends row `y` of all four planes. Its words past the side may hold anything.
     #[tactic(auto, using(crate::proofs::CellsAt::row_of_stored))]
     pub fn row(&self, y: usize) -> &CellRow
         requires { y < width self.now }
@@ -120,7 +120,7 @@ impl Planes {
         &self.rows[y]
     }
 
-    /// Writes row `y` of plane `p` as lower case hexadecimal digits, and answers how many.
+    /// Writes row `y` of plane `p` as lower case hexadecimal digits, and returns how many.
     pub fn row_hex(&self, p: usize, y: usize, text: &mut [u8; DIGITS]) -> usize
         requires plane { p < 4 }
         requires row { y < width self.now }
@@ -156,7 +156,7 @@ impl Planes {
         set_plane_row(&mut self.rows[y], p, words);
     }
 
-    /// Writes row `y` of plane `p` from bytes, of which the first has columns 0 to 7.
+    /// Writes row `y` of plane `p` from bytes. The first byte has columns 0 to 7.
     pub fn put_row(&mut self, p: usize, y: usize, bits: &[u8])
         requires plane { p < 4 }
         requires row { y < width self.old }
@@ -180,7 +180,7 @@ impl Planes {
         clear_rows(&mut self.rows, p);
     }
 
-    /// Makes these planes show what the others show, at the others' side.
+    /// Copies the cells and the side of other planes. The limit stays.
     pub fn copy_from(&mut self, other: &Planes)
         requires { width other.now ≤ side_number self.old.limit }
         ensures cells { cells self.new ≡ cells other.now }
@@ -192,7 +192,7 @@ impl Planes {
     }
 }
 
-/// Copies the first rows, so many.
+/// Copies the first `count` rows.
 fn copy_rows(to: &mut [CellRow], from: &[CellRow], count: usize)
     requires to { count ≤ length to.old }
     requires from { count ≤ length from.now }

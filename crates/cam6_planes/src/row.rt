@@ -27,7 +27,7 @@ pub type Row = [u64; WORDS];
 /// A row of cells: that row of each of the four planes.
 pub type CellRow = [Row; 4];
 
-/// At each column of the answer, the bit that the row has to the west of it; west of column 0 is
+/// Returns the row with, at each column, the bit of the column to its west. West of column 0 is
 /// the last column. Words past the side are 0.
 pub fn west(row: &Row, side: Side) -> Row
     ensures value { let s = side_number side in
@@ -39,7 +39,7 @@ pub fn west(row: &Row, side: Side) -> Row
     shifted
 }
 
-/// At each column of the answer, the bit that the row has to the east of it; east of the last
+/// Returns the row with, at each column, the bit of the column to its east. East of the last
 /// column is column 0. Words past the side are 0.
 pub fn east(row: &Row, side: Side) -> Row
     ensures value { let s = side_number side in
@@ -51,7 +51,7 @@ pub fn east(row: &Row, side: Side) -> Row
     shifted
 }
 
-/// As `west`, into a row that is there; its words past the side stay as they are.
+/// As `west`, but writes to `shifted`. Its words past the side stay as they are.
 pub fn put_west(shifted: &mut Row, row: &Row, side: Side)
     ensures value { let s = side_number side in
         (x : ℕ) → x < s → column_bit shifted.new x ≡ column_bit row.now (west_of s x) }
@@ -65,7 +65,7 @@ pub fn put_west(shifted: &mut Row, row: &Row, side: Side)
     }
 }
 
-/// As `east`, into a row that is there; its words past the side stay as they are.
+/// As `east`, but writes to `shifted`. Its words past the side stay as they are.
 pub fn put_east(shifted: &mut Row, row: &Row, side: Side)
     ensures value { let s = side_number side in
         (x : ℕ) → x < s → column_bit shifted.new x ≡ column_bit row.now (east_of s x) }
@@ -79,7 +79,7 @@ pub fn put_east(shifted: &mut Row, row: &Row, side: Side)
     shifted[last] = moved_west(row[last], row[0]);
 }
 
-/// The word with its columns one further east, and the last of the word `before` in front of them.
+/// Moves the word's columns one further east. The last column of `before` becomes its first.
 #[inline]
 pub fn moved_east(word: u64, before: u64) -> u64
     ensures first { word_column result 0 ≡ word_column before 63 }
@@ -88,7 +88,7 @@ pub fn moved_east(word: u64, before: u64) -> u64
     word >> 1 | before << 63
 }
 
-/// The word with its columns one further west, and the first of the word `after` behind them.
+/// Moves the word's columns one further west. The first column of `after` becomes its last.
 #[inline]
 pub fn moved_west(word: u64, after: u64) -> u64
     ensures others { (c : ℕ) → c < 63 → word_column result c ≡ word_column word (c + 1) }
@@ -105,7 +105,7 @@ pub(crate) fn is_set(row: &Row, x: usize) -> bool
     row[x / 64] >> (63 - x % 64) & 1 == 1
 }
 
-/// The row of the bytes of so many words, of which the first has columns 0 to 7.
+/// The row of the bytes of `words` words. The first byte has columns 0 to 7.
 pub(crate) fn row_of_bytes(bytes: &[u8], words: usize) -> Row
     requires bytes { length bytes.now ≡ 8 * words }
     requires room { words ≤ WORDS }
@@ -118,7 +118,7 @@ pub(crate) fn row_of_bytes(bytes: &[u8], words: usize) -> Row
     row
 }
 
-/// The word of eight of the bytes.
+/// The word of bytes 8i to 8i + 7.
 fn word_of_bytes(bytes: &[u8], i: usize) -> u64
     requires { 8 * i + 8 ≤ length bytes.now }
     ensures { (c : ℕ) → c < 64 → word_column result c ≡ byte_column bytes.now (64 * i + c) }

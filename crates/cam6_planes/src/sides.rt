@@ -1,10 +1,13 @@
 //! The three sides that a torus may have.
-ghost use Rattle.std.specs.Prelude.{◌≡◌, ◌*◌, ◌%◌, ◌≤◌, IfSome};
+ghost use Rattle.std.specs.Prelude.{◌≡◌, ◌*◌, ◌%◌, ◌≤◌, IfSome, decimal, map};
 ghost use Rattle.cam6_planes.specs.Limits.{max_columns};
-ghost use Rattle.cam6_planes.specs.Side.{side_number, side_of};
+ghost use Rattle.cam6_planes.specs.Side.{side_named, side_number, side_of, side_text, side_texts};
 ghost use Rattle.cam6_planes.specs.declared.row.TheConstants.{COLUMNS, WORDS};
 
 use crate::row::WORDS;
+
+/// The numbers of the sides as texts.
+static TEXTS: [&str; 3] = ["128", "256", "512"];
 
 /// How many columns and rows a torus has.
 #[derive(Clone, Copy, Debug, PartialEq, Eq)]
@@ -29,7 +32,7 @@ impl Side {
         }
     }
 
-    /// The side of so many columns and rows.
+    /// Returns the side of `number` columns and rows, or `None` if `number` is not 128, 256 or 512.
     pub fn of(number: u64) -> Option<Side>
         ensures side { result ≡ side_of number }
         ensures number { IfSome result (λ side. side_number side ≡ number) }
@@ -38,6 +41,38 @@ impl Side {
             128 => Some(Side::S128),
             256 => Some(Side::S256),
             512 => Some(Side::S512),
+            _ => None,
+        }
+    }
+
+    /// Its number as a text.
+    pub fn text(self) -> &'static str
+        ensures text { result.now ≡ side_text self }
+        ensures number { result.now ≡ decimal (side_number self) }
+    {
+        match self {
+            Side::S128 => "128",
+            Side::S256 => "256",
+            Side::S512 => "512",
+        }
+    }
+
+    /// The numbers of all sides as texts, from the smallest on.
+    pub fn texts() -> &'static [&'static str]
+        ensures { map (λ text. text.now) result.now ≡ side_texts }
+    {
+        TEXTS.as_slice()
+    }
+
+    /// The side whose number a text is.
+    pub fn named(text: &str) -> Option<Side>
+        ensures side { result ≡ side_named text.now }
+        ensures number { IfSome result (λ side. text.now ≡ decimal (side_number side)) }
+    {
+        match text {
+            "128" => Some(Side::S128),
+            "256" => Some(Side::S256),
+            "512" => Some(Side::S512),
             _ => None,
         }
     }

@@ -1,6 +1,6 @@
 -- Lemmas, in the order of reading.
 
--- A lease and what its board holds, from call to call of the board.
-pub mod Holding
--- What the seat accepts of them.
-pub mod Carrying
+-- What a seat and its board have of each other, before and after each call of the board.
+pub mod Serving
+-- A worker's seat and its station, from call to call.
+pub mod Going

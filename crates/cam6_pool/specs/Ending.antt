@@ -3,7 +3,7 @@ use Rattle.std.specs.Prelude.{ℕ, ◌<◌, ◌≤◌}
 use Rattle.cam6_pool.specs.declared.workers.Ended.{Ended}
 use Rattle.cam6_pool.specs.declared.workers.Ended.TheVariants.{Stopped, Dead}
 
--- by how often its board had failed before and behind: dead only where it failed once more at least
+-- by how often its board had failed before and after: dead only if it failed once more at least
 abbrev pub EndsBy : Ended → ℕ → ℕ → Type 0
 EndsBy Stopped before behind = before ≤ behind
 EndsBy Dead before behind = before < behind

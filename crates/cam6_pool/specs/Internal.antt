@@ -1,3 +1,2 @@
 -- How the code goes about it: no public contract says it.
 pub mod Served
-pub mod Carried

@@ -17,7 +17,7 @@ pub trait Gate {
     /// 0, the bands of a step from 0: a step at side s has s/16 of them.
     fn turn(&self, board: u8, user: u8, band: u8) -> Turn;
 
-    /// Asked where no user could be taken onto a board: false ends its worker. It may wait for a
-    /// while, or until a command is put.
+    /// Asked if no user could be taken onto a board. False ends its worker. It may wait for a while,
+    /// or until a command is put.
     fn idle(&self, board: u8) -> bool;
 }

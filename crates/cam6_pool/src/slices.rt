@@ -15,13 +15,13 @@ use std::time::{Clock, Duration, Instant};
 /// What a command has of its board, in milliseconds, before another one that waits gets it.
 const SLICE: u64 = 2;
 
-/// In milliseconds, how long a board sleeps at most where nothing rings.
+/// In milliseconds, how long a board sleeps at most if nothing rings.
 const POLL: u64 = 100;
 
 /// What a board is at, as its worker asks.
 #[derive(Drop)]
 struct Slice {
-    /// The user whose command is on the board; 0 where none is.
+    /// The user of the command on the board, or 0 if there is none.
     user: u8,
     /// When the worker began with it. First its tables are filled.
     began: Option<Instant>,
@@ -31,7 +31,7 @@ struct Slice {
     heard: u64,
 }
 
-/// The time from one moment to another, if the clock told both.
+/// The time from one moment to another, if the clock gave both.
 fn between(from: Option<Instant>, to: Option<Instant>) -> Option<Duration> {
     match (from, to) {
         (Some(from), Some(to)) => Some(to.saturating_duration_since(from)),
@@ -49,9 +49,10 @@ impl Slice {
         }
     }
 
-    /// A band of a user's command is asked for: whether the command has had its time, of whole steps.
-    /// Where the worker asks for another user's command than before, its tables were filled since it
-    /// asked last. That is a part of the time, and the command may do one step at least.
+    /// Notes that the worker asks for a band of a user's command. Returns whether the command has had
+    /// its time, in whole steps. If the worker asks for another user's command than before, its
+    /// tables were filled since it asked last. That is a part of the time, and the command may do
+    /// one step at least.
     fn ask(&mut self, user: u8, band: u8, now: Option<Instant>) -> bool {
         let last = self.asked;
         self.asked = now;
@@ -73,7 +74,7 @@ impl Slice {
 
 /// A gate that lets a command have its board for about two milliseconds, its tables and whole steps, if
 /// another command waits, and else for as long as it wants. A command whose tables take longer does one
-/// step. A board without a command sleeps until a command is put, which has to be told by `ring`.
+/// step. A board without a command sleeps until `ring` is called, which has to follow each put.
 #[derive(Drop)]
 pub struct SlicingGate<R> {
     rt: R,
@@ -138,7 +139,7 @@ impl<R: Wait + Clock + Drop> SlicingGate<R> {
     }
 
     /// Sleeps until it is rung, or for a while, unless it was rung since the board was idle last.
-    fn listen(&self, heard: u64) -> u64 {
+    fn sleep_until_rung(&self, heard: u64) -> u64 {
         let poll = Duration::from_millis(POLL);
         let bell = self.bell.lock(&self.rt);
         let (rings, _) = self
@@ -178,7 +179,7 @@ impl<R: Wait + Clock + Drop> Gate for SlicingGate<R> {
         // A command may have been put back at a word that the worker had looked at before. User 0 is
         // nobody, so that any command that waits is another one's.
         if !self.queue.has_other(0) {
-            slice.heard = self.listen(slice.heard);
+            slice.heard = self.sleep_until_rung(slice.heard);
         }
         slice.free(self.now());
         !self.stopping.load(Ordering::SeqCst)

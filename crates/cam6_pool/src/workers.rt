@@ -1,18 +1,21 @@
 //! A worker: it serves users with its board, one lease after another.
-ghost use Rattle.std.specs.Prelude.{◌≡◌, ◌<◌, ◌≤◌, OnErr};
+ghost use Rattle.std.specs.Prelude.{◌≡◌, ◌<◌, ◌≤◌, false};
 ghost use Rattle.cam6_board.specs.Held.{empty};
 ghost use Rattle.cam6_handoff.specs.Holding.{IsIdle, emptied};
-ghost use Rattle.cam6_slot.specs.Leases.{JobFits, TablesFit};
+ghost use Rattle.cam6_slot.specs.Leases.{TablesFit};
+ghost use Rattle.cam6_station.specs.Calls.{Rises};
+ghost use Rattle.cam6_station.specs.Held.{idle, IsLoaded, is_loaded, is_dead};
 ghost use Rattle.cam6_pool.specs.Ending.{EndsBy};
-ghost use Rattle.cam6_pool.specs.Internal.Carried.{Carries, CarriesDone, TakesNext, OverBy};
-ghost use Rattle.cam6_pool.specs.Internal.Served.{HoldsJobOf, RunGives, OffBoard};
+ghost use Rattle.cam6_pool.specs.Serving.{Serves};
+ghost use Rattle.cam6_pool.specs.Internal.Served.{Carries, TakesNext, ServesOn, turns_left};
 
 use crate::gates::{Gate, Turn};
 use cam6_band::BAND;
-use cam6_board::{Board, BoardFault, Image, Job, Tables};
+use cam6_board::{Board, Job};
 use cam6_cache::TableCache;
 use cam6_handoff::BoardSeat;
 use cam6_slot::Lease;
+use cam6_station::{Banded, Preempted, Station};
 use std::sync::{Mutex, Wait};
 
 /// How a worker ends.
@@ -24,127 +27,116 @@ pub enum Ended {
     Dead,
 }
 
-/// How a lease is over.
-enum Over {
-    /// It is done, or waits again.
-    Served,
-    /// It waits again, and the worker is to end.
-    Stopped,
-    /// It waits again at its home, since the board failed.
-    Lost,
-}
-
 /// The band of its step that a board does next. A step has 32 at most.
-fn next_band<B: Board>(board: &B) -> u8 {
-    let rows = board.rows().unwrap_or(0);
+fn next_band<B: Board>(station: &Station<B>) -> u8 {
+    let rows = station.rows().unwrap_or(0);
     u8::try_from(rows / BAND as u16).unwrap_or(u8::MAX)
 }
 
-/// Does bands of a lease's job, until none is left or the gate wants it off the board.
-fn run_bands<B: Board, G: Gate>(
-    board: &mut B,
-    lease: &mut Lease,
-    user: u8,
-    gate: &G,
-) -> Result<Turn, BoardFault>
-    requires { HoldsJobOf lease.old (B.held board.old) }
-    ensures count { B.fault_count board.old ≤ B.fault_count board.new }
-    ensures counted { OnErr result (B.fault_count board.old < B.fault_count board.new) }
-    ensures gives { RunGives lease.old (B.held board.old) result lease.new (B.held board.new) }
-{
-    let number = lease.board();
-    while lease.left() > 0 {
-        match gate.turn(number, user, next_band(board)) {
-            Turn::Go => {}
-            Turn::Preempt => return Ok(Turn::Preempt),
-            Turn::Stop => return Ok(Turn::Stop),
-        }
-        match board.band() {
-            Ok(end) => lease.advance(end),
-            Err(fault) => return Err(fault),
-        }
-    }
-    Ok(Turn::Go)
-}
-
-/// The job of a lease goes onto the board and off it again: what the gate answered last, and the
-/// image then.
-fn on_board<B: Board, G: Gate>(
-    board: &mut B,
-    lease: &mut Lease,
-    user: u8,
-    job: Job,
-    tables: &Tables,
-    gate: &G,
-) -> Result<(Turn, Image), BoardFault>
-    requires board { B.held board.old ≡ empty }
-    requires job { JobFits lease.old job }
-    requires tables { TablesFit lease.old.work tables.now }
-    ensures board { B.held board.new ≡ empty }
-    ensures count { B.fault_count board.old ≤ B.fault_count board.new }
-    ensures counted { OnErr result (B.fault_count board.old < B.fault_count board.new) }
-    ensures gives { OffBoard lease.old job result lease.new }
-{
-    board.load(job, tables)?;
-    let turn = run_bands(board, lease, user, gate)?;
-    let image = board.unload()?;
-    Ok((turn, image))
-}
-
-/// Serves a lease, whose tables the seat has filled: it is put back, or told as done.
-fn serve_lease<B: Board, G: Gate>(
-    seat: &mut BoardSeat,
-    board: &mut B,
-    user: u8,
-    mut lease: Lease,
-    job: Job,
-    gate: &G,
-) -> Over
+/// Loads the board with a lease. The seat has filled its tables.
+fn load<B: Board>(seat: &mut BoardSeat, station: &mut Station<B>, user: u8, lease: Lease, job: Job)
     requires seat { Carries seat.old.holds lease job }
     requires tables { TablesFit lease.work seat.old.tables }
-    requires board { B.held board.old ≡ empty }
-    ensures seat { seat.new ≡ emptied seat.old }
-    ensures board { B.held board.new ≡ empty }
-    ensures faults { OverBy result (B.fault_count board.old) (B.fault_count board.new) }
+    requires station { station.old.at ≡ idle }
+    ensures { ServesOn seat.old station.old seat.new station.new }
 {
-    let (turn, image) = match on_board(board, &mut lease, user, job, seat.tables(), gate) {
-        Ok(off) => off,
-        Err(fault) => {
-            seat.put_back(lease.lost(fault.spare));
-            return Over::Lost;
-        }
-    };
-    match turn {
+    match station.load(usize::from(user), lease, job, seat.tables()) {
+        Ok(()) => {}
+        Err(queued) => seat.put_back(queued),
+    }
+}
+
+/// Does a band. What is finished is put as done, and what is lost waits again.
+fn band<B: Board>(seat: &mut BoardSeat, station: &mut Station<B>)
+    requires loaded { IsLoaded station.old.at }
+    requires serves { Serves seat.old.holds station.old.at }
+    ensures on { ServesOn seat.old station.old seat.new station.new }
+    ensures less { turns_left station.new.at < turns_left station.old.at }
+{
+    match station.band() {
+        Banded::More(_) => {}
+        Banded::Last(_, finished) => seat.put_done(finished),
+        Banded::Lost(_, queued) => seat.put_back(queued),
+    }
+}
+
+/// Takes the command off the board: it waits again.
+fn preempt<B: Board>(seat: &mut BoardSeat, station: &mut Station<B>)
+    requires loaded { IsLoaded station.old.at }
+    requires serves { Serves seat.old.holds station.old.at }
+    ensures on { ServesOn seat.old station.old seat.new station.new }
+    ensures less { turns_left station.new.at < turns_left station.old.at }
+{
+    match station.preempt() {
+        Preempted::Back(_, queued) => seat.put_back(queued),
+        Preempted::Lost(_, queued) => seat.put_back(queued),
+    }
+}
+
+/// Does what the gate wants next: a band, or the command comes off the board. Returns whether the gate
+/// stops the worker.
+fn go_on<B: Board, G: Gate>(
+    seat: &mut BoardSeat,
+    station: &mut Station<B>,
+    user: u8,
+    gate: &G,
+) -> bool
+    requires loaded { IsLoaded station.old.at }
+    requires serves { Serves seat.old.holds station.old.at }
+    ensures on { ServesOn seat.old station.old seat.new station.new }
+    ensures less { turns_left station.new.at < turns_left station.old.at }
+{
+    match gate.turn(seat.number(), user, next_band(station)) {
         Turn::Go => {
-            finish(seat, lease, image);
-            Over::Served
+            band(seat, station);
+            false
         }
         Turn::Preempt => {
-            seat.put_back(lease.preempt(image));
-            Over::Served
+            preempt(seat, station);
+            false
         }
         Turn::Stop => {
-            seat.put_back(lease.preempt(image));
-            Over::Stopped
+            preempt(seat, station);
+            true
         }
     }
 }
 
-/// Tells as done what is finished on the board.
-fn finish(seat: &mut BoardSeat, lease: Lease, image: Image)
-    requires { CarriesDone seat.old.holds lease image }
-    ensures { seat.new ≡ emptied seat.old }
+/// Serves a lease until it is put back or put as done. The seat has filled its tables. Returns whether
+/// the gate stopped the worker.
+fn serve_lease<B: Board, G: Gate>(
+    seat: &mut BoardSeat,
+    station: &mut Station<B>,
+    user: u8,
+    lease: Lease,
+    job: Job,
+    gate: &G,
+) -> bool
+    requires seat { Carries seat.old.holds lease job }
+    requires tables { TablesFit lease.work seat.old.tables }
+    requires station { station.old.at ≡ idle }
+    ensures seat { seat.new ≡ emptied seat.old }
+    ensures station { is_loaded station.new.at ≡ false }
+    ensures faults { Rises (is_dead station.new.at) station.old.faults station.new.faults }
 {
-    match image.into_rest() {
-        Ok(image) => seat.put_done(lease.finish(image)),
-        Err(step) => {
-            drop(step.abandon());
-            unreachable!()
-        }
+    load(seat, station, user, lease, job);
+    let mut stops = false;
+    while station.is_loaded() {
+        stops = go_on(seat, station, user, gate);
     }
+    stops
 }
 
-/// Takes a command that waits: of the first user who has one, from the user behind the last on.
+/// Gives a command back that was taken and not begun: it waits again.
+fn give_back(seat: &mut BoardSeat, lease: Lease, job: Job)
+    requires seat { Carries seat.old.holds lease job }
+    ensures seat { seat.new ≡ emptied seat.old }
+{
+    let queued = lease.preempt(job.into_image());
+    seat.put_back(queued);
+}
+
+/// Takes a command that waits: that of the first user who has one, from the user after the last on.
 fn take_next(seat: &mut BoardSeat, last: u8) -> Option<(u8, Lease, Job)>
     requires { IsIdle seat.old }
     ensures { TakesNext seat.old result seat.new }
@@ -163,14 +155,14 @@ fn take_next(seat: &mut BoardSeat, last: u8) -> Option<(u8, Lease, Job)>
 }
 
 /// Serves users with a board until the gate ends it, or the board fails. Users take turns: each time
-/// it goes on from the user behind the one whom it served last. Each table is filled under the cache's
+/// it goes on from the user after the one whom it served last. Each table is filled under the cache's
 /// lock, and no lock is held while bands are done. A lease that it has at its end is put back first:
-/// with its half-done step where the gate stopped it, from its home where the board failed. The seat
-/// can serve again, with this board or another one.
+/// with its half-done step if the gate stopped it, from its home if the board failed. The seat can
+/// serve again, with this board or another one.
 pub fn serve_board<R: Wait, B: Board, G: Gate>(
     rt: &R,
     mut seat: BoardSeat,
-    mut board: B,
+    board: B,
     cache: &Mutex<TableCache>,
     gate: &G,
 ) -> (BoardSeat, B, Ended)
@@ -182,19 +174,26 @@ pub fn serve_board<R: Wait, B: Board, G: Gate>(
     ensures board { B.held result.1 ≡ empty }
     ensures faults { EndsBy result.2 (B.fault_count board) (B.fault_count result.1) }
 {
+    let mut station = Station::of(board);
     let mut last = 0;
     for _ in rt.forever() {
         let Some((user, lease, job)) = take_next(&mut seat, last) else {
             if gate.idle(seat.number()) {
                 continue;
             }
-            return (seat, board, Ended::Stopped);
+            return (seat, station.into_board(), Ended::Stopped);
         };
-        seat.fill_each(rt, &lease, cache);
-        match serve_lease(&mut seat, &mut board, user, lease, job, gate) {
-            Over::Served => last = user,
-            Over::Stopped => return (seat, board, Ended::Stopped),
-            Over::Lost => return (seat, board, Ended::Dead),
+        last = user;
+        if !seat.fill_each(rt, &lease, cache) {
+            give_back(&mut seat, lease, job);
+            continue;
+        }
+        let stops = serve_lease(&mut seat, &mut station, user, lease, job, gate);
+        if station.is_dead() {
+            return (seat, station.into_board(), Ended::Dead);
+        }
+        if stops {
+            return (seat, station.into_board(), Ended::Stopped);
         }
     }
     unreachable!()

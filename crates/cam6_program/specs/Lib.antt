@@ -1,5 +1,5 @@
--- In the order of reading: how programs are seen, what they mean, and when one computes entries;
--- then what is read and made at a column.
+-- In the order of reading: how programs are seen, what they mean, and when one computes entries.
+-- Then what is read and made at a column.
 pub mod Limits
 pub mod Programs
 pub mod Meaning

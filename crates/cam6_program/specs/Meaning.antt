@@ -1,5 +1,5 @@
--- What a program means: the two bits that it makes of what the twelve lines show. Any list of steps
--- means something, whether anybody wants it or not.
+-- What a program means: the two bits that it makes of what the twelve lines show. Every list of
+-- steps means something.
 use Rattle.std.specs.Prelude.{ℕ, Bool, false, not, ◌&&◌, ◌||◌, if◌then◌else◌}
 use Rattle.std.specs.Prelude.{List, [], ◌∷◌, slice_index_or, slice_set, replicate}
 use Rattle.std.specs.Prelude.{Option, Some, None}
@@ -13,14 +13,13 @@ use Rattle.cam6_program.specs.declared.steps.Operation.TheVariants.{Choice, And,
 use Rattle.cam6_program.specs.declared.steps.Operation.TheVariants.{Or, OrNot, Xor}
 use Rattle.cam6_program.specs.declared.steps.Step.{Step}
 
--- what a source gives, of what the lines show and the slots hold. Past the last line and the last
--- slot there is 0
+-- what a source reads from the lines and the slots. Past the last line and the last slot it reads 0
 abbrev pub read : List Bool → List Bool → Source → Bool
 read lines slots (Constant bit) = bit
 read lines slots (Line line) = slice_index_or lines line false
 read lines slots (Slot slot) = slice_index_or slots slot false
 
--- what an operation makes of what it reads; a choice takes one of two by a third
+-- what an operation makes of what it reads; a choice selects one of two bits by a third
 abbrev pub made : List Bool → List Bool → Operation → Bool
 made lines slots (Choice by low high) =
     if read lines slots by then read lines slots high else read lines slots low
@@ -43,12 +42,12 @@ abbrev pub after_steps : List Bool → List Step → List Bool → List Bool
 after_steps lines [] slots = slots
 after_steps lines (step ∷ steps) slots = after_steps lines steps (after_step lines step slots)
 
--- so many slots that hold 0
+-- this many slots that hold 0
 abbrev pub empty : ℕ → List Bool
 empty slots = replicate slots false
 
--- the new bit of a level, of what all lines show, of the lines that the program is shown, and of
--- what the slots hold in the end
+-- the new bit of a level: what its source reads from the lines that the program is shown and from
+-- the slots at the end. Without a source it is the bit of the level's own line
 abbrev pub given : Level → List Bool → List Bool → List Bool → Option Source → Bool
 given level bits lines slots None = slice_index_or bits (number level) false
 given level bits lines slots (Some source) = read lines slots source

@@ -11,9 +11,8 @@ abbrev pub number : Level → ℕ
 number Lower = 0
 number Upper = 1
 
--- the steps, one behind the other; how many slots they may use; the mask of the lines that they are
--- shown; and what the two new bits are read from at the end. A bit that is read from nothing is
--- kept
+-- the steps in their order; how many slots they may use; the mask of the lines that they are shown;
+-- and the sources of the two new bits at the end. A bit without a source is kept
 pub record Steps : Type 0 where
   pub steps : List Step
   pub slots : ℕ

@@ -15,16 +15,17 @@ use Rattle.cam6_program.specs.declared.running.Readable.{Readable}
 abbrev pub lines_at : ℕ → Readable → List Bool
 lines_at c readable = at_column c (map (λ line. line.now) readable.lines.now)
 
--- what the slots hold, of which the one that is written is empty
+-- what the slots hold; the one that is written is empty
 abbrev pub slots_at : ℕ → Readable → List Bool
 slots_at c readable = at_column c readable.before.now ++ (false ∷ at_column c readable.behind.now)
 
--- slots that lie behind others, once an operation has written the first
+-- slots that follow others, after an operation has written the first of them
 abbrev pub with_first : List Bool → List Bool → Operation → List Bool → List Bool
 with_first lines before operation slots =
     made lines (before ++ (false ∷ drop 1 slots)) operation ∷ drop 1 slots
 
--- of lines that show 0 where the program doesn't ask for them, the unit has the bits that it makes
+-- unless the level is kept, the unit has the bits that the program makes of these lines, which show
+-- 0 if the program doesn't ask for them
 abbrev pub Makes : Level → Steps → List (List ℕ) → ℕ → List ℕ → Type 0
 Makes level program lines words unit =
     keeps level program ≡ false → (c : ℕ) (bits : List Bool) → c < 64 * words →

@@ -18,19 +18,19 @@ const ENTRIES: usize = 1 << LINES;
 #[derive(Drop)]
 pub(crate) struct TooLong;
 
-/// Choices, each after those among which it chooses, and what is to become of both levels.
+/// Choices, each after those among which it chooses, and the nodes of both levels.
 #[derive(Drop)]
 pub(crate) struct Diagram {
     pub(crate) choices: [Choice; MAX_STEPS],
     pub(crate) count: usize,
-    /// The first choice by the line whose turn it is.
+    /// The first choice by the line that is being joined.
     first: usize,
     pub(crate) lower: Node,
     pub(crate) upper: Node,
 }
 
 impl Diagram {
-    /// The diagram of the lower and the upper bits of entries.
+    /// Returns the diagram of the lower and the upper bits of entries, or `TooLong`.
     pub(crate) fn of(entries: &[u8]) -> Result<Diagram, TooLong>
         requires { length entries.now ≡ 2 ^ LINES }
         ensures { IfOk result (λ diagram. diagram.count ≤ MAX_STEPS) }
@@ -59,7 +59,8 @@ impl Diagram {
         Ok(diagram)
     }
 
-    /// The choice of each pair of nodes by a line, in the first half of them.
+    /// Joins each pair of nodes to their choice by a line. Writes the choices to the first half of
+    /// `nodes`.
     fn join_pairs(&mut self, by: Node, nodes: &mut [Node]) -> Result<(), TooLong>
         requires { self.old.count ≤ MAX_STEPS }
         ensures { self.new.count ≤ MAX_STEPS }
@@ -87,7 +88,7 @@ impl Diagram {
         Ok(())
     }
 
-    /// The node that a choice by this line makes.
+    /// Returns the node of a choice by this line. Adds the choice if it is needed and new.
     fn node(&mut self, choice: Choice) -> Result<Node, TooLong>
         requires { self.old.count ≤ MAX_STEPS }
         ensures { self.new.count ≤ MAX_STEPS }

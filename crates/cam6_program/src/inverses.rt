@@ -1,4 +1,4 @@
-//! What a choice is: an operation of the least work. Where two nodes of a diagram are each other's
+//! Makes each choice an operation of the least work. If two nodes of a diagram are each other's
 //! inverse, the choice among them is an exclusive or.
 ghost use Rattle.std.specs.Prelude.{◌≤◌, length};
 ghost use Rattle.cam6_program.specs.declared.programs.TheConstants.{MAX_STEPS};
@@ -40,7 +40,7 @@ impl Inverses {
         self.known[second.number()] = Some(first);
     }
 
-    /// The inverse of a choice, where it is one of the choices before it.
+    /// The inverse of a choice, if it is one of the choices before it.
     fn found(&self, choice: Choice, before: &[Choice]) -> Option<Node>
         requires { length before.now ≤ MAX_STEPS }
     {

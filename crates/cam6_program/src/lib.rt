@@ -1,17 +1,16 @@
 //! Tables as short programs: entries as a few operations on words, for all cells of a unit at once.
 //!
-//! Contract: `Program::of` gives a program that computes the entries, if it finds a short one
-//! (`specs/Computing.antt`); `run` writes, at each column of a unit, the two bits that a program
-//! makes of what the lines show there (`specs/Meaning.antt`). `asked` says which lines it has to be
-//! shown, and `keeps` which level it leaves to every cell as it is.
+//! Contract: `Program::of` returns a program that computes the entries, if it finds a short one
+//! (`specs/Computing.antt`). `run` writes, at each column of a unit, the two bits that a program
+//! makes of what the lines show there (`specs/Meaning.antt`). `asked` returns which lines it has to
+//! be shown, and `keeps` whether every cell keeps its bit of a level.
 //!
-//! Stands on: `cam6_lines`, for units; `cam6_lookup`, for entries; `cam6_wiring`, for lines and
-//! levels.
+//! Stands on: `cam6_planes`, for the columns of a word; `cam6_lines`, for units; `cam6_lookup`, for
+//! entries; `cam6_wiring`, for lines and levels.
 //!
-//! How: any list of steps means something, whether anybody wants it or not, and running it is
-//! proved to make what it means. So nothing is proved of the builder but that it is safe: what it
-//! builds is run on all 4,096 addresses at once, and handed out only if it makes the bits of every
-//! entry.
+//! How: every list of steps means something, and running it is proved to make what it means. So the
+//! builder is proved only to be safe. `Program::of` runs what was built on all 4,096 addresses at
+//! once, and returns it only if it makes the bits of every entry.
 //!
 //! Read next: `steps` and `programs`; `operations` and `running`, how a program is run;
 //! `validating`; then `nodes`, `building`, `inverses` and `writing`, how one is built.

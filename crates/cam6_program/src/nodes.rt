@@ -7,12 +7,12 @@ use crate::programs::MAX_STEPS;
 use crate::steps::Source;
 use cam6_wiring::LINES;
 
-/// A bit that is made of an address: always the same, what a line shows, or what a choice takes.
-/// A byte has the number of any of them, so that an array of `NODES` has room for each.
+/// A bit that is made of an address: a constant, what a line shows, or what a choice selects. The
+/// number of a node fits into a byte, so an array of `NODES` has room for each.
 #[derive(Clone, Copy, PartialEq, Eq)]
 pub(crate) struct Node(u8);
 
-/// As many nodes as a byte can tell apart.
+/// The number of nodes that a byte can tell apart.
 pub(crate) const NODES: usize = 256;
 
 pub(crate) const ZERO: Node = Node(0);
@@ -37,7 +37,7 @@ impl Node {
         Node(FIRST_LINE + line as u8)
     }
 
-    /// What the choice at a place of the diagram takes.
+    /// What the choice at a place of the diagram selects.
     pub(crate) fn choice(place: usize) -> Node
         requires { place < MAX_STEPS }
     {
@@ -63,7 +63,7 @@ impl Node {
     }
 }
 
-/// `high` where the line `by` shows 1, and `low` where it shows 0.
+/// `high` if the line `by` shows 1, and `low` if it shows 0.
 #[derive(Clone, Copy, PartialEq, Eq)]
 pub(crate) struct Choice {
     pub(crate) by: Node,

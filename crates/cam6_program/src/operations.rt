@@ -1,5 +1,5 @@
-//! The operations of a step, at all columns of units at once. Each makes so many words; what lies
-//! past them isn't touched.
+//! The operations of a step, at all columns of units at once. Each writes the first `words` words,
+//! and leaves those past them as they are.
 ghost use Rattle.std.specs.Prelude.{◌≡◌, ◌<◌, ◌≤◌, ◌*◌, ℕ, not, ◌&&◌, ◌||◌, if◌then◌else◌};
 ghost use Rattle.cam6_planes.specs.Row.{column_bit};
 ghost use Rattle.cam6_lines.specs.declared.units.TheConstants.{UNIT};
@@ -66,7 +66,7 @@ pub(crate) fn put_or_not(out: &mut Unit, first: &Unit, second: &Unit, words: usi
     }
 }
 
-/// 1 where one of both is 1.
+/// 1 where exactly one of both is 1.
 #[inline(always)]
 pub(crate) fn put_xor(out: &mut Unit, first: &Unit, second: &Unit, words: usize)
     requires { words ≤ UNIT }

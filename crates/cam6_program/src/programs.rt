@@ -26,10 +26,10 @@ pub const MAX_STEPS: usize = 128;
 /// Slots of a program at most.
 pub const MAX_SLOTS: usize = 48;
 
-/// So many slots are few, and enough for most programs.
+/// Slots that are enough for most programs.
 const FEW_SLOTS: usize = 6;
 
-/// So many are enough for the shortest ones.
+/// Slots that are enough for the shortest ones.
 const LEAST_SLOTS: usize = 2;
 
 /// Steps that make two bits of what the twelve lines show, for all cells of a unit at once.
@@ -68,7 +68,8 @@ impl Program {
     ghost use Rattle.cam6_program.specs.declared.programs.TheConstants.{MAX_SLOTS};
     ghost use Rattle.cam6_program.specs.Computing.{Computes};
 
-    /// A program that computes the entries, if a short one is found. It takes no memory.
+    /// Returns a program that computes the entries, or `None` if it finds no short one. Does not
+    /// allocate.
     pub fn of(entries: &[u8]) -> Option<Program>
         requires { length entries.now ≡ 2 ^ LINES }
         ensures { IfSome result (λ program. Computes entries.now program) }
@@ -127,8 +128,8 @@ impl Program {
         }
     }
 
-    /// Makes the new bits of both levels in so many words, of lines that show 0 where the program
-    /// doesn't ask for them. Of a level that is kept nothing is written.
+    /// Writes the new bits of both levels in the first `words` words. Lines that the program
+    /// doesn't ask for must show 0. A level that is kept is not written.
     pub fn run(&self, lines: &Lines, words: usize, lower: &mut Unit, upper: &mut Unit)
         requires { words ≤ UNIT }
         ensures lower { keeps Lower self.now ≡ false → (c : ℕ) (bits : List Bool) → c < 64 * words →
@@ -147,8 +148,8 @@ impl Program {
         }
     }
 
-    /// `run` with a few slots. Room on the stack is emptied whenever its function is entered, so
-    /// that the room for many slots stands in a function of its own.
+    /// `run` with a few slots. Room on the stack is emptied whenever its function is entered. So
+    /// the room for many slots stands in a function of its own.
     #[inline(never)]
     fn run_in_few(&self, lines: &Lines, words: usize, lower: &mut Unit, upper: &mut Unit)
         requires words { words ≤ UNIT }
@@ -172,7 +173,7 @@ impl Program {
         self.run_in(&mut slots[..self.slots], lines, words, lower, upper);
     }
 
-    /// `run` with as many slots as there can be.
+    /// `run` with the most slots.
     #[inline(never)]
     fn run_in_many(&self, lines: &Lines, words: usize, lower: &mut Unit, upper: &mut Unit)
         requires { words ≤ UNIT }

@@ -12,7 +12,7 @@ use crate::steps::{Operation, Source, Step};
 use cam6_lines::{Lines, UNIT, Unit};
 use cam6_wiring::LINES;
 
-/// What a step can read: the lines, and the slots before the one that it writes and behind it.
+/// What a step can read: the lines, and the slots before and after the one that it writes.
 #[derive(Clone, Copy)]
 pub(crate) struct Readable<'a> {
     pub(crate) lines: &'a Lines<'a>,
@@ -32,7 +32,7 @@ pub(crate) fn constant(bit: bool) -> &'static Unit
 }
 
 impl<'a> Readable<'a> {
-    /// What a source gives.
+    /// What a source reads.
     fn read(&self, source: Source) -> &'a Unit
         ensures { (c : ℕ) → c < 64 * UNIT →
             column_bit result.now c ≡ read (lines_at c self.now) (slots_at c self.now) source }
@@ -72,9 +72,9 @@ fn shown<'a>(lines: &Lines<'a>, line: usize) -> &'a Unit
     }
 }
 
-/// What an operation makes of what it reads, in so many words.
+/// Writes the result of an operation, in so many words.
 #[inline(always)]
-fn put_made(out: &mut Unit, operation: Operation, from: &Readable, words: usize)
+fn put_result(out: &mut Unit, operation: Operation, from: &Readable, words: usize)
     requires { words ≤ UNIT }
     ensures { (c : ℕ) → c < 64 * words →
         column_bit out.new c ≡ made (lines_at c from.now) (slots_at c from.now) operation }
@@ -110,7 +110,7 @@ fn take_step(step: Step, lines: &Lines, slots: &mut [Unit], words: usize)
     }
 }
 
-/// Writes the first of the slots that lie behind others.
+/// Writes the first of `slots`, which follow the slots `before`.
 #[inline(always)]
 fn write_first(
     slots: &mut [Unit],
@@ -132,12 +132,12 @@ fn write_first(
             before,
             behind,
         };
-        put_made(out, operation, &from, words);
+        put_result(out, operation, &from, words);
     }
 }
 
-/// Takes all steps, one after the other. For whole units the number of words is known where the
-/// loops over them are compiled, which makes them a third shorter.
+/// Takes all steps, one after the other. For whole units the compiler knows the number of words,
+/// which makes the loops over them a third shorter.
 pub(crate) fn take_steps(steps: &[Step], lines: &Lines, slots: &mut [Unit], words: usize)
     requires { words ≤ UNIT }
     ensures { (c : ℕ) → c < 64 * words → at_column c slots.new ≡ after_steps
@@ -180,7 +180,7 @@ fn take_in_turn(steps: &[Step], lines: &Lines, slots: &mut [Unit], words: usize)
     }
 }
 
-/// Puts what a source gives after the last step. A level that is kept has none.
+/// Writes what a source reads after the last step. A level that is kept has no source.
 pub(crate) fn put_given(out: &mut Unit, source: Option<Source>, lines: &Lines, slots: &[Unit])
     ensures { IfSome source (λ source. (c : ℕ) → c < 64 * UNIT → column_bit out.new c ≡
         read (at_column c (map (λ line. line.now) lines.now)) (at_column c slots.now) source) }

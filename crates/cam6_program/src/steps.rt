@@ -1,7 +1,7 @@
 //! The steps of a program.
 
-/// What a step reads: a bit that is always the same, what an address line shows, or what a slot
-/// holds. Past the last line and the last slot there is 0.
+/// What a step reads: a constant bit, what an address line shows, or what a slot holds. Past the
+/// last line and the last slot it reads 0.
 #[derive(Clone, Copy, Debug, PartialEq, Eq)]
 pub enum Source {
     Constant(bool),
@@ -12,7 +12,7 @@ pub enum Source {
 /// What a step makes of what it reads.
 #[derive(Clone, Copy, Debug, PartialEq, Eq)]
 pub enum Operation {
-    /// `high` where `by` is 1, and `low` where it is 0.
+    /// `high` if `by` is 1, and `low` if it is 0.
     Choice {
         by: Source,
         low: Source,

@@ -87,7 +87,7 @@ fn made_at_addresses(program: &Program) -> (Unit, Unit)
     )
 }
 
-/// A level's bits as they are if they are kept, or else what the program made.
+/// Returns what the program made of a level, or the cells' own bits if the level is kept.
 fn kept_or(program: &Program, level: Level, made: Unit) -> Unit
     requires { keeps level program.now ≡ false → MakesAtAddresses level program.now made }
     ensures { MakesAtAddresses level program.now result }
@@ -101,7 +101,7 @@ fn kept_or(program: &Program, level: Level, made: Unit) -> Unit
     }
 }
 
-/// The lines where each column shows its own address, of those that are asked for; 0 on the others.
+/// The lines on which each column shows its own address. Lines that are not asked for show 0.
 fn asked_lines(asked: u16) -> [Unit; LINES]
     ensures { (bits : List Bool) → length bits ≡ LINES →
         at_column (number_of bits) result ≡ asked_for asked bits }
@@ -113,7 +113,7 @@ fn asked_lines(asked: u16) -> [Unit; LINES]
     lines
 }
 
-/// One of them.
+/// One line of `asked_lines`.
 fn asked_line(asked: u16, line: usize) -> Unit
     requires { line < LINES }
     ensures { (address : ℕ) → address < 2 ^ LINES →
@@ -148,7 +148,7 @@ const LOW_LINES: [u64; 6] = [
     0x0000_0000_FFFF_FFFF,
 ];
 
-/// One word of such a line.
+/// One word of an `address_line`.
 fn address_word(line: usize, word: usize) -> u64
     requires line { line < LINES }
     requires word { word < UNIT }

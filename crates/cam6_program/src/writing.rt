@@ -19,11 +19,11 @@ const NO_STEP: Step = Step {
 /// A program that is being written. A byte has the place of any choice, and any slot.
 #[derive(Drop)]
 struct Writer {
-    /// What each choice does; where it reads a slot, that is the place of another choice.
+    /// What each choice does. A slot that it reads is the place of another choice.
     operations: [Operation; NODES],
-    /// How often what each choice makes is still to be read.
+    /// How often the result of each choice is still to be read.
     reads: [u8; NODES],
-    /// The slot where it is, once it is written.
+    /// The slot of each choice, once it is written.
     slot_of: [Option<u8>; NODES],
     is_free: [bool; NODES],
     steps: [Step; MAX_STEPS],
@@ -31,7 +31,7 @@ struct Writer {
     slots: usize,
 }
 
-/// The program of a diagram, unless it needs too many slots.
+/// Returns the program of a diagram, or `None` if it needs too many slots.
 pub(crate) fn written(diagram: &Diagram) -> Option<Program>
     requires { diagram.now.count ≤ MAX_STEPS }
 {
@@ -46,7 +46,7 @@ pub(crate) fn written(diagram: &Diagram) -> Option<Program>
     writer.program(lower, upper)
 }
 
-/// What a level is read from; nothing if it is kept, as its own line shows it.
+/// What a level is read from. A level that its own line shows is kept, and has none.
 fn given(node: Node, own: Source) -> Option<Source> {
     let source = node.source();
     if source == own { None } else { Some(source) }
@@ -65,7 +65,7 @@ fn operations(diagram: &Diagram) -> [Operation; NODES]
 }
 
 impl Writer {
-    /// Nothing is written yet, and nothing is expected to be read.
+    /// A writer that has written no step, and expects no source to be read.
     fn of(diagram: &Diagram) -> Writer
         requires { diagram.now.count ≤ MAX_STEPS }
         ensures { result.count ≤ MAX_STEPS }
@@ -81,7 +81,7 @@ impl Writer {
         }
     }
 
-    /// What a level is read from will be read at the end.
+    /// Notes that what a level is read from will be read at the end.
     fn expect_level(&mut self, level: Option<Source>)
         ensures { self.new.count ≡ self.old.count }
     {
@@ -90,7 +90,8 @@ impl Writer {
         }
     }
 
-    /// Of so many choices those that are read will read others. Each stands after what it reads.
+    /// Notes what the choices that are read will read, from the last one to the first. Each stands
+    /// after what it reads.
     fn expect_reads(&mut self, choices: usize)
         requires { choices ≤ MAX_STEPS }
         ensures { self.new.count ≡ self.old.count }
@@ -105,7 +106,7 @@ impl Writer {
         }
     }
 
-    /// A source will be read once more.
+    /// Notes that a source will be read once more.
     fn expect(&mut self, source: Source)
         ensures { self.new.count ≡ self.old.count }
     {
@@ -115,20 +116,20 @@ impl Writer {
         }
     }
 
-    /// Writes what a level is read from, and says where it is.
+    /// Writes what a level is read from, and returns where it is.
     fn write_level(&mut self, level: Option<Source>) -> Option<Source>
         requires { self.old.count ≤ MAX_STEPS }
         ensures { self.new.count ≤ MAX_STEPS }
     {
         let source = level?;
         if let Source::Slot(place) = source {
-            self.write(usize::from(place));
+            self.write_choice(usize::from(place));
         }
         Some(self.in_slot(source))
     }
 
     /// Writes a choice, after all that it reads, unless it is written already.
-    fn write(&mut self, place: usize)
+    fn write_choice(&mut self, place: usize)
         requires place { place < NODES }
         requires count { self.old.count ≤ MAX_STEPS }
         ensures { self.new.count ≤ MAX_STEPS }
@@ -140,7 +141,7 @@ impl Writer {
         for source in sources(operation) {
             if let Source::Slot(below) = source {
                 if usize::from(below) < place {
-                    self.write(usize::from(below));
+                    self.write_choice(usize::from(below));
                 }
             }
         }
@@ -179,7 +180,7 @@ impl Writer {
         u8::MAX
     }
 
-    /// A source has been read once. A slot that nobody will read any more is free.
+    /// Notes that a source has been read once. Frees a slot that nobody will read any more.
     fn note_read(&mut self, source: Source)
         ensures { self.new.count ≡ self.old.count }
     {
@@ -194,7 +195,7 @@ impl Writer {
         }
     }
 
-    /// An operation that reads the slots where the choices are.
+    /// The operation with each choice that it reads replaced by its slot.
     fn in_slots(&self, operation: Operation) -> Operation {
         match operation {
             Operation::Choice { by, low, high } => Operation::Choice {
@@ -220,7 +221,7 @@ impl Writer {
         }
     }
 
-    /// A source, where a choice is the slot where it is.
+    /// The source with a choice replaced by its slot.
     fn in_slot(&self, source: Source) -> Source {
         match source {
             Source::Slot(place) => {
@@ -230,7 +231,7 @@ impl Writer {
         }
     }
 
-    /// The program, where this is what both levels are read from.
+    /// Returns the program with these sources of both levels, or `None` if it has too many slots.
     fn program(self, lower: Option<Source>, upper: Option<Source>) -> Option<Program>
         requires { self.count ≤ MAX_STEPS }
     {

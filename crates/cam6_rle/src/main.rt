@@ -1,22 +1,22 @@
 //! The program `cam6_rle`: run-length texts of patterns into command lines of `cam6`, and its replies into
 //! such texts.
 //!
-//! Contract: what the words ask for, each end's exit status and what is told of a text that is no pattern
-//! are those of `cam6_words`; which lines a pattern is set by, and which text a frame has, is the contract
-//! of `read_pattern`, of `write_placed` and of `PatternTexts` in `cam6_patterns`; which frames replies
-//! show, and how they end, that of `show_frames` in `cam6_frames`.
+//! Contract: what the arguments ask for, each end's exit status and the line for a text that isn't
+//! a pattern are those of `cam6_show_words`. Which lines set a pattern, and which text a frame has, is
+//! the contract of `read_pattern`, of `write_placed` and of `PatternTexts` in `cam6_patterns`.
+//! Which frames replies show, and how they end, is the contract of `show_frames` in `cam6_show_frames`.
 //!
-//! Stands on: `cam6_words`, `cam6_patterns`, `cam6_frames`.
+//! Stands on: `cam6_show_words`, `cam6_patterns`, `cam6_show_frames`.
 #![tactic(auto)]
 
 ghost use Rattle.std.specs.Prelude.{◌≡◌};
 ghost use Rattle.std.specs.Process.{exit_status};
 
-use cam6_frames::{End, Unshown, show_frames};
 use cam6_patterns::{Pattern, PatternFault, PatternTexts, Unread, read_pattern, write_placed};
-use cam6_words::{
+use cam6_show_frames::{End, Unshown, show_frames};
+use cam6_show_words::{
     BAD_INPUT, NO_MEMORY, Place, Program, Refused, RleOptions, ended, failed, fault_text,
-    options_of_rle, refuse, unreadable,
+    options_of_rle, refusal_of_read, refuse,
 };
 use std::env::Env;
 use std::io;
@@ -27,7 +27,7 @@ fn main(rt: HostRuntime) -> ExitCode {
     run(&rt)
 }
 
-/// Reads the words, and does what they ask for.
+/// Reads the arguments, and does what they ask for.
 fn run<R: Env + Input + Print + Eprint + AllocGlobal>(rt: &R) -> ExitCode {
     match options_given(rt) {
         Ok(RleOptions::Place(place)) => placed(rt, &place),
@@ -40,7 +40,7 @@ fn options_given<R: Env + AllocGlobal>(rt: &R) -> Result<RleOptions, Refused> {
     let alloc = rt.alloc();
     let args = match std::env::args(rt) {
         Ok(args) => args,
-        Err(e) => return Err(unreadable(alloc, Program::Rle, e.kind())),
+        Err(e) => return Err(refusal_of_read(alloc, Program::Rle, e.kind())),
     };
     let Ok(words) = args.collect::<Vec<String>>(alloc) else {
         return Err(Refused::NoMemory);
@@ -83,7 +83,7 @@ fn written<R: Print + Eprint + AllocGlobal>(rt: &R, place: &Place, pattern: &Pat
     }
 }
 
-/// Tells why the text is no pattern, and where.
+/// Prints why the text isn't a pattern, and where, and returns exit status 3.
 fn misread<R: Eprint + AllocGlobal>(rt: &R, fault: PatternFault) -> ExitCode
     ensures { exit_status result ≡ 3 }
 {

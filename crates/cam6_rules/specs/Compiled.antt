@@ -10,7 +10,7 @@ pub record Compiled : Type 0 where
   pub text : List ℕ
   pub code : List Instruction
 
--- where there is a rule it is kept as it was defined, and where there is none nothing is
+-- if there is a rule it is kept as it was defined, and if there is none nothing is
 abbrev pub IsKeptAs : Option Rule → Option Compiled → Type 0
 IsKeptAs None None = ⊤
 IsKeptAs None (Some compiled) = ⊥

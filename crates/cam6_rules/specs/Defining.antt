@@ -7,14 +7,14 @@ use Rattle.cam6_commands.specs.declared.refusals.Refusal.{Refusal}
 use Rattle.cam6_rules.specs.declared.rules.NotDefined.{NotDefined}
 use Rattle.cam6_rules.specs.declared.rules.NotDefined.TheVariants.{Refused, NoMemory}
 
--- it is defined where there is no refusal, and refused where there is one; for want of memory
+-- it is defined if there is no refusal, and refused if there is one; if an allocation failed,
 -- nothing is said
 abbrev pub IsDefinedUnless : Option Refusal → Result (Unit {0}) NotDefined → Type 0
 IsDefinedUnless refusal (Ok done) = refusal ≡ None
 IsDefinedUnless refusal (Err (Refused refused)) = refusal ≡ Some refused
 IsDefinedUnless refusal (Err NoMemory) = ⊤
 
--- a rule that may be defined behind the old rules stands behind them, or it may not be
+-- a rule that may be defined after the old rules stands after them, or it may not be
 abbrev pub IsAdded : Bool → List Rule → List Rule → Rule → Type 0
 IsAdded true old new rule = (is_rule_after old rule ≡ true) × (new ≡ old ++ rule ∷ [])
 IsAdded false old new rule = is_rule_after old rule ≡ false

@@ -27,7 +27,7 @@ abbrev pub AreTablesIf : Option Direction → List Rule → List Entry → List 
 AreTablesIf None rules cycle tables = ⊤
 AreTablesIf (Some direction) rules cycle tables = AreTablesOf direction rules cycle tables
 
--- tables are those of a cycle's rules where they say that they are filled
+-- tables are those of a cycle's rules if they say that they are filled
 abbrev pub AreTrue : StoredTables → List Rule → List Entry → Type 0
 AreTrue tables rules cycle = AreTablesIf tables.filled rules cycle tables.entries
 

@@ -1,4 +1,4 @@
--- What follows of rules by their numbers.
+-- Laws of rules by their numbers.
 use Rattle.std.specs.Prelude.{◌≡◌, ℕ, List, length, Some}
 use Rattle.std.specs.List.{slice_get}
 use Rattle.cam6_planes.specs.Cells.{torus}
@@ -37,8 +37,8 @@ NumbersAndNames =
     IsNumbered rules entry.a → IsNumbered rules entry.b →
     entry_rules rules (named_entry rules entry) ≡ rules_at rules entry
 
--- by the true tables of its cycle, which has these entries by the numbers of its rules, a machine
--- that can move this way moves by one step
+-- a machine that can move this way moves by one step, by the true tables of its cycle; the cycle
+-- has these entries by the numbers of its rules
 abbrev pub TrueTablesMove : Type 0
 TrueTablesMove =
     (direction : Direction) (m : Machine) (entries : List Entry) (tables : List (List ℕ))

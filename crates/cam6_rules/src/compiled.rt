@@ -69,8 +69,8 @@ impl CompiledRule {
         &self.code
     }
 
-    /// Fills the rule's table for a way along a cycle, backward by way of the straight one, or says
-    /// why there is none.
+    /// Fills the rule's table for a way along a cycle, backward by way of the straight one. If
+    /// there is no such table, returns why.
     pub(crate) fn fill_by(
         &self,
         direction: Direction,
@@ -87,7 +87,7 @@ impl CompiledRule {
     }
 }
 
-/// Reads a rule's text and tries the rule at every address, where the tables have room for that.
+/// Reads a rule's text and tries the rule at every address, in the tables' room for that.
 pub(crate) fn tried_rule(
     alloc: Global,
     wiring: Wiring,
@@ -95,7 +95,7 @@ pub(crate) fn tried_rule(
     room: &mut Tables,
 ) -> Result<CompiledRule, NotCompiled>
     ensures verdict { IsVerdict wiring text result }
-    // No memory is wanted for a text of which nothing is kept.
+    // If nothing of the text is kept, no memory is needed.
     ensures unkept { keeps wiring text ≡ false → result ≢ Err NotCompiled.NoMemory }
     ensures room { room.new ≡ room.old }
 {

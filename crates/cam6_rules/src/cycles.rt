@@ -44,7 +44,7 @@ pub(crate) fn numbered_cycle(
     }
 }
 
-/// The cycle once the rule at a number is dropped: the rules behind it have closed up.
+/// The cycle once the rule at a number is dropped: the rules after it have closed up.
 pub(crate) fn closed_cycle(cycle: &[Entry], number: usize) -> Option<Cycle>
     requires { length cycle.now ≤ max_entries }
     ensures { entries_of result ≡ map (closed_entry number) cycle.now }

@@ -21,9 +21,9 @@ use cam6_cycle::{Cycle, Direction, Entry, HalfRule, NeededTable};
 use cam6_table::Table;
 use cam6_wiring::Half;
 
-/// Fills the tables that a cycle needs to go one way along it, or says of the first rule that has
-/// none why: of the entries in their order, of each half A's before half B's. The straight table is
-/// room for those of which an inverse is made.
+/// Fills the tables that a cycle needs to go one way along it. If rules have no table, returns why
+/// the first of them has none, by the order of the entries, and half A's before half B's. The
+/// straight table is room for a table that is inverted.
 pub(crate) fn fill_entries(
     rules: &Rules,
     cycle: &Cycle,
@@ -60,8 +60,7 @@ fn not_reversible(entry: usize, half: Half, cause: NotReversible) -> Refusal
     Refusal::NotReversible { entry, half, cause }
 }
 
-/// Fills the table of a half's rule, if it has one, of which this is the index. Where a half has no
-/// rule nothing is to be filled.
+/// Fills the table at this index for a half's rule. If the half has no rule, does nothing.
 fn fill_half(
     rules: &Rules,
     needed: &[NeededTable],
@@ -88,8 +87,7 @@ fn fill_half(
     }
 }
 
-/// Fills the table of the use at this index. A rule that was used before it has its table already,
-/// which is copied.
+/// Fills the table of the use at this index. If the rule was used before, copies its table.
 fn fill_use(
     rules: &Rules,
     needed: &[NeededTable],
@@ -125,7 +123,7 @@ fn first_use(needed: &[NeededTable], number: usize) -> Option<usize>
     needed.iter().position(|table| table.rule.number == number)
 }
 
-/// Fills the table of the rule at this number, if there is one, or says why there is none.
+/// Fills the table of the rule at this number, if there is one. If it has none, returns why.
 fn fill_table(
     rules: &Rules,
     number: usize,

@@ -1,7 +1,7 @@
-//! What follows of rules by their numbers. Each law is the contract of a function that does nothing.
+//! Laws of rules by their numbers. Each law is the contract of a function that does nothing.
 ghost use Rattle.cam6_rules.specs.Laws.{TablesByUse, NumbersAndNames, TrueTablesMove};
 
-/// Where tables lie as a cycle needs them, those of a position are the tables of its entry's rules.
+/// If tables lie as a cycle needs them, those of a position are the tables of its entry's rules.
 pub fn the_tables_of_a_position_are_its_entrys()
     ensures law { TablesByUse }
 {}

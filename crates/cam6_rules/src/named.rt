@@ -39,7 +39,7 @@ pub(crate) fn wiring_at(
     Some(rule.wiring())
 }
 
-/// Drops the rule that has the name; those behind it close up.
+/// Drops the rule that has the name. Those after it close up.
 pub(crate) fn remove(rules: &mut IndexMap<String, CompiledRule>, name: &Text)
     ensures { rules_of rules.new.entries ≡ without_rule name.now (rules_of rules.old.entries) }
 {
@@ -53,7 +53,7 @@ pub(crate) fn names_of(
 ) -> Result<Vec<Text>, NoMemory>
     ensures names { IfOk result (λ names.
         names.items ≡ map (λ rule. rule.name) (rules_of rules.now.entries)) }
-    // No memory is wanted to list no rules.
+    // Listing no rules needs no memory.
     ensures none { rules_of rules.now.entries ≡ [] → IsOk result }
 {
     let mut names = Vec::with_capacity(alloc, rules.len())?;

@@ -20,7 +20,7 @@ use cam6_cycle::{Entry, HalfRule, MAX_ENTRIES};
 use cam6_wiring::Half;
 use indexmap::IndexMap;
 
-/// A rule's name is one, the cycle doesn't use a rule that has it, and there is room for a new one.
+/// Accepts a rule if its name is one, the cycle uses no rule of that name, and a new one has room.
 pub(crate) fn accept_rule(
     rules: &IndexMap<String, CompiledRule>,
     cycle: &[Entry],
@@ -41,8 +41,8 @@ pub(crate) fn accept_rule(
     }
 }
 
-/// The number of the rule that has the name, where it can be dropped: it is there, and the cycle
-/// doesn't use it.
+/// Returns the number of the rule that has the name, if it can be dropped: it is there, and the
+/// cycle doesn't use it.
 pub(crate) fn accept_drop(
     rules: &IndexMap<String, CompiledRule>,
     cycle: &[Entry],
@@ -85,8 +85,8 @@ fn is_number(number: usize, rule: Option<HalfRule>) -> bool
     }
 }
 
-/// A cycle has 1 to 16 entries, each with a phase, and the rules that they name are there, and of
-/// the halves for which they are named.
+/// Accepts a cycle if it has 1 to 16 entries, each with a phase, and the rules that they name are
+/// there, and of the halves for which they are named.
 pub(crate) fn accept_cycle(
     rules: &IndexMap<String, CompiledRule>,
     entries: &NamedEntries,
@@ -136,7 +136,7 @@ fn accept_entry(rules: &IndexMap<String, CompiledRule>, entry: &NamedEntry) -> R
     accept_half(rules, Half::B, &entry.b)
 }
 
-/// The name that an entry has for a half, if it has one, is that of a rule of this half.
+/// Accepts an entry's name for a half, if it has one, if it is that of a rule of this half.
 fn accept_half(
     rules: &IndexMap<String, CompiledRule>,
     half: Half,

@@ -83,8 +83,8 @@ impl Rules {
         }
     }
 
-    /// Rules that were saved, defined one after another, each under a name of its own; none, where
-    /// one of them can't be. Their texts are tried where the tables have room for that.
+    /// Defines saved rules one after another, each under a name of its own. Returns `None` if one
+    /// of them can't be defined. Tries their texts in the room that the tables have for it.
     pub fn of(
         alloc: Global,
         rules: NamedRules,
@@ -92,7 +92,7 @@ impl Rules {
     ) -> Result<Option<Rules>, NoMemory>
         ensures rules { IfOk result (λ found. AreDefined rules found) }
         ensures room { room.new ≡ room.old }
-        // No memory is wanted for no rules.
+        // An empty list of rules needs no memory.
         ensures memory { rules ≡ [] → IsOk result }
     {
         let mut kept = Rules::new(alloc);
@@ -104,13 +104,13 @@ impl Rules {
         Ok(Some(kept))
     }
 
-    /// Defines a rule behind the others, unless one of them has its name or it is refused.
+    /// Defines a rule after the others. Returns false if one has its name or it is refused.
     fn add(&mut self, rule: NamedRule, room: &mut Tables) -> Result<bool, NoMemory>
         ensures rules { IfOk result (λ is. IsAdded is self.old self.new rule) }
         ensures room { room.new ≡ room.old }
     {
         let NamedRule { name, wiring, text } = rule;
-        if self.has(&name) {
+        if self.has_name(&name) {
             return Ok(false);
         }
         match self.define(&[], name, wiring, text, room) {
@@ -121,13 +121,13 @@ impl Rules {
     }
 
     /// Whether one of them has the name.
-    fn has(&self, name: &Text) -> bool
+    fn has_name(&self, name: &Text) -> bool
         ensures { result ≡ is_some (rule_named name.now self.now) }
     {
         wiring_of(&self.by_name, name).is_some()
     }
 
-    /// How many they are. Whoever holds rules learns here what they always are.
+    /// Returns how many rules there are. The clause `rules` gives their invariant.
     pub fn len(&self) -> usize
         ensures number { result ≡ length self.now }
         ensures rules { AreRules self.now }
@@ -153,7 +153,7 @@ impl Rules {
     /// The names of the rules, in their order.
     pub fn names(&self) -> Result<Vec<Text>, NoMemory>
         ensures names { IfOk result (λ names. names.items ≡ map (λ rule. rule.name) self.now) }
-        // No memory is wanted to list no rules.
+        // Listing no rules needs no memory.
         ensures none { self.now ≡ [] → IsOk result }
     {
         names_of(self.alloc, &self.by_name)
@@ -174,7 +174,7 @@ impl Rules {
     }
 
     /// Keeps a rule under a name, instead of the one that has it, unless it is refused: a rule that
-    /// the cycle uses stays. Its text is tried where the tables have room for that.
+    /// the cycle uses stays. Tries its text in the room that the tables have for it.
     pub fn define(
         &mut self,
         cycle: &[Entry],
@@ -199,7 +199,7 @@ impl Rules {
 
         ensures err { OnErr result (self.new ≡ self.old) }
         ensures room { room.new ≡ room.old }
-        // No memory is wanted for a text of which nothing is kept.
+        // If nothing of the text is kept, no memory is needed.
         ensures memory { keeps_definition self.old (named_entries self.old cycle.now) name wiring
             text ≡ false → result ≢ Err NotDefined.NoMemory }
     {
@@ -219,7 +219,7 @@ impl Rules {
         }
     }
 
-    /// Drops the rule that has the name, unless there is none or the cycle uses it. The rules behind
+    /// Drops the rule that has the name, unless there is none or the cycle uses it. The rules after
     /// it close up, and the cycle with them.
     pub fn remove(&mut self, cycle: &mut Option<Cycle>, name: &Text) -> Result<(), Fault>
         ensures refusal { result_err result

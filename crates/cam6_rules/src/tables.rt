@@ -1,5 +1,5 @@
-//! Tables that remember for which way along a cycle they are filled, in room that they have from the
-//! beginning. They lie as the cycle needs them: a table for each use of a rule.
+//! Tables that remember for which way along a cycle they are filled, in room that they have from
+//! the beginning. They lie as the cycle needs them: a table for each use of a rule.
 ghost use Rattle.std.specs.Prelude.{◌≡◌, ◌≢◌, ℕ, false, length, None, Some, Err, IfOk, OnOk};
 ghost use Rattle.std.specs.Result.{result_err};
 ghost use Rattle.cam6_cycle.specs.Limits.{max_tables};
@@ -17,13 +17,13 @@ use cam6_wiring::Wiring;
 use std::alloc::Global;
 use std::marker::Model;
 
-/// Room for the tables of a cycle's rules, and where a rule is tried. Contracts see what the tables
+/// Room for the tables of a cycle's rules, and for trying a rule. Contracts see what the tables
 /// have, and for which way they are filled.
 #[derive(Drop)]
 pub struct Tables {
     /// A table for each use of a rule.
     by_use: Vec<Table>,
-    /// Where a rule is tried, and the table of which an inverse is made.
+    /// Room to try a rule, and for a table that is inverted.
     trial: Table,
     /// The way along the cycle for which they are filled.
     filled: Option<Direction>,
@@ -68,7 +68,7 @@ impl Tables {
         self.by_use.as_slice()
     }
 
-    /// They are filled for no way along any cycle, as where another cycle is set.
+    /// Marks the tables as filled for no way along any cycle, for example as another cycle is set.
     pub fn spoil(&mut self)
         ensures entries { self.new.entries ≡ self.old.entries }
         ensures filled { self.new.filled ≡ None }
@@ -76,22 +76,22 @@ impl Tables {
         self.filled = None;
     }
 
-    /// Fills the tables that a cycle needs to go one way along it, unless they are filled for it, or
-    /// says which rule has none. It takes no memory.
+    /// Fills the tables that a cycle needs to go one way along it, unless they are filled for it.
+    /// If a rule has none, returns which and why. Does not allocate.
     pub fn fill(
         &mut self,
         rules: &Rules,
         cycle: &Cycle,
         direction: Direction,
     ) -> Result<(), Refusal>
-        // What they say of themselves is so for this cycle.
+        // If they are marked as filled, they are this cycle's tables.
         requires { AreTrue self.old rules.now cycle.now }
         ensures refusal { result_err result
             ≡ way_refusal direction rules.now (named_entries rules.now cycle.now) }
         ensures filled { OnOk result (self.new.filled ≡ Some direction) }
         ensures tables { AreTrue self.new rules.now cycle.now }
     {
-        // Rules have names of their own.
+        // `len` gives the proof that rules have names of their own.
         let _number = rules.len();
         if self.filled == Some(direction) {
             return Ok(());
@@ -102,7 +102,7 @@ impl Tables {
         Ok(())
     }
 
-    /// Compiles a rule's text, which is tried at every address where the tables have room for that.
+    /// Compiles a rule's text. Tries it at every address, in the room that the tables have for it.
     pub(crate) fn compile(
         &mut self,
         alloc: Global,

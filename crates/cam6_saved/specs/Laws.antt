@@ -14,14 +14,14 @@ use Rattle.cam6_wire.specs.declared.saved.Version.{Version}
 use Rattle.cam6_wire.specs.declared.saved.Version.TheVariants.{Second}
 use Rattle.cam6_saved.specs.Texts.{saved_text, load_line, IsOfVersion}
 
--- the line of a machine is within the limit of lines, and says that what was saved of it is loaded
+-- the line of a machine is within the limit of lines, and is a load of what was saved of it
 abbrev pub LineIsSaid : Type 0
 LineIsSaid =
     (m : Machine) (version : Version) → IsMachine m → IsOfVersion version m →
     command (load_line m version) ≡ Ok (Load (saved_of m))
 
--- what it says is done by every machine within whose limit the side is, which then is the machine
--- that was saved, but for its limit
+-- every machine with a limit of at least the side does the line, and becomes the machine that was
+-- saved, except for its limit
 abbrev pub LineGivesBack : Type 0
 LineGivesBack =
     (m n : Machine) (version : Version) → IsMachine m → IsOfVersion version m →
@@ -29,7 +29,7 @@ LineGivesBack =
     (c : Command) × (command (load_line m version) ≡ Ok c) × (refusal n c ≡ None)
     × (after n c ≡ record m { limit = n.limit })
 
--- a line of a load that is done is the line of the machine that there is then
+-- a line of a load that is done is the line of the resulting machine
 abbrev pub NoOtherLineLoads : Type 0
 NoOtherLineLoads =
     (line : List ℕ) (n : Machine) (saved : SavedMachine) → command line ≡ Ok (Load saved) →

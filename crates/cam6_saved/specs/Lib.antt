@@ -1,3 +1,3 @@
--- In the order of reading: the texts of a machine, and what follows of them.
+-- In the order of reading: the texts of a machine, and what follows from them.
 pub mod Texts
 pub mod Laws

@@ -20,36 +20,36 @@ use Rattle.cam6_wire.specs.declared.seats.Seating.TheVariants.{Seated}
 use Rattle.cam6_server.specs.declared.connections.Visit.{Visit}
 use Rattle.cam6_server.specs.declared.connections.Visit.TheVariants.{Silent, Refused, Unheard, Served}
 
--- the first line of these bytes, up to its LF or to their end, and what is unread behind it
+-- the first line of these bytes, up to its LF or to their end, and what is unread after it
 abbrev pub IsFirst : List ℕ → List ℕ → List ℕ → Type 0
 IsFirst all line unread =
     HasNoLf line
     × ((all ≡ line ++ 10 ∷ unread) ⊎ ((line ≢ []) × (all ≡ line) × (unread ≡ [])))
 
--- what a first line is refused by, with its LF: its fault, or that its user's seat isn't to be had
+-- the refusal of a first line, with its LF: its fault, or why the client doesn't get a seat
 abbrev pub IsRefusal : List ℕ → List ℕ → Type 0
 IsRefusal line answer =
     ((fault : LineFault) × (seat line ≡ Err fault) × (answer ≡ fault_bytes fault ++ 10 ∷ []))
     ⊎ ((user : ℕ) × (seating : Seating) × (seat line ≡ Ok user) × (seating ≢ Seated)
     × (answer ≡ seating_bytes seating ++ 10 ∷ []))
 
--- the line that tells that the seat is had
+-- the line which reports that the client has its seat
 abbrev pub seated_line : List ℕ
 seated_line = seating_bytes Seated ++ 10 ∷ []
 
--- these bytes were written, or a front of them
+-- these bytes were written, or a prefix of them
 abbrev pub WritesFrontOf : List ℕ → List ℕ → Option (List ℕ) → Type 0
 WritesFrontOf answer out new =
     (front rest : List ℕ) × (answer ≡ front ++ rest) × (new ≡ Some (out ++ front))
 
--- a refusal was written; or a front of it, as it can't be written whole
+-- a refusal was written; or a prefix of it, as it can't be written whole
 abbrev pub Refuses : Visit → List ℕ → List ℕ → Option (List ℕ) → Type 0
 Refuses (Silent end) answer out new = ⊥
 Refuses Refused answer out new = new ≡ Some (out ++ answer)
 Refuses Unheard answer out new = WritesFrontOf answer out new
 Refuses (Served end) answer out new = ⊥
 
--- the same of a writer that tells its bytes
+-- the same for a writer with known bytes
 abbrev pub AnswersOnly : Visit → List ℕ → Option (List ℕ) → Option (List ℕ) → Type 0
 AnswersOnly visit answer old new = IfSome old (λ out. Refuses visit answer out new)
 
@@ -59,7 +59,7 @@ IsRefused visit all out new =
     (line unread answer : List ℕ) × IsFirst all line unread × IsRefusal line answer
     × Refuses visit answer out new
 
--- what the first line of a reader's bytes says; those behind it are unread, unless it is too long
+-- what the first line of a reader's bytes says; those after it are unread, unless it is too long
 abbrev pub FirstSays : Result ℕ LineFault → Option (List ℕ) → Option (List ℕ) → Type 0
 FirstSays said read remaining =
     IfSome read (λ all. (line unread : List ℕ) × IsFirst all line unread
@@ -75,7 +75,7 @@ abbrev pub BeginsLongLoad : List ℕ → Type 0
 BeginsLongLoad all = (line unread : List ℕ) × IsFirst all line unread × IsLongLoad line
 
 -- why no first line is answered: the input has none; a read failed within it, or the turns ran out;
--- or no memory was found, for reading any at all, for it, or within a long load for the rest of it
+-- or an allocation failed, for reading any line, for this one, or for the rest of a long load
 abbrev pub IsSilent : End → List ℕ → Option (List ℕ) → Type 0
 IsSilent EndOfInput all remaining = all ≡ []
 IsSilent ReadFault all remaining = IsCutShort all remaining
@@ -88,11 +88,11 @@ IsSilent (NoMemory false) all remaining =
     × TakesMemory line)
     ⊎ (IsCutShort all remaining × BeginsLongLoad all)
 
--- the same of a reader that tells its bytes
+-- the same for a reader with known bytes
 abbrev pub StaysSilent : End → Option (List ℕ) → Option (List ℕ) → Type 0
 StaysSilent end read remaining = IfSome read (λ all. IsSilent end all remaining)
 
--- what a line says, unless there is no memory for that
+-- what a line says, unless an allocation fails
 abbrev pub Tells : Result (Result ℕ LineFault) End → List ℕ → Type 0
 Tells (Ok said) line = IsSaid said (seat line)
 Tells (Err end) line = (end ≡ NoMemory false) × TakesMemory line
@@ -103,9 +103,8 @@ abbrev pub ReadsFirst : Result (Result ℕ LineFault) End → Option (List ℕ) 
 ReadsFirst (Ok said) read remaining = FirstSays said read remaining
 ReadsFirst (Err end) read remaining = StaysSilent end read remaining
 
--- the seat is told to be had, and the lines that are read then are answered as a machine answers
--- them that stands at m before and at n behind them; or what tells it can't be written whole, and
--- the machine is what it was
+-- the seated line is written, and the lines read then are answered as by a machine, m before them
+-- and n after them; or the seated line can't be written whole, and the machine is what it was
 abbrev pub Sits : Visit → List ℕ → Option (List ℕ) → List ℕ → Option (List ℕ) → Machine → Machine
     → Type 0
 Sits (Silent end) unread remaining out new m n = ⊥
@@ -119,21 +118,20 @@ abbrev pub SitsDown : Visit → Option (List ℕ) → Option (List ℕ) → Opti
 SitsDown visit read remaining old new m n =
     IfSome read (λ unread. IfSome old (λ out. Sits visit unread remaining out new m n))
 
--- the same, where the machine stands in the end at something that nobody else is told
+-- the same, where the machine stands somewhere in the end
 abbrev pub SitsDownAt : Machine → Visit → Option (List ℕ) → Option (List ℕ) → Option (List ℕ)
     → Option (List ℕ) → Type 0
 SitsDownAt m visit read remaining old new =
     (n : Machine) × SitsDown visit read remaining old new m n
 
--- the first line asks for a seat, which is had; where the user's machine stands then is known to
--- nobody but him
+-- the first line asks for a seat and gets it; the user's machine stands somewhere, before and after
 abbrev pub IsSeated : Visit → List ℕ → Option (List ℕ) → List ℕ → Option (List ℕ) → Type 0
 IsSeated visit all remaining out new =
     (line unread : List ℕ) × (user : ℕ) × IsFirst all line unread × (seat line ≡ Ok user)
     × ((m n : Machine) × Sits visit unread remaining out new m n)
 
--- by how it went: nothing was written; or what the first line is refused by; or a front of that, or
--- of what tells that the seat is had; or the seat is had
+-- by how it went: nothing was written; or the first line's refusal; or a prefix of that or of the
+-- seated line; or the client has its seat
 abbrev pub Went : Visit → List ℕ → Option (List ℕ) → List ℕ → Option (List ℕ) → Type 0
 Went (Silent end) all remaining out new = (new ≡ Some out) × IsSilent end all remaining
 Went Refused all remaining out new = IsRefused Refused all out new
@@ -141,7 +139,7 @@ Went Unheard all remaining out new =
     IsRefused Unheard all out new ⊎ IsSeated Unheard all remaining out new
 Went (Served end) all remaining out new = IsSeated (Served end) all remaining out new
 
--- the same of a reader and a writer that tell their bytes, those before and those after
+-- the same for a reader and a writer with known bytes, before and after
 abbrev pub Converses : Visit → Option (List ℕ) → Option (List ℕ) → Option (List ℕ)
     → Option (List ℕ) → Type 0
 Converses visit read remaining old new =

@@ -1,4 +1,4 @@
--- The bytes of answers on their way to a writer, where the writer's are known.
+-- The bytes of answers on their way to a writer, if the writer's are known.
 use Rattle.std.specs.Prelude.{ℕ, List, Option}
 use Rattle.std.specs.Io.Buffered.{writer_contents, writer_inner}
 use Rattle.cam6_server.specs.declared.outboxes.Outbox.{Outbox}

@@ -10,7 +10,7 @@ use Rattle.cam6_server.specs.declared.free_desks.FreeDesk.{FreeDesk}
 abbrev pub AreResting : List Stance → Type 0
 AreResting desks = (i : ℕ) (desk : Stance) → slice_get desks i ≡ Some desk → IsResting desk
 
--- where the desks stand at which nobody sits
+-- where the desks stand, and `None` for each at which somebody sits
 abbrev pub stances : List (Option FreeDesk) → List (Option Stance)
 stances places = map (option_map (λ f. f.desk)) places
 

@@ -1,7 +1,7 @@
 -- How much a host has.
 use Rattle.std.specs.Prelude.{ℕ, ◌<◌, ◌≤◌}
 use Rattle.cam6_cache.specs.Limits.{max_capacity}
-use Rattle.cam6_handoff.specs.Limits.{max_users, max_boards}
+use Rattle.cam6_commands.specs.Limits.{max_users, max_boards}
 use Rattle.cam6_planes.specs.declared.sides.Side.{Side}
 
 -- so many users, boards, and tables that are cached; the largest side that a machine may have; so

@@ -17,7 +17,7 @@ use cam6_wire::{LineFault, Seating, fault_line, read_seat, seating_line};
 use std::alloc::Global;
 use std::io::{BufRead, Write};
 
-/// How often a session looks at its reader at most, and how often is looked for a first line.
+/// How often at most a session looks at its reader. The same bound holds for a first line.
 const TURNS: u64 = 1_099_511_627_776;
 
 /// How a connection went.
@@ -25,19 +25,18 @@ const TURNS: u64 = 1_099_511_627_776;
 pub enum Visit {
     /// No first line was answered, for this reason. Nothing was written.
     Silent(End),
-    /// Its first line was refused, and answered so.
+    /// Its first line was refused, and the refusal was written.
     Refused,
-    /// What answers its first line, as one that is refused or as one whose user has his seat, could not
-    /// be written whole.
+    /// The answer to its first line, a refusal or that of a seat, could not be written whole.
     Unheard,
-    /// Its user had his machine, and the session ended so.
+    /// Its client had a seat, and the session ended so.
     Served(End),
 }
 
 /// Answers the first line. If it asks for a seat that is free, answers the lines after it too, as the
 /// user's machine does. The seat is free again when this returns. Reports to the connection when the
-/// client has its seat, and has it send the answers that it holds back before steps are waited for,
-/// and before the seat is free. Answers a first line that is too long as soon as that is certain.
+/// client has its seat. The connection sends the answers that it holds back before steps are waited
+/// for, and before the seat is free. Answers a first line as soon as it is certainly too long.
 pub fn converse<H: Handle, R: BufRead, W: Write, C: Connection>(
     hall: &Hall<H>,
     reader: &mut R,
@@ -59,7 +58,7 @@ pub fn converse<H: Handle, R: BufRead, W: Write, C: Connection>(
     }
 }
 
-/// What the first line says, or why there is nothing to be answered.
+/// Returns what the first line says, or why nothing is answered.
 fn first_line<R: BufRead>(alloc: Global, reader: &mut R) -> Result<Result<u64, LineFault>, End>
     ensures read { ReadsFirst result (R.remaining reader.old) (R.remaining reader.new) }
     ensures memory { result ≢ Ok (Err LineFault.NoMemory) }
@@ -77,7 +76,7 @@ fn first_line<R: BufRead>(alloc: Global, reader: &mut R) -> Result<Result<u64, L
     }
 }
 
-/// What a line says of a seat, unless there is no memory for that.
+/// Returns what a line says of a seat, unless an allocation fails.
 fn answerable(alloc: Global, line: &LineBuf) -> Result<Result<u64, LineFault>, End>
     ensures said { (l : List ℕ) → Holds line.now l → Tells result l }
     ensures memory { result ≢ Ok (Err LineFault.NoMemory) }
@@ -88,7 +87,7 @@ fn answerable(alloc: Global, line: &LineBuf) -> Result<Result<u64, LineFault>, E
     }
 }
 
-/// What a line says of a seat.
+/// Returns what a line says of a seat.
 fn said(alloc: Global, line: &LineBuf) -> Result<u64, LineFault>
     ensures said { (l : List ℕ) → Holds line.now l → IsSaid result (seat l) }
     ensures memory { result ≡ Err LineFault.NoMemory →
@@ -110,8 +109,8 @@ fn refuse<W: Write>(writer: &mut W, answer: &str) -> Visit
     }
 }
 
-/// A session at the user's desk, which is free again behind it.
-/// Where his machine stands then is seen by who takes the desk next.
+/// Serves a session at the user's desk, and then makes the desk free again. Whoever takes the desk
+/// next sees where the machine stands then.
 fn seated<H: Handle, R: BufRead, W: Write, C: Connection>(
     hall: &Hall<H>,
     reader: &mut R,
@@ -148,7 +147,7 @@ fn seated<H: Handle, R: BufRead, W: Write, C: Connection>(
     visit
 }
 
-/// Tells that the seat is had, and answers the lines behind the first one.
+/// Reports that the client has its seat, and answers the lines after the first one.
 fn sit_down<R: BufRead, W: Write, D: Ask>(
     alloc: Global,
     reader: &mut R,

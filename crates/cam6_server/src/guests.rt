@@ -1,6 +1,6 @@
 //! The clients of a host: how many wait for a seat, and how many have one.
 ghost use Rattle.std.specs.Prelude.{◌≡◌, ◌≤◌, ◌+◌};
-ghost use Rattle.cam6_handoff.specs.Limits.{max_users};
+ghost use Rattle.cam6_commands.specs.Limits.{max_users};
 ghost use Rattle.cam6_server.specs.Guests.{Enters, Leaves, Lengthens, Sits, are_none};
 ghost use Rattle.cam6_server.specs.Guests.{max_long, nobody};
 
@@ -9,7 +9,7 @@ use std::marker::Model;
 /// How many clients may wait for a seat at a time, in addition to one for each user.
 const MORE: usize = 64;
 
-/// How many waiting clients may hold a first line that only a load may be as long as.
+/// How many waiting clients may hold a first line that is longer than any line but a load.
 const LONG: usize = 8;
 
 /// What a client has.
@@ -97,7 +97,7 @@ impl Guests {
         self.was_seated = true;
     }
 
-    /// Takes away a client that had this.
+    /// Removes a client that had this standing.
     pub fn leave(&mut self, standing: Standing)
         ensures { Leaves standing self.old self.new }
     {

@@ -8,7 +8,7 @@ use std::sync::{Condvar, Mutex, Wait};
 use std::thread::Threads;
 use std::time::{Clock, Duration};
 
-/// What a host wants of its runtime.
+/// What a host needs of its runtime.
 pub trait Handle: Threads + Wait + Clock + AllocGlobal + Copy + Drop {}
 
 impl<R: Threads + Wait + Clock + AllocGlobal + Copy + Drop> Handle for R {}
@@ -44,7 +44,7 @@ impl<R: Handle> House<R> {
         self.guests.lock(&self.hall.rt).was_seated()
     }
 
-    /// Takes away a client that had this.
+    /// Removes a client that had this standing, and notifies `left` if it was the last one.
     pub fn leave(&self, standing: Standing) {
         let mut guests = self.guests.lock(&self.hall.rt);
         guests.leave(standing);

@@ -76,7 +76,7 @@ fn idle_of(serving: &Serving) -> Option<Duration> {
     }
 }
 
-/// What the threads of a host share, who has these desks, and boards at these seats.
+/// Makes what the threads of a host share, with these desks and a gate for boards at these seats.
 fn hall_of<R: Handle>(
     rt: R,
     serving: &Serving,

@@ -1,25 +1,26 @@
-//! A host on the network: users with a machine each, over a connection each, whose steps are done by
-//! boards in threads of their own.
+//! A host on the network. Each user has a machine and a connection. Boards in threads of their own
+//! do the steps.
 //!
-//! Contract: what is written on a connection for what is read of it (`converse`,
-//! `specs/Connections.antt`): nothing, where there is no first line; or the text of what its first
-//! line is refused by; or `{"ok":"seat"}`, and then what a machine answers to the lines behind it, as
-//! `serve` of `cam6_session` answers them. A desk at which nobody sits doesn't wait (`FreeDesk`), so
-//! none is put back whose reply wasn't collected. A user's desk is taken from his place, or nothing is
-//! changed, as somebody has it or there is no such user; what is given back is at his place
-//! (`specs/Places.antt`). What is written to an `Outbox` goes to its writer in order, each byte once,
-//! when it is released; after bytes couldn't be sent it takes none, and sends none
-//! (`specs/Outboxes.antt`). All of this if it returns: it may wait for its client, for a board, and
-//! for a lock. No more clients wait for a seat than there is room for (`specs/Guests.antt`, an
-//! invariant of the counts behind a lock).
+//! Contract: the clause of `converse` says what is written on a connection for what is read of it
+//! (`specs/Connections.antt`). If no first line is answered, nothing is written. If the first line
+//! is refused, only the refusal is written. Otherwise `{"ok":"seat"}` is written, and then a
+//! machine's answers to the lines after it, as `serve` of `cam6_session` answers them. A desk at
+//! which nobody sits doesn't wait (`FreeDesk`), so no desk is put back before its reply is
+//! collected. A user's desk is taken from its place. If somebody has it, or there is no such user,
+//! nothing changes. What is given back is at its place (`specs/Places.antt`). What is written to an
+//! `Outbox` goes to its writer in order, each byte once, when it is released. After bytes couldn't
+//! be sent, it takes none and sends none (`specs/Outboxes.antt`). All of this holds if the call
+//! returns: it may wait for its client, for a board, and for a lock. No more clients wait for a
+//! seat than there is room for (`specs/Guests.antt`, an invariant of the counts under a lock).
 //!
 //! No clause says that boards are stopped and threads joined, how many connections are accepted, how
-//! long anything may wait, or which bytes a socket has: `converse` and the outbox are proved over
-//! readers and writers that tell their bytes, and `streams` joins them to a socket.
+//! long anything may wait, or which bytes a socket has. `converse` and the outbox are proved over
+//! readers and writers with known bytes, and `streams` joins them to a socket.
 //!
-//! So, of four users: a connection whose first line is `{"seat":1}` is answered `{"ok":"seat"}`, and
-//! from then on as `cam6_session` answers a machine's lines. A second one with that line is answered
-//! `{"fault":80}`, one with `{"seat":9}` `{"fault":81}`, and both are closed.
+//! So, with four users: a connection begins with the line `{"seat":1}`. The host replies
+//! `{"ok":"seat"}`, and then answers lines as `cam6_session` answers a machine's lines. If a second
+//! connection begins with that line, the host replies `{"fault":80}`. To `{"seat":9}` it replies
+//! `{"fault":81}`. It closes both.
 //!
 //! Stands on: `cam6_session`, what is done for a line, and `cam6_wire`, the first line and its
 //! answers; `cam6_pool`, the workers and their gate; `cam6_handoff`, desks and seats; `cam6_board`,

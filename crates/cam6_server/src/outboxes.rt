@@ -20,7 +20,7 @@ pub struct Outbox<W: Write + Drop> {
 }
 
 impl<W: Write + Drop> Outbox<W> {
-    /// Takes the memory of all that is held back.
+    /// Makes an outbox that holds nothing back yet. Allocates its room of 16 KiB.
     pub fn new(alloc: Global, writer: W) -> io::Result<Outbox<W>>
         ensures whole { IfOk result (λ outbox. outbox.is_broken ≡ false) }
         ensures bytes { IfOk result (λ outbox.
@@ -100,7 +100,7 @@ impl<W: Write + Drop> Write for Outbox<W> {
 }
 
 impl<W: Write + Drop> Drop for Outbox<W> {
-    /// What is still held back is given up.
+    /// Drops what is still held back, and doesn't send it.
     fn drop(self) {
         let Outbox { held, is_broken: _ } = self;
         drop(held.into_parts());

@@ -7,7 +7,7 @@ use cam6_handoff::Desk;
 use cam6_wire::Seating;
 use std::alloc::{AllocError, Global};
 
-/// A place for each user, who are numbered from 1: his desk, unless somebody sits at it.
+/// A place for each user, counted from 1. It has the user's desk, unless somebody sits at it.
 #[derive(Drop)]
 pub struct Places {
     desks: Vec<Option<FreeDesk>>,
@@ -26,7 +26,7 @@ impl Places {
         Ok(Places { desks: places })
     }
 
-    /// Takes a user's desk: it is his who takes it until it is given back.
+    /// Takes a user's desk from its place. Fails if somebody has it or there is no such user.
     pub fn take(&mut self, user: u64) -> Result<FreeDesk, Seating>
         ensures { Takes self.old.desks.items user result self.new.desks.items }
     {

@@ -1,7 +1,7 @@
 //! How much a host has, and why it can't go on.
 ghost use Rattle.std.specs.Prelude.{◌≡◌, ◌<◌, ◌≤◌};
 ghost use Rattle.cam6_cache.specs.Limits.{max_capacity};
-ghost use Rattle.cam6_handoff.specs.Limits.{max_users, max_boards};
+ghost use Rattle.cam6_commands.specs.Limits.{max_users, max_boards};
 
 use cam6_planes::{NoMemory, Side};
 use std::marker::Model;

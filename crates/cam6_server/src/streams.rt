@@ -11,7 +11,7 @@ use std::io::{Error, ErrorKind, Read, Write};
 use std::net::{Shutdown, TcpStream};
 use std::time::{Duration, Instant};
 
-/// How often a call of the system is made again that a signal interrupts.
+/// How often a system call is tried, at most, if signals interrupt it.
 const TRIES: u32 = 1_000;
 
 /// Seconds for which a client may take none of the bytes that it is sent.
@@ -23,7 +23,7 @@ const LOOK_SECONDS: u64 = 1;
 /// Bytes that are read and dropped, at most, after the last answer.
 const DRAINED: usize = 1_048_576;
 
-/// Seconds for which they are, at most.
+/// Seconds for which bytes are read and dropped, at most.
 const DRAIN_SECONDS: u64 = 2;
 
 /// What `converse` reports to the connection.
@@ -118,7 +118,7 @@ impl<'a, R: Handle> Link<'a, R> {
         house: &'a House<R>,
         stream: &'a TcpStream,
     ) -> io::Result<Link<'a, R>> {
-        // Answers are sent even if the socket can't be told to send them at once.
+        // Answers are sent even if the socket can't be set to send them at once.
         let _ = stream.set_nodelay(true);
         stream.set_write_timeout(Some(Duration::from_secs(LOOK_SECONDS)))?;
         let socket = Socket {
@@ -166,7 +166,7 @@ impl<R: Handle> Connection for Link<'_, R> {
     }
 }
 
-/// What is read of a connection.
+/// Reads the bytes of a connection, after it sends what is held back.
 impl<R: Handle> Read for &Link<'_, R> {
     fn read(&mut self, bytes: &mut [u8]) -> io::Result<usize> {
         self.send()?;
@@ -178,7 +178,7 @@ impl<R: Handle> Read for &Link<'_, R> {
     }
 }
 
-/// What is answered.
+/// Writes answers, which are held back.
 impl<R: Handle> Write for &Link<'_, R> {
     fn write(&mut self, bytes: &[u8]) -> io::Result<usize> {
         match self.outbox.try_borrow_mut() {

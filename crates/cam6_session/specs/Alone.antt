@@ -1,4 +1,4 @@
--- How a session ends with a machine that nobody shares, from a blank machine on.
+-- How a session with a private machine ends, from a blank machine on.
 use Rattle.std.specs.Prelude.{ℕ, List, Option}
 use Rattle.cam6_planes.specs.declared.sides.Side.{Side}
 use Rattle.cam6_model.specs.Machine.{Machine, blank}

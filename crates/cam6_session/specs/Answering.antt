@@ -1,9 +1,9 @@
--- Ways of answering lines, of which the machine's is one.
+-- Ways of answering lines. The machine's is one of them.
 use Rattle.std.specs.Prelude.{◌≡◌, ℕ, List, [], ◌∷◌, ◌++◌}
 
--- how lines are answered: from where what is asked stands, a line may be answered by these bytes,
--- its LF among them, and then what is asked stands there; and whether what a line says is done, from
--- the one to the other, so that memory may be taken to tell it
+-- how lines are answered. By `answers`, from where what is asked stands, a line may be answered by
+-- these bytes, with an LF, and then what is asked stands there. By `does`, what a line says is done
+-- from the one to the other, so that memory may be taken to write its answer
 pub record Answering (S : Type 0) : Type 1 where
   pub answers : S → List ℕ → List ℕ → S → Type 0
   pub does : S → List ℕ → S → Type 0

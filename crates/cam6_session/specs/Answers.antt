@@ -33,8 +33,8 @@ among [] = []
 among (Ok a ∷ later) = a ∷ among later
 among (Err fault ∷ later) = among later
 
--- one text for each thing said: of the next thing that it came to, or of the fault of a line that
--- says nothing
+-- one text for each line, as long as results come: that of the next result, or that of the fault of
+-- a line that says nothing
 abbrev pub texts_by : {A B : Type 0} → (B → List ℕ) → List (Result A LineFault) → List B → List ℕ
 texts_by text [] came = []
 texts_by text (Err fault ∷ later) came = fault_bytes fault ++ 10 ∷ texts_by text later came

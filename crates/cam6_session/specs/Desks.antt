@@ -5,8 +5,8 @@ use Rattle.cam6_machine.specs.Stored.{machine_of}
 use Rattle.cam6_handoff.specs.Rule.{asked_machine}
 use Rattle.cam6_handoff.specs.Standing.{Stance, standing, waiting, nowhere}
 
--- that which it has; of a desk that waits the machine that it had when it was asked; a desk never
--- stands nowhere, for which any machine does
+-- the machine that a desk has; if the desk waits, the machine that it had when it was asked; a desk
+-- never stands nowhere, so any machine does there
 abbrev pub machine_at : Stance → Machine
 machine_at (standing u s) = machine_of s
 machine_at (waiting u asked) = asked_machine asked

@@ -12,14 +12,14 @@ use Rattle.cam6_wire.specs.Replies.{fault_bytes}
 use Rattle.cam6_session.specs.Answering.{Answering}
 use Rattle.cam6_session.specs.Answers.{among, texts_by}
 
--- what a line says may be answered so from s on, and then the core is at t: an event goes as one
--- does, and what comes of it is told; a fault is told, and leaves the core
+-- what a line says may be answered by this text from s on, and then the core is at t: an event goes
+-- by `Goes` and `Spares`, and its outcome has this text; a fault has its own, and leaves the core
 abbrev pub IsTold : State → Result Event LineFault → List ℕ → State → Type 0
 IsTold s (Ok e) text t =
     (r : Outcome) × Goes s e r t × Spares e s t × (text ≡ outcome_bytes r ++ 10 ∷ [])
 IsTold s (Err fault) text t = (text ≡ fault_bytes fault ++ 10 ∷ []) × (t ≡ s)
 
--- what a line says is an event that is done: it isn't refused, and finds memory
+-- what a line says is an event that is done: it isn't refused, and doesn't run out of memory
 abbrev pub IsDone : State → Result Event LineFault → State → Type 0
 IsDone s (Ok e) t = (r : Outcome) × Goes s e r t × (accepted r ≡ true)
 IsDone s (Err fault) t = ⊥
@@ -35,6 +35,6 @@ by_core = record {
 abbrev pub events : List (Result Event LineFault) → List Event
 events = among
 
--- what came of each event, and the fault of each line that says none
+-- the outcome of each event, and the fault of each line that says none
 abbrev pub outcome_texts : List (Result Event LineFault) → List Outcome → List ℕ
 outcome_texts = texts_by outcome_bytes

@@ -1,4 +1,4 @@
--- The main theorem: what a session with a machine that nobody shares writes for what it reads.
+-- The main theorem: what a session with a private machine writes for what it reads.
 use Rattle.std.specs.Prelude.{◌≡◌, ℕ, List, [], ◌++◌, Option, Some, IfSome, Result, map}
 use Rattle.cam6_planes.specs.declared.sides.Side.{Side}
 use Rattle.cam6_model.specs.Machine.{blank}
@@ -21,7 +21,7 @@ abbrev pub answers_alone : Side → List ℕ → List ℕ
 answers_alone limit all =
     texts_of (said_in all) (replies (blank limit) (commands (said_in all)))
 
--- those for the input's lines were written, or a front of them; all of them where the input's end
+-- the texts for the input's lines were written, or a prefix of them; all of them if the input's end
 -- was met
 abbrev pub WritesRepliesAlone :
     Side → End → Option (List ℕ) → Option (List ℕ) → Option (List ℕ) → Type 0

@@ -14,7 +14,7 @@ Holds held line =
     MatchBool held.is_long (limit_of line < length line)
     ((held.bytes ≡ line) × (length line ≤ limit_of line))
 
--- where the old stands for some line, the new stands for that line with a part behind it
+-- if the old stands for some line, the new stands for that line with a part after it
 abbrev pub Grows : Held → Held → List ℕ → Type 0
 Grows old new part = (line : List ℕ) → Holds old line → Holds new (line ++ part)
 

@@ -1,4 +1,4 @@
--- The laws of the lines of a text, and that lines are answered as the machine alone replies.
+-- The laws of the lines of a text, and of their answers.
 use Rattle.std.specs.Prelude.{◌≡◌, ◌≢◌, ◌↔◌, List, ℕ, [], ◌∷◌, ◌++◌, map, All}
 use Rattle.cam6_model.specs.Machine.{Machine}
 use Rattle.cam6_model.specs.Alone.{replies, after_all}
@@ -13,7 +13,7 @@ use Rattle.cam6_session.specs.Answering.{Answering, AreAnswered}
 use Rattle.cam6_session.specs.Answers.{by_machine, commands, texts_of}
 use Rattle.cam6_session.specs.Events.{by_core, events, outcome_texts}
 
--- a text has the lines that it was joined of, and what is behind them is one more if it isn't empty
+-- a text has the lines that it was joined from; what is after them is one more if it isn't empty
 abbrev pub LinesAreFound : Type 0
 LinesAreFound =
     (done : List (List ℕ)) → All HasNoLf done →
@@ -22,7 +22,7 @@ LinesAreFound =
     (ended_lines (joined done ++ last) ≡ done) ×
     (last ≢ [] → lines (joined done ++ last) ≡ done ++ last ∷ []))
 
--- the answers to lines are the replies of the machine alone to the commands among them, and the
+-- a machine's answers to lines are a private machine's replies to the commands among them, and the
 -- faults of the others, in the order of the lines
 abbrev pub AnswersAreReplies : Type 0
 AnswersAreReplies =
@@ -31,7 +31,7 @@ AnswersAreReplies =
     ↔ ((written ≡ texts_of (map command taken) (replies m (commands (map command taken))))
     × (n ≡ after_all m (commands (map command taken))))
 
--- the answers of a core to lines are what came of the events among them, one after another, and the
+-- a core's answers to lines are the outcomes of the events among them, one after another, and the
 -- faults of the others, in the order of the lines
 abbrev pub AnswersAreOutcomes : Type 0
 AnswersAreOutcomes =
@@ -40,7 +40,8 @@ AnswersAreOutcomes =
     ↔ ((rs : List Outcome) × GoThrough s (events (map event taken)) rs t
     × (written ≡ outcome_texts (map event taken) rs))
 
--- lines are answered as others before them left what is asked, so a session can be taken up again
+-- lines are answered from where the lines before them left what is asked, so a session can go on
+-- where it ended
 abbrev pub AnswersGoOn : {S : Type 0} → Answering S → Type 0
 AnswersGoOn {S} by =
     (s t : S) (done later : List (List ℕ)) (written : List ℕ) →

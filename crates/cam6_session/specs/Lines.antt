@@ -1,7 +1,7 @@
 -- The lines of a text.
 use Rattle.std.specs.Prelude.{ℕ, List, [], ◌∷◌, ◌++◌, if◌then◌else◌, ◌==◌}
 
--- a byte at the front of the first line; where there is no line, a line of this byte
+-- a byte at the front of the first line; if there is no line, a line of this byte
 abbrev pub begin_line : ℕ → List (List ℕ) → List (List ℕ)
 begin_line b [] = (b ∷ []) ∷ []
 begin_line b (line ∷ later) = (b ∷ line) ∷ later
@@ -22,7 +22,7 @@ ended_lines [] = []
 ended_lines (b ∷ bytes) =
     if b == 10 then [] ∷ ended_lines bytes else grow_line b (ended_lines bytes)
 
--- lines with an LF behind each
+-- lines with an LF after each
 abbrev pub joined : List (List ℕ) → List ℕ
 joined [] = []
 joined (line ∷ later) = line ++ 10 ∷ joined later

@@ -1,4 +1,4 @@
--- What reading a line takes from a reader, whose bytes may not be known, and what it keeps.
+-- What reading a line takes from a reader, and what it keeps. The reader's bytes may be unknown.
 use Rattle.std.specs.Prelude.{◌≡◌, ◌≢◌, ◌<◌, ◌⊎◌, ℕ, List, [], ◌∷◌, ◌++◌, length, true}
 use Rattle.std.specs.Prelude.{Option, Some, IfSome}
 use Rattle.std.specs.Io.KnownBytes.{Consumes, IsAtEnd}
@@ -19,7 +19,7 @@ pub record IsLongLoad (line : List ℕ) : Type 0 where
   pub begins : begins_load line ≡ true
   pub long : max_line < length line
 
--- these bytes begin with such a line, or with a front of it that is one
+-- these bytes begin with such a line, or with a prefix of it that is one
 abbrev pub BeginLongLoad : List ℕ → Type 0
 BeginLongLoad all =
     (line rest : List ℕ) × (all ≡ line ++ rest) × HasNoLf line × IsLongLoad line
@@ -30,7 +30,7 @@ BecomesLong held all =
     (part rest : List ℕ) × (all ≡ part ++ rest) × HasNoLf part ×
     ((line : List ℕ) → Holds held line → IsLongLoad (line ++ part))
 
--- what a look takes behind its part of the line
+-- what a look takes after its part of the line
 abbrev pub ending : Part → List ℕ
 ending More = []
 ending Newline = 10 ∷ []
@@ -60,7 +60,7 @@ ReadsLine TurnBound all unread held = (part : List ℕ) × HasNoLf part × (all 
 ReadsLine NoMemory all unread held =
     (part : List ℕ) × HasNoLf part × (all ≡ part ++ unread) × BeginLongLoad all
 
--- the same where the reader tells its bytes; then it tells those that are unread
+-- the same if the reader's bytes are known; then those that are unread are known too
 abbrev pub Reads : Line → Option (List ℕ) → Option (List ℕ) → Held → Type 0
 Reads result old new held =
     IfSome old (λ all. (unread : List ℕ) × (new ≡ Some unread) × ReadsLine result all unread held)
@@ -82,7 +82,7 @@ abbrev pub ReadsTo : Extent → Line → Option (List ℕ) → Option (List ℕ)
 ReadsTo ToItsEnd result old new held = Reads result old new held
 ReadsTo UntilTooLong result old new held = ReadsWithin result old new held
 
--- a line takes a turn or more, and the bound is met where none is left
+-- a line takes a turn or more, and the bound is met if none is left
 abbrev pub Turns : Line → ℕ → ℕ → Type 0
 Turns Ended old new = new < old
 Turns Last old new = new < old

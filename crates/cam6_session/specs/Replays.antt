@@ -10,9 +10,8 @@ use Rattle.cam6_session.specs.Lines.{lines}
 use Rattle.cam6_session.specs.declared.sessions.End.{End}
 use Rattle.cam6_session.specs.declared.sessions.End.TheVariants.{EndOfInput}
 
--- the first lines of a text were taken, and their events went one after another, from s to t; of the
--- texts of what came of them, and of the faults of the other lines among these, in the order of the
--- lines, a front was written
+-- the first lines of a text were taken, and their events went one after another, from s to t; for
+-- each of these lines, in order, the text of its outcome or fault was written, or a prefix of them
 pub record IsReplayed (all written : List ℕ) (s t : State) : Type 0 where
   pub taken : List (List ℕ)
   pub later : List (List ℕ)
@@ -22,8 +21,8 @@ pub record IsReplayed (all written : List ℕ) (s t : State) : Type 0 where
   pub missing : List ℕ
   pub texts : outcome_texts (map event taken) outcomes ≡ written ++ missing
 
--- so it is with the input's lines, and where the core was new each user was given the replies of his
--- machine alone; all lines were taken and all texts written where the input's end was met
+-- so it is with the input's lines, and if the core was new each user was given the replies of their
+-- private machine; all lines were taken and all texts written if the input's end was met
 abbrev pub WritesOutcomes :
     End → Option (List ℕ) → Option (List ℕ) → Option (List ℕ) → State → State → Type 0
 WritesOutcomes end read old new s t =

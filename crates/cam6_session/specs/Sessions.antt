@@ -16,14 +16,14 @@ pub record StopsAt (taken unread : List ℕ) : Type 0 where
   pub are : lines taken ≡ done ++ line ∷ []
   pub whole : lines (taken ++ unread) ≡ lines taken ++ lines unread
 
--- of the next line no LF was taken, and it begins as a load and is longer than any other may be
+-- no LF of the next line was taken, and it begins as a load and is longer than any other may be
 pub record StopsWithin (taken unread : List ℕ) : Type 0 where
   pub line : List ℕ
   pub later : List (List ℕ)
   pub are : lines (taken ++ unread) ≡ ended_lines taken ++ line ∷ later
   pub long : IsLongLoad line
 
--- the lines before it were answered, and a front of its answer was written; what it says is done
+-- the lines before it were answered, and a prefix of its answer was written; what it says is done
 abbrev pub StopsWriting : {S : Type 0} → Answering S → S → List ℕ → List ℕ → List ℕ → S → Type 0
 StopsWriting {S} by s taken unread written t =
     (stop : StopsAt taken unread) × (before front rest : List ℕ) × (u : S) ×
@@ -37,8 +37,8 @@ StopsDone {S} by s taken unread written t =
     AreAnswered by s stop.done written u × by.answers u stop.line text t ×
     by.does u stop.line t
 
--- the lines before it were answered, and memory is taken for it, but what it says isn't done; or no
--- line was taken; or the lines before one were answered for which room is taken
+-- no line was taken; or the lines before it were answered, and memory is taken for it, but what it
+-- says isn't done; or the lines before one that takes room were answered
 abbrev pub StopsUndone : {S : Type 0} → Answering S → S → List ℕ → List ℕ → List ℕ → S → Type 0
 StopsUndone by s taken unread written t =
     ((taken ≡ []) × AreAnswered by s [] written t) ⊎
@@ -56,7 +56,7 @@ AnswersUntil by WriteFault s taken unread written t = StopsWriting by s taken un
 AnswersUntil by (NoMemory true) s taken unread written t = StopsDone by s taken unread written t
 AnswersUntil by (NoMemory false) s taken unread written t = StopsUndone by s taken unread written t
 
--- the same of a reader and a writer that tell their bytes, those before and those after
+-- the same for a reader and a writer with known bytes, before and after
 abbrev pub AnswersReader : {S : Type 0} → Answering S → End → Option (List ℕ) → Option (List ℕ)
     → Option (List ℕ) → Option (List ℕ) → S → S → Type 0
 AnswersReader by end read remaining old new s t =

@@ -1,4 +1,4 @@
--- That turns take bytes of a reader, whose bytes may not be known.
+-- Turns take bytes of a reader. Its bytes may be unknown.
 use Rattle.std.specs.Prelude.{◌≡◌, ◌≤◌, ◌+◌, ℕ, List, length, Option, IfSome, ⊤}
 use Rattle.cam6_session.specs.declared.lines.Line.{Line}
 use Rattle.cam6_session.specs.declared.lines.Line.TheVariants as line
@@ -10,7 +10,7 @@ abbrev pub TookAsMany : ℕ → ℕ → Option (List ℕ) → Option (List ℕ) 
 TookAsMany before after read remaining =
     IfSome read (λ all. IfSome remaining (λ unread. before + length unread ≤ after + length all))
 
--- each turn took a byte at least, where the bound is met or a line was ended
+-- each turn took a byte at least, if the bound is met or a line was ended
 abbrev pub TakesAByteEach : Line → ℕ → ℕ → Option (List ℕ) → Option (List ℕ) → Type 0
 TakesAByteEach line.Ended before after read remaining = TookAsMany before after read remaining
 TakesAByteEach line.Last before after read remaining = ⊤
@@ -19,8 +19,7 @@ TakesAByteEach line.ReadFault before after read remaining = ⊤
 TakesAByteEach line.TurnBound before after read remaining = TookAsMany before after read remaining
 TakesAByteEach line.NoMemory before after read remaining = ⊤
 
--- serving ends for want of turns only where as many bytes were taken of the reader as there were
--- turns
+-- serving runs out of turns only if at least as many bytes were taken of the reader as turns
 abbrev pub SpendsItsTurns : End → ℕ → Option (List ℕ) → Option (List ℕ) → Type 0
 SpendsItsTurns end turns read remaining =
     end ≡ TurnBound →

@@ -1,4 +1,4 @@
-//! A session with a machine that nobody shares.
+//! A session with a private machine.
 ghost use Rattle.cam6_session.specs.Alone.{AnswersReaderAlone};
 ghost use Rattle.cam6_session.specs.Headline.{WritesRepliesAlone};
 ghost use Rattle.cam6_session.specs.Spending.{SpendsItsTurns};
@@ -9,7 +9,7 @@ use cam6_planes::Side;
 use std::alloc::Global;
 use std::io::{BufRead, Write};
 
-/// Answers each line of the reader by one line, as a blank machine of this limit does that gets all
+/// Answers each line of the reader by one line, as a blank machine of this limit that gets all
 /// commands among them. Each look at the reader takes a turn.
 pub fn serve_alone<R: BufRead, W: Write>(
     alloc: Global,
@@ -20,9 +20,8 @@ pub fn serve_alone<R: BufRead, W: Write>(
 ) -> End
     ensures served { AnswersReaderAlone limit result (R.remaining reader.old)
         (R.remaining reader.new) (W.contents writer.old) (W.contents writer.new) }
-    // The texts of the machine's replies to all commands among the input's lines, and of the faults
-    // of the other lines, in the order of the lines, were written, or a front of them; all of them
-    // where the input's end was met.
+    // For each of the input's lines, in order, the text of the machine's reply or of the line's
+    // fault was written, or a prefix of these texts; all of them if the input's end was met.
     ensures headline { WritesRepliesAlone limit result (R.remaining reader.old)
         (W.contents writer.old) (W.contents writer.new) }
     ensures turns { SpendsItsTurns result turns

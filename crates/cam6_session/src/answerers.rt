@@ -35,7 +35,7 @@ pub trait Answerer {
     /// How it answers lines.
     ghost answering: { Answering state };
 
-    /// Answers a whole line by one line of text, or says why serving stops there.
+    /// Answers a whole line by one line of text, or returns why serving stops there.
     fn respond<W: Write>(
         &mut self,
         alloc: Global,
@@ -83,7 +83,7 @@ impl<D: Ask> Answerer for D {
     }
 }
 
-/// What a line says.
+/// Returns what a line says.
 fn said(alloc: Global, line: &LineBuf) -> Result<Command, LineFault>
     ensures said { (l : List ℕ) → Holds line.now l → IsSaid result (what_is_said l) }
     ensures memory { (l : List ℕ) → Holds line.now l → result ≡ Err NoMemory → TakesMemory l }
@@ -123,7 +123,7 @@ fn respond_fault<W: Write>(fault: LineFault, writer: &mut W) -> Result<(), Stop>
     tell_fault(fault, writer)
 }
 
-/// Tells a line's fault; for want of memory nothing is told.
+/// Writes a line's fault. If the fault is `NoMemory`, writes nothing and stops.
 pub(crate) fn tell_fault<W: Write>(fault: LineFault, writer: &mut W) -> Result<(), Stop>
     ensures { TellsFault result fault (W.contents writer.old) (W.contents writer.new) }
 {

@@ -18,7 +18,7 @@ pub trait Ask {
     /// Whether it may be asked.
     ghost is_ready: { Self → Type 0 };
 
-    /// Does the command and replies, or finds no memory for it and stays where it stood.
+    /// Does the command and replies. If it runs out of memory, it stays where it stood.
     fn ask(&mut self, command: Command) -> Result<Reply, NoMemory>
         requires { is_ready self.old }
         ensures reply { IfOk result (λ r. r ≡ reply (stands_at self.old) command) }
@@ -38,21 +38,21 @@ impl Ask for Machine {
     // A machine may always be asked.
     ghost is_ready = { λ _. ⊤ };
 
-    /// Does the command and replies, or finds no memory for it and stays as it was.
+    /// Does the command and replies. If it runs out of memory, it stays as it was.
     fn ask(&mut self, command: Command) -> Result<Reply, NoMemory>
         ensures reply { IfOk result (λ r. r ≡ reply (machine_of self.old) command) }
         ensures machine { OnOk result (machine_of self.new
             ≡ after (machine_of self.old) command) }
         ensures err { OnErr result (machine_of self.new ≡ machine_of self.old) }
         ensures ready { ⊤ }
-        // Memory is wanted as by `Machine::reply_to`.
+        // It may run out of memory only if `Machine::reply_to` may.
         ensures memory { may_want_memory (machine_of self.old) command ≡ false → IsOk result }
     {
         self.reply_to(command)
     }
 }
 
-/// Somebody who asks a desk, and waits where boards do the steps of what is asked.
+/// Somebody who asks a desk, and waits if boards do the steps of what is asked.
 pub trait Waiter {
     ghost use Rattle.std.specs.Prelude.{◌≡◌, IfOk, IsOk, OnErr};
     ghost use Rattle.cam6_handoff.specs.Standing.{IsResting};
@@ -63,7 +63,7 @@ pub trait Waiter {
         requires { IsResting desk.old }
         ensures gives { IfOk result (λ reply. AskGives desk.old command reply desk.new) }
         ensures err { OnErr result (desk.new ≡ desk.old) }
-        // Memory is wanted as by a machine alone.
+        // It may run out of memory only if a private machine may.
         ensures memory { WantsNone desk.old command → IsOk result };
 }
 
@@ -89,7 +89,7 @@ impl<R: Wait> Waiter for Unaided<R> {
     }
 }
 
-/// A user's desk, with whoever asks it for him.
+/// A user's desk, with whoever asks it for the user.
 pub struct AtDesk<W> {
     /// Who asks, and waits.
     pub waiter: W,
@@ -109,8 +109,8 @@ impl<W: Waiter> Ask for AtDesk<W> {
     // A desk may be asked while it doesn't wait, and no longer waits when it has answered.
     ghost is_ready = { λ d. IsResting d.desk };
 
-    /// Does the command and replies, or finds no memory for it and stays where it stood. The steps
-    /// of a command are waited for, whichever boards do them.
+    /// Does the command and replies. Waits for its steps, whichever boards do them. If it runs out
+    /// of memory, it stays where it stood.
     fn ask(&mut self, command: Command) -> Result<Reply, NoMemory>
         requires { IsResting self.old.desk }
         ensures reply { IfOk result (λ r. r ≡ reply (machine_at self.old.desk) command) }
@@ -118,7 +118,7 @@ impl<W: Waiter> Ask for AtDesk<W> {
             ≡ after (machine_at self.old.desk) command) }
         ensures err { OnErr result (machine_at self.new.desk ≡ machine_at self.old.desk) }
         ensures ready { IsResting self.new.desk }
-        // Memory is wanted as by a machine alone.
+        // It may run out of memory only if a private machine may.
         ensures memory { WantsNone self.old.desk command → IsOk result }
     {
         self.waiter.ask(&mut self.desk, command)

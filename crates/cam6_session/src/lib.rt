@@ -2,29 +2,30 @@
 //!
 //! Contract: `serve_alone` writes the texts of a blank machine's replies to the commands among its
 //! input's lines, and of the faults of the others, in their order (`specs/Headline.antt`). `serve`
-//! does this for anything that stands at a machine and answers as it does (`Ask`): a machine alone,
-//! or a user's desk whose steps are done by boards that other threads serve (`AtDesk`,
-//! `specs/Desks.antt`). `replay` reads events of a core: what came of them, one after another, is
-//! written, and from a new core each user is given the replies of his machine alone
-//! (`specs/Replays.antt`). All go by `answer_lines`, which serves whatever answers lines in a way of
-//! its own (`Answerer`, `specs/Answering.antt`): for each of its five ends it is exact which lines
-//! were taken, what was written, and where the one that was asked then stands
-//! (`specs/Sessions.antt`), so that a session can be taken up again where it ended. For want of
-//! memory it ends only at a line for which memory is taken, or within one for which room is taken.
-//! A replay ends so behind no event that was refused, nor behind an ask that found none. For want of
-//! turns a session ends only where as many bytes were taken of the reader as there were turns, so
-//! not at once (`specs/Spending.antt`). `next_line` takes exactly one line, or says why it stopped,
-//! and counts its turns; room is taken for a line that begins as a load alone, once it is longer
-//! than any other may be, and given back after it (`LineBuf`). The premise is that the reader and
-//! the writer tell their bytes, as those over memory do.
+//! does this for anything that stands at a machine and answers as it does (`Ask`). That is a
+//! private machine, or a user's desk with boards that other threads serve (`AtDesk`,
+//! `specs/Desks.antt`). `replay` reads events of a core, and writes their outcomes one after
+//! another. From a new core, each user is given the replies of their private machine
+//! (`specs/Replays.antt`).
 //!
-//! So of the two lines `{"do":"run","n":1}` and `{"do":"fly"}` the machine alone makes the two
+//! All use `answer_lines`, which serves whatever answers lines in a way of its own (`Answerer`,
+//! `specs/Answering.antt`). Each of its five ends says exactly which lines were taken, what was
+//! written, and where the one that was asked then stands (`specs/Sessions.antt`). So a session can
+//! go on where it ended. It runs out of memory only before the first line, at a line that takes
+//! memory, or within one that takes room. A replay doesn't end so after a refused event, or after
+//! an ask that ran out of memory. A session runs out of turns only after as many bytes of the
+//! reader as it had turns (`specs/Spending.antt`). `next_line` takes exactly one line, or returns
+//! why it stopped, and counts its turns. Room is taken only for a line that begins as a load, once
+//! it is longer than any other may be. It is given back after the line (`LineBuf`). The premise is
+//! that the bytes of the reader and of the writer are known, as those of memory are.
+//!
+//! So, for the two lines `{"do":"run","n":1}` and `{"do":"fly"}`, a private machine writes the two
 //! lines `{"fault":63}` and `{"fault":3}`: no cycle is set, and the second says no command.
 //!
-//! The laws: a text has the lines that it was joined of; a machine's answers to lines are its
-//! replies to the commands among them, and the faults of the others, in the order of the lines, and
-//! a core's are what came of the events among them; and whatever answers lines goes on from where
-//! lines before left it.
+//! The laws: a text has the lines that it was joined from. A machine's answers to lines are its
+//! replies to the commands among them, and the faults of the others, in the order of the lines. A
+//! core's answers are the outcomes of the events among them, likewise. Whatever answers lines goes
+//! on from where the lines before left it.
 //!
 //! Stands on: `cam6_planes`, `cam6_commands`, `cam6_model`, `cam6_machine`, `cam6_core`,
 //! `cam6_handoff`, `cam6_wire`.

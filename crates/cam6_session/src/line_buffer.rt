@@ -8,8 +8,8 @@ use cam6_wire::{LINE_LIMIT, LOAD_LINE_LIMIT, begins_load_in};
 use std::alloc::Global;
 use std::marker::Model;
 
-/// Room for one line. It grows for a line that begins as a load alone, and is given back after it.
-/// Of a line above its limit only its being too long is kept.
+/// Room for one line. It grows only for a line that begins as a load, and shrinks after it. Of a
+/// line above its limit it keeps only that the line is too long.
 #[derive(Drop)]
 pub struct LineBuf {
     bytes: Vec<u8>,
@@ -54,8 +54,8 @@ impl LineBuf {
         self.is_long = false;
     }
 
-    /// Puts a part at the line's end. Room is taken once, for a line that begins as a load and is
-    /// longer than any other may be; where none is found, the line stays as it was.
+    /// Adds a part at the line's end. Allocates once, for a line that begins as a load and is
+    /// longer than any other may be. If that fails, the line stays as it was.
     pub fn add(&mut self, part: &[u8]) -> Result<(), NoMemory>
         ensures ok { OnOk result (Grows self.old self.new part.now) }
         ensures kept { OnErr result (self.new ≡ self.old) }
@@ -114,7 +114,7 @@ fn is_too_long(front: &[u8], part: &[u8]) -> bool
     length > LOAD_LINE_LIMIT || !begins_load_in(front, part)
 }
 
-/// Makes room for so many bytes more. There is room as long as a line of any kind may have them.
+/// Makes room for so many more bytes. Allocates only if a load alone may be as long as that.
 fn make_room(bytes: &mut Vec<u8>, more: usize) -> Result<(), NoMemory>
     requires room { max_line ≤ vec_capacity bytes.old }
     requires few { vec_len bytes.old + more ≤ max_load_line }

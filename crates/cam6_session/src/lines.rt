@@ -45,8 +45,8 @@ pub fn next_line<R: BufRead>(reader: &mut R, line: &mut LineBuf, turns: &mut u64
     read_line(reader, line, turns, Extent::ToItsEnd)
 }
 
-/// Reads one line, and no more of one that is too long than it takes to know that: then the line has
-/// ended for who reads it, and its rest is unread. Each look at the reader takes a turn.
+/// Reads one line. Of a line that is too long it reads only enough to know that. Then it returns
+/// `Line::Ended`, and the line's rest is unread. Each look at the reader takes a turn.
 pub fn next_line_within<R: BufRead>(reader: &mut R, line: &mut LineBuf, turns: &mut u64) -> Line
     ensures line { ReadsWithin result (R.remaining reader.old) (R.remaining reader.new) line.new }
     ensures turns { Turns result turns.old turns.new }
@@ -67,7 +67,7 @@ impl Extent {
     ghost use Rattle.std.specs.Prelude.{true};
     ghost use Rattle.cam6_session.specs.declared.lines.Extent.TheVariants.{UntilTooLong};
 
-    /// Whether so much of a line has been read that no more of it is wanted.
+    /// Whether so much of a line has been read that no more of it is needed.
     fn is_met(self, line: &LineBuf) -> bool
         ensures { result ≡ true → (self ≡ UntilTooLong) × (line.now.is_long ≡ true) }
     {
@@ -109,7 +109,7 @@ fn read_line<R: BufRead>(
     Line::TurnBound
 }
 
-/// What the end of the input makes of the line.
+/// How reading a line ends at the end of the input.
 fn last(line: &LineBuf) -> Line
     ensures { result ≡ (if is_empty line.now then Line.EndOfInput else Line.Last) }
 {

@@ -23,8 +23,8 @@ use cam6_wire::{LineFault, outcome_text, read_event, undone_line};
 use std::alloc::Global;
 use std::io::{BufRead, Write};
 
-/// Does the event of each line of the reader, and tells what comes of it by one line, until the
-/// input ends or something fails. Each look at the reader takes a turn.
+/// Does the event of each line of the reader, and writes its outcome as one line, until the input
+/// ends or something fails. Each look at the reader takes a turn.
 pub fn replay<R: BufRead, W: Write>(
     alloc: Global,
     reader: &mut R,
@@ -35,8 +35,8 @@ pub fn replay<R: BufRead, W: Write>(
     ensures served { AnswersReader by_core result
         (R.remaining reader.old) (R.remaining reader.new)
         (W.contents writer.old) (W.contents writer.new) core.old core.new }
-    // Where the core was new, the replies that the lines give each user are those of his machine
-    // alone.
+    // If the core was new, the replies that the lines give each user are those of their private
+    // machine.
     ensures headline { WritesOutcomes result (R.remaining reader.old)
         (W.contents writer.old) (W.contents writer.new) core.old core.new }
     ensures turns { SpendsItsTurns result turns
@@ -79,7 +79,7 @@ impl Answerer for Core {
     }
 }
 
-/// What a line says of users and boards.
+/// Returns the event that a line says, or the line's fault.
 fn said(alloc: Global, line: &LineBuf) -> Result<Event, LineFault>
     ensures said { (l : List ℕ) → Holds line.now l → IsSaid result (what_happens l) }
     ensures memory { (l : List ℕ) → Holds line.now l → result ≡ Err NoMemory → TakesMemory l }
@@ -103,8 +103,7 @@ fn respond_to<W: Write>(
     tell_outcome(alloc, &outcome, writer)
 }
 
-/// Tells what came of an event. Memory is taken for the text of an event that was done, and for no
-/// other.
+/// Writes the outcome of an event. Allocates only for the text of an event that was done.
 fn tell_outcome<W: Write>(alloc: Global, outcome: &Outcome, writer: &mut W) -> Result<(), Stop>
     ensures told { TellsText result (outcome_bytes outcome.now)
         (W.contents writer.old) (W.contents writer.new) }

@@ -21,7 +21,7 @@ pub enum End {
     ReadFault,
     /// The writer failed, or took no byte.
     WriteFault,
-    /// No memory was found for a line. Nothing is written for it.
+    /// An allocation failed. Nothing is written for the line.
     NoMemory {
         /// Whether the line's command was done.
         done: bool,
@@ -35,7 +35,7 @@ pub enum End {
 pub enum Stop {
     /// The writer failed, or took no byte.
     WriteFault,
-    /// No memory was found for the line. Nothing is written for it.
+    /// An allocation failed for the line. Nothing is written for it.
     NoMemory {
         /// Whether the line's command was done.
         done: bool,
@@ -65,8 +65,8 @@ impl From<Stop> for End {
     }
 }
 
-/// Answers each line of the reader by one line, as a machine does that gets all commands among
-/// them, until the input ends or something fails. Each look at the reader takes a turn.
+/// Answers each line of the reader by one line, as a machine that gets all commands among them,
+/// until the input ends or something fails. Each look at the reader takes a turn.
 pub fn serve<R: BufRead, W: Write, D: Ask>(
     alloc: Global,
     reader: &mut R,

@@ -7,7 +7,7 @@ use std::io::Write;
 #[derive(Clone, Copy, Debug, PartialEq, Eq)]
 pub struct WriteFault;
 
-/// Writes a line with its LF, in one write where the writer takes it whole, and flushes.
+/// Writes a line with its LF, in one write if the writer takes it whole, and flushes.
 pub fn send<W: Write>(writer: &mut W, line: &[u8]) -> Result<(), WriteFault>
     ensures { WritesFront result (W.contents writer.old) (W.contents writer.new) line.now }
 {

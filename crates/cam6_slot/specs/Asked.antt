@@ -1,4 +1,4 @@
--- What comes of a command that a user gives to his machine.
+-- What comes of a command that a user gives to a machine.
 use Rattle.std.specs.Prelude.{◌≡◌, ◌<◌, ℕ, ⊤}
 use Rattle.cam6_commands.specs.declared.commands.Command.{Command}
 use Rattle.cam6_model.specs.Machine.{Machine}
@@ -16,7 +16,7 @@ StandsFor m c (asked.Finished f) = IsDone f m c
 StandsFor m c (asked.Queued q) = Stands q m c
 StandsFor m c (asked.NoMemory r) = ⊤
 
--- it is done at once where it has no bands, and else it waits with all its bands
+-- it is done at once if it has no bands; if it has some, it waits with all of them
 abbrev pub HasLeft : ℕ → Asked → Type 0
 HasLeft bands (asked.Finished f) = bands ≡ 0
 HasLeft bands (asked.Queued q) = (queued_left q ≡ bands) × (0 < bands)
@@ -28,19 +28,19 @@ HasHome bands (asked.Finished f) = ⊤
 HasHome bands (asked.Queued q) = queued_home q ≡ bands
 HasHome bands (asked.NoMemory r) = ⊤
 
--- a command that waits tells at first the machine and itself
+-- a command that begins to wait has the machine and itself in its steps
 abbrev pub Opens : Machine → Command → Asked → Type 0
 Opens m c (asked.Finished f) = ⊤
 Opens m c (asked.Queued q) = (machine_at_home q.work ≡ m) × (command_in q.work ≡ c)
 Opens m c (asked.NoMemory r) = ⊤
 
--- where there was no memory the machine comes back as it was
+-- if an allocation failed, the machine comes back as it was
 abbrev pub IsBack : StoredMachine → Asked → Type 0
 IsBack machine (asked.Finished f) = ⊤
 IsBack machine (asked.Queued q) = ⊤
 IsBack machine (asked.NoMemory r) = r ≡ machine
 
--- there was memory
+-- no allocation failed
 abbrev pub HadMemory : Asked → Type 0
 HadMemory (asked.Finished f) = ⊤
 HadMemory (asked.Queued q) = ⊤

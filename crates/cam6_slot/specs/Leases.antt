@@ -15,14 +15,14 @@ pub record StoredLease : Type 0 where
   pub rows : ℕ
   pub board : ℕ
 
--- the rows are whole bands, fewer than those of a step; where some are done there is a step
+-- the rows are whole bands, fewer than those of a step; if some are done there is a step
 pub record IsLease (l : StoredLease) : Type 0 where
   pub work : IsWork l.work
   pub rows : l.rows < width l.work.home
   pub bands : l.rows % band ≡ 0
   pub step : 0 < l.rows → l.work.reached.steps < l.work.total
 
--- so many rows of an image's step are done; none are done of one at rest
+-- so many rows of an image's step are done, and none of an image at rest
 abbrev pub IsAtRow : ℕ → Image → Type 0
 IsAtRow rows (Rest rest) = rows ≡ 0
 IsAtRow rows (Mid mid) = (mid.done ≡ rows) × (0 < rows)

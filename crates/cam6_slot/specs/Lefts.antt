@@ -20,16 +20,16 @@ abbrev pub bands_in : Side → Option (ℕ × Direction) → ℕ
 bands_in side None = 0
 bands_in side (Some steps) = steps.0 * bands_of_step side
 
--- the bands of a command on a machine; none where it does no step
+-- the bands of a command on a machine; none if it does no step
 abbrev pub bands_of : Machine → Command → ℕ
 bands_of m c = bands_in m.side (work_of m c)
 
--- the bands that are left behind so many rows of a step: those of the steps that are still to be
+-- the bands that are left after so many rows of a step: those of the steps that are still to be
 -- done, but for the rows
 abbrev pub left_of : StoredWork → ℕ → ℕ
 left_of w rows = (w.total - w.reached.steps) * bands_of_step w.home.side - rows / band
 
--- the bands that would be left if all were lost that isn't at home
+-- the bands that would be left if all that isn't at home were lost
 abbrev pub home_of : StoredWork → ℕ
 home_of w = (w.total - w.base.steps) * bands_of_step w.home.side
 
@@ -49,7 +49,7 @@ lease_home l = home_of l.work
 abbrev pub bands_of_lease : StoredLease → ℕ
 bands_of_lease l = bands_of_step l.work.home.side
 
--- the bands left from home once the command is taken off its board, if so many were left and so
--- many from home, of steps of so many bands: behind a whole step all that is done is at home
+-- the bands left from home once the command is taken off its board, if steps have `bands` bands,
+-- `left` were left, and `home` from home; after a whole step all that is done is at home
 abbrev pub home_after : ℕ → ℕ → ℕ → ℕ
 home_after bands left home = if left % bands == 0 then left else home

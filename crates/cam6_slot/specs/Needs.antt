@@ -1,4 +1,4 @@
--- The tables by which steps under way are to go.
+-- The tables that steps under way need.
 use Rattle.std.specs.Prelude.{ℕ, ◌≡◌, Bool, true, false, List, length, Option, Some}
 use Rattle.std.specs.List.{slice_get}
 use Rattle.std.specs.Option.{option_map}
@@ -23,21 +23,21 @@ needed w = tables_needed w.direction w.kept.cycle
 abbrev pub needs_of : StoredWork → ℕ
 needs_of w = length (needed w)
 
--- the rule of which a table is needed
+-- the rule of a needed table
 abbrev pub needed_rule : List Rule → NeededTable → Option Rule
 needed_rule rules table = rule_at rules (Some table.rule.number)
 
--- backward a cycle is gone along by tables that undo its rules
+-- the way of a table, by whether it undoes its rule: steps backward use tables that do
 abbrev pub way_told : Bool → Direction
 way_told false = Forward
 way_told true = Backward
 
--- what a need says that its rule is written for
+-- what the rule of a need is written for
 abbrev pub wiring_told : Need → Wiring
 wiring_told need = record { half = need.half; hood = need.hood; minor = need.minor }
 
--- a need tells of a table what its rule is written for, the rule's text, and whether the table is
--- to undo the rule
+-- a need says of a table what its rule is written for, the rule's text, and whether the table is to
+-- undo the rule
 pub record Tells (rules : List Rule) (table : NeededTable) (need : Need) : Type 0 where
   pub half : need.half ≡ table.half
   pub hood : need.hood ≡ table.rule.hood
@@ -55,7 +55,7 @@ CanBeUndone need =
     need.inverted ≡ true →
     IsReversible (reading_of (wiring_told need) need.text.now) need.hood need.minor
 
--- it tells of the table at an index, where one is needed
+-- a need is that of the table at an index, if one is needed there
 abbrev pub IsNeed : StoredWork → ℕ → Need → Type 0
 IsNeed w index need =
     (table : NeededTable) → slice_get (needed w) index ≡ Some table →

@@ -1,8 +1,8 @@
 -- For which machine and which command a place stands.
 --
--- Nothing here tells of a board, nor of how often the command was taken off one. A step that is half
--- done is no state of the machine alone; but it is partway between two of them, so many whole steps
--- on from the machine and one more.
+-- Nothing here depends on a board, or on how often the command was taken off one. A half-done step
+-- is no state of a private machine. It is partway between two of them: so many whole steps on from
+-- the machine, and one more.
 use Rattle.std.specs.Prelude.{◌≡◌, ◌+◌, Some}
 use Rattle.cam6_planes.specs.Cells.{cells}
 use Rattle.cam6_commands.specs.declared.commands.Command.{Command}
@@ -17,8 +17,8 @@ use Rattle.cam6_slot.specs.Works.{StoredWork}
 use Rattle.cam6_slot.specs.Parking.{StoredQueued, IsParkedBetween}
 use Rattle.cam6_slot.specs.Leases.{StoredLease, JobFits}
 
--- steps of a command on a machine are under way: they are the command's, all but the planes is the
--- machine's, and at home are the planes and the position of the machine so many steps on
+-- steps of a command on a machine are under way: they are the command's steps; all that is kept is
+-- the machine's; at home are the planes and the position of the machine so many steps on
 pub record IsUnderWay (w : StoredWork) (m : Machine) (c : Command) : Type 0 where
   pub machine : IsMachine m
   pub work : work_of m c ≡ Some (w.total, w.direction)
@@ -26,9 +26,9 @@ pub record IsUnderWay (w : StoredWork) (m : Machine) (c : Command) : Type 0 wher
   pub home : cells w.home ≡ (moved w.direction w.base.steps m).planes
   pub position : w.base.position ≡ (moved w.direction w.base.steps m).position
 
--- a command that waits for a board stands for the machine and the command with which it began: the
--- position is that of the machine so many steps on as are done, and a parked step is partway from
--- those planes to the planes one step further on
+-- a command that waits for a board stands for the machine and the command with which it began; its
+-- position is that of the machine as many steps on as are done; a parked step is partway from the
+-- planes there to those one step further on
 pub record Stands (q : StoredQueued) (m : Machine) (c : Command) : Type 0 where
   pub work : IsUnderWay q.work m c
   pub position :

@@ -33,9 +33,9 @@ stored_work kept direction total home base reached = record {
   reached = reached;
 }
 
--- the planes at home are the machine's so far on, of which steps are still to be done; no step is
--- lost on the way, and none is too many. Positions are some of the cycle, whose rules can be gone by
--- this way, and the image has the machine's limit
+-- from the planes at home steps are still to be done; the way is as far on as home or further, and
+-- no step is too many. Both positions are in the cycle, the machine can move this way, and the
+-- image has its limit
 pub record IsWork (w : StoredWork) : Type 0 where
   pub kept : IsKept w.kept
   pub home_within : w.base.position < length w.kept.cycle
@@ -58,7 +58,7 @@ one_further direction length at = record {
   position = position_after direction length at.position;
 }
 
--- a command of which no step is done
+-- a command with no step done
 abbrev pub begun : StoredKept → Direction → ℕ → Stored → StoredWork
 begun kept direction total home =
     stored_work kept direction total home (beginning kept.position) (beginning kept.position)

@@ -18,7 +18,7 @@ use cam6_band::{AtRest, BAND, Spare};
 use cam6_board::{BandEnd, Image};
 use std::marker::Model;
 
-/// Steps of a command whose job is on a board: all of it but the image that travels.
+/// Steps of a command with its job on a board: all of it but the image that travels.
 #[derive(Drop)]
 pub struct Lease {
     work: Work,
@@ -66,8 +66,8 @@ impl Lease {
         self.board
     }
 
-    /// The bands that are still to be done. While there are some the job has work, and its image is
-    /// at rest where there are none. Whoever has a lease learns here what it always is.
+    /// Returns how many bands are still to be done. If there are some, the job has steps left. If
+    /// there are none, its image is at rest. The clause `always` gives the lease's invariant.
     pub fn left(&self) -> u64
         ensures left { result ≡ lease_left self.now }
         ensures always { IsLease self.now }
@@ -78,10 +78,10 @@ impl Lease {
         self.work.left(self.rows)
     }
 
-    /// One band was done on the board. Where it came to is known without being told.
+    /// Counts one band that was done on the board. The lease knows its row without `end`.
     pub fn band(mut self, end: BandEnd) -> Lease
         requires { 0 < lease_left self }
-        // For whatever machine and command, and whatever end was told.
+        // For whatever machine and command, and whatever end the board reported.
         ensures stands { (m : Machine) (c : Command) (before after : StoredJob)
             (end : BandEnd) (tables : List (List ℕ)) →
             TablesFit self.work tables → StandsOut self before m c →
@@ -98,10 +98,10 @@ impl Lease {
         self
     }
 
-    /// The same where the lease lies, which is above a kilobyte: a band doesn't move it.
+    /// Does the same in place, since a lease takes more than a kilobyte.
     pub fn advance(&mut self, _end: BandEnd)
         requires { 0 < lease_left self.old }
-        // For whatever machine and command, and whatever end was told.
+        // For whatever machine and command, and whatever end the board reported.
         ensures stands { (m : Machine) (c : Command) (before after : StoredJob)
             (end : BandEnd) (tables : List (List ℕ)) →
             TablesFit self.old.work tables → StandsOut self.old before m c →
@@ -124,8 +124,8 @@ impl Lease {
         self.rows = 0;
     }
 
-    /// The command is taken off the board, with bands left to do. Behind a whole step the image
-    /// becomes the one at home; a step that is half done is parked.
+    /// Takes the command off the board, with bands left to do. After a whole step the image becomes
+    /// the one at home. A half-done step is parked.
     pub fn preempt(self, image: Image) -> Queued
         requires left { 0 < lease_left self }
         requires image { ImageFits self.work self.rows image }

@@ -1,18 +1,18 @@
-//! Places: a command whose steps are done on boards, as a value of a type for each state that it is
-//! in. It stands for the machine and the command with which it began.
+//! Places: a command with steps that boards do. Each state that it is in has a type. A place stands
+//! for the machine and the command with which it began.
 //!
-//! Contract: whatever is called, and whatever became of the boards, a place stands for every machine
-//! and every command for which it stood before (`Stands`, `StandsOut` of `specs/Stands.antt`), and
-//! what is finished is that machine after that command, with its reply (`IsDone` of
-//! `specs/Finished.antt`). No call is told which they are. A lease's job fits it (`JobFits` of
-//! `specs/Leases.antt`), which is all that a call needs to be safe. `left` is the number of bands
-//! that are still to be done (`specs/Lefts.antt`): it falls by one with each band, and never
-//! otherwise. But for `ask`, no call takes memory; where there is none `ask` gives the machine back.
+//! Contract: whatever is called, and whatever boards do, a place stands for every machine and every
+//! command for which it stood before (`Stands`, `StandsOut` of `specs/Stands.antt`). What is
+//! finished is that machine after that command, with its reply (`IsDone` of `specs/Finished.antt`).
+//! No call knows which they are. A lease's job fits it (`JobFits` of `specs/Leases.antt`), and a
+//! call needs no more to be safe. `left` is the number of bands that are still to be done
+//! (`specs/Lefts.antt`). It falls by one with each band, and never otherwise. Only `ask` allocates.
+//! If that fails, it returns the machine.
 //!
-//! So, of a run of two steps at side 256: asked, it has 32 bands left. Leased, moved by 19 bands and
-//! preempted, it has 13 left, 16 of step 1 being done and 3 of step 2, which is parked: the image at
-//! home is still that of the beginning. Leased again, moved by one band and lost, it has 32 left.
-//! Preempted after 16 bands it would have had its home moved, and 16 left.
+//! So, for a run of two steps at side 256: after the ask it has 32 bands left. After a lease, 19
+//! bands and a preempt it has 13 left: 16 of step 1 and 3 of step 2 are done. Step 2 is parked, and
+//! the image at home is still that of the beginning. After another lease, one band and a loss it
+//! has 32 left. A preempt after 16 bands would have moved its home, with 16 left.
 //!
 //! A machine has two images. At work one is at home, with the planes of the last whole step at which
 //! the command was taken off a board, and the other one travels.

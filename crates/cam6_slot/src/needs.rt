@@ -10,7 +10,7 @@ use cam6_cycle::{Direction, NeededTable};
 use cam6_table::Code;
 use cam6_wiring::{Half, Hood, Minor};
 
-/// A table that a job goes by: of which rule, and whether it is to undo the rule.
+/// A table that a job uses: of which rule, and whether it is to undo the rule.
 #[derive(Clone, Copy)]
 pub struct Need<'a> {
     pub half: Half,

@@ -4,8 +4,8 @@ ghost use Rattle.std.specs.Prelude.{◌≡◌};
 use cam6_band::{AtRest, MidStep, Spare};
 use cam6_board::Image;
 
-/// The image of a machine that isn't at home: spare, or in the middle of a step, which can't be
-/// dropped but is given up.
+/// The image of a machine that isn't at home: spare, or in the middle of a step. Such a step can't
+/// be dropped, so it is abandoned.
 pub enum Parked {
     Spare(Spare),
     Step(MidStep),
@@ -23,8 +23,8 @@ impl Drop for Parked {
 impl Parked {
     ghost use Rattle.cam6_slot.specs.Parking.{rows_parked, IsWithinStep, HasRoomFor, LeavesAs};
 
-    /// The rows of the parked step that are done.
-    pub(crate) fn rows(&self) -> u16
+    /// Returns how many rows of the parked step are done.
+    pub(crate) fn rows_done(&self) -> u16
         ensures rows { result ≡ rows_parked self.now }
         ensures within { IsWithinStep self.now }
     {
@@ -34,7 +34,7 @@ impl Parked {
         }
     }
 
-    /// The parked step, or else the spare planes, which come to show what the image at home shows.
+    /// Returns the parked step, or else the spare planes with a copy of the image at home.
     pub(crate) fn into_image(self, home: &AtRest) -> Image
         requires { HasRoomFor home.now.planes self }
         ensures { LeavesAs home.now.planes self result }

@@ -9,8 +9,8 @@ use crate::works::Work;
 use cam6_board::Job;
 use std::marker::Model;
 
-/// Steps of a command that wait for a board, with the machine's image at home, and beside it a step
-/// that is parked half done, or spare planes.
+/// Steps of a command that wait for a board, with the machine's image at home. Beside it lies a
+/// step that is parked half done, or spare planes.
 #[derive(Drop)]
 pub struct Queued {
     work: Work,
@@ -42,17 +42,17 @@ impl Queued {
         Queued { work, parked }
     }
 
-    /// The bands that are still to be done. Whoever has a command that waits learns here what it
-    /// always is.
+    /// Returns how many bands are still to be done, one at least. The clause `always` gives the
+    /// invariant of a command that waits.
     pub fn left(&self) -> u64
         ensures left { result ≡ queued_left self.now }
         ensures some { 0 < result }
         ensures always { IsQueued self.now }
     {
-        self.work.left(self.parked.rows())
+        self.work.left(self.parked.rows_done())
     }
 
-    /// A board takes the command: it goes on from the parked step, or from a copy of the image at
+    /// Gives the command to a board. It goes on from the parked step, or a copy of the image at
     /// home.
     pub fn lease(self, board: u8) -> (Lease, Job)
         // For whatever machine and command.
@@ -66,7 +66,7 @@ impl Queued {
         ensures work { result.0.work ≡ self.work }
     {
         let Queued { work, parked } = self;
-        let rows = parked.rows();
+        let rows = parked.rows_done();
         // Planes have a side within their limit.
         let _side = work.home().planes().side();
         let image = parked.into_image(work.home());

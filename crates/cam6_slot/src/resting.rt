@@ -16,7 +16,7 @@ use cam6_commands::Command;
 use cam6_machine::{Machine, Now};
 use std::marker::Model;
 
-/// A machine of which nothing is under way.
+/// A machine with no command under way.
 #[derive(Drop)]
 pub struct Resting {
     machine: Machine,
@@ -29,7 +29,7 @@ pub enum Asked {
     Finished(Finished),
     /// Its steps wait for a board.
     Queued(Queued),
-    /// There was no memory for it, and the machine is as it was.
+    /// An allocation failed, and the machine is as it was.
     NoMemory(Resting),
 }
 
@@ -67,15 +67,15 @@ impl Resting {
         self.machine
     }
 
-    /// Gives the machine a command. One without steps is done at once; the steps of another wait for
-    /// a board. All memory of a command is taken here.
+    /// Gives the machine a command. A command without steps is done at once. The steps of any other
+    /// wait for a board. Allocates all memory of the command.
     pub fn ask(self, command: Command) -> Asked
         ensures stands { StandsFor (machine_of self) command result }
         ensures left { HasLeft (bands_of (machine_of self) command) result }
         ensures home { HasHome (bands_of (machine_of self) command) result }
         ensures opens { Opens (machine_of self) command result }
         ensures back { IsBack self result }
-        // Memory is wanted as by a machine alone.
+        // It may run out of memory only if a private machine may.
         ensures memory { may_want_memory (machine_of self) command ≡ false → HadMemory result }
     {
         let Resting { mut machine } = self;
@@ -86,10 +86,10 @@ impl Resting {
     }
 }
 
-/// What comes of a command of which the machine has said this at once.
+/// Returns what comes of a command, by what the machine has said of it at once.
 fn answered(machine: Machine, now: Now) -> Asked
     requires { CanWork now (machine_of machine) }
-    // Of whatever machine and command it is said.
+    // For whatever machine and command it is said.
     ensures stands { (m : Alone) (c : Command) →
         IsSaid m c now (machine_of machine) → StandsFor m c result }
     ensures left { (m : Alone) (c : Command) →
@@ -103,7 +103,7 @@ fn answered(machine: Machine, now: Now) -> Asked
     match now {
         Now::Reply(reply) => Asked::Finished(Finished::new(machine, reply)),
         Now::Work(steps, direction) => {
-            // It is what a machine always is.
+            // `limit` gives the proof the machine's invariant.
             let _limit = machine.limit();
             let (kept, home, spare) = machine.part();
             let work = Work::begin(kept, direction, steps, home);

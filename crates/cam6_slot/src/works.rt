@@ -16,7 +16,7 @@ use cam6_planes::Side;
 use std::marker::Model;
 use std::mem;
 
-/// So many whole steps of a command, and the position in the cycle behind them.
+/// So many whole steps of a command, and the position in the cycle after them.
 #[derive(Clone, Copy, Debug, PartialEq, Eq)]
 pub struct Milestone {
     pub steps: u16,
@@ -56,7 +56,7 @@ impl Work {
     ghost use Rattle.cam6_slot.specs.Needs.{needs_of};
     ghost use Rattle.cam6_slot.specs.Works.{IsWork, begun, one_on, home_at, back_home};
 
-    /// A command of so many steps, of which none is done, with the machine's image at home.
+    /// Begins a command of so many steps. None is done, and the machine's image is at home.
     pub(crate) fn begin(kept: Kept, direction: Direction, total: u16, home: AtRest) -> Work
         requires some { 0 < total }
         requires within { kept.position < length kept.cycle }
@@ -64,7 +64,7 @@ impl Work {
         requires can { (planes : Stored) → CanMove direction (machine_over planes kept) }
         ensures { result ≡ begun kept direction total home.planes }
     {
-        // What is kept is what a machine always keeps.
+        // `limit` gives the proof the invariant of what is kept.
         let _limit = kept.limit();
         let beginning = Milestone {
             steps: 0,
@@ -80,7 +80,7 @@ impl Work {
         }
     }
 
-    /// The image at home. Whoever holds steps that are under way learns here what they always are.
+    /// Returns the image at home. The clause `work` gives the invariant of steps under way.
     pub(crate) fn home(&self) -> &AtRest
         ensures planes { result.now.planes ≡ self.now.home }
         ensures work { IsWork self.now }
@@ -101,7 +101,7 @@ impl Work {
         self.direction
     }
 
-    /// The cycle, which is set where there are steps.
+    /// Returns the cycle. It is set, since there are steps.
     pub(crate) fn cycle(&self) -> &Cycle
         ensures cycle { result.now ≡ self.now.kept.cycle }
         ensures within { self.now.reached.position < length result.now }
@@ -113,7 +113,7 @@ impl Work {
         }
     }
 
-    /// The bands that are left behind so many rows of a step.
+    /// Returns how many bands are left after so many rows of a step.
     pub(crate) fn left(&self, rows: u16) -> u64
         requires rows { rows < width self.now.home }
         requires step { 0 < rows → self.now.reached.steps < self.now.total }
@@ -124,7 +124,7 @@ impl Work {
         steps * bands - u64::from(rows) / BAND as u64
     }
 
-    /// How many tables the steps go by.
+    /// Returns how many tables the steps use.
     pub(crate) fn needs(&self) -> u8
         ensures needs { result ≡ needs_of self.now }
         ensures few { result ≤ max_tables }
@@ -145,7 +145,7 @@ impl Work {
         Job::new(image, cycle, self.reached.position, self.direction, steps)
     }
 
-    /// One whole step more is done.
+    /// Counts one more whole step as done.
     pub(crate) fn go(&mut self)
         requires { self.old.reached.steps < self.old.total }
         ensures { self.new ≡ one_on self.old }
@@ -157,7 +157,7 @@ impl Work {
         };
     }
 
-    /// All that is done is at home with this image, and the one that was at home is spare.
+    /// Puts this image at home, with all that is done. Returns the image that was there as spare.
     pub(crate) fn come_home(&mut self, image: AtRest) -> Spare
         requires some { self.old.reached.steps < self.old.total }
         requires limit { image.planes.limit ≡ self.old.home.limit }
@@ -169,14 +169,14 @@ impl Work {
         Spare::of(home.into_planes())
     }
 
-    /// What isn't at home is lost.
+    /// Loses what isn't at home.
     pub(crate) fn go_back(&mut self)
         ensures { self.new ≡ back_home self.old }
     {
         self.reached = self.base;
     }
 
-    /// The steps are all done, with this image.
+    /// Finishes the command: all steps are done, with this image.
     pub(crate) fn finish(self, image: AtRest) -> Finished
         requires { image.planes.limit ≡ self.home.limit }
         ensures { result ≡ finished_with self image.planes }

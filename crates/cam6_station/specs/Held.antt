@@ -1,5 +1,6 @@
 -- What a station holds: a board, and the lease of a user whose job the board holds.
-use Rattle.std.specs.Prelude.{ℕ, ◌<◌, Bool, true, false, List, ⊤}
+use Rattle.std.specs.Prelude.{ℕ, ◌<◌, Bool, true, false, List, Option, Some, None, ⊤}
+use Rattle.cam6_board.specs.Images.{rows_of}
 use Rattle.cam6_board.specs.Jobs.{StoredJob}
 use Rattle.cam6_commands.specs.declared.commands.Command.{Command}
 use Rattle.cam6_model.specs.Machine.{Machine}
@@ -19,12 +20,22 @@ pub data Manned : Type 0 where
   loaded : ℕ → Held → Manned
   dead : Manned
 
+-- what a station is at, and how often its board failed
+pub record Stationed : Type 0 where
+  pub at : Manned
+  pub faults : ℕ
+
 -- a lease of which bands are left, and the job and the tables fit it
 pub record HeldFits (h : Held) : Type 0 where
   pub lease : IsLease h.lease
   pub job : JobFits h.lease h.job
   pub left : 0 < lease_left h.lease
   pub tables : TablesFit h.lease.work h.tables
+
+-- what is held fits, if something is
+abbrev pub IsFit : Manned → Type 0
+IsFit (loaded u h) = HeldFits h
+IsFit s = ⊤
 
 abbrev pub held_left : Held → ℕ
 held_left h = lease_left h.lease
@@ -59,3 +70,13 @@ is_loaded s = false
 abbrev pub is_dead : Manned → Bool
 is_dead dead = true
 is_dead s = false
+
+-- the lease of the command that is held, if one is
+abbrev pub lease_on : Manned → Option StoredLease
+lease_on (loaded u h) = Some h.lease
+lease_on s = None
+
+-- the rows of the step under way that are done, if a command is held
+abbrev pub rows_on : Manned → Option ℕ
+rows_on (loaded u h) = Some (rows_of h.job.image)
+rows_on s = None

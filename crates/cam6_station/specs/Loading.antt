@@ -15,8 +15,8 @@ key_of need = record {
   inverted = need.inverted;
 }
 
--- behind the load of a key its true table goes first; or it was not there, no memory was found for
--- it, and nothing changes
+-- after the load of a key its true table goes first; or it was not there, memory ran out for it, and
+-- nothing changes
 abbrev pub IsBehindLoad : TableKey → Cached → Cached → Type 0
 IsBehindLoad key old new =
     (entries : List ℕ) × IsTrueFor key entries
@@ -31,20 +31,20 @@ pub record FillsOne (w : StoredWork) (index : ℕ) (old new : List (List ℕ)) :
 abbrev pub FitUpTo : StoredWork → ℕ → List (List ℕ) → Type 0
 FitUpTo w n tables = (k : ℕ) → k < n → IsTableNeeded w k (slice_index_or tables k [])
 
--- what is loaded for one use, whether it was there, and what the cache is behind the load
+-- what is loaded for one use, whether it was there, and what the cache is after the load
 pub record LoadsOne (w : StoredWork) (index : ℕ) (hit : Bool) (old new : Cached) : Type 0 where
   pub need : Need
   pub is : IsNeed w index need
   pub hits : hit ≡ is_cached (key_of need) old.tables
   pub load : IsBehindLoad (key_of need) old new
 
--- behind the loads of the first n tables that steps need, in the order of their uses
+-- after the loads of the first n tables that steps need, in the order of their uses
 abbrev pub IsBehindLoadsOf : StoredWork → ℕ → Cached → Cached → Type 0
 IsBehindLoadsOf w zero old new = new ≡ old
 IsBehindLoadsOf w (suc n) old new =
     (between : Cached) × (need : Need) × IsBehindLoadsOf w n old between × IsNeed w n need
     × IsBehindLoad (key_of need) between new
 
--- behind all of them
+-- after all of them
 abbrev pub IsBehindLoads : StoredWork → Cached → Cached → Type 0
 IsBehindLoads w old new = IsBehindLoadsOf w (needs_of w) old new

@@ -3,9 +3,9 @@ ghost use Rattle.std.specs.Prelude.{◌≡◌, ◌<◌};
 
 use cam6_board::Tables;
 use cam6_cache::{Key, TableCache};
+use cam6_entries::Table;
 use cam6_planes::NoMemory;
 use cam6_slot::Lease;
-use cam6_table::Table;
 use std::alloc::Global;
 use std::marker::Model;
 
@@ -31,7 +31,7 @@ impl Filling {
     ghost use Rattle.cam6_slot.specs.Needs.{needs_of};
     ghost use Rattle.cam6_station.specs.Loading.{FillsOne, LoadsOne, IsBehindLoads};
 
-    /// Tables of which nothing is said.
+    /// Tables with any entries.
     pub fn new(alloc: Global) -> Result<Filling, NoMemory> {
         Ok(Filling {
             key: Key::scratch(alloc)?,
@@ -47,7 +47,7 @@ impl Filling {
     }
 
     /// Fills the tables that a lease needs, in the order of their uses, each through the cache. It
-    /// takes no memory but for what is newly cached; where that is refused nobody sees it.
+    /// allocates only for what is newly cached. If that allocation fails nobody sees it.
     pub fn fill(&mut self, cache: &mut TableCache, lease: &Lease)
         ensures tables { TablesFit lease.now.work self.new }
         ensures loads { IsBehindLoads lease.now.work cache.old cache.new }

@@ -2,12 +2,13 @@
 //! its job.
 //!
 //! Contract: a station is idle, holds a lease with the job and the tables of its board, or is dead
-//! (`specs/Held.antt`). That these fit, that the tables are the true ones and that a band is left
-//! is what such a station always has (`HeldFits`). Each call says by cases what it makes of it
-//! (`specs/Calls.antt`): a band goes on with what is held or is the last one, a command that is
-//! taken off waits again, and one that is lost goes back to its home; all for whatever machine and
-//! command is stood for. `Filling::fill` leaves the tables that a lease needs, by way of the cache.
-//! But for what the cache may take no call takes memory, and none is refused.
+//! (`specs/Held.antt`). These always fit, the tables are the true ones, and a band is left
+//! (`HeldFits`). Each call says by cases what it does (`specs/Calls.antt`): a band goes on with what
+//! is held or is the last one, and a command that is taken off waits again. If the board fails in a
+//! call, the station is dead, and its command goes back to its home. The count of the board's faults
+//! has risen then (`Rises`). All of it holds for whatever machine and command is stood for.
+//! `Filling::fill` makes the tables that a lease needs, by way of the cache. Only the cache allocates,
+//! and no call is refused.
 //!
 //! So, of a run of one step at side 256: loaded, fifteen bands answer `More` with 15 to 1 bands
 //! left, and the sixteenth `Last`, with the machine after the run and its reply; the station is idle
@@ -22,4 +23,4 @@ mod fillings;
 mod stations;
 
 pub use fillings::Filling;
-pub use stations::{Banded, Station};
+pub use stations::{Banded, Preempted, Station};

@@ -1,10 +1,11 @@
 //! A board, with the lease whose job it holds.
-ghost use Rattle.std.specs.Prelude.{◌≡◌, ◌<◌, ℕ};
+ghost use Rattle.std.specs.Prelude.{◌≡◌, ◌<◌, ℕ, true};
+ghost use Rattle.cam6_board.specs.Images.{is_rest};
+ghost use Rattle.cam6_station.specs.Internal.Posts.{HasLease};
 
-use cam6_board::{Board, Job, SoftBoard, Tables};
-use cam6_planes::NoMemory;
+use cam6_band::AtRest;
+use cam6_board::{Board, Image, Job, SoftBoard, Tables};
 use cam6_slot::{Finished, Lease, Queued};
-use std::alloc::Global;
 use std::marker::Model;
 use std::mem;
 
@@ -24,154 +25,251 @@ pub enum Banded {
     More(u64),
     /// The user's command is done, and the board is free.
     Last(usize, Finished),
+    /// The board failed, and the user's command waits again with what is at its home.
+    Lost(usize, Queued),
+}
+
+/// What it comes to that a command is taken off its board.
+#[derive(Drop)]
+pub enum Preempted {
+    /// The user's command waits again with the bands that are done, and the board is free.
+    Back(usize, Queued),
+    /// The board failed, and the user's command waits again with what is at its home.
+    Lost(usize, Queued),
 }
 
 /// A board that is idle, holds the job of a user's lease, or has failed.
 #[derive(Drop)]
-pub struct Station {
-    board: SoftBoard,
+pub struct Station<B: Board> {
+    board: B,
     post: Post,
 }
 
-impl Model for Station {
-    ghost use Rattle.cam6_board.specs.Soft.{load_in};
-    ghost use Rattle.cam6_station.specs.Held.{Manned};
+impl<B: Board> Model for Station<B> {
+    ghost use Rattle.cam6_station.specs.Held.{Stationed};
     ghost use Rattle.cam6_station.specs.Internal.Posts.{manned, IsManned};
 
-    ghost Value = { Manned };
+    ghost Value = { Stationed };
 
-    ghost view = { λ s. manned s.post (load_in s.board) };
+    ghost view = { λ s.
+        record { at = manned s.post (B.held s.board); faults = B.fault_count s.board } };
 
-    ghost invariant = { λ s. IsManned s.post (load_in s.board) };
+    ghost invariant = { λ s. IsManned s.post (B.held s.board) };
 }
 
-impl Station {
-    ghost use Rattle.std.specs.Prelude.{IfOk};
+/// A station whose board never fails.
+impl Station<SoftBoard> {
+    ghost use Rattle.std.specs.Prelude.{◌≡◌};
+
+    /// The board of this station has never failed. Does nothing.
+    pub fn never_failed(&self)
+        ensures { self.now.faults ≡ 0 }
+    {
+        let _board = &self.board;
+    }
+}
+
+impl<B: Board> Station<B> {
+    ghost use Rattle.std.specs.Prelude.{◌≤◌, IfErr, OnOk, OnErr, is_err, false};
+    ghost use Rattle.std.specs.Option.{option_copied};
+    ghost use Rattle.cam6_board.specs.Held.{empty};
     ghost use Rattle.cam6_slot.specs.Leases.{JobFits, TablesFit};
     ghost use Rattle.cam6_slot.specs.Lefts.{lease_left};
-    ghost use Rattle.cam6_station.specs.Calls.{BandGives, PreemptGives, FailGives};
-    ghost use Rattle.cam6_station.specs.Held.{idle, loaded, dead, IsLoaded, IsAlive};
-    ghost use Rattle.cam6_station.specs.Held.{is_idle, is_loaded, is_dead};
+    ghost use Rattle.cam6_station.specs.Calls.{BandGives, PreemptGives, FailGives, GoesHome};
+    ghost use Rattle.cam6_station.specs.Calls.{Rises, is_lost, is_lost_off};
+    ghost use Rattle.cam6_station.specs.Held.{idle, loaded, dead, IsFit, IsLoaded, IsAlive};
+    ghost use Rattle.cam6_station.specs.Held.{is_idle, is_loaded, is_dead, lease_on, rows_on};
 
-    /// An idle station.
-    pub fn new(alloc: Global) -> Result<Station, NoMemory>
-        ensures { IfOk result (λ station. station ≡ idle) }
+    /// An idle station with this board.
+    pub fn of(board: B) -> Station<B>
+        requires { B.held board ≡ empty }
+        ensures { result ≡ record { at = idle; faults = B.fault_count board } }
     {
-        Ok(Station {
-            board: SoftBoard::new(alloc)?,
+        Station {
+            board,
             post: Post::Idle,
-        })
+        }
+    }
+
+    /// The empty board of a station that holds nothing.
+    pub fn into_board(self) -> B
+        requires { is_loaded self.at ≡ false }
+        ensures empty { B.held result ≡ empty }
+        ensures faults { B.fault_count result ≡ self.faults }
+    {
+        self.board
     }
 
     pub fn is_idle(&self) -> bool
-        ensures { result ≡ is_idle self.now }
+        ensures { result ≡ is_idle self.now.at }
     {
         matches!(self.post, Post::Idle)
     }
 
     pub fn is_loaded(&self) -> bool
-        ensures { result ≡ is_loaded self.now }
+        ensures { result ≡ is_loaded self.now.at }
     {
         matches!(self.post, Post::Loaded(_, _))
     }
 
     pub fn is_dead(&self) -> bool
-        ensures { result ≡ is_dead self.now }
+        ensures { result ≡ is_dead self.now.at }
     {
         matches!(self.post, Post::Dead)
     }
 
-    /// Loads an idle station with the lease of a user.
-    pub fn load(&mut self, user: usize, lease: Lease, job: Job, tables: &Tables)
-        requires idle { self.old ≡ idle }
+    /// The lease of the command that is held, if one is. Whoever has a station learns here what it
+    /// always is.
+    pub fn lease(&self) -> Option<&Lease>
+        ensures lease { option_copied result ≡ lease_on self.now.at }
+        ensures always { IsFit self.now.at }
+    {
+        match &self.post {
+            Post::Loaded(_, lease) => Some(lease),
+            _ => None,
+        }
+    }
+
+    /// The rows of the step under way that are done, if a command is held.
+    pub fn rows(&self) -> Option<u16>
+        ensures { result ≡ rows_on self.now.at }
+    {
+        self.board.rows()
+    }
+
+    /// Loads an idle station with the lease of a user. If the board fails, the command waits again with
+    /// what is at its home.
+    pub fn load(
+        &mut self,
+        user: usize,
+        lease: Lease,
+        job: Job,
+        tables: &Tables,
+    ) -> Result<(), Queued>
+        requires idle { self.old.at ≡ idle }
         requires job { JobFits lease job }
         requires left { 0 < lease_left lease }
         requires tables { TablesFit lease.work tables.now }
-        ensures { self.new ≡ loaded user
-            (record { lease = lease; job = job; tables = tables.now }) }
+        ensures ok { OnOk result (self.new.at ≡ loaded user
+            (record { lease = lease; job = job; tables = tables.now })) }
+        ensures err { OnErr result (self.new.at ≡ dead) }
+        ensures back { IfErr result (λ queued. GoesHome
+            (record { lease = lease; job = job; tables = tables.now }) queued) }
+        ensures faults { Rises (is_err result) self.old.faults self.new.faults }
     {
         // A lease is what it always is.
         let _bands = lease.left();
         match self.board.load(job, tables) {
-            Ok(()) => (),
-            _ => unreachable!(),
+            Ok(()) => {
+                self.post = Post::Loaded(user, lease);
+                Ok(())
+            }
+            Err(fault) => {
+                self.post = Post::Dead;
+                Err(lease.lost(fault.spare))
+            }
         }
-        self.post = Post::Loaded(user, lease);
     }
 
     /// One band. The last one frees the board.
     pub fn band(&mut self) -> Banded
-        requires { IsLoaded self.old }
-        ensures { BandGives self.old result self.new }
+        requires { IsLoaded self.old.at }
+        ensures gives { BandGives self.old.at result self.new.at }
+        ensures faults { Rises (is_lost result) self.old.faults self.new.faults }
     {
         let Post::Loaded(_, lease) = &mut self.post else {
             unreachable!()
         };
-        let end = match self.board.band() {
-            Ok(end) => end,
-            _ => unreachable!(),
-        };
-        lease.advance(end);
+        match self.board.band() {
+            Ok(end) => lease.advance(end),
+            Err(fault) => {
+                let (user, lease) = taken(&mut self.post, Post::Dead);
+                return Banded::Lost(user, lease.lost(fault.spare));
+            }
+        }
         let left = lease.left();
         if left > 0 {
             return Banded::More(left);
         }
-        let (user, lease) = match mem::replace(&mut self.post, Post::Idle) {
-            Post::Loaded(user, lease) => (user, lease),
-            _ => unreachable!(),
-        };
-        let image = match self.board.unload() {
-            Ok(image) => image,
-            _ => unreachable!(),
-        };
-        match image.into_rest() {
-            Ok(image) => Banded::Last(user, lease.finish(image)),
-            Err(step) => {
-                drop(step.abandon());
-                unreachable!()
+        match self.board.unload() {
+            Ok(image) => {
+                let (user, lease) = taken(&mut self.post, Post::Idle);
+                Banded::Last(user, lease.finish(at_rest(image)))
+            }
+            Err(fault) => {
+                let (user, lease) = taken(&mut self.post, Post::Dead);
+                Banded::Lost(user, lease.lost(fault.spare))
             }
         }
     }
 
     /// The user's command is taken off the board, which is free.
-    pub fn preempt(&mut self) -> (usize, Queued)
-        requires { IsLoaded self.old }
-        ensures back { PreemptGives self.old result.0 result.1 }
-        ensures idle { self.new ≡ idle }
+    pub fn preempt(&mut self) -> Preempted
+        requires { IsLoaded self.old.at }
+        ensures gives { PreemptGives self.old.at result self.new.at }
+        ensures faults { Rises (is_lost_off result) self.old.faults self.new.faults }
     {
-        let (user, lease) = match mem::replace(&mut self.post, Post::Idle) {
-            Post::Loaded(user, lease) => (user, lease),
-            _ => unreachable!(),
-        };
-        let image = match self.board.unload() {
-            Ok(image) => image,
-            _ => unreachable!(),
-        };
-        (user, lease.preempt(image))
+        match self.board.unload() {
+            Ok(image) => {
+                let (user, lease) = taken(&mut self.post, Post::Idle);
+                Preempted::Back(user, lease.preempt(image))
+            }
+            Err(fault) => {
+                let (user, lease) = taken(&mut self.post, Post::Dead);
+                Preempted::Lost(user, lease.lost(fault.spare))
+            }
+        }
     }
 
     /// The board fails, and with it is lost what it holds: the user's command, if there is one, waits
     /// again with what is at its home.
     pub fn fail(&mut self) -> Option<(usize, Queued)>
-        requires { IsAlive self.old }
-        ensures back { FailGives self.old result }
-        ensures dead { self.new ≡ dead }
+        requires { IsAlive self.old.at }
+        ensures back { FailGives self.old.at result }
+        ensures dead { self.new.at ≡ dead }
+        ensures count { self.old.faults ≤ self.new.faults }
     {
         let Post::Loaded(user, lease) = mem::replace(&mut self.post, Post::Dead) else {
             return None;
         };
-        let image = match self.board.unload() {
-            Ok(image) => image,
-            _ => unreachable!(),
+        let spare = match self.board.unload() {
+            Ok(image) => image.into_spare(),
+            Err(fault) => fault.spare,
         };
-        Some((user, lease.lost(image.into_spare())))
+        Some((user, lease.lost(spare)))
     }
 
     /// A station that was dead is idle.
     pub fn repair(&mut self)
-        requires { self.old ≡ dead }
-        ensures { self.new ≡ idle }
+        requires { self.old.at ≡ dead }
+        ensures { self.new ≡ record { at = idle; faults = self.old.faults } }
     {
         self.post = Post::Idle;
+    }
+}
+
+/// Takes the user and the lease from a post, which is another one then.
+fn taken(post: &mut Post, after: Post) -> (usize, Lease)
+    requires { HasLease post.old }
+    ensures was { post.old ≡ Post.Loaded result.0 result.1 }
+    ensures after { post.new ≡ after }
+{
+    match mem::replace(post, after) {
+        Post::Loaded(user, lease) => (user, lease),
+        _ => unreachable!(),
+    }
+}
+
+/// An image that is at rest.
+fn at_rest(image: Image) -> AtRest
+    requires { is_rest image ≡ true }
+    ensures { image ≡ Image.Rest result }
+{
+    match image.into_rest() {
+        Ok(image) => image,
+        Err(step) => {
+            drop(step.abandon());
+            unreachable!()
+        }
     }
 }

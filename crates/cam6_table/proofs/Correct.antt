@@ -11,7 +11,8 @@ use Rattle.cam6_wiring.proofs.LinesOfNames.{line_of-center, line_of-center_upper
 use Rattle.cam6_forth.specs.Tree.{Part, IsRule}
 use Rattle.cam6_table.specs.declared.faults.RuleFault.{RuleFault}
 use Rattle.cam6_table.specs.declared.outputs.State.{State}
-use Rattle.cam6_table.specs.Outputs.{untouched, entry_of, is_odd}
+use Rattle.cam6_entries.specs.NewBits.{is_odd}
+use Rattle.cam6_table.specs.Outputs.{untouched, entry_of}
 use Rattle.cam6_table.specs.Meaning.{meaning_at, meanings, last_meaning}
 use Rattle.cam6_table.specs.Meaning.{entry_in, meaning, at_address}
 use Rattle.cam6_table.specs.Codes.{Lines, exec, entry_at, result_at}

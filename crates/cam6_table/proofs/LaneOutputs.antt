@@ -9,7 +9,8 @@ use Rattle.cam6_table.specs.declared.outputs.State.{State}
 use Rattle.cam6_table.specs.Words.{Values, pushed}
 use Rattle.cam6_table.specs.Meaning.{with_stack}
 use Rattle.cam6_table.specs.Codes.{goes_on, go}
-use Rattle.cam6_table.specs.Outputs.{is_odd, with_output, written, written_top}
+use Rattle.cam6_entries.specs.NewBits.{is_odd}
+use Rattle.cam6_table.specs.Outputs.{with_output, written, written_top}
 use Rattle.cam6_table.specs.Internal.Lanes.{column, value_at, floor_of, bit_written, state_at}
 use Rattle.cam6_table.proofs.Columns.{column_at}
 use Rattle.cam6_table.proofs.LaneWords.{room_for_one}

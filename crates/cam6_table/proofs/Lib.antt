@@ -32,14 +32,6 @@ pub mod Jumps
 pub mod LinesRead
 -- How many values a stack word wants.
 pub mod Wants
--- Rows of a unit go to their places in the rows of a band.
-pub mod UnitRows
--- Rows of a band are written one by one.
-pub mod BandRows
--- In planes that are kept every cell keeps its bit.
-pub mod KeptPlanes
--- A program that computes the entries makes the new bits.
-pub mod ComputedBits
 -- What holds of the value in each lane so far holds in one lane more.
 pub mod EachLane
 -- Masks of 16 bits, of which all are 1 or all are 0, choose values.
@@ -58,3 +50,5 @@ pub mod RightEntries
 pub mod Outcomes
 -- Lanes part at an IF and at a case: which of them are where afterwards.
 pub mod Parting
+-- A flow takes others along: what is left in each of their lanes.
+pub mod TakenAlong

@@ -17,7 +17,8 @@ use Rattle.cam6_table.specs.declared.evaluation.Next.{Next}
 use Rattle.cam6_table.specs.declared.faults.RuleFault.{RuleFault}
 use Rattle.cam6_table.specs.declared.outputs.State.{State}
 use Rattle.cam6_table.specs.Words.{pushed}
-use Rattle.cam6_table.specs.Outputs.{untouched, is_odd}
+use Rattle.cam6_entries.specs.NewBits.{is_odd}
+use Rattle.cam6_table.specs.Outputs.{untouched}
 use Rattle.cam6_table.specs.Meaning.{then_do, with_stack}
 use Rattle.cam6_table.specs.Codes.{Lines, act, exec, goes_on, entry_at, result_at}
 use Rattle.cam6_table.specs.Internal.LinesRead.{HasLineOf, HasLinesOf, IsMaskFor}

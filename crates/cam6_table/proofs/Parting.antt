@@ -1,7 +1,7 @@
 -- Lanes part at an IF and at a case: what is left in each of them.
 use Rattle.std.proofs.Common.{◌≡◌, ◌≢◌, ◌∙◌, ◌⊎◌, ◌<◌, ◌≤◌, ◌+◌, ◌-◌, ◌==◌, ℕ, zero, suc}
 use Rattle.std.proofs.Common.{None, Some, Ok, Err, slice_index, ap, sym, subst, refl, arith, inl, inr}
-use Rattle.std.proofs.Common.{if◌then◌else◌, nat_lt, Result, Bool, true, false, List, ◌∷◌, length}
+use Rattle.std.proofs.Common.{◌&&◌, IsTrue, if◌then◌else◌, nat_lt, Result, Bool, true, false, List, ◌∷◌, length}
 use Rattle.std.proofs.lemmas.Bool.{cases_eq}
 use Rattle.std.proofs.lemmas.Bool.Decides.{nat_tests}
 use Rattle.cam6_wiring.specs.Seen.{shown}
@@ -40,14 +40,8 @@ module _ (set top zeros others : ℕ) (zeros_are : zeros ≡ (if top == 0 then s
   pub value_of_others : others ≡ 65535 → top ≢ 0
   value_of_others inside = grind (arith, nat_tests)
 
-  pub no_zero : top ≢ 0 → zeros ≡ 0
-  no_zero other = grind (arith, nat_tests)
-
   pub all_zero : top ≡ 0 → zeros ≡ set
   all_zero same = grind (arith, nat_tests)
-
-  pub set_of_zeros : zeros ≡ 65535 → set ≡ 65535
-  set_of_zeros inside = grind (arith, nat_tests)
 
   pub none_of_none : set ≡ 0 → zeros ≡ 0
   none_of_none none = grind (arith, nat_tests)
@@ -193,3 +187,11 @@ if_other a b x y other = grind (arith, nat_tests)
 pub if_none : (test : Bool) (x : ℕ) → x ≡ 0 → (if test then x else 0) ≡ 0
 if_none true x none = none
 if_none false x none = refl
+
+-- a lane that waits at a place
+module _ (b t behind top : ℕ) (is : IsTrue (b == behind && t == top)) where
+  pub behind_there : b ≡ behind
+  behind_there = grind (arith, nat_tests)
+
+  pub top_there : t ≡ top
+  top_there = grind (arith, nat_tests)

@@ -1,4 +1,4 @@
--- What flat code does, instruction by instruction. Jumps lead forward alone.
+-- What flat code does, instruction by instruction. Jumps only lead forward.
 use Rattle.std.specs.Prelude.{◌≡◌, MatchResult, ℕ, zero, suc, ◌-◌, drop, length, ◌/◌, Bool, List}
 use Rattle.std.specs.Prelude.{[], ◌∷◌, Option, Some, None, Result, Ok, Err, nat_lt, if◌then◌else◌}
 use Rattle.cam6_planes.specs.Row.{bit_number}
@@ -14,10 +14,11 @@ use Rattle.cam6_table.specs.declared.faults.RuleFault.{RuleFault}
 use Rattle.cam6_table.specs.declared.faults.RuleFault.TheVariants.{CaseIndex}
 use Rattle.cam6_table.specs.declared.outputs.State.{State}
 use Rattle.cam6_table.specs.Words.{pushed, on_stack}
-use Rattle.cam6_table.specs.Outputs.{untouched, written, entry_of, is_odd}
+use Rattle.cam6_entries.specs.NewBits.{is_odd}
+use Rattle.cam6_table.specs.Outputs.{untouched, written, entry_of}
 use Rattle.cam6_table.specs.Meaning.{then_do, with_stack, with_top, at_zero, at_address}
 
--- the last so many instructions
+-- the last instructions, this many
 abbrev pub last_of : ℕ → List Instruction → List Instruction
 last_of behind code = drop (length code - behind) code
 
@@ -25,7 +26,7 @@ last_of behind code = drop (length code - behind) code
 abbrev pub Lines : Type 0
 Lines = ℕ → Bool
 
--- passes so many instructions, and looks for this word of a case, if for any
+-- passes this many instructions, and looks for this word of a case, if for any
 abbrev pub go : ℕ → Option ℕ → Next
 go passed index = record { passed = passed; word = index }
 
@@ -33,7 +34,7 @@ go passed index = record { passed = passed; word = index }
 abbrev pub goes_on : Result State RuleFault → Result (State × Next) RuleFault
 goes_on said = then_do said (λ s. Ok (s, go 0 None))
 
--- the head of a case's word: the word is done where it is the one looked for, else passed; after
+-- the head of a case's word: the word is done if it is the one looked for, and else passed. After
 -- another word of the case was done, the rest of the case is passed
 abbrev pub at_head : Option ℕ → ℕ → ℕ → Next
 at_head None length after = go after None
@@ -54,7 +55,7 @@ act shows index (Case count) s =
     if nat_lt i count then Ok (below, go 0 (Some i)) else Err CaseIndex)
 act shows index (CaseWord length after) s = Ok (s, at_head index length after)
 
--- what code does after the first so many instructions, and while it looks for this word of a case
+-- what code does after it passes this many instructions, and while it looks for this word of a case
 abbrev pub exec : Lines → List Instruction → ℕ → Option ℕ → State → Result State RuleFault
 exec shows [] passed index s = Ok s
 exec shows (instruction ∷ code) (suc passed) index s = exec shows code passed index s
@@ -62,7 +63,7 @@ exec shows (instruction ∷ code) zero index s =
     then_do (act shows index instruction s)
     (λ done. exec shows code done.1.passed done.1.word done.0)
 
--- so many instructions, unless there was a fault
+-- how many instructions follow, or none after a fault
 abbrev pub turns_after : Result (State × Next) RuleFault → (State × Next → ℕ) → ℕ
 turns_after (Ok done) turns = turns done
 turns_after (Err fault) turns = 0
@@ -88,8 +89,8 @@ result_at code address = entry_at address (exec (shown address) code 0 None unto
 abbrev pub turns_at : List Instruction → ℕ → ℕ
 turns_at code address = turns_of (shown address) code 0 None untouched
 
--- the code of a rule: at each address it answers what the rule means there, whichever tree of the
--- rule is read
+-- the code of a rule: at each address its result is what the rule means there, by any tree of the
+-- rule
 abbrev pub IsCodeOf : List Instruction → RuleWords → Type 0
 IsCodeOf code rule =
     (parts : List Part) → IsRule rule.wiring parts → rule ≡ rule_of rule.wiring parts →

@@ -22,12 +22,12 @@ fault_read wiring text (Err fault) = Some (Text (record { number = fault.0; toke
 fault_read wiring text (Ok definitions) =
     fault_of_stop (least_stop (at_address wiring (tree_of text)))
 
--- a text's first fault, if it has one; if not, the least address at which its words stop, with the
--- fault there; none where nothing is wrong in it
+-- a text's first fault, if it has one. If not, the least address at which its words stop, with the
+-- fault there. None if nothing is wrong in it
 abbrev pub fault_in : Wiring → List ℕ → Option NotCompiled
 fault_in wiring text = fault_read wiring text (read_text wiring text)
 
--- code comes only where nothing is wrong, and a refusal only for what is; for want of memory
+-- code comes only if nothing is wrong, and a refusal only for what is wrong; if memory runs out,
 -- nothing is said
 abbrev pub IsRefusedFor : Option NotCompiled → Result (List Instruction) NotCompiled → Type 0
 IsRefusedFor wrong (Ok code) = wrong ≡ None

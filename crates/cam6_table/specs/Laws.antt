@@ -10,7 +10,7 @@ use Rattle.cam6_forth.specs.declared.words.StackWord.{StackWord}
 use Rattle.cam6_table.specs.declared.codes.Instruction.{Instruction}
 use Rattle.cam6_table.specs.declared.faults.RuleFault.{RuleFault}
 use Rattle.cam6_table.specs.declared.faults.RuleFault.TheVariants.{MissingValue}
-use Rattle.cam6_table.specs.Limits.{addresses}
+use Rattle.cam6_entries.specs.Limits.{addresses}
 use Rattle.cam6_table.specs.Words.{Values, wants, on_stack}
 use Rattle.cam6_table.specs.Meaning.{meaning, at_address}
 use Rattle.cam6_table.specs.Tables.{Results, AreEntries, IsLeastStop, IsTrueTable, least_stop}
@@ -38,13 +38,13 @@ LeastIsFound =
     (results : Results) (address : ℕ) (fault : RuleFault) → IsLeastStop results address fault →
     least_stop results ≡ Some (address, fault)
 
--- and none is found where there is an entry at each address
+-- and none is found if there is an entry at each address
 abbrev pub NoneIsFound : Type 0
 NoneIsFound =
     (results : Results) → ((address : ℕ) → address < addresses → IsOk (results address)) →
     least_stop results ≡ None
 
--- a stack word stops for want of values exactly where there are fewer than it wants
+-- a stack word stops with MissingValue exactly if there are fewer values than it wants
 abbrev pub WantsValues : Type 0
 WantsValues =
     (word : StackWord) (values : Values) →
@@ -57,8 +57,8 @@ RunsEverywhere =
     (wiring : Wiring) (parts : List Part) (sees : Sees) → IsRule wiring parts →
     least_stop (at_address wiring parts) ≡ None → IsOk (meaning wiring parts sees)
 
--- code of the rule that a text was accepted as, which filled a table, is the text's code, and the
--- table the text's table
+-- if code of the rule that a text was accepted as filled a table, it is the text's code, and the
+-- table is the text's table
 abbrev pub FilledIsOfTheText : Type 0
 FilledIsOfTheText =
     (wiring : Wiring) (text : List ℕ) (rule : RuleWords) (code : List Instruction)

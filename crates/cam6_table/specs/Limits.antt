@@ -1,4 +1,4 @@
--- The limits of a rule that runs, and of its table.
+-- The limits of a rule that runs.
 use Rattle.std.specs.Prelude.{ℕ}
 
 -- the most values on a stack
@@ -12,7 +12,3 @@ max_value = 65535
 -- the most instructions that a rule's code has, and so the most turns that it takes
 abbrev pub max_turns : ℕ
 max_turns = 4096
-
--- addresses of twelve lines, and so entries of a table
-abbrev pub addresses : ℕ
-addresses = 4096

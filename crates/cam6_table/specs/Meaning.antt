@@ -1,5 +1,5 @@
--- What a rule means: by recursion on its tree, with the bits that its names mean as a function, so
--- that one definition serves an address and a cell.
+-- What a rule means, by recursion on its tree. The bits that its names mean are a function, so that
+-- one definition serves an address and a cell.
 use Rattle.std.specs.Prelude.{ℕ, zero, suc, ◌-◌, List, [], ◌∷◌, ◌++◌, length, Result, Ok, Err}
 use Rattle.cam6_planes.specs.Row.{bit_number}
 use Rattle.cam6_wiring.specs.Seen.{Sees, environment}
@@ -33,13 +33,13 @@ abbrev pub with_stack : State → Result Values RuleFault → Result State RuleF
 with_stack s (Ok values) = Ok (record s { stack = values })
 with_stack s (Err fault) = Err fault
 
--- what comes next of the top value and the state without it
+-- what comes next, from the top value and the state without it
 abbrev pub with_top :
     {A : Type 0} → Values → State → (ℕ → State → Result A RuleFault) → Result A RuleFault
 with_top [] s next = Err MissingValue
 with_top (v ∷ rest) s next = next v (record s { stack = rest })
 
--- the first where the value is 0, and else the second
+-- the first if the value is 0, and else the second
 abbrev pub at_zero : {A : Type 0} → ℕ → A → A → A
 at_zero zero a b = a
 at_zero (suc v) a b = b

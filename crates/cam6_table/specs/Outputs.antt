@@ -4,6 +4,7 @@ use Rattle.std.specs.Prelude.{Some, None, unwrap_or, Result, Ok, Err, ◌==◌}
 use Rattle.cam6_planes.specs.Row.{bit_number}
 use Rattle.cam6_forth.specs.declared.words.Target.{Target}
 use Rattle.cam6_forth.specs.declared.words.Target.TheVariants.{Lower, Upper, Both}
+use Rattle.cam6_entries.specs.NewBits.{is_odd}
 use Rattle.cam6_table.specs.declared.faults.RuleFault.{RuleFault}
 use Rattle.cam6_table.specs.declared.faults.RuleFault.TheVariants.{MissingValue}
 use Rattle.cam6_table.specs.declared.outputs.State.{State}
@@ -11,9 +12,6 @@ use Rattle.cam6_table.specs.declared.outputs.State.{State}
 -- an empty stack, and no plane written
 abbrev pub untouched : State
 untouched = record { stack = []; lower = None; upper = None }
-
-abbrev pub is_odd : ℕ → Bool
-is_odd v = v % 2 == 1
 
 -- a value written to the lower plane, to the upper one, or its two lowest bits to both
 abbrev pub with_output : Target → ℕ → State → State

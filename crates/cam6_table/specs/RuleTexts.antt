@@ -5,12 +5,12 @@ use Rattle.cam6_forth.specs.Texts.{IsTextOf}
 use Rattle.cam6_forth.specs.Tree.{IsRule}
 use Rattle.cam6_forth.specs.Trees.{tree_of}
 use Rattle.cam6_table.specs.declared.codes.Instruction.{Instruction}
-use Rattle.cam6_table.specs.Limits.{addresses}
+use Rattle.cam6_entries.specs.Limits.{addresses}
 use Rattle.cam6_table.specs.Codes.{result_at}
 use Rattle.cam6_table.specs.Meaning.{at_address}
 use Rattle.cam6_table.specs.Tables.{IsTrueTable}
 
--- code that a kept rule runs by: its text spells a rule, the code answers at each address what the
+-- the code of a kept rule: its text spells a rule, the code's result at each address is what the
 -- rule's words mean there, and it stops nowhere
 pub record IsCodeFor (wiring : Wiring) (text : List ℕ) (code : List Instruction) : Type 0 where
   pub spells : IsTextOf wiring (tree_of text) text

@@ -4,7 +4,7 @@ use Rattle.std.specs.Prelude.{Option, Some, None, Result, Ok, Err, IsOk}
 use Rattle.cam6_wiring.specs.declared.wirings.Wiring.{Wiring}
 use Rattle.cam6_forth.specs.Tree.{Part}
 use Rattle.cam6_table.specs.declared.faults.RuleFault.{RuleFault}
-use Rattle.cam6_table.specs.Limits.{addresses}
+use Rattle.cam6_entries.specs.Limits.{addresses}
 use Rattle.cam6_table.specs.Meaning.{at_address}
 
 -- at each address an entry, or a fault
@@ -31,12 +31,12 @@ abbrev pub or_at_later_address :
 or_at_later_address (Ok entry) address later = later
 or_at_later_address (Err fault) address later = Some (address, fault)
 
--- the first of so many addresses, from one on, at which any fault comes, with the fault there
+-- the first of n addresses, from one on, at which any fault comes, with the fault there
 abbrev pub first_stop : Results → ℕ → ℕ → Option (ℕ × RuleFault)
 first_stop results zero address = None
 first_stop results (suc n) address =
     or_at_later_address (results address) address (first_stop results n (suc address))
 
--- the least address at which any fault comes, if there is one
+-- the least address at which any fault comes, if one does
 unfoldable pub least_stop : Results → Option (ℕ × RuleFault)
 least_stop results = first_stop results addresses 0

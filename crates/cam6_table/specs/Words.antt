@@ -1,5 +1,4 @@
--- What a word does to the stack, of which the top value stands first, or the fault that it stops
--- at.
+-- What a word does to the stack, or the fault at which it stops. The top value of a stack is first.
 use Rattle.std.specs.Prelude.{◌≡◌, ℕ, ◌+◌, ◌-◌, ◌*◌, List, [], ◌∷◌, length}
 use Rattle.std.specs.Prelude.{Result, Ok, Err, MatchResult, nat_lt, nat_le}
 use Rattle.std.specs.Prelude.{bit_and, bit_or, bit_xor, if◌then◌else◌, ◌==◌}
@@ -14,7 +13,7 @@ use Rattle.cam6_table.specs.declared.faults.RuleFault.TheVariants.{MissingValue,
 abbrev pub Values : Type 0
 Values = List ℕ
 
--- a stack, if it has room for so many values
+-- these values as a stack, if it has room for them
 abbrev pub with_room : Values → Result Values RuleFault
 with_room values = if nat_le (length values) max_values then Ok values else Err FullStack
 

@@ -7,7 +7,7 @@ use cam6_planes::NoMemory;
 use std::alloc::Global;
 use std::marker::Model;
 
-/// What code does at one position. Where it goes on further ahead, the position says by how many.
+/// What code does at one position. If it goes on further ahead, the position says by how many.
 #[derive(Clone, Copy, Debug, PartialEq, Eq)]
 pub enum Instruction {
     /// Puts a number on the stack.
@@ -16,18 +16,18 @@ pub enum Instruction {
     Line(u8),
     Stack(StackWord),
     Output(Target),
-    /// Takes the top value off, and passes so many instructions where it is 0.
+    /// Takes the top value off, and passes this many instructions if it is 0.
     SkipIfZero(usize),
     Skip(usize),
-    /// Takes an index off, and looks for that word of the case, which has so many words.
+    /// Takes an index off, and looks for that word of the case. The case has this many words.
     Case(usize),
     /// The head of a case's word. The word has `length` instructions, and the case `after` of them
     /// from here to its end.
     CaseWord { length: usize, after: usize },
 }
 
-/// Instructions in a row, to which more come in front. They are kept back to front, and contracts
-/// see them in the order in which they are done.
+/// Instructions in a row. More are added in front. They are kept back to front, and contracts see
+/// them in the order in which they are done.
 #[derive(Debug, Drop)]
 pub struct Instructions {
     back_to_front: Vec<Instruction>,
@@ -60,7 +60,7 @@ impl Instructions {
         self.back_to_front.len()
     }
 
-    /// The instruction before so many at the end.
+    /// The instruction before the last `behind` ones.
     pub fn before(&self, behind: usize) -> Instruction
         requires { behind < length self.now }
         ensures { last_of (behind + 1) self.now ≡ result ∷ last_of behind self.now }

@@ -1,4 +1,4 @@
-//! A text is compiled: it becomes the code of its rule, or it is told why not.
+//! Compiles a text to the code of its rule, or returns why it can't.
 ghost use Rattle.std.specs.Prelude.{◌≡◌, ◌≢◌, false, Err, IfOk, OnOk};
 ghost use Rattle.cam6_forth.specs.Reading.{keeps};
 ghost use Rattle.cam6_table.specs.RuleTexts.{IsCodeFor, IsTableOf};
@@ -7,7 +7,7 @@ ghost use Rattle.cam6_table.specs.Compiling.{fault_in, IsRefusedFor};
 use crate::codes::Code;
 use crate::faults::RuleFault;
 use crate::filling::fill;
-use crate::tables::Table;
+use cam6_entries::Table;
 use cam6_forth::{ParseFault, TextFault, parse_under};
 use cam6_planes::NoMemory;
 use cam6_wiring::Wiring;
@@ -20,7 +20,7 @@ pub enum NotCompiled {
     Text(TextFault),
     /// The least address at which the rule stops, and why it stops there.
     Stops { address: u16, fault: RuleFault },
-    /// Memory was asked for and refused.
+    /// An allocation failed.
     NoMemory,
 }
 
@@ -34,8 +34,8 @@ impl From<NoMemory> for NotCompiled {
     }
 }
 
-/// Reads a rule's text, and tries the rule at every address. The trial becomes the rule's table,
-/// where the rule stops nowhere; else nothing is promised of its entries.
+/// Reads a rule's text, and tries the rule at every address. If the rule stops nowhere, `trial`
+/// becomes its table. Otherwise the entries of `trial` may be anything.
 pub fn compile(
     alloc: Global,
     wiring: Wiring,
@@ -45,9 +45,9 @@ pub fn compile(
     ensures code { IfOk result (λ code. IsCodeFor wiring text.now code) }
     ensures table { OnOk result (IsTableOf wiring text.now trial.new) }
 
-    // A text is refused exactly where there is a fault in it, and for that, unless memory runs out.
+    // A text is refused exactly if there is a fault in it, and for that, unless memory runs out.
     ensures refused { IsRefusedFor (fault_in wiring text.now) result }
-    // No memory is wanted for a text of which nothing is kept.
+    // Memory can't run out if nothing of the text is kept.
     ensures unkept { keeps wiring text.now ≡ false → result ≢ Err NotCompiled.NoMemory }
 {
     let rule = match parse_under(alloc, text, wiring) {

@@ -1,4 +1,4 @@
-//! A rule becomes flat code: the definitions that it uses are written out.
+//! Turns a rule into flat code, with the definitions that it uses written out.
 ghost use Rattle.std.specs.Prelude.{◌≡◌, ◌≤◌, [], ◌++◌, length, IfOk, OnOk};
 ghost use Rattle.cam6_table.specs.Limits.{max_turns};
 ghost use Rattle.cam6_table.specs.Codes.{IsCodeOf};
@@ -13,8 +13,8 @@ use std::alloc::Global;
 use std::marker::Model;
 
 impl Code {
-    /// The code of a rule, which at each address answers what the rule means there. Its jumps lead
-    /// forward alone.
+    /// Returns the code of a rule. Its result at each address is what the rule means there. Its
+    /// jumps only lead forward.
     pub fn of(alloc: Global, rule: &Rule) -> Result<Code, NoMemory>
         ensures meaning { IfOk result (λ code. IsCodeOf code rule.now) }
         ensures limit { IfOk result (λ code. length code ≤ max_turns) }
@@ -44,7 +44,7 @@ fn codes_of(
     Ok(codes)
 }
 
-/// The code of words in a row, given that of the definitions before. The words are taken from the
+/// The code of words in a row, given that of the definitions before. It takes the words from the
 /// last to the first, so that what a jump leads over is there before the jump.
 fn code_of(
     alloc: Global,
@@ -72,20 +72,20 @@ fn code_of(
     Ok(code)
 }
 
-/// A case of which the words are being written, from the last to the first.
+/// A case while its words are being written, from the last to the first.
 #[derive(Clone, Copy, Debug, PartialEq, Eq)]
 struct OpenCase {
-    /// How many instructions stand behind the case.
+    /// How many instructions stand after the case.
     end: usize,
     /// How many words it has so far.
     count: usize,
 }
 
-/// Code that is being written, by what stands behind it.
+/// Code that is being written from its end to its start.
 #[derive(Drop)]
 struct Emitter {
     code: Instructions,
-    /// For each open IF, the innermost last, how many instructions stand from where it leads on.
+    /// For each open IF, the innermost last, how many instructions there are from its target on.
     landings: Vec<usize>,
     case: Option<OpenCase>,
 }
@@ -109,7 +109,7 @@ impl Emitter {
     ghost use Rattle.cam6_table.specs.Internal.Emitting.{with_head, word_code};
     ghost use Rattle.cam6_table.specs.Internal.Emitting.{IsOpen, IsThere, HasCode, HasIts};
 
-    /// One more word in front.
+    /// Writes one more word in front.
     fn emit(&mut self, wiring: Wiring, word: Word, codes: &[Instructions]) -> Result<(), NoMemory>
         requires { HasIts wiring codes.now word self.old }
         ensures { OnOk result (self.new ≡ emit wiring codes.now word self.old) }
@@ -127,7 +127,7 @@ impl Emitter {
         }
     }
 
-    /// Here an IF or its ELSE leads on.
+    /// Notes that an IF or its ELSE leads here.
     fn emit_then(&mut self) -> Result<(), NoMemory>
         ensures { OnOk result (self.new ≡ emit_then self.old) }
     {
@@ -136,7 +136,7 @@ impl Emitter {
         Ok(())
     }
 
-    /// The first body passes the second one, which begins where the IF leads on.
+    /// Writes a jump from the first body over the second one. The IF leads to the second one.
     fn emit_else(&mut self) -> Result<(), NoMemory>
         requires { IsOpen self.old.landings }
         ensures { OnOk result (self.new ≡ emit_else self.old.landings self.old) }
@@ -181,7 +181,7 @@ impl Emitter {
         }
     }
 
-    /// A single word, which between braces gets a head.
+    /// Writes a single word. Between braces it gets a head.
     fn emit_word(
         &mut self,
         wiring: Wiring,

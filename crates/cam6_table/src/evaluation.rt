@@ -1,4 +1,4 @@
-//! Flat code is run at an address.
+//! Runs flat code at an address.
 ghost use Rattle.std.specs.Prelude.{◌≡◌, ◌+◌, ◌<◌, ◌≤◌, None, IfOk, length};
 ghost use Rattle.cam6_planes.specs.Row.{bit_number};
 ghost use Rattle.cam6_wiring.specs.Seen.{shown};
@@ -10,13 +10,13 @@ ghost use Rattle.cam6_table.specs.Codes.{last_of, Acts};
 
 use crate::codes::{Code, Instruction, Instructions};
 use crate::faults::RuleFault;
-use crate::outputs::{State, entry_of, untouched, write};
+use crate::outputs::{State, entry_of, untouched, write_output};
 
 /// Turns that a rule can take, one for each instruction.
 pub const MAX_TURNS: u32 = 4096;
 
-/// The entry of the rule's table at an address, or the fault at which the rule stops there. Bit 0
-/// is the new lower plane, bit 1 the new upper plane. Each turn does one instruction.
+/// Returns the entry of the rule's table at an address, or the fault at which the rule stops there.
+/// Bit 0 is the new lower plane, bit 1 the new upper plane. Each turn does one instruction.
 pub fn eval(code: &Code, address: u16, turns: &mut u32) -> Result<u8, RuleFault>
     requires turns { max_turns ≤ turns.old }
     ensures value { result ≡ result_at code.now address }
@@ -31,7 +31,7 @@ pub fn eval(code: &Code, address: u16, turns: &mut u32) -> Result<u8, RuleFault>
     Ok(entry_of(&state, address))
 }
 
-/// A place in code: so many instructions are left, and a word of a case is looked for, if any.
+/// A place in code: how many instructions are left, and which word of a case is looked for, if any.
 #[derive(Clone, Copy, Debug, PartialEq, Eq)]
 pub struct Place {
     pub behind: usize,
@@ -77,7 +77,7 @@ pub fn run(
     Ok(())
 }
 
-/// How the code goes on: it passes so many instructions, and looks for a word of a case, if any.
+/// How the code goes on: how many instructions it passes, and which word of a case it looks for.
 #[derive(Clone, Copy, Debug, PartialEq, Eq)]
 pub struct Next {
     pub passed: usize,
@@ -98,7 +98,7 @@ fn act(
         Instruction::Literal(value) => state.stack.push(value)?,
         Instruction::Line(line) => state.stack.push(bit_of(address, line))?,
         Instruction::Stack(word) => state.stack.apply(word)?,
-        Instruction::Output(target) => write(state, target)?,
+        Instruction::Output(target) => write_output(state, target)?,
         Instruction::SkipIfZero(distance) => {
             if state.stack.pop()? == 0 {
                 return Ok(go(distance, None));
@@ -123,7 +123,7 @@ pub fn go(passed: usize, word: Option<usize>) -> Next
     Next { passed, word }
 }
 
-/// At the head of a case's word: the word is done where it is the one looked for.
+/// At the head of a case's word: the word is done if it is the one looked for.
 pub fn at_head(word: Option<usize>, length: usize, after: usize) -> Next
     ensures { result ≡ at_head word length after }
 {

@@ -1,11 +1,11 @@
-//! A table is filled: the code runs at the addresses at which the lines that it reads differ, many
-//! at once, and all other entries are copies of theirs.
+//! Fills a table. The code runs at the addresses at which the lines that it reads differ, many at
+//! once. All other entries are copies of theirs.
 ghost use Rattle.std.specs.Prelude.{◌≡◌, ◌<◌, ◌≤◌, ℕ, Ok, Err, IfOk, IfErr, IsOk, length};
 ghost use Rattle.std.specs.Prelude.{slice_index, bit_and};
 ghost use Rattle.cam6_table.specs.declared.lane_values.TheConstants.{LANES};
-ghost use Rattle.cam6_table.specs.declared.tables.TheConstants.{ENTRIES};
+ghost use Rattle.cam6_entries.specs.declared.tables.TheConstants.{ENTRIES};
 ghost use Rattle.cam6_table.specs.Tables.{AreEntries, IsLeastStop};
-ghost use Rattle.cam6_table.specs.Limits.{addresses};
+ghost use Rattle.cam6_entries.specs.Limits.{addresses};
 ghost use Rattle.cam6_table.specs.Codes.{result_at};
 ghost use Rattle.cam6_table.specs.Internal.Lanes.{IsLeft, AreLeft};
 ghost use Rattle.cam6_table.specs.Internal.LinesRead.{IsMaskFor};
@@ -19,13 +19,13 @@ use crate::lane_values::{LANES, LaneValues};
 use crate::lanes::{Lanes, all_untouched, clear, entry_at_end, state_of};
 use crate::lines_read::lines_read;
 use crate::outputs::entry_of;
-use crate::tables::{ENTRIES, Table};
 use crate::together::run_together;
+use cam6_entries::{ENTRIES, Table};
 
-/// Makes the table that of a rule, or names the least address at which it stops, and the fault
-/// there, also if no cell shows the address. After a fault nothing is promised of the table's
-/// entries. It takes no memory. The code runs only where the lines that it reads differ: its result
-/// hangs on no other.
+/// Makes the table that of a rule. If the rule stops at any address, returns the least one with the
+/// fault there, even if no cell shows that address. Then the table's entries may be anything. Does
+/// not allocate. The code runs only where the lines that it reads differ: its result depends on no
+/// other.
 pub fn fill(code: &Code, table: &mut Table) -> Result<(), (u16, RuleFault)>
     ensures whole { length table.new ≡ addresses }
     ensures filled { IfOk result (λ _. AreEntries (result_at code.now) table.new) }
@@ -41,8 +41,8 @@ pub fn fill(code: &Code, table: &mut Table) -> Result<(), (u16, RuleFault)>
     Ok(())
 }
 
-/// Fills the entries at the addresses that show nothing but lines of the mask. At any other address
-/// the result is that of one of these, which comes before.
+/// Fills the entries at the addresses that show nothing but lines of the mask. Every other address
+/// has the result of a lower one of these.
 fn fill_where_lines_differ(
     code: &Code,
     mask: u16,
@@ -68,8 +68,8 @@ fn fill_where_lines_differ(
     Ok(())
 }
 
-/// Addresses for the lanes, from one on. So many of them count, and the search for further ones
-/// goes on at the end.
+/// Addresses for the lanes, from `from` on. The first `count` of them are used, and the search for
+/// further ones goes on at `end`.
 #[derive(Drop)]
 struct Batch {
     from: u16,
@@ -78,8 +78,8 @@ struct Batch {
     end: u16,
 }
 
-/// The next addresses from one on, up to the last one, that show nothing but lines of the mask, one
-/// for each lane if there are as many.
+/// The next addresses from `from` to `last` that show nothing but lines of the mask. There is one
+/// for each lane, if there are as many.
 fn next_batch(mask: u16, from: u16, last: u16) -> Batch
     requires from { from ≤ last }
     requires last { last < ENTRIES }
@@ -161,7 +161,7 @@ fn run_all(code: &Code, addresses: &LaneValues, room: &mut Room)
     run_together(instructions, addresses, &mut room.places, &mut room.lanes);
 }
 
-/// The code's entry at an address, or its fault there. Up to where its lane is the code was run.
+/// The code's entry at an address, or its fault there. Runs the code on from where its lane is.
 fn entry_in(code: &Code, room: &Room, lane: usize, address: u16) -> Result<u8, RuleFault>
     requires lane { lane < LANES }
     requires left { IsLeft address code.now (slice_index room.now.places.behinds lane)

@@ -1,23 +1,21 @@
 //! Where each lane is in the code, and which lanes go on together.
-ghost use Rattle.std.specs.Prelude.{◌≡◌, ◌==◌, ◌<◌, ◌≤◌, if◌then◌else◌, ℕ, List, OnOk, IfOk, length, slice_index};
+ghost use Rattle.std.specs.Prelude.{◌≡◌, ◌==◌, ◌&&◌, ◌<◌, ◌≤◌, ℕ, List, OnOk, IfOk, length, slice_index};
 ghost use Rattle.cam6_table.specs.declared.lane_values.TheConstants.{LANES};
 ghost use Rattle.cam6_table.specs.declared.codes.Instruction.{Instruction};
 ghost use Rattle.cam6_table.specs.declared.codes.Instruction.TheVariants.{SkipIfZero, Case};
 ghost use Rattle.cam6_table.specs.Limits.{max_turns};
 ghost use Rattle.cam6_table.specs.declared.lane_stacks.TheConstants.{ROWS};
-ghost use Rattle.cam6_table.specs.Internal.Sets.{IsIn, IsOut};
-ghost use Rattle.cam6_table.specs.Internal.Lanes.{state_at, IsNext, AreFound, Holds};
-ghost use Rattle.cam6_table.specs.Internal.Lanes.{AreLeft, AreLeftWith};
+ghost use Rattle.cam6_table.specs.Internal.Sets.{IsIn, IsOut, IsOther};
+ghost use Rattle.cam6_table.specs.Internal.Lanes.{IsNext, AreFound, Holds};
+ghost use Rattle.cam6_table.specs.Internal.Lanes.{AreLeft, AreLeftAt, AreLeftWith};
 
 use crate::codes::{Instruction, Instructions};
 use crate::lane_stacks::{Apart, ROWS};
-use crate::lane_values::{LaneValues, in_all};
+use crate::lane_values::{LANES, LaneValues, in_all};
 use crate::lanes::Lanes;
-use crate::sets::{
-    LaneSet, Mask, greatest, greatest_in, greatest_out, is_none, lanes_with, parted, put_in,
-    those_with, those_without,
-};
+use crate::sets::{IN, LaneSet, Mask, greatest_in, is_none, put_in, those_with, those_without};
 use crate::spans::{Span, span_of};
+use crate::waiting::{Queue, Waiting, waiting_at};
 
 /// Where each lane waits: so many instructions are left to it, and its stack ends at a row.
 #[derive(Drop)]
@@ -33,11 +31,9 @@ pub struct Flow {
     pub set: LaneSet,
     pub behind: usize,
     pub until: usize,
-    /// The row at which the stacks of its lanes ended when it was made, as their places still say.
-    pub top: usize,
     pub span: Span,
-    /// Whether other lanes waited at the same place, with stacks that end at other rows.
-    pub is_split: bool,
+    /// More than 0 if the lanes passed instructions apart from others at the same place.
+    pub lost: u16,
     /// Whether lanes left it after its span was made. If so, those that are left may have more
     /// values and more room than the span says.
     pub was_parted: bool,
@@ -56,103 +52,77 @@ pub fn all_at_start(code: &Instructions) -> Places
     }
 }
 
-/// The lanes that go on next: of those to which the most instructions are left, the ones whose
-/// stacks end where the last flow's do, or else at the topmost row. So lanes that parted meet
-/// again, and those whose stacks end at one row go on together. If others wait at the same place,
-/// the flow stops after a stretch.
+/// A flow of the lanes of a set. Their stacks end at the row of the lanes at work.
 #[inline(always)]
-pub fn next_flow(code: &Instructions, stretch: usize, places: &Places, lanes: &mut Lanes) -> Flow
-    requires limit { lanes.old.stacks.len ≤ ROWS }
-    ensures limit { lanes.new.stacks.len ≤ ROWS }
-    ensures floors { lanes.new.floors ≡ lanes.old.floors }
-    ensures states { (lane top : ℕ) →
-        state_at lane top lanes.new ≡ state_at lane top lanes.old }
-    ensures left { (addresses : List ℕ) → AreLeft addresses code.now places.now lanes.old →
-        AreLeftWith addresses code.now result places.now lanes.new }
+pub fn flow_of(set: Mask, behind: usize, until: usize, lanes: &Lanes) -> Flow
+    requires limit { lanes.now.stacks.len ≤ ROWS }
+    ensures left { (addresses : List ℕ) (code : List Instruction) (places : Places) →
+        AreLeftAt addresses code set behind places lanes.now →
+        AreLeftWith addresses code result places lanes.now }
 {
-    let behind = greatest(&places.behinds);
-    let waiting = lanes_with(&places.behinds, behind);
-    let until = usize::from(greatest_out(&waiting, &places.behinds));
-    let next = next_lanes(&waiting, &places.tops, lanes.stacks.len);
-    let top = next.top;
-    let those = next.those;
-    lanes.stacks.len = top;
-    let behind = usize::from(behind).min(code.len());
     Flow {
-        span: span_of(&lanes.floors, &those, top),
-        set: LaneSet::of(those),
+        span: span_of(&lanes.floors, &set, lanes.stacks.len),
+        set: LaneSet::of(set),
         behind,
-        until: until_of(until, behind, stretch, next.is_split),
-        top,
-        is_split: next.is_split,
+        until,
+        lost: 0,
         was_parted: false,
     }
 }
 
-/// How many instructions are left when a flow stops: a split one stops early.
+/// The lanes that wait at a place go on.
 #[inline(always)]
-fn until_of(until: usize, behind: usize, stretch: usize, is_split: bool) -> usize {
-    if is_split {
-        until.max(behind.saturating_sub(stretch))
-    } else {
-        until
+pub fn resume(
+    code: &Instructions,
+    waiting: Waiting,
+    until: usize,
+    places: &Places,
+    lanes: &mut Lanes,
+) -> Flow
+    ensures left { (addresses : List ℕ) → AreLeft addresses code.now places.now lanes.old →
+        AreLeftWith addresses code.now result places.now lanes.new }
+{
+    let top = waiting.top.min(ROWS as u16);
+    let those = others_at(&in_all(0), places, waiting.behind, top);
+    lanes.stacks.len = usize::from(top);
+    let behind = usize::from(waiting.behind).min(code.len());
+    let flow = flow_of(those, behind, until, lanes);
+    Flow {
+        lost: waiting.lost,
+        ..flow
     }
 }
 
-/// Those of the lanes that wait at a place whose stacks end at a row, and whether there are others.
-#[derive(Drop)]
-struct NextLanes {
-    those: Mask,
-    top: usize,
-    is_split: bool,
-}
-
-/// The lanes of a set whose stacks end where those of the last flow did, or else at the topmost
-/// row.
+/// What stands for a lane in the set of those that wait at a place and are not in another set.
 #[inline(always)]
-fn next_lanes(waiting: &Mask, tops: &LaneValues, last: usize) -> NextLanes
-    requires { last ≤ ROWS }
-    ensures top { result.top ≤ ROWS }
-    ensures those { (lane : ℕ) → lane < LANES → slice_index result.those lane ≡
-        (if slice_index tops.now lane == result.top then slice_index waiting.now lane else 0) }
+fn in_if_at(other: u16, is_there: bool) -> u16
+    ensures { IsOther result other is_there }
 {
-    let found = parted(waiting, tops, last as u16);
-    let those = found.those;
-    if found.has_some {
-        NextLanes {
-            those,
-            top: last,
-            is_split: found.has_others,
-        }
-    } else {
-        topmost_lanes(waiting, tops)
-    }
+    if is_there & (other == 0) { IN } else { 0 }
 }
 
-/// The lanes of a set whose stacks end at the topmost row.
-fn topmost_lanes(waiting: &Mask, tops: &LaneValues) -> NextLanes
-    ensures top { result.top ≤ ROWS }
-    ensures those { (lane : ℕ) → lane < LANES → slice_index result.those lane ≡
-        (if slice_index tops.now lane == result.top then slice_index waiting.now lane else 0) }
+/// The lanes that wait where so many instructions are left, with stacks that end at a row, and are
+/// not in a set.
+#[inline(always)]
+pub fn others_at(set: &Mask, places: &Places, behind: u16, top: u16) -> Mask
+    ensures { (lane : ℕ) → lane < LANES → IsOther (slice_index result lane)
+        (slice_index set.now lane) (slice_index places.now.behinds lane == behind
+        && slice_index places.now.tops lane == top) }
 {
-    let top = usize::from(greatest_in(waiting, tops)).min(ROWS);
-    let found = parted(waiting, tops, top as u16);
-    let those = found.those;
-    NextLanes {
-        those,
-        top,
-        is_split: found.has_others,
+    let mut those = [0; LANES];
+    for lane in 0..LANES {
+        let is_there = (places.behinds[lane] == behind) & (places.tops[lane] == top);
+        those[lane] = in_if_at(set[lane], is_there);
     }
+    those
 }
 
 /// Lets the lanes of a set wait with so many instructions left to them and stacks that end at a
-/// row. So far their places said another row, or the same, and then nothing has to be written.
+/// row.
 #[inline(always)]
-pub fn wait(places: &mut Places, set: &Mask, behind: usize, top: usize, old: usize)
+pub fn wait(places: &mut Places, set: &Mask, behind: usize, top: usize)
     requires behind { behind ≤ max_turns }
     requires top { top ≤ ROWS }
-    requires old { (lane : ℕ) → lane < LANES → IsIn set.now lane →
-        slice_index places.old.tops lane ≡ old }
     ensures behinds { (lane : ℕ) → lane < LANES → IsIn set.now lane →
         slice_index places.new.behinds lane ≡ behind }
     ensures tops { (lane : ℕ) → lane < LANES → IsIn set.now lane →
@@ -163,9 +133,7 @@ pub fn wait(places: &mut Places, set: &Mask, behind: usize, top: usize, old: usi
         slice_index places.new.tops lane ≡ slice_index places.old.tops lane }
 {
     places.behinds = put_in(set, behind as u16, &places.behinds);
-    if top != old {
-        places.tops = put_in(set, top as u16, &places.tops);
-    }
+    places.tops = put_in(set, top as u16, &places.tops);
 }
 
 /// Takes the top values off. Lanes in which it is 0 pass so many instructions.
@@ -173,14 +141,13 @@ pub fn wait(places: &mut Places, set: &Mask, behind: usize, top: usize, old: usi
 pub fn part_at_if(
     distance: usize,
     flow: &mut Flow,
+    queue: &mut Queue,
     places: &mut Places,
     lanes: &mut Lanes,
 ) -> Result<(), Apart>
     requires some { 0 < flow.old.behind }
     requires within { flow.old.behind ≤ max_turns }
     requires holds { Holds flow.old.span lanes.old.stacks.len }
-    requires tops { (lane : ℕ) → lane < LANES → IsIn flow.old.set.mask lane →
-        slice_index places.old.tops lane ≡ flow.old.top }
     ensures falls { OnOk result (flow.new.behind < flow.old.behind) }
     ensures left { (addresses : List ℕ) (code : List Instruction) →
         IsNext code flow.old.behind (SkipIfZero distance) →
@@ -207,7 +174,8 @@ pub fn part_at_if(
         flow.behind = target;
         return Ok(());
     }
-    wait(places, &zeros, target, lanes.stacks.len, flow.top);
+    wait(places, &zeros, target, lanes.stacks.len);
+    queue.put(waiting_at(target, lanes.stacks.len, 0));
     flow.set = LaneSet {
         mask: others,
         is_all: false,
@@ -218,12 +186,13 @@ pub fn part_at_if(
     Ok(())
 }
 
-/// Takes the indices off. Each lane waits at that word of the case.
+/// Takes the indices off. Each lane waits at that word of the case, and none is left in the flow.
 #[inline(always)]
 pub fn part_at_case(
     code: &Instructions,
     count: usize,
     flow: &mut Flow,
+    queue: &mut Queue,
     places: &mut Places,
     lanes: &mut Lanes,
 ) -> Result<(), Apart>
@@ -240,6 +209,7 @@ pub fn part_at_case(
     lanes.stacks.need(flow.span, 1)?;
     let behind = flow.behind - 1;
     let indices = lanes.stacks.at_depth(1);
+    let mut words = Queue::new();
     let behinds = words_found(
         code,
         behind,
@@ -247,16 +217,19 @@ pub fn part_at_case(
         &flow.set.mask,
         indices,
         &places.behinds,
+        lanes.stacks.len - 1,
+        &mut words,
     )?;
     lanes.stacks.len -= 1;
+    queue.put_all(&mut words);
     places.behinds = behinds;
     places.tops = put_in(&flow.set.mask, lanes.stacks.len as u16, &places.tops);
     flow.set = LaneSet {
         mask: in_all(0),
         is_all: false,
     };
-    flow.behind = behind;
-    flow.until = behind;
+    flow.behind = 0;
+    flow.until = 0;
     Ok(())
 }
 
@@ -268,6 +241,8 @@ fn words_found(
     set: &Mask,
     indices: &LaneValues,
     old: &LaneValues,
+    top: usize,
+    words: &mut Queue,
 ) -> Result<LaneValues, Apart>
     requires within { from ≤ length code.now }
     requires code { length code.now ≤ max_turns }
@@ -288,6 +263,9 @@ fn words_found(
             return Err(Apart);
         };
         let those = those_with(set, indices, index as u16);
+        if !is_none(&those) {
+            words.push(waiting_at(behind, top, 0));
+        }
         behinds = put_in(&those, behind as u16, &behinds);
         behind = behind.saturating_sub(length);
     }

@@ -22,7 +22,7 @@ pub struct Apart;
 pub const ROWS: usize = 64;
 
 /// Rows of values, the lowest first, and the row at which the stacks of the lanes at work end.
-/// What a row has below or above a lane's stack is of no account.
+/// What a row has below or above a lane's stack doesn't matter.
 #[derive(Drop)]
 pub struct Stacks {
     pub rows: [LaneValues; ROWS],
@@ -50,7 +50,7 @@ impl Stacks {
         stack
     }
 
-    /// Whether there are so many values in each lane.
+    /// Returns `Apart` unless each lane has `count` values.
     #[inline(always)]
     pub fn need(&self, span: Span, count: usize) -> Result<(), Apart>
         requires few { count ≤ ROWS }
@@ -64,7 +64,7 @@ impl Stacks {
         }
     }
 
-    /// Whether there is room for one more in each lane.
+    /// Returns `Apart` unless each lane has room for one more.
     #[inline(always)]
     fn need_room(&self, span: Span) -> Result<(), Apart>
         ensures { IfOk result (λ _. self.now.len < span.room) }

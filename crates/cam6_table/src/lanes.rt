@@ -2,7 +2,8 @@
 ghost use Rattle.std.specs.Prelude.{◌≡◌, ◌<◌, ◌≤◌, ◌/◌, ℕ};
 ghost use Rattle.cam6_table.specs.declared.lane_values.TheConstants.{LANES};
 ghost use Rattle.cam6_table.specs.Limits.{max_values};
-ghost use Rattle.cam6_table.specs.Outputs.{untouched, entry_of, is_odd};
+ghost use Rattle.cam6_entries.specs.NewBits.{is_odd};
+ghost use Rattle.cam6_table.specs.Outputs.{untouched, entry_of};
 ghost use Rattle.cam6_table.specs.Internal.Lanes.{bit_written, state_at, floor_of, WritesIn};
 ghost use Rattle.cam6_table.specs.Internal.Lanes.{Stands, Holds, IsFor};
 ghost use Rattle.cam6_table.specs.Internal.Sets.{IsIn};
@@ -19,8 +20,8 @@ use cam6_forth::Target;
 /// What stands for a plane to which a lane wrote nothing. A bit that it wrote is 0 or 1.
 const NOT_WRITTEN: u16 = 2;
 
-/// The stacks of all lanes, the rows at which they begin, and for each plane of the half the bits
-/// that they wrote to it last.
+/// The stacks of all lanes and the rows at which they begin. For each plane of the half, the bits
+/// that the lanes wrote to it last.
 #[derive(Drop)]
 pub struct Lanes {
     pub stacks: Stacks,
@@ -39,7 +40,7 @@ pub fn all_untouched() -> Lanes {
     }
 }
 
-/// Makes the states those in which a rule begins.
+/// Resets all lanes to the state in which a rule begins.
 pub fn clear(lanes: &mut Lanes)
     ensures limit { lanes.new.stacks.len ≤ max_values }
     ensures low { (lane : ℕ) → lane < LANES → floor_of lane lanes.new ≡ 0 }
@@ -51,7 +52,7 @@ pub fn clear(lanes: &mut Lanes)
     lanes.upper = in_all(NOT_WRITTEN);
 }
 
-/// The state of a lane, whose stack ends at a row.
+/// The state of a lane with a stack that ends at row `top`.
 pub fn state_of(lanes: &Lanes, lane: usize, top: usize) -> State
     requires lane { lane < LANES }
     requires stands { Stands (floor_of lane lanes.now) top }

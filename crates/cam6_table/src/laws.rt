@@ -19,12 +19,12 @@ pub fn the_least_stop_is_found()
     ensures law { LeastIsFound }
 {}
 
-/// A search over all addresses finds none where the rule stops nowhere.
+/// A search over all addresses finds none if the rule stops nowhere.
 pub fn no_stop_is_found()
     ensures law { NoneIsFound }
 {}
 
-/// A stack word stops for want of values exactly where there are fewer than it wants.
+/// A stack word stops with `MissingValue` exactly if there are fewer values than it wants.
 pub fn a_word_wants_so_many_values()
     ensures law { WantsValues }
 {}
@@ -34,8 +34,8 @@ pub fn a_rule_that_stops_at_no_address_runs()
     ensures law { RunsEverywhere }
 {}
 
-/// Code of the rule that a text was accepted as, which filled a table, is the text's code, and the
-/// table the text's table.
+/// If code of the rule that a text was accepted as filled a table, it is the text's code, and the
+/// table is the text's table.
 pub fn code_that_filled_a_table_is_its_texts()
     ensures law { FilledIsOfTheText }
 {}

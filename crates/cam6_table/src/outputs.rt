@@ -1,7 +1,8 @@
 //! The state of a rule that runs: its stack, and the last write to each plane.
 ghost use Rattle.std.specs.Prelude.{◌≡◌, ◌<◌, ◌/◌, ℕ, Bool, None};
 ghost use Rattle.cam6_table.specs.Words.{IsOutcome};
-ghost use Rattle.cam6_table.specs.Outputs.{untouched, written, is_odd, entry_of};
+ghost use Rattle.cam6_entries.specs.NewBits.{is_odd};
+ghost use Rattle.cam6_table.specs.Outputs.{untouched, written, entry_of};
 
 use crate::faults::RuleFault;
 use crate::stacks::Stack;
@@ -27,7 +28,7 @@ pub fn untouched() -> State
 }
 
 /// Does what an output word says. After a fault nothing is promised of the stack.
-pub fn write(state: &mut State, target: Target) -> Result<(), RuleFault>
+pub fn write_output(state: &mut State, target: Target) -> Result<(), RuleFault>
     ensures { IsOutcome (written target state.old) state.new result }
 {
     let value = state.stack.pop()?;
@@ -45,7 +46,7 @@ pub fn write(state: &mut State, target: Target) -> Result<(), RuleFault>
 }
 
 /// The table's entry at an address: bit 0 the new lower plane, bit 1 the new upper plane. A plane
-/// that isn't written keeps its centre, which stands on line 0 or 1 of every neighbourhood.
+/// that isn't written keeps its centre. The centre is on line 0 or 1 of every neighbourhood.
 pub fn entry_of(state: &State, address: u16) -> u8
     ensures entry { result ≡ entry_of (is_odd address) (is_odd (address / 2)) state.now }
     ensures within { result < 4 }

@@ -58,7 +58,7 @@ fn is_all(set: &Mask) -> bool
     missing == 0
 }
 
-/// The bits of a lane that is in a set which its place in a mask lacks.
+/// The bits of `IN` that a lane's place in a mask lacks.
 #[inline(always)]
 fn missing_bits(mask: u16) -> u16
     ensures { result ≡ 0 → mask ≡ IN }
@@ -74,8 +74,8 @@ fn in_if_equal(a: u16, b: u16) -> u16
     if a == b { IN } else { 0 }
 }
 
-/// The new value in a lane of a set, and else the old one. Without a branch the loop over the lanes
-/// becomes one over vectors.
+/// The new value in a lane of a set, and otherwise the old one. Without a branch the loop over the
+/// lanes becomes one over vectors.
 #[inline(always)]
 fn choose(set: u16, new: u16, old: u16) -> u16
     ensures inside { set ≡ IN → result ≡ new }
@@ -114,19 +114,6 @@ pub fn put_in(set: &Mask, new: u16, old: &LaneValues) -> LaneValues
     values
 }
 
-/// The lanes in which the value is this one.
-#[inline(always)]
-pub fn lanes_with(values: &LaneValues, value: u16) -> Mask
-    ensures { (lane : ℕ) → lane < LANES → slice_index result lane ≡
-        (if slice_index values.now lane == value then IN else 0) }
-{
-    let mut set = [0; LANES];
-    for lane in 0..LANES {
-        set[lane] = in_if_equal(values[lane], value);
-    }
-    set
-}
-
 /// The lanes of a set in which the value is this one.
 #[inline(always)]
 pub fn those_with(set: &Mask, values: &LaneValues, value: u16) -> Mask
@@ -153,36 +140,6 @@ pub fn those_without(set: &Mask, values: &LaneValues, value: u16) -> Mask
     those
 }
 
-/// The lanes of a set in which the value is one, whether there is any, and whether there are others.
-#[derive(Drop)]
-pub struct Parts {
-    pub those: Mask,
-    pub has_some: bool,
-    pub has_others: bool,
-}
-
-/// Parts a set by a value, in one loop over the lanes.
-#[inline(always)]
-pub fn parted(set: &Mask, values: &LaneValues, value: u16) -> Parts
-    ensures { (lane : ℕ) → lane < LANES → slice_index result.those lane ≡
-        (if slice_index values.now lane == value then slice_index set.now lane else 0) }
-{
-    let mut those = [0; LANES];
-    let mut some = 0;
-    let mut others = 0;
-    for lane in 0..LANES {
-        let is = in_if_equal(values[lane], value);
-        those[lane] = set[lane] & is;
-        some |= set[lane] & is;
-        others |= set[lane] & !is;
-    }
-    Parts {
-        those,
-        has_some: some != 0,
-        has_others: others != 0,
-    }
-}
-
 /// Whether a set has no lane.
 #[inline(always)]
 pub fn is_none(set: &Mask) -> bool
@@ -193,18 +150,6 @@ pub fn is_none(set: &Mask) -> bool
         some |= set[lane];
     }
     some == 0
-}
-
-/// The greatest of the values.
-#[inline(always)]
-pub fn greatest(values: &LaneValues) -> u16
-    ensures { (lane : ℕ) → lane < LANES → slice_index values.now lane ≤ result }
-{
-    let mut most = 0;
-    for lane in 0..LANES {
-        most = values[lane].max(most);
-    }
-    most
 }
 
 /// The greatest of the values in the lanes of a set, and 0 in none.
@@ -231,34 +176,4 @@ pub fn least_in(set: &Mask, values: &LaneValues) -> u16
         least = (values[lane] | !set[lane]).min(least);
     }
     least
-}
-
-/// What stands for a lane in the set of those in which one value is at least another.
-#[inline(always)]
-fn in_if_from(a: u16, b: u16) -> u16
-    ensures { (result ≡ IN) ⊎ (result ≡ 0) }
-{
-    if a >= b { IN } else { 0 }
-}
-
-/// The lanes in which the value is at least this one.
-#[inline(always)]
-pub fn lanes_from(values: &LaneValues, least: u16) -> Mask
-    ensures { (lane : ℕ) → lane < LANES → IsIn result lane ⊎ IsOut result lane }
-{
-    let mut set = [0; LANES];
-    for lane in 0..LANES {
-        set[lane] = in_if_from(values[lane], least);
-    }
-    set
-}
-
-/// The greatest of the values in the other lanes.
-#[inline(always)]
-pub fn greatest_out(set: &Mask, values: &LaneValues) -> u16 {
-    let mut most = 0;
-    for lane in 0..LANES {
-        most = (values[lane] & !set[lane]).max(most);
-    }
-    most
 }

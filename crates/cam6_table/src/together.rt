@@ -7,13 +7,14 @@ ghost use Rattle.cam6_table.specs.Internal.Lanes.{floor_of, Holds, IsFor};
 ghost use Rattle.cam6_table.specs.Internal.Sets.{IsIn};
 
 use crate::codes::{Instruction, Instructions};
-use crate::flows::{Flow, Places, next_flow, part_at_case, part_at_if, wait};
+use crate::flows::{Flow, Places, part_at_case, part_at_if, resume, wait};
 use crate::lane_stacks::Apart;
 use crate::lane_values::{LaneValues, bits_of, in_all};
 use crate::lanes::{Lanes, write_in};
-use crate::levels::{level_if_due, new_balance};
+use crate::meeting::go_on;
 use crate::sets::LaneSet;
 use crate::spans::Span;
+use crate::waiting::{Queue, waiting_at};
 
 /// More flows than code of 4,096 instructions can have in 64 lanes.
 const FLOWS: u32 = 64 * 4096;
@@ -31,31 +32,35 @@ pub fn run_together(
     lanes: &mut Lanes,
 )
     requires code { length code.now ≤ max_turns }
-    requires limit { lanes.old.stacks.len ≤ max_values }
     requires left { AreLeft addresses.now code.now places.old lanes.old }
     ensures left { AreLeft addresses.now code.now places.new lanes.new }
 {
+    let start = waiting_at(code.len(), 0, 0);
+    let mut flow = resume(code, start, 0, places, lanes);
+    run_flows(code, addresses, &mut flow, places, lanes);
+    wait(places, &flow.set.mask, flow.behind, lanes.stacks.len);
+}
+
+/// Runs the code in the lanes of a flow and in those that part from it.
+fn run_flows(
+    code: &Instructions,
+    addresses: &LaneValues,
+    flow: &mut Flow,
+    places: &mut Places,
+    lanes: &mut Lanes,
+)
+    requires code { length code.now ≤ max_turns }
+    requires left { AreLeftWith addresses.now code.now flow.old places.old lanes.old }
+    ensures left { AreLeftWith addresses.now code.now flow.new places.new lanes.new }
+{
+    let mut queue = Queue::new();
     let mut turns = MOST_TURNS;
-    let mut balance = new_balance(turns);
     for _ in 0..FLOWS {
-        level_if_due(&mut balance, turns, places, lanes);
-        let mut flow = next_flow(code, balance.stretch(), places, lanes);
-        if flow.behind == 0 || turns == 0 {
+        let ran = run_flow(code, addresses, flow, &mut queue, places, lanes, &mut turns);
+        if turns == 0 {
             return;
         }
-        let before = turns;
-        let ran = run_flow(code, addresses, &mut flow, places, lanes, &mut turns);
-        if flow.is_split {
-            balance.lose(before, turns);
-        }
-        wait(
-            places,
-            &flow.set.mask,
-            flow.behind,
-            lanes.stacks.len,
-            flow.top,
-        );
-        if ran.is_err() && !flow.was_parted {
+        if !go_on(code, ran, flow, &mut queue, places, lanes) {
             return;
         }
     }
@@ -66,6 +71,7 @@ fn run_flow(
     code: &Instructions,
     addresses: &LaneValues,
     flow: &mut Flow,
+    queue: &mut Queue,
     places: &mut Places,
     lanes: &mut Lanes,
     turns: &mut u32,
@@ -76,7 +82,7 @@ fn run_flow(
 {
     while flow.behind > flow.until && *turns > 0 {
         *turns -= 1;
-        act_in_flow(code, addresses, flow, places, lanes)?;
+        act_in_flow(code, addresses, flow, queue, places, lanes)?;
     }
     Ok(())
 }
@@ -87,6 +93,7 @@ fn act_in_flow(
     code: &Instructions,
     addresses: &LaneValues,
     flow: &mut Flow,
+    queue: &mut Queue,
     places: &mut Places,
     lanes: &mut Lanes,
 ) -> Result<(), Apart>
@@ -97,8 +104,8 @@ fn act_in_flow(
     ensures left { AreLeftWith addresses.now code.now flow.new places.new lanes.new }
 {
     match code.before(flow.behind - 1) {
-        Instruction::SkipIfZero(distance) => part_at_if(distance, flow, places, lanes),
-        Instruction::Case(count) => part_at_case(code, count, flow, places, lanes),
+        Instruction::SkipIfZero(distance) => part_at_if(distance, flow, queue, places, lanes),
+        Instruction::Case(count) => part_at_case(code, count, flow, queue, places, lanes),
         instruction => {
             let passed = act_in(instruction, addresses, &flow.set, flow.span, lanes)?;
             flow.behind = (flow.behind - 1).saturating_sub(passed);

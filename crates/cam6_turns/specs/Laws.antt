@@ -1,5 +1,5 @@
--- Each step of the hand-off table is one event of the core: where the word that it found says where
--- its user is, the word that it left says where the event brings him.
+-- Each step of the hand-off table is one event of the core: if the word that it found says where
+-- its user is, the word that it left says where the event brings the user.
 use Rattle.std.specs.Prelude.{◌≡◌, ◌≢◌, ℕ, List, [], ◌∷◌, slice_index, Some, None}
 use mathlib.Core.Option as maybe
 use Rattle.atomic_table.specs.Table.{Step}
@@ -29,7 +29,7 @@ WordIsStatus =
     (m : Machine) (word : ℕ) (slot : Slot) (stage : Stage) → Says m word slot stage →
     status_of stage ≡ status_of_word word
 
--- each row of the table's rule is one that its word says
+-- the word of each row of the table's rule says where the row's user is
 abbrev pub RowIsSaid : Type 0
 RowIsSaid =
     (words : List ℕ) (homes : List (maybe.Option Slot)) (views : List View) (u : ℕ)
@@ -89,7 +89,7 @@ DoneIsLastBand =
     ((c : Command) → p.stage ≡ out b c → IsDone f (machine_of p) c) →
     TurnsAt a (event.Band b) (outcome.Banded 0) (user_of step) step.first (Some (Finished f)) b idle
 
--- collect is the collect of what was found, whose machine is then the user's alone
+-- collect is the collect of what was found; its machine is then the user's private machine
 abbrev pub CollectIsCollect : Type 0
 CollectIsCollect =
     (a : Model) (p : User) (f : StoredFinished) (step : Step Slot) (before after : Seated)
@@ -107,7 +107,7 @@ LookIsNoEvent =
     (found ≢ 1 → TakeTells step before found after → after ≡ before)
     × (found ≢ 2 → CollectTells step before found after → after ≡ before)
 
--- and the first take is none: the user rests as before
+-- the first take is no event: the user rests as before
 abbrev pub FirstTakeIsNoEvent : Type 0
 FirstTakeIsNoEvent =
     (m : Machine) (stage : Stage) (step : Step Slot) (before after : Seated) (found : ℕ) →

@@ -1,4 +1,4 @@
--- The event of a step: what it makes of the step's user.
+-- The event of a step: what it does to the step's user.
 use Rattle.std.specs.Prelude.{◌≡◌, ◌<◌, ℕ, suc, Bool, Some, None}
 use Rattle.std.specs.List.{slice_get}
 use Rattle.atomic_table.specs.Table.{Step}
@@ -27,14 +27,14 @@ HasUser a u p = at_number a.users u ≡ Some p
 abbrev pub HasSeat : Model → ℕ → Seat → Type 0
 HasSeat a b s = slice_get a.boards b ≡ Some s
 
--- the event isn't refused, this comes of it, and behind it the word and what is in the slot say where
--- the user is
+-- the event isn't refused, this is its outcome, and after it the word and what is in the slot say
+-- where the user is
 pub record TurnsTo (a : Model) (e : Event) (r : Outcome) (u word : ℕ) (slot : Slot) : Type 0 where
   pub accepted : (no_table : Bool) → refusal (model_standing a no_table) e ≡ None
   pub comes : (turn a e).1 ≡ r
   pub says : Says (machine_of (user (turn a e).0.users u)) word slot (user (turn a e).0.users u).stage
 
--- the same, and this is at a board behind it
+-- the same, and this is at a board after it
 pub record TurnsAt (a : Model) (e : Event) (r : Outcome) (u word : ℕ) (slot : Slot) (b : ℕ) (s : Seat)
     : Type 0 where
   pub turns : TurnsTo a e r u word slot
@@ -47,8 +47,8 @@ pub record IsBegun (q : StoredQueued) (m : Machine) (c : Command) : Type 0 where
   pub left : queued_left q ≡ bands_of m c
   pub home : queued_home q ≡ bands_of m c
 
--- a place as it is taken off a board, of a machine whose steps have so many bands, while so many were
--- left then and so many from home: none is lost, and behind a whole step all that is done is at home
+-- a place as it is taken off a board; a step has `bands` bands, `then` bands were left then, and
+-- `base` from home; no band is lost, and after a whole step all that is done is at home
 pub record IsTakenOff (bands then base : ℕ) (q : StoredQueued) : Type 0 where
   pub left : queued_left q ≡ then
   pub home : queued_home q ≡ home_after bands then base

@@ -4,12 +4,12 @@ ghost use Rattle.cam6_turns.specs.Laws.{WordIsStatus, RowIsSaid, PutIsAsk, TakeI
 ghost use Rattle.cam6_turns.specs.Laws.{BackIsPreempt, BackFromHomeIsFail, DoneIsLastBand};
 ghost use Rattle.cam6_turns.specs.Laws.{CollectIsCollect, LookIsNoEvent, FirstTakeIsNoEvent};
 
-/// A user's status is that of the word which says where he is.
+/// A user's status is that of the word that says where the user is.
 pub fn a_word_is_a_status()
     ensures law { WordIsStatus }
 {}
 
-/// Each row of the table's rule is one that its word says.
+/// The word of each row of the table's rule says where the row's user is.
 pub fn a_row_is_said()
     ensures law { RowIsSaid }
 {}
@@ -29,7 +29,7 @@ pub fn a_place_put_back_is_a_preempt()
     ensures law { BackIsPreempt }
 {}
 
-/// One that is put back from its home was on a board that failed.
+/// A place that is put back from its home was on a board that failed.
 pub fn a_place_put_back_from_its_home_is_a_fail()
     ensures law { BackFromHomeIsFail }
 {}

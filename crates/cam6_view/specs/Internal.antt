@@ -11,7 +11,7 @@ state_in_row rows x = state_by (λ p. column_bit (slice_index_or rows p []) x)
 abbrev pub state_in_words : List ℕ → ℕ → ℕ
 state_in_words words c = state_by (λ p. word_column (slice_index words p) c)
 
--- what the planes 0 and 1 say of that state
+-- the part of that state that the planes 0 and 1 make
 abbrev pub lower_state : List ℕ → ℕ → ℕ
 lower_state words c =
     bit_number (word_column (slice_index words 0) c)

@@ -1,14 +1,14 @@
-//! The 64 columns of a word, told by the states of their cells.
-ghost use Rattle.std.specs.Prelude.{◌≡◌, ◌<◌, ◌≤◌, ◌+◌, ◌*◌, ℕ, slice_index, if◌then◌else◌};
+//! The 64 columns of a word, chosen by the states of their cells.
+ghost use Rattle.std.specs.Prelude.{◌≡◌, ◌<◌, ◌≤◌, ◌+◌, ◌*◌, ℕ, slice_index};
 ghost use Rattle.cam6_planes.specs.Row.{word_column};
 ghost use Rattle.cam6_planes.specs.declared.row.TheConstants.{WORDS};
 ghost use Rattle.cam6_view.specs.States.{is_in};
 ghost use Rattle.cam6_view.specs.Internal.{AreSpread, lower_state, state_in_words, state_in_row};
 
-use cam6_planes::{CellRow, WORDS};
+use cam6_planes::{CellRow, WORDS, chosen_word, word_of};
 
-/// For each state a word that has every column where the state is in the set that the mask names,
-/// and none where it isn't.
+/// For each state a word that has every column if the state is in the set that the mask names, and
+/// none if it isn't.
 pub(crate) fn spread(mask: u16) -> [u64; 16]
     ensures { AreSpread mask result }
 {
@@ -24,7 +24,7 @@ fn spread_bit(mask: u16, state: u16) -> u64
     requires { state < 16 }
     ensures { (c : ℕ) → c < 64 → word_column result c ≡ is_in mask state }
 {
-    if mask >> state & 1 == 1 { u64::MAX } else { 0 }
+    word_of(mask >> state & 1 == 1)
 }
 
 /// The columns `64 * k` to `64 * k + 63` of each plane.
@@ -35,36 +35,27 @@ pub(crate) fn words_of(rows: &CellRow, k: usize) -> [u64; 4]
     [rows[0][k], rows[1][k], rows[2][k], rows[3][k]]
 }
 
-/// Of each column the bit that the word of its state has there.
+/// At each column the bit that the word of the column's state has there.
 pub(crate) fn by_state(words: &[u64; 4], sets: &[u64; 16]) -> u64
     ensures { (c : ℕ) → c < 64 → word_column result c
         ≡ word_column (slice_index sets.now (state_in_words words.now c)) c }
 {
-    let below_8 = choose(words[2], by_lower(words, sets, 0), by_lower(words, sets, 4));
-    let from_8 = choose(
+    let below_8 = chosen_word(words[2], by_lower(words, sets, 0), by_lower(words, sets, 4));
+    let from_8 = chosen_word(
         words[2],
         by_lower(words, sets, 8),
         by_lower(words, sets, 12),
     );
-    choose(words[3], below_8, from_8)
+    chosen_word(words[3], below_8, from_8)
 }
 
-/// The same by the planes 0 and 1 alone, among four states.
+/// As `by_state`, by the planes 0 and 1 alone, among four states.
 fn by_lower(words: &[u64; 4], sets: &[u64; 16], first: usize) -> u64
     requires { first + 4 ≤ 16 }
     ensures { (c : ℕ) → c < 64 → word_column result c
         ≡ word_column (slice_index sets.now (first + lower_state words.now c)) c }
 {
-    let unset = choose(words[0], sets[first], sets[first + 1]);
-    let set = choose(words[0], sets[first + 2], sets[first + 3]);
-    choose(words[1], unset, set)
-}
-
-/// At each column the bit of one word where `word` has the column, and of another where it hasn't.
-#[tactic(auto, using(crate::proofs::Choices::chosen_column))]
-fn choose(word: u64, unset: u64, set: u64) -> u64
-    ensures { (c : ℕ) → c < 64 → word_column result c
-        ≡ (if word_column word c then word_column set c else word_column unset c) }
-{
-    word & set | !word & unset
+    let unset = chosen_word(words[0], sets[first], sets[first + 1]);
+    let set = chosen_word(words[0], sets[first + 2], sets[first + 3]);
+    chosen_word(words[1], unset, set)
 }

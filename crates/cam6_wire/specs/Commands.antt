@@ -39,7 +39,7 @@ set_fields d = do
 unfoldable pub set_of : Data → Option Command
 set_of d = if has_size 4 d then set_fields d else None
 
--- the number at a key of an object that has two, do and this one
+-- the number at a key of an object that has two keys
 unfoldable pub sole_number : List ℕ → Data → Option ℕ
 sole_number key d = if has_size 2 d then number_at key d else None
 
@@ -160,7 +160,7 @@ abbrev pub are_some : List NamedEntry → Bool
 are_some [] = false
 are_some (entry ∷ entries) = true
 
--- a command of which texts are kept: a rule, a name, entries, or a machine
+-- whether a command keeps texts: of a rule, a name, entries, or a machine
 abbrev pub keeps_text : Command → Bool
 keeps_text (Rule name wiring text) = true
 keeps_text (DropRule name) = true
@@ -176,13 +176,13 @@ takes_text d = option_map_or keeps_text (shown_in d) false
 abbrev pub value_of : List ℕ → Option Data
 value_of line = if is_utf8 line then read line else None
 
--- what a line says by its value, as values of its kind show it, or the fault where it has none or
--- shows none
+-- what the value of a line shows, or the fault if there is no value or it shows nothing of this
+-- kind
 abbrev pub from_value : {A : Type 0} → (Data → Option A) → List ℕ → Option Data → Result A LineFault
 from_value shown line None = Err NoJson
 from_value shown line (Some d) = ok_or (shown d) NoCommand
 
--- what a line says, as values of its kind show it
+-- what a line says, as values of this kind show it
 abbrev pub said_by : {A : Type 0} → (Data → Option A) → List ℕ → Result A LineFault
 said_by shown line =
     if nat_lt (limit_of line) (length line) then Err TooLong
@@ -193,12 +193,12 @@ abbrev pub is_load_line : List ℕ → SavedMachine → Bool
 is_load_line line saved =
     bytes_eq line (load_bytes Second saved) || bytes_eq line (load_bytes First saved)
 
--- a machine is loaded by a line of that spelling alone; every other command has any
+-- a line that loads a machine has one of these spellings; every other command may have any
 abbrev pub is_spelled : List ℕ → Command → Bool
 is_spelled line (Load saved) = is_load_line line saved
 is_spelled line _ = true
 
--- what a line says where its spelling is looked at too
+-- what a line says if its spelling counts too
 abbrev pub if_spelled : List ℕ → Result Command LineFault → Result Command LineFault
 if_spelled line (Ok c) = if is_spelled line c then Ok c else Err OtherSpelling
 if_spelled line (Err fault) = Err fault
@@ -207,7 +207,7 @@ if_spelled line (Err fault) = Err fault
 abbrev pub command : List ℕ → Result Command LineFault
 command line = if_spelled line (said_by command_in line)
 
--- the fault that was answered is what the line says, unless memory ran out
+-- the fault that was returned is what the line says, unless memory ran out
 abbrev pub IsFaultOf : {A : Type 0} → LineFault → Result A LineFault → Type 0
 IsFaultOf NoMemory said = ⊤
 IsFaultOf TooLong said = said ≡ Err TooLong
@@ -215,12 +215,12 @@ IsFaultOf NoJson said = said ≡ Err NoJson
 IsFaultOf NoCommand said = said ≡ Err NoCommand
 IsFaultOf OtherSpelling said = said ≡ Err OtherSpelling
 
--- what was answered is what the line says, unless memory ran out
+-- what was returned is what the line says, unless memory ran out
 abbrev pub IsSaid : {A : Type 0} → Result A LineFault → Result A LineFault → Type 0
 IsSaid (Ok answered) said = said ≡ Ok answered
 IsSaid (Err fault) said = IsFaultOf fault said
 
--- why no value was found of a line: it is too long, or no JSON, or memory ran out
+-- why a line has no value: it is too long, or no JSON, or memory ran out
 abbrev pub IsLinesFault : LineFault → List ℕ → Type 0
 IsLinesFault NoMemory line = ⊤
 IsLinesFault TooLong line = limit_of line < length line

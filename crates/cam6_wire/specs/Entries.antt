@@ -24,7 +24,7 @@ entry_fields d = do
 unfoldable pub entry_in : Data → Option NamedEntry
 entry_in d = if has_size 4 d then entry_fields d else None
 
--- a list of entries, each of which is one
+-- the entries of a list, if each item is one
 abbrev pub entries_in : Items → Option (List NamedEntry)
 entries_in no_items = Some []
 entries_in (item d ds) = do

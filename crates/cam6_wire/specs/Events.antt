@@ -78,7 +78,7 @@ event_in d = do
   word ← text_at (codes "event") d
   event_by_word word d
 
--- an event of whose command texts are kept
+-- whether an event's command keeps texts
 abbrev pub keeps_text_of : Event → Bool
 keeps_text_of (Ask user command) = keeps_text command
 keeps_text_of _ = false

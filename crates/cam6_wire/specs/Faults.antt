@@ -5,7 +5,7 @@ use Rattle.cam6_wire.specs.declared.faults.LineFault.TheVariants.{NoMemory, TooL
 use Rattle.cam6_wire.specs.declared.faults.LineFault.TheVariants.{NoJson, NoCommand, OtherSpelling}
 
 -- 1 for a line that is too long, 2 for no JSON, 3 for no command, 4 for a load in another spelling;
--- want of memory has no reply
+-- a failed allocation has no reply
 abbrev pub fault_number : LineFault → ℕ
 fault_number NoMemory = 0
 fault_number TooLong = 1

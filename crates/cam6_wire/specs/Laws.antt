@@ -1,5 +1,5 @@
--- The laws that tie what a line says to the values that commands, events and seats are shown by, that
--- a machine is loaded by one line alone, that the text of a rule is UTF-8, and that answers are lines.
+-- The laws of lines: a line says what its JSON value shows, one line loads a machine in each
+-- version, the text of a rule is UTF-8, and each answer is one line.
 use Rattle.std.specs.Prelude.{◌≡◌, ◌≤◌, ◌<◌, ◌*◌, ◌^◌, ℕ, List, length, slice_index, true}
 use Rattle.std.specs.Prelude.{Option, Some, None, Ok, ⊤}
 use Rattle.std.specs.List.{AllByRecursion}
@@ -34,7 +34,7 @@ use Rattle.cam6_wire.specs.Seats.{seat, ShowsSeat, seating_bytes}
 use Rattle.cam6_wire.specs.Shown.{Shows}
 use Rattle.cam6_wire.specs.ShownEvents.{ShowsEvent}
 
--- a line whose value shows a command, in its spelling where it loads a machine, says it
+-- a line within its limit says the command that its value shows, if a load has its spelling
 abbrev pub ShownIsSaid : Type 0
 ShownIsSaid =
     (line : List ℕ) (d : Data) (c : Command) → length line ≤ limit_of line →
@@ -51,7 +51,7 @@ SaidIsShown =
 abbrev pub IsWord : ℕ → Type 0
 IsWord n = n < 2 ^ 64
 
--- a name in UTF-8, which isn't the text that stands for none, or no name
+-- no name, or a name in UTF-8 that isn't the text for no name
 abbrev pub IsNameOrNone : Option (List ℕ) → Type 0
 IsNameOrNone None = ⊤
 IsNameOrNone (Some name) = IsUtf8 name × (rule_name_in name ≡ Some name)
@@ -68,7 +68,7 @@ AreRowBytes bytes =
     (side : Side) × (8 * length bytes ≡ side_number side)
     × ((i : ℕ) → slice_index bytes i < 256)
 
--- the side of a version: 256 in the first one, and in the second whatever number
+-- the side of a version: 256 in the first one, and any number of 64 bits in the second
 abbrev pub IsSideIn : Version → ℕ → Type 0
 IsSideIn First side = side ≡ 256
 IsSideIn Second side = IsWord side
@@ -85,20 +85,20 @@ pub record IsSayable (version : Version) (saved : SavedMachine) : Type 0 where
   pub texts : AllByRecursion (λ rule. IsUtf8 rule.text) saved.rules
   pub side : IsSideIn version saved.side
 
--- a line that loads a machine is the one line that does in its version
+-- a line that loads a machine is the machine's line in a version
 abbrev pub LoadHasOneLine : Type 0
 LoadHasOneLine =
     (line : List ℕ) (saved : SavedMachine) → command line ≡ Ok (Load saved) →
     (version : Version) × IsSayable version saved × (line ≡ load_bytes version saved)
 
--- and that line loads it, where it is within the limit of such lines
+-- and that line loads it, if it is within the limit of such lines
 abbrev pub OneLineLoads : Type 0
 OneLineLoads =
     (version : Version) (saved : SavedMachine) → IsSayable version saved →
     length (load_bytes version saved) ≤ max_load_line →
     command (load_bytes version saved) ≡ Ok (Load saved)
 
--- what is written in one text in a version is one
+-- two saved machines that have one text in a version are equal
 abbrev pub OneTextOneSaved : Type 0
 OneTextOneSaved =
     (version : Version) (saved other : SavedMachine) →
@@ -112,7 +112,7 @@ TextIsUtf8 =
     (line name text : List ℕ) (wiring : Wiring) → command line ≡ Ok (Rule name wiring text) →
     IsUtf8 text
 
--- a line whose value shows an event says it
+-- a line within its limit says the event that its value shows
 abbrev pub ShownEventIsSaid : Type 0
 ShownEventIsSaid =
     (line : List ℕ) (d : Data) (e : Event) → length line ≤ limit_of line →
@@ -130,7 +130,7 @@ AskedTextIsUtf8 =
     (line name text : List ℕ) (user : ℕ) (wiring : Wiring) →
     event line ≡ Ok (Ask user (Rule name wiring text)) → IsUtf8 text
 
--- a line whose value shows the seat of a user says it
+-- a line within its limit says the seat that its value shows
 abbrev pub ShownSeatIsSaid : Type 0
 ShownSeatIsSaid =
     (line : List ℕ) (d : Data) (user : ℕ) → length line ≤ limit_of line →

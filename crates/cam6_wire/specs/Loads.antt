@@ -27,7 +27,7 @@ rows_of (item d ds) = do
 abbrev pub rows_in : Data → Option (List (List ℕ))
 rows_in d = as_array d >>= rows_of
 
--- a list of planes, each of which is a list of rows
+-- a list of planes, each a list of rows
 abbrev pub planes_of : Items → Option (List (List (List ℕ)))
 planes_of no_items = Some []
 planes_of (item d ds) = do
@@ -86,7 +86,7 @@ abbrev pub side_in : Version → Data → Option ℕ
 side_in First d = if has_size 6 d then Some 256 else None
 side_in Second d = if has_size 7 d then number_at (codes "side") d else None
 
--- what was saved of a machine of this side, of the keys colours, cycle, planes, position and rules
+-- the saved machine of this side, from the keys colours, cycle, planes, position and rules
 abbrev pub saved_fields : ℕ → Data → Option SavedMachine
 saved_fields side d = do
   colours ← colours_at (codes "colours") d

@@ -21,7 +21,7 @@ left_behind n word =
     object
     (member (codes "left") (natural n) (member (codes "ok") (string word) no_members))
 
--- the JSON value of an outcome, its keys in byte order; want of memory is told by the number 0
+-- the JSON value of an outcome, its keys in byte order; a failed allocation has the number 0
 abbrev pub outcome_data : Outcome → Data
 outcome_data NoMemory = refused 0
 outcome_data (Refused reason) = refused (refused_number reason)
@@ -40,7 +40,7 @@ outcome_data (Collected reply) =
 unfoldable pub outcome_bytes : Outcome → List ℕ
 outcome_bytes outcome = compact_text (outcome_data outcome)
 
--- the event was done: it wasn't refused, and memory was found for it
+-- the event was done: it wasn't refused, and didn't run out of memory
 abbrev pub WasDone : Outcome → Type 0
 WasDone NoMemory = ⊥
 WasDone (Refused reason) = ⊥

@@ -12,7 +12,7 @@ use Rattle.cam6_wire.specs.Numbers.{natural, naturals, texts}
 use Rattle.cam6_wire.specs.declared.saved.Version.{Version}
 use Rattle.cam6_wire.specs.declared.saved.Version.TheVariants.{First, Second}
 
--- an entry's name for a half; `-` where it has none
+-- an entry's name for a half, or `-` if it has none
 abbrev pub name_text : Option (List ℕ) → List ℕ
 name_text None = codes "-"
 name_text (Some name) = name

@@ -1,4 +1,4 @@
--- The first line of a connection, which says the user whose machine it asks for, and its answers.
+-- The first line of a connection, which names the user that it asks for, and its answers.
 use Rattle.std.specs.Prelude.{◌≡◌, ℕ, List, codes, if◌then◌else◌, Option, None, Result}
 use Rattle.serde_json.specs.Data.{Data, object, no_members, member}
 use Rattle.serde_json.specs.Written.{compact_text}
@@ -22,8 +22,8 @@ seat = said_by seat_in
 abbrev pub ShowsSeat : Data → ℕ → Type 0
 ShowsSeat d user = d ≡ object (member (codes "seat") (natural user) no_members)
 
--- the JSON value of an answer: fault 80 where the user has a connection, 81 where there is no such
--- user
+-- the JSON value of an answer: fault 80 if the user already has a connection, 81 if there is no
+-- such user
 abbrev pub seating_data : Seating → Data
 seating_data Seated = done (codes "seat") no_members
 seating_data Taken = object (fault_then 80 no_members)

@@ -22,13 +22,14 @@ use crate::loads::saved_in;
 use crate::saved::is_load_line;
 use crate::wirings::wiring_in;
 use cam6_commands::{Command, NamedRule, Text};
+use cam6_wiring::Wiring;
 use serde_json::{Category, Value};
 use std::alloc::{AllocError, Global};
 
-/// What a line says.
+/// Returns the command that a line says, or its fault.
 pub fn read_command(alloc: Global, line: &[u8]) -> Result<Command, LineFault>
     ensures said { IsSaid result (command line.now) }
-    // No memory is wanted for an empty line, nor for one that is too long.
+    // An empty line and one that is too long take no memory.
     ensures memory { result ≡ Err NoMemory →
         (0 < length line.now) × (length line.now ≤ limit_of line.now) }
     ensures texts { IfOk result (λ command. HasText command) }
@@ -40,7 +41,7 @@ pub fn read_command(alloc: Global, line: &[u8]) -> Result<Command, LineFault>
     Ok(command)
 }
 
-/// What a line says, in whatever spelling.
+/// The command that a line says, in any spelling, or its fault.
 fn command_said(alloc: Global, line: &[u8]) -> Result<Command, LineFault>
     ensures said { IsSaid result (said_by command_in line.now) }
     ensures memory { result ≡ Err NoMemory →
@@ -51,7 +52,7 @@ fn command_said(alloc: Global, line: &[u8]) -> Result<Command, LineFault>
     command_in(alloc, &value)?.ok_or(LineFault::NoCommand)
 }
 
-/// Whether a line that says this command has the spelling that is asked of it.
+/// Whether a line that says this command has a spelling that the command may have.
 fn is_spelled(alloc: Global, line: &[u8], command: &Command) -> Result<bool, AllocError>
     ensures { IfOk result (λ is. is ≡ is_spelled line.now command.now) }
 {
@@ -123,10 +124,11 @@ fn load_of(alloc: Global, value: &Value) -> Result<Option<Command>, AllocError>
     }
 }
 
-/// The command that a JSON value shows, unless it loads a machine: what can be asked by an event.
+/// Returns the command that a JSON value shows, unless it loads a machine. An ask holds such a
+/// command.
 pub fn command_shown(alloc: Global, value: &Value) -> Result<Option<Command>, AllocError>
     ensures command { IfOk result (λ command. command ≡ shown_in (view value.now)) }
-    // Memory is wanted for a rule, a name and entries alone, once all of them are looked at.
+    // Only a rule, a name and entries take memory, after all of them were looked at.
     ensures memory { takes_text (view value.now) ≡ false → IsOk result }
     ensures texts { IfOk result (λ command. IfSome command HasText) }
 {
@@ -188,7 +190,7 @@ fn by_word(alloc: Global, word: &str, value: &Value) -> Result<Option<Command>, 
     }
 }
 
-/// The command of a word other than those of the commands that keep texts.
+/// The command of a word that isn't `rule`, `drop` or `cycle`: it keeps no texts.
 #[tactic(auto, unfolding(crate::specs::Commands::clear_of, crate::specs::Commands::run_of, crate::specs::Commands::back_of, crate::specs::Commands::plane_of, crate::specs::Commands::side_of, crate::specs::Commands::colours_of, crate::specs::Commands::count_of))]
 fn textless_by_word(word: &str, value: &Value) -> Option<Command>
     requires no_rule { bytes_eq word.now (codes "rule") ≡ false }
@@ -226,7 +228,7 @@ fn set_of(value: &Value) -> Option<Command>
     Some(Command::Set { plane, row, bits })
 }
 
-/// The number at a key of an object that has two, `do` and this one.
+/// The number at a key of an object that has two keys.
 #[tactic(auto, unfolding(crate::specs::Commands::sole_number))]
 pub(crate) fn sole_number(value: &Value, key: &str) -> Option<u64>
     ensures { result ≡ sole_number key.now (view value.now) }
@@ -255,11 +257,16 @@ fn rule_of(alloc: Global, value: &Value) -> Result<Option<Command>, AllocError>
     let Some(text) = text_at(value, "text") else {
         return Ok(None);
     };
-    Ok(Some(Command::Rule {
-        name: Text::new(String::from_str(alloc, name)?),
-        wiring,
-        text: Text::new(String::from_str(alloc, text)?),
-    }))
+    Ok(Some(new_rule(alloc, name, wiring, text)?))
+}
+
+/// The command that defines a rule, with copies of these texts.
+fn new_rule(alloc: Global, name: &str, wiring: Wiring, text: &str) -> Result<Command, AllocError>
+    ensures { IfOk result (λ command. command ≡ Command.Rule name.now wiring text.now) }
+{
+    let name = Text::new(String::from_str(alloc, name)?);
+    let text = Text::new(String::from_str(alloc, text)?);
+    Ok(Command::Rule { name, wiring, text })
 }
 
 #[tactic(auto, unfolding(crate::specs::Commands::drop_of))]

@@ -11,14 +11,14 @@ use cam6_wiring::Grid;
 use serde_json::Value;
 use std::alloc::{AllocError, Global};
 
-/// The entries at a key, or `None` where one of them is no entry.
+/// The entries at a key, or `None` if it has no list, or one with something else in it.
 pub(crate) fn entries_at(
     alloc: Global,
     value: &Value,
     key: &str,
 ) -> Result<Option<NamedEntries>, AllocError>
     ensures entries { IfOk result (λ entries. entries ≡ entries_at key.now (view value.now)) }
-    // Memory is wanted where there are entries alone.
+    // Only a list with entries takes memory.
     ensures memory { option_map_or are_some (entries_at key.now (view value.now)) false ≡ false
         → IsOk result }
 {
@@ -38,8 +38,9 @@ fn entries_in(alloc: Global, values: &[Value]) -> Result<Option<NamedEntries>, A
     }
     let mut entries = Vec::new(alloc);
     for value in values {
-        let Some(entry) = entry_in(alloc, value)? else {
-            unreachable!()
+        let entry = match entry_in(alloc, value)? {
+            Some(entry) => entry,
+            None => unreachable!(),
         };
         entries.push(entry)?;
     }

@@ -17,11 +17,10 @@ use cam6_commands::Event;
 use serde_json::Value;
 use std::alloc::{AllocError, Global};
 
-/// What a line says of users and boards. Numbers are those of the line, whether or not there is
-/// such a user or board.
+/// Returns the event that a line says, or its fault. Does not check that its user and board exist.
 pub fn read_event(alloc: Global, line: &[u8]) -> Result<Event, LineFault>
     ensures said { IsSaid result (event line.now) }
-    // No memory is wanted for an empty line, nor for one that is too long.
+    // An empty line and one that is too long take no memory.
     ensures memory { result ≡ Err NoMemory →
         (0 < length line.now) × (length line.now ≤ limit_of line.now) }
 {
@@ -32,8 +31,8 @@ pub fn read_event(alloc: Global, line: &[u8]) -> Result<Event, LineFault>
     event_shown(alloc, &value)?.ok_or(LineFault::NoCommand)
 }
 
-/// The board of a band whose line is spelled plainly, as most lines of a replay are: such a line is
-/// known without its JSON value. Every other line is left to that.
+/// The board of a band, if its line is spelled plainly with one digit, as most lines of a replay
+/// are. Such a line is read without a JSON value. `None` of any other line.
 fn plain_band(line: &[u8]) -> Option<u64>
     ensures { IfSome result (λ board. event line.now ≡ Ok (Event.Band board)) }
 {
@@ -48,11 +47,10 @@ fn plain_band(line: &[u8]) -> Option<u64>
     Some(u64::from(digit - b'0'))
 }
 
-/// The event that a JSON value shows.
+/// Returns the event that a JSON value shows.
 pub fn event_shown(alloc: Global, value: &Value) -> Result<Option<Event>, AllocError>
     ensures event { IfOk result (λ event. event ≡ event_in (view value.now)) }
-    // Memory is wanted for a rule, a name and entries of an ask alone, once all of them are looked
-    // at.
+    // Only a rule, a name and entries of an ask take memory, after all of them were looked at.
     ensures memory { takes_text_of (view value.now) ≡ false → IsOk result }
 {
     let Some(word) = text_at(value, "event") else {
@@ -73,7 +71,7 @@ fn by_word(alloc: Global, word: &str, value: &Value) -> Result<Option<Event>, Al
     }
 }
 
-/// The event of a word other than that of an ask, which alone keeps texts.
+/// The event of a word that isn't `ask`: it keeps no texts.
 #[tactic(auto, unfolding(crate::specs::Events::band_of, crate::specs::Events::preempt_of, crate::specs::Events::fail_of, crate::specs::Events::repair_of, crate::specs::Events::collect_of))]
 fn askless_by_word(word: &str, value: &Value) -> Option<Event>
     requires no_ask { bytes_eq word.now (codes "ask") ≡ false }

@@ -1,4 +1,4 @@
-//! Why a line is no command, why it is no event, and why it asks for no seat.
+//! Why a line isn't a command, an event, or a first line that asks for a seat.
 ghost use Rattle.std.specs.Prelude.{◌≡◌};
 ghost use Rattle.cam6_wire.specs.Faults.{fault_number};
 
@@ -7,20 +7,20 @@ use std::alloc::{AllocError, AllocFailed};
 /// Why a line isn't read as a command, as an event, or as a first line that asks for a seat.
 #[derive(Clone, Copy, Debug, PartialEq, Eq)]
 pub enum LineFault {
-    /// Memory was asked for and refused.
+    /// An allocation failed.
     NoMemory,
-    /// The line has more bytes than it may, by how it begins.
+    /// The line is longer than its limit, which depends on how it begins.
     TooLong,
-    /// The line is no JSON value.
+    /// The line isn't a JSON value.
     NoJson,
     /// The line is a JSON value that is no command, no event, or asks for no seat.
     NoCommand,
-    /// The line loads a machine in another spelling than its one.
+    /// The line loads a machine, but not in the machine's spelling of either version.
     OtherSpelling,
 }
 
 impl LineFault {
-    /// The fault's number in replies, and 0 for want of memory, which has no reply.
+    /// Returns the fault's number in replies, or 0 for a failed allocation, which has no reply.
     pub fn number(self) -> u8
         ensures { result ≡ fault_number self }
     {

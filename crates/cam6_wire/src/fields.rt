@@ -7,7 +7,7 @@ ghost use Rattle.cam6_wire.specs.Fields.{numbers_of, of_states, colours_at};
 use cam6_planes::{Bits, bits_of_digits};
 use serde_json::Value;
 
-/// Whether a value is an object of so many members.
+/// Whether a value is an object of `size` members.
 pub(crate) fn has_size(value: &Value, size: usize) -> bool
     ensures { result ≡ has_size size (view value.now) }
 {

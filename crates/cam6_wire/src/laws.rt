@@ -1,13 +1,13 @@
-//! Laws that tie what a line says to the values that commands, events and seats are shown by, that
-//! a machine is loaded by one line alone, that the text of a rule is UTF-8, and that answers are
-//! lines. Each is the contract of a function that does nothing.
+//! The laws of lines: a line says what its JSON value shows, one line loads a machine in each
+//! version, the text of a rule is UTF-8, and each answer is one line. Each law is the contract of a
+//! function that does nothing.
 ghost use Rattle.cam6_wire.specs.Laws.{ShownIsSaid, SaidIsShown, TextIsUtf8};
 ghost use Rattle.cam6_wire.specs.Laws.{LoadHasOneLine, OneLineLoads, OneTextOneSaved};
 ghost use Rattle.cam6_wire.specs.Laws.{ShownEventIsSaid, SaidEventIsShown, AskedTextIsUtf8};
 ghost use Rattle.cam6_wire.specs.Laws.{ShownSeatIsSaid, SaidSeatIsShown};
 ghost use Rattle.cam6_wire.specs.Laws.{ReplyIsLine, FaultIsLine, OutcomeIsLine, SeatingIsLine};
 
-/// A line whose value shows a command says it, where a load has its one spelling.
+/// A line says the command that its value shows, if a load has its spelling.
 pub fn a_shown_command_is_said()
     ensures law { ShownIsSaid }
 {}
@@ -17,17 +17,17 @@ pub fn a_said_command_is_shown()
     ensures law { SaidIsShown }
 {}
 
-/// A line that loads a machine is the one that does, in its version.
+/// In each version one line loads a machine, and no other does.
 pub fn a_load_has_one_line()
     ensures law { LoadHasOneLine }
 {}
 
-/// That line loads the machine.
+/// That line loads the machine, if it is within its limit.
 pub fn the_one_line_loads()
     ensures law { OneLineLoads }
 {}
 
-/// Saved machines that are written in one text are one.
+/// Two saved machines that are written as one text are equal.
 pub fn one_text_is_of_one_saved_machine()
     ensures law { OneTextOneSaved }
 {}
@@ -37,7 +37,7 @@ pub fn a_rules_text_is_utf8()
     ensures law { TextIsUtf8 }
 {}
 
-/// A line whose value shows an event says it.
+/// A line says the event that its value shows.
 pub fn a_shown_event_is_said()
     ensures law { ShownEventIsSaid }
 {}
@@ -52,7 +52,7 @@ pub fn an_asked_rules_text_is_utf8()
     ensures law { AskedTextIsUtf8 }
 {}
 
-/// A line whose value shows the seat of a user says it.
+/// A line says the seat that its value shows.
 pub fn a_shown_seat_is_said()
     ensures law { ShownSeatIsSaid }
 {}

@@ -2,16 +2,16 @@
 ghost use Rattle.std.specs.Prelude.{◌≡◌, ◌++◌};
 ghost use Rattle.cam6_wire.specs.Limits.{begins_load, limit_of};
 
-/// Bytes of a line, without its LF.
+/// The most bytes of a line, without its LF.
 pub const LINE_LIMIT: usize = 16_384;
 
-/// Bytes of a line that begins as a load does.
+/// The most bytes of a line that begins as a load does, without its LF.
 pub const LOAD_LINE_LIMIT: usize = 2_097_152;
 
 /// The bytes with which a load begins.
 const LOAD_HEAD: [u8; 13] = *b"{\"do\":\"load\",";
 
-/// The most bytes that this line may have, by how it begins.
+/// Returns the most bytes that this line may have, which depends on how it begins.
 pub fn line_limit(line: &[u8]) -> usize
     ensures { result ≡ limit_of line.now }
 {
@@ -30,7 +30,7 @@ fn begins_load(line: &[u8]) -> bool
     line.starts_with(&LOAD_HEAD)
 }
 
-/// Whether a line of these two parts begins as a load does.
+/// Returns whether a line of these two parts begins as a load does.
 pub fn begins_load_in(front: &[u8], part: &[u8]) -> bool
     ensures { result ≡ begins_load (front.now ++ part.now) }
 {

@@ -1,4 +1,4 @@
-//! Objects, made member by member. A call that is refused memory lets the members go.
+//! Objects, made member by member. If an allocation fails, the members are dropped.
 ghost use Rattle.std.specs.Prelude.{◌≡◌, IfOk};
 ghost use Rattle.serde_json.specs.Data.{string, put as put_member};
 ghost use Rattle.serde_json.specs.View.{view, members_view};

@@ -12,22 +12,22 @@ use cam6_planes::NoMemory;
 use serde_json::{Value, json};
 use std::alloc::{AllocError, Global};
 
-/// The line that tells what came of an event, without its LF. Want of memory is told by the number
-/// 0.
+/// Returns the line that reports what came of an event, without its LF. If an allocation failed for
+/// the event, its number is 0.
 pub fn outcome_text(alloc: Global, outcome: &Outcome) -> Result<String, NoMemory>
     ensures text { IfOk result (λ text. string_bytes text ≡ outcome_bytes outcome.now) }
     ensures value { IfOk result (λ text.
         read (string_bytes text) ≡ Some (outcome_data outcome.now)) }
 {
     match outcome {
-        // This is told for each band of a run, so its text is made without a value between.
+        // Each band of a run reports this, so its text is made without a JSON value in between.
         Outcome::Banded(left) => Ok(band_text(alloc, *left)?),
         _ => Ok(outcome_value(alloc, outcome)?.to_string(alloc)?),
     }
 }
 
-/// The line that tells an event that wasn't done, with its LF: it was refused, or no memory was
-/// found for it. The line takes no memory. An event that was done has no such line.
+/// Returns the line of an event that was refused or ran out of memory, with its LF. Returns `None`
+/// for an event that was done. Does not allocate.
 pub fn undone_line(outcome: &Outcome) -> Option<&'static str>
     ensures line { IfSome result (λ line. line.now ≡ outcome_bytes outcome.now ++ 10 ∷ []) }
     ensures done { result ≡ None → WasDone outcome.now }
@@ -39,7 +39,7 @@ pub fn undone_line(outcome: &Outcome) -> Option<&'static str>
     }
 }
 
-/// The line that tells why an event is refused, with its LF.
+/// The line that reports why an event is refused, with its LF.
 fn refused_line(reason: Refused) -> &'static str
     ensures { result.now ≡ outcome_bytes (Outcome.Refused reason) ++ 10 ∷ [] }
 {
@@ -56,7 +56,7 @@ fn refused_line(reason: Refused) -> &'static str
     }
 }
 
-/// What a band leaves, its keys in byte order.
+/// The text of a band that leaves so many bands, its keys in byte order.
 fn band_text(alloc: Global, left: u64) -> Result<String, AllocError>
     ensures text { IfOk result (λ text. string_bytes text
         ≡ codes "{\"left\":" ++ decimal left ++ codes ",\"ok\":\"band\"}") }
@@ -83,14 +83,14 @@ fn outcome_value(alloc: Global, outcome: &Outcome) -> Result<Value, AllocError>
     }
 }
 
-/// An event that is refused, by the number of the reason.
+/// The value of a refused event, from the number of the reason.
 fn refused_value(alloc: Global, number: u8) -> Result<Value, AllocError>
     ensures { IfOk result (λ value. view value ≡ refused number) }
 {
     json!(in alloc; {"refused": number})
 }
 
-/// An event that collects this reply.
+/// The value of an event that collects this reply.
 fn collected_value(alloc: Global, reply: &Reply) -> Result<Value, AllocError>
     ensures { IfOk result (λ value. view value ≡ outcome_data (Outcome.Collected reply.now)) }
 {
@@ -98,7 +98,7 @@ fn collected_value(alloc: Global, reply: &Reply) -> Result<Value, AllocError>
     told_value(alloc, "collect", "reply", reply)
 }
 
-/// An event that leaves so many bands.
+/// The value of an event that leaves so many bands.
 fn left_value(alloc: Global, word: &str, left: u64) -> Result<Value, AllocError>
     ensures { IfOk result (λ value. view value ≡ left_behind left word.now) }
 {

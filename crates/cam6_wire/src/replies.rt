@@ -29,7 +29,7 @@ use std::alloc::{AllocError, Global};
 
 const HEX_DIGITS: [u8; 16] = *b"0123456789abcdef";
 
-/// The line that answers a command, without its LF.
+/// Returns the line of a reply, without its LF.
 pub fn reply_text(alloc: Global, reply: &Reply) -> Result<String, NoMemory>
     ensures text { IfOk result (λ text. string_bytes text ≡ reply_bytes reply.now) }
     ensures value { IfOk result (λ text. read (string_bytes text) ≡ Some (reply_data reply.now)) }
@@ -37,7 +37,7 @@ pub fn reply_text(alloc: Global, reply: &Reply) -> Result<String, NoMemory>
     Ok(reply_value(alloc, reply)?.to_string(alloc)?)
 }
 
-/// The line that answers one that is no command, without its LF.
+/// Returns the line that reports a line's fault, without its LF. Does not allocate.
 pub fn fault_text(fault: LineFault) -> &'static str
     requires fault { fault ≢ LineFault.NoMemory }
     ensures { result.now ≡ fault_bytes fault }
@@ -51,7 +51,7 @@ pub fn fault_text(fault: LineFault) -> &'static str
     }
 }
 
-/// The same line with its LF.
+/// Returns the same line with its LF.
 pub fn fault_line(fault: LineFault) -> &'static str
     requires fault { fault ≢ LineFault.NoMemory }
     ensures { result.now ≡ fault_bytes fault ++ 10 ∷ [] }
@@ -150,7 +150,7 @@ fn refusal_value(alloc: Global, refusal: Refusal) -> Result<Value, AllocError>
     }
 }
 
-/// A fault of which one thing is told, at this key.
+/// The value of a fault with one more member, at this key.
 fn fault_value(alloc: Global, fault: u8, key: &str, told: Value) -> Result<Value, AllocError>
     ensures { IfOk result (λ value. view value ≡ object
         (put_member (codes "fault") (natural fault) (put_member key.now (view told) no_members))) }
@@ -187,7 +187,7 @@ fn cause_value(
     }
 }
 
-/// A cause of which nothing more is told.
+/// The value of a cause that has no more members.
 fn plain_cause(
     alloc: Global,
     word: &str,
@@ -205,7 +205,7 @@ fn plain_cause(
     Ok(Value::Object(members))
 }
 
-/// What is told of every cause.
+/// The members that every cause has.
 fn cause_members(
     alloc: Global,
     word: &str,
@@ -225,7 +225,7 @@ fn cause_members(
     with_text(alloc, members, "half", half)
 }
 
-/// What is told of a meeting, beside these members: its phase and its two states.
+/// The value of a meeting: these members, its phase and its two states.
 fn meeting_value(
     alloc: Global,
     members: Map<String, Value>,
@@ -244,14 +244,14 @@ fn meeting_value(
     Ok(Value::Object(members))
 }
 
-/// The reply to a command of which nothing is told but that it is done.
+/// The reply to a command that is done, with no more members.
 pub(crate) fn ok_value(alloc: Global, word: &str) -> Result<Value, AllocError>
     ensures { IfOk result (λ value. view value ≡ done word.now no_members) }
 {
     json!(in alloc; {"ok": word})
 }
 
-/// The reply to a command of which one thing is told, at this key.
+/// The reply to a command that is done, with one more member, at this key.
 pub(crate) fn told_value(
     alloc: Global,
     word: &str,
@@ -294,7 +294,7 @@ fn colours_value(alloc: Global, colours: &RowColours) -> Result<Value, AllocErro
     Value::try_from_str(alloc, digits(&text[..colours.len()]))
 }
 
-/// The digits of colours, from the front on.
+/// The digits of colours, at the front of the array.
 fn colour_digits(colours: &[u8]) -> [u8; COLUMNS]
     requires few { length colours.now ≤ COLUMNS }
     requires small { AllByRecursion (λ colour. colour ≤ max_colour) colours.now }

@@ -14,13 +14,16 @@ use cam6_planes::Bits;
 use serde_json::{Map, Value, json};
 use std::alloc::{AllocError, Global};
 
-/// The versions in which a saved machine can be spelled. The second alone is written.
+/// The versions of a saved machine's spelling. Both are read, and only the second is written.
 #[derive(Clone, Copy, Debug, PartialEq, Eq)]
 pub enum Version {
     /// Without a side, which is 256.
     First,
     Second,
 }
+
+/// How a line ends that loads a machine in the first version.
+const END_OF_FIRST: &[u8] = b"\"version\":1}}";
 
 /// Whether a line is the one that loads this machine, in either version.
 pub(crate) fn is_load_line(
@@ -30,7 +33,13 @@ pub(crate) fn is_load_line(
 ) -> Result<bool, AllocError>
     ensures { IfOk result (λ is. is ≡ is_load_line line.now saved.now) }
 {
-    // The version that is written comes first: it is the one to expect.
+    // The line's end says which version to expect, so that a machine is seldom written twice.
+    if line.ends_with(END_OF_FIRST) {
+        if is_load_line_in(alloc, line, Version::First, saved)? {
+            return Ok(true);
+        }
+        return is_load_line_in(alloc, line, Version::Second, saved);
+    }
     if is_load_line_in(alloc, line, Version::Second, saved)? {
         return Ok(true);
     }
@@ -139,7 +148,7 @@ fn entry_value(alloc: Global, entry: &NamedEntry) -> Result<Value, AllocError>
     Ok(Value::Object(members))
 }
 
-/// An entry's name for a half; `-` where it has none.
+/// An entry's name for a half, or `-` if it has none.
 fn name_text(name: &Option<Text>) -> &str
     ensures { result.now ≡ name_text name.now }
 {

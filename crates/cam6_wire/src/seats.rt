@@ -12,22 +12,22 @@ use crate::fields::{has_size, number_at};
 use serde_json::Value;
 use std::alloc::Global;
 
-/// What is answered to a first line that asks for a user's machine.
+/// The answer to a first line that asks for a user's machine.
 #[derive(Clone, Copy, Debug, PartialEq, Eq)]
 pub enum Seating {
     /// The connection is the user's from here on.
     Seated,
-    /// The user has a connection.
+    /// The user already has a connection.
     Taken,
     /// There is no such user.
     NoUser,
 }
 
-/// The user whose machine a first line asks for, counted from 1, whether or not there is such a
-/// user.
+/// Returns the number of the user that a first line asks for, counted from 1, or the line's fault.
+/// Does not check that there is such a user.
 pub fn read_seat(alloc: Global, line: &[u8]) -> Result<u64, LineFault>
     ensures said { IsSaid result (seat line.now) }
-    // No memory is wanted for an empty line, nor for one that is too long.
+    // An empty line and one that is too long take no memory.
     ensures memory { result ≡ Err NoMemory →
         (0 < length line.now) × (length line.now ≤ limit_of line.now) }
 {
@@ -35,7 +35,7 @@ pub fn read_seat(alloc: Global, line: &[u8]) -> Result<u64, LineFault>
     seat_shown(&value).ok_or(LineFault::NoCommand)
 }
 
-/// The user of an object whose only key is `seat`.
+/// The user of an object that has the key `seat` and no other.
 #[tactic(auto, unfolding(crate::specs::Seats::seat_in))]
 fn seat_shown(value: &Value) -> Option<u64>
     ensures { result ≡ seat_in (view value.now) }
@@ -46,7 +46,7 @@ fn seat_shown(value: &Value) -> Option<u64>
     number_at(value, "seat")
 }
 
-/// The line that answers a first line, with its LF.
+/// Returns the line of an answer, with its LF.
 pub fn seating_line(seating: Seating) -> &'static str
     ensures { result.now ≡ seating_bytes seating ++ 10 ∷ [] }
 {

@@ -1,6 +1,8 @@
 //! What a rule is written for, as an object says it.
-ghost use Rattle.std.specs.Prelude.{◌≡◌};
+ghost use Rattle.std.specs.Prelude.{◌≡◌, codes, option_and_then};
 ghost use Rattle.serde_json.specs.View.{view};
+ghost use Rattle.cam6_wiring.specs.Texts.{half_named, hood_named, minor_named};
+ghost use Rattle.cam6_wire.specs.Fields.{text_at};
 ghost use Rattle.cam6_wire.specs.Wirings.{wiring_in};
 
 use crate::fields::text_at;
@@ -12,8 +14,26 @@ use serde_json::Value;
 pub(crate) fn wiring_in(value: &Value) -> Option<Wiring>
     ensures { result ≡ wiring_in (view value.now) }
 {
-    let half = text_at(value, "half").and_then(Half::named)?;
-    let hood = text_at(value, "hood").and_then(Hood::named)?;
-    let minor = text_at(value, "minor").and_then(Minor::named)?;
+    let half = half_in(value)?;
+    let hood = hood_in(value)?;
+    let minor = minor_in(value)?;
     Some(Wiring { half, hood, minor })
+}
+
+fn half_in(value: &Value) -> Option<Half>
+    ensures { result ≡ option_and_then half_named (text_at (codes "half") (view value.now)) }
+{
+    Half::named(text_at(value, "half")?)
+}
+
+fn hood_in(value: &Value) -> Option<Hood>
+    ensures { result ≡ option_and_then hood_named (text_at (codes "hood") (view value.now)) }
+{
+    Hood::named(text_at(value, "hood")?)
+}
+
+fn minor_in(value: &Value) -> Option<Minor>
+    ensures { result ≡ option_and_then minor_named (text_at (codes "minor") (view value.now)) }
+{
+    Minor::named(text_at(value, "minor")?)
 }

@@ -63,6 +63,6 @@ rotated Clockwise corner = clockwise corner
 rotated Opposite corner = clockwise (clockwise corner)
 rotated CounterClockwise corner = clockwise (clockwise (clockwise corner))
 
--- the coordinate at which the block begins in which a column or a row lies
+-- the coordinate at which the block of a column or a row begins
 abbrev pub block_of : ℕ → Grid → ℕ → ℕ
 block_of s grid x = (x + (s - side_in_block grid x)) % s

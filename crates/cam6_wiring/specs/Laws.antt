@@ -1,5 +1,5 @@
 -- The laws that tie what is seen to the address that it makes, the table of rotations to the block,
--- and texts to what they name; and those of what is the same.
+-- and texts to what they name. Also the laws of what is the same.
 use Rattle.std.specs.Prelude.{◌≡◌, ◌<◌, ℕ, ◌*◌, true, false, List, Option, Some, None, get_or}
 use Rattle.cam6_planes.specs.Cells.{Cells}
 use Rattle.cam6_wiring.specs.Block.{corner_of, in_block, rotated, block_of}
@@ -30,7 +30,7 @@ ShowsNothingElse =
     get_or (names_of hood minor) line None ≡ None →
     shown (address_of hood minor sees) line ≡ false
 
--- the line of a name and the names of the lines say the same
+-- the line of a name and the names of the lines agree
 abbrev pub LinesAreNamed : Type 0
 LinesAreNamed =
     (hood : Hood) (minor : Minor) (name : Name) (line : ℕ) →
@@ -63,8 +63,8 @@ TextsNameWhatTheyAreOf =
     NamesExactly half_text half_named × NamesExactly hood_text hood_named ×
     NamesExactly minor_text minor_named × NamesExactly grid_text grid_named
 
--- the cell that a cell sees one, two or three corners further clockwise lies in the same block, so
--- many corners further clockwise; the torus has an even side
+-- on a torus of even side, each rotation leads to a cell of the same block, which is one, two or
+-- three corners further clockwise
 abbrev pub RotationsInTheBlock : Type 0
 RotationsInTheBlock =
     (half_side : ℕ) (f : Cells) (grid : Grid) (rotation : Rotation) (p x y : ℕ) → 0 < half_side →

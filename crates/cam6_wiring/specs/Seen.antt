@@ -31,7 +31,7 @@ column_beside s NorthEast x = east_of s x
 column_beside s SouthWest x = west_of s x
 column_beside s SouthEast x = east_of s x
 
--- and its row: north of a row is what west of a column is, and south what east is
+-- and its row, seen from row y: north is the row before, as west is the column before
 abbrev pub row_beside : ℕ → Compass → ℕ → ℕ
 row_beside s Center y = y
 row_beside s North y = west_of s y
@@ -65,7 +65,7 @@ seen s f setting (name.MinorPhase level) x y = phase_bit setting.phase level
 seen s f setting name.MinorHorz x y = side_in_block setting.grid x == 1
 seen s f setting name.MinorVert x y = side_in_block setting.grid y == 1
 
--- the number whose bits these are, the lowest first
+-- the number with these bits, the lowest first
 abbrev pub number_of : List Bool → ℕ
 number_of [] = 0
 number_of (b ∷ bits) = 2 * number_of bits + bit_number b
@@ -91,7 +91,7 @@ address s f setting hood minor x y = address_of hood minor (λ name. seen s f se
 abbrev pub shown : ℕ → ℕ → Bool
 shown address line = bit_at address line == 1
 
--- and on the line of a name; 0 where the wiring lacks the name
+-- and on the line of a name; 0 if the wiring lacks the name
 abbrev pub shown_under : ℕ → Option ℕ → Bool
 shown_under address None = false
 shown_under address (Some line) = shown address line

@@ -35,14 +35,14 @@ abbrev pub grid_text : Grid → List ℕ
 grid_text Even = codes "EVEN"
 grid_text Odd = codes "ODD"
 
--- the half of a text
+-- the half that a text names
 abbrev pub half_named : List ℕ → Option Half
 half_named text =
     if bytes_eq text (half_text A) then Some A
     else if bytes_eq text (half_text B) then Some B
     else None
 
--- the neighbourhood of a text
+-- the neighbourhood that a text names
 abbrev pub hood_named : List ℕ → Option Hood
 hood_named text =
     if bytes_eq text (hood_text Moore) then Some Moore
@@ -52,7 +52,7 @@ hood_named text =
     else if bytes_eq text (hood_text MargolusHorzVert) then Some MargolusHorzVert
     else None
 
--- the minor assignment of a text
+-- the minor assignment that a text names
 abbrev pub minor_named : List ℕ → Option Minor
 minor_named text =
     if bytes_eq text (minor_text Centers) then Some Centers
@@ -60,7 +60,7 @@ minor_named text =
     else if bytes_eq text (minor_text HorzVert) then Some HorzVert
     else None
 
--- the grid of a text
+-- the grid that a text names
 abbrev pub grid_named : List ℕ → Option Grid
 grid_named text =
     if bytes_eq text (grid_text Even) then Some Even

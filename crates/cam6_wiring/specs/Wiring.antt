@@ -56,7 +56,7 @@ minor_names Centers = Some (MinorCenter Lower) ∷ Some (MinorCenter Upper) ∷ 
 minor_names Phases = Some (MinorPhase Lower) ∷ Some (MinorPhase Upper) ∷ []
 minor_names HorzVert = Some MinorHorz ∷ Some MinorVert ∷ []
 
--- the name of each line, the lowest line first, where it has one
+-- the name of each line, the lowest line first, if it has one
 abbrev pub names_of : Hood → Minor → List (Option Name)
 names_of hood minor = hood_names hood ++ minor_names minor
 
@@ -65,7 +65,7 @@ abbrev pub is_at : Name → Option Name → Bool
 is_at name None = false
 is_at name (Some known) = is_same_name known name
 
--- the line of a name, where the wiring has the name
+-- the line of a name, if the wiring has the name
 unfoldable pub line_of : Hood → Minor → Name → Option ℕ
 line_of hood minor name = position_from (is_at name) 0 (names_of hood minor)
 
@@ -73,7 +73,7 @@ line_of hood minor name = position_from (is_at name) 0 (names_of hood minor)
 abbrev pub wired : Half → Hood → Minor → Wiring
 wired half hood minor = record { half = half; hood = hood; minor = minor }
 
--- under these neighbourhoods each cell is one of a block
+-- whether each cell belongs to a block under this neighbourhood
 abbrev pub is_margolus : Hood → Bool
 is_margolus Moore = false
 is_margolus VonNeumann = false

@@ -53,7 +53,8 @@ pub fn in_block(corner: Corner, rotation: Rotation) -> Compass
     }
 }
 
-/// 0 in a block's left column, and 1 in its right one; of a row, 0 in the upper and 1 in the lower.
+/// Returns 0 for a block's left column and 1 for its right one. For a row, returns 0 for the upper
+/// one and 1 for the lower.
 #[inline]
 pub fn side_in_block(grid: Grid, x: usize) -> usize
     ensures { result ≡ side_in_block grid x }

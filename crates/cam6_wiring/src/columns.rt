@@ -1,4 +1,4 @@
-//! Rows that are made by columns: the same bit in each, the blocks' right columns, or the even
+//! Rows made column by column: the same bit in each, the blocks' right columns, or the even
 //! columns of one row with the odd ones of another.
 ghost use Rattle.std.specs.Prelude.{◌≡◌, ◌<◌, ◌*◌, ◌%◌, ◌==◌, ℕ, if◌then◌else◌};
 ghost use Rattle.cam6_planes.specs.Row.{word_column, column_bit};
@@ -8,10 +8,10 @@ ghost use Rattle.cam6_wiring.specs.Block.{side_in_block};
 use crate::blocks::Grid;
 use cam6_planes::{Row, WORDS};
 
-/// The columns of even number of a word, of which column 0 is the highest bit.
+/// The even columns of a word. Column 0 is its highest bit.
 const EVEN_COLUMNS: u64 = 0xAAAA_AAAA_AAAA_AAAA;
 
-/// Those of odd number.
+/// The odd columns of a word.
 const ODD_COLUMNS: u64 = 0x5555_5555_5555_5555;
 
 /// The same bit in every column.

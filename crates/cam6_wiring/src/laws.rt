@@ -14,7 +14,7 @@ pub fn an_address_shows_nothing_else()
     ensures law { ShowsNothingElse }
 {}
 
-/// The line of a name, and the names of the lines, say the same.
+/// The line of a name and the names of the lines agree.
 pub fn lines_are_named()
     ensures law { LinesAreNamed }
 {}
@@ -35,8 +35,8 @@ pub fn texts_name_what_they_are_of()
     ensures law { TextsNameWhatTheyAreOf }
 {}
 
-/// What a cell sees one, two or three corners further clockwise is a cell of its own block, so
-/// many corners further clockwise.
+/// Each rotation leads to a cell of the same block. That cell is one, two or three corners further
+/// clockwise.
 pub fn rotations_stay_in_the_block()
     ensures law { RotationsInTheBlock }
 {}

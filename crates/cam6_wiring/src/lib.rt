@@ -1,21 +1,20 @@
 //! Wiring: which neighbour each of a half's twelve address lines shows, and what a cell sees there.
 //!
-//! Contract: `line_of` is the line of a name, and `names_of` the names of all lines; `seen` is the
-//! bit that a name means to a cell; `address_at` is the number whose bits are what the cell sees
-//! under the name of each line (`specs/Seen.antt`), for all five neighbourhoods, three minor
-//! assignments, both halves, both grids and four phases. `lines_of_row` and `put_lines` are the
-//! same for a whole row of cells: at each column, on each line, what the cell there sees under the
-//! line's name (`specs/Lines.antt`). `corner_of` and `in_block` are a cell's corner of its Margolus
-//! block and where the block's other cells lie; `side_in_block` says in which of a block's two
-//! columns or rows a column or row is. `is_margolus` says whether a neighbourhood is one of blocks.
-//! `text` is the text of a half, a neighbourhood, a minor assignment or a grid, and `named` what a
-//! text names (`specs/Texts.antt`).
+//! Contract: `line_of` returns the line of a name, and `names_of` the names of all lines. `seen` is
+//! the bit that a name means to a cell. `address_at` is a number with one bit for each line: what
+//! the cell sees under the line's name (`specs/Seen.antt`). It works for all five neighbourhoods,
+//! three minor assignments, both halves, both grids and four phases. `lines_of_row` and `put_lines`
+//! do the same for a whole row of cells: at each column, each line shows what the cell there sees
+//! under the line's name (`specs/Lines.antt`). `corner_of` returns a cell's corner of its
+//! Margolus block, and `in_block` where the block's other cells lie. `side_in_block` says in which
+//! of a block's two columns or rows a column or row is. `is_margolus` returns whether a
+//! neighbourhood has blocks. `text` is the text of a half, a neighbourhood, a minor assignment or a
+//! grid, and `named` is what a text names (`specs/Texts.antt`).
 //!
 //! The laws: an address shows, on the line of each name, what is seen under it, and 0 on every
-//! other line; the line of a name and the names of the lines say the same; a name is the same as
-//! itself alone, and so is a wiring; each text names what it is the text of, and no other text does;
-//! the cell that is seen one, two or three corners further clockwise is of the same block, and so
-//! many corners further.
+//! other line. The line of a name and the names of the lines agree. A name is the same as itself
+//! alone, and so is a wiring. Each text names what it is the text of, and no other text does. Each
+//! rotation leads to a cell of the same block, one, two or three corners further clockwise.
 //!
 //! Stands on: `cam6_planes`.
 //!

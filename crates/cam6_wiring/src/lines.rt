@@ -17,8 +17,8 @@ use cam6_planes::{Row, WORDS};
 /// What the cells of a row show on each address line, the lowest line first.
 pub type Lines = [Row; LINES];
 
-/// The twelve address lines of row `y`; at a column they show what the cell there sees under the
-/// lines' names, and 0 on a line without a name.
+/// Returns the twelve address lines of row `y`. At each column they show what the cell there sees
+/// under the lines' names, and 0 on a line without a name.
 pub fn lines_of_row(
     half: Half,
     hood: Hood,
@@ -45,7 +45,7 @@ pub fn lines_of_row(
     lines
 }
 
-/// As `lines_of_row`, into lines that are there.
+/// As `lines_of_row`, but writes to `lines`.
 pub fn put_lines(
     lines: &mut Lines,
     setting: Setting,
@@ -68,7 +68,7 @@ pub fn put_lines(
     }
 }
 
-/// Writes what the cells of row `y` show on a line with this name; 0 without a name.
+/// Writes what the cells of row `y` show on a line with this name. Writes 0 without a name.
 fn put_line(line: &mut Row, setting: Setting, name: Option<Name>, y: usize, rows: &Rows)
     requires { y < side_number rows.now.side }
     ensures { (f : Cells) → AreRowsAround f y rows.now →

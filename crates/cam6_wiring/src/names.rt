@@ -47,8 +47,8 @@ pub enum Phase {
     P3,
 }
 
-/// What a rule can ask of a cell. The names that begin with `Minor` are those written with an `&`:
-/// PHASE and &PHASE show the same bit, and are names apart, since they stand on lines of their own.
+/// What a rule can ask of a cell. The names that begin with `Minor` are those written with an `&`.
+/// PHASE and &PHASE show the same bit. They are two names, since they stand on lines of their own.
 #[derive(Clone, Copy, Debug, PartialEq, Eq)]
 pub enum Name {
     /// CENTER, NORTH, N.WEST and the like; with a prime at the upper level. The four diagonal

@@ -21,8 +21,8 @@ pub struct Setting {
     pub phase: Phase,
 }
 
-/// The number that the cell at column `x` of row `y` shows on its twelve address lines; bit 0 is
-/// the lowest. A line without a name shows 0.
+/// Returns the number that the cell at column `x` of row `y` shows on its twelve address lines.
+/// Line 0 is its lowest bit. A line without a name shows 0.
 pub fn address_at(
     planes: &Planes,
     half: Half,
@@ -116,7 +116,7 @@ fn column_beside(side: Side, compass: Compass, x: usize) -> usize
     }
 }
 
-/// Its row. North of a row is what west of a column is, and south what east is.
+/// Its row, seen from row `y`. North is the row before, as west is the column before.
 fn row_beside(side: Side, compass: Compass, y: usize) -> usize
     requires { y < side_number side }
     ensures row { result ≡ row_beside (side_number side) compass y }

@@ -68,8 +68,8 @@ pub(crate) fn put_seen(line: &mut Row, setting: Setting, name: Name, y: usize, r
     }
 }
 
-/// Writes what the cells of row `y` see of plane `p` in their blocks: from one corner in the even
-/// columns, and from another in the odd ones.
+/// Writes what the cells of row `y` see of plane `p` in their blocks. Those of even columns are at
+/// one corner of their block, and those of odd columns at another.
 fn put_in_block(line: &mut Row, grid: Grid, rotation: Rotation, p: usize, y: usize, rows: &Rows)
     requires plane { p < 4 }
     requires row { y < side_number rows.now.side }
@@ -94,7 +94,7 @@ fn put_beside(line: &mut Row, compass: Compass, p: usize, rows: &Rows)
     put_columns_beside(line, compass, row, rows.side);
 }
 
-/// Writes, at each column, what the row has in the column that lies there.
+/// Writes, at each column, the row's bit in the column that lies in this direction.
 fn put_columns_beside(line: &mut Row, compass: Compass, row: &Row, side: Side)
     ensures { let s = side_number side in
         (x : ℕ) → x < s → column_bit line.new x ≡ column_bit row.now (column_beside s compass x) }
@@ -106,7 +106,7 @@ fn put_columns_beside(line: &mut Row, compass: Compass, row: &Row, side: Side)
     }
 }
 
-/// The row that lies there, seen from the row in the middle.
+/// Returns the row that lies in this direction from the row in the middle.
 fn row_beside<'a>(rows: &Rows<'a>, compass: Compass) -> &'a CellRow
     ensures { (f : Cells) (y : ℕ) → AreRowsAround f y rows.now →
         let s = side_number rows.now.side in IsRow s f (row_beside s compass y) result.now }

@@ -18,7 +18,7 @@ impl Half {
         }
     }
 
-    /// The half of a text.
+    /// Returns the half that a text names, or `None`.
     pub fn named(text: &str) -> Option<Half>
         ensures { result ≡ half_named text.now }
     {
@@ -47,7 +47,7 @@ impl Hood {
         }
     }
 
-    /// The neighbourhood of a text.
+    /// Returns the neighbourhood that a text names, or `None`.
     pub fn named(text: &str) -> Option<Hood>
         ensures { result ≡ hood_named text.now }
     {
@@ -77,7 +77,7 @@ impl Minor {
         }
     }
 
-    /// The minor assignment of a text.
+    /// Returns the minor assignment that a text names, or `None`.
     pub fn named(text: &str) -> Option<Minor>
         ensures { result ≡ minor_named text.now }
     {
@@ -104,7 +104,7 @@ impl Grid {
         }
     }
 
-    /// The grid of a text.
+    /// Returns the grid that a text names, or `None`.
     pub fn named(text: &str) -> Option<Grid>
         ensures { result ≡ grid_named text.now }
     {

@@ -41,7 +41,7 @@ pub struct Wiring {
 }
 
 impl Hood {
-    /// Whether each cell is one of a block under this neighbourhood.
+    /// Returns whether this is a Margolus neighbourhood, under which each cell belongs to a block.
     pub fn is_margolus(self) -> bool
         ensures { result ≡ is_margolus self }
     {
@@ -55,7 +55,7 @@ impl Hood {
 /// Address lines of a half.
 pub const LINES: usize = 12;
 
-/// The address line on which a name stands, or `None` where the wiring lacks the name.
+/// Returns the address line on which a name stands, or `None` if the wiring lacks the name.
 #[tactic(auto, unfolding(crate::specs::Wiring::line_of))]
 pub fn line_of(hood: Hood, minor: Minor, name: Name) -> Option<u8>
     ensures line { result ≡ line_of hood minor name }
@@ -78,7 +78,7 @@ fn is_at(name: Name, known: Option<Name>) -> bool
     }
 }
 
-/// The name of each line, the lowest first, where it has one.
+/// Returns the name of each line, the lowest first, or `None` for a line without one.
 pub fn names_of(hood: Hood, minor: Minor) -> [Option<Name>; LINES]
     ensures { result ≡ names_of hood minor }
 {

@@ -12,7 +12,7 @@ abbrev pub rows_of : Level → HalfRows → PlaneRows
 rows_of Lower half = half.lower
 rows_of Upper half = half.upper
 
--- the bit of plane p at column x of row r of the band from row y on, once the rows are put into
+-- the bit of plane p at column x of row r of the band from row y on, after the rows are put into
 -- planes g
 abbrev pub bit_put : PlaneRows → Cells → ℕ → ℕ → ℕ → ℕ → Bool
 bit_put plane g p x y r =

@@ -12,8 +12,8 @@ use Rattle.cam6_band.specs.Limits.{band}
 abbrev pub IsOutside : ℕ → ℕ → Type 0
 IsOutside y v = (v < y) ⊎ (y + band ≤ v)
 
--- planes g show those of the rows of planes f that are left from row y on, and beside them are kept
--- the row to the north of row y and row 0
+-- planes g show the rows of planes f from row y on. Beside them are kept the row to the north of
+-- row y and row 0
 pub record AreOldRows (s : ℕ) (f : Cells) (y : ℕ) (g : Cells) (north_row first_row : List (List ℕ))
     : Type 0 where
   pub rows : (p x v : ℕ) → p < 4 → x < s → y ≤ v → v < s → g p x v ≡ f p x v

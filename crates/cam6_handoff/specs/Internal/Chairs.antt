@@ -9,7 +9,7 @@ use Rattle.cam6_handoff.specs.declared.rule.View.TheVariants.{Idle, Holds}
 use Rattle.cam6_handoff.specs.Rule.{Seated}
 use Rattle.cam6_handoff.specs.Standing.{Stance, standing, waiting, nowhere}
 use Rattle.cam6_handoff.specs.Holding.{Holding, nothing, holding, BoardStance}
-use Rattle.cam6_handoff.specs.Limits.{max_users}
+use Rattle.cam6_commands.specs.Limits.{max_users}
 
 abbrev pub waits_at : View → Stance
 waits_at (First desks boards) = nowhere
@@ -45,8 +45,8 @@ TakenChair n b None me = me ≡ (Idle b, [])
 TakenChair n b (Some u) me =
     (u < n) × ((q : StoredQueued) × (me ≡ (Holds b u q, (u, None) ∷ [])))
 
--- a board's seat is of the table, which has so many users, and has taken what it says. They aren't
--- too many
+-- a board's seat is of the table, which has so many users, `max_users` at most; it has taken what
+-- it says
 abbrev pub BoardChair : TableId → ℕ → ℕ → TableId → ℕ → Option ℕ → Seated → Type 0
 BoardChair table users n own b taken me =
     (own ≡ table) × (n ≡ users) × (table.words ≡ users) × (table.slots ≡ users)

@@ -5,7 +5,7 @@ use Rattle.cam6_handoff.specs.declared.rule.View.{View}
 use Rattle.cam6_handoff.specs.declared.rule.View.TheVariants.{First, Unseated}
 use Rattle.cam6_handoff.specs.declared.rule.View.TheVariants.{Idle}
 
--- what the first seat knows behind a cut, and what the new one does; no other seat is cut
+-- what the first seat knows after a cut, and what the new one does; no other seat is cut
 abbrev pub behind_desk : View → View
 behind_desk (First desks boards) = First (desks + 1) boards
 behind_desk v = v

@@ -1,5 +1,5 @@
--- Parts: eighteen rows of a unit's columns, of which the first is of the row to the north of a band
--- and the last of the row to its south.
+-- Parts: eighteen rows of a unit's columns. The first is of the row to the north of a band, and the
+-- last of the row to its south.
 use Rattle.std.specs.Prelude.{ℕ, ◌≡◌, ◌<◌, ◌≤◌, ◌+◌, ◌-◌, ◌*◌, List}
 use Rattle.cam6_planes.specs.Cells.{Cells, torus}
 use Rattle.cam6_planes.specs.Row.{column_bit, west_of}
@@ -19,7 +19,7 @@ use Rattle.cam6_lines.specs.Limits.{height}
 use Rattle.cam6_lines.specs.Units.{columns, place}
 use Rattle.cam6_lines.specs.declared.bands.Band.{Band}
 
--- the first row of a part in which cells can look there, within the eighteen rows
+-- the first row of a part from which cells can look in this direction within the eighteen rows
 abbrev pub first_beside : Compass → ℕ
 first_beside Center = 0
 first_beside North = 1
@@ -31,12 +31,12 @@ first_beside NorthEast = 1
 first_beside SouthWest = 1
 first_beside SouthEast = 1
 
--- the first row of a part that is made for a name; as many are left out at its end
+-- the first row of a part that is made for a name; as many rows are left out at its end
 abbrev pub first_row : Name → ℕ
 first_row (name.Beside compass level) = first_beside compass
 first_row _ = 1
 
--- the row of the planes of which row j of a part is
+-- the row of the planes that row j of a part comes from
 abbrev pub row_above : Band → ℕ → ℕ
 row_above band j = west_of (side_of band) (band.first + j)
 
@@ -55,7 +55,7 @@ ShowsPart f setting name band unit part =
     column_bit part (place side j i)
     ≡ sees_at (side_of band) f setting (columns side * unit + i) (row_above band j) name
 
--- these words show, in each row of a part, what lies there in plane p
+-- these words show, in each row of a part, what lies in this direction in plane p
 abbrev pub ShowsBeside : Cells → Compass → ℕ → Band → ℕ → List ℕ → Type 0
 ShowsBeside f compass p band unit part =
     let side = band.planes.now.side in
@@ -63,7 +63,7 @@ ShowsBeside f compass p band unit part =
     ≡ seen_beside (side_of band) (torus (side_of band) f) compass p (columns side * unit + i)
     (row_above band j)
 
--- and, in each row of the band, what lies there in their blocks
+-- and, in each row of the band, what lies in the cells' blocks at this rotation
 abbrev pub ShowsInBlock : Cells → Grid → Rotation → ℕ → Band → ℕ → List ℕ → Type 0
 ShowsInBlock f grid rotation p band unit part =
     let side = band.planes.now.side in
@@ -71,7 +71,7 @@ ShowsInBlock f grid rotation p band unit part =
     ≡ seen_in_block (side_of band) (torus (side_of band) f) grid rotation p
     (columns side * unit + i) (row_above band j)
 
--- they show it in the rows before one of them
+-- they show it in the rows before row end
 
 abbrev pub ShowsRowsBeside : Cells → Compass → ℕ → Band → ℕ → ℕ → List ℕ → Type 0
 ShowsRowsBeside f compass p band unit end part =

@@ -23,7 +23,7 @@ abbrev pub center_line : Level → ℕ
 center_line Lower = 0
 center_line Upper = 1
 
--- the line whose part a line is seen from that looks there
+-- the home of a line that looks in this direction: the line with the part in which it is seen
 abbrev pub home_beside : Compass → Level → ℕ → ℕ
 home_beside Center level line = line
 home_beside North level line = center_line level
@@ -35,7 +35,7 @@ home_beside NorthEast level line = 5
 home_beside SouthWest level line = 4
 home_beside SouthEast level line = 5
 
--- the line whose part a line with this name is seen from
+-- the home of a line with this name
 abbrev pub home_of : Name → ℕ → ℕ
 home_of (name.Beside compass level) line = home_beside compass level line
 home_of _ line = line
@@ -57,14 +57,14 @@ abbrev pub seen_from : Name → ℕ
 seen_from (name.Beside compass level) = seen_beside_from compass
 seen_from _ = 1
 
--- how a line with this name is seen, where it is asked for
+-- how a line with this name is seen, if it is asked for
 abbrev pub view_of : Side → Bool → Option Name → ℕ → Option View
 view_of side false name line = None
 view_of side true None line = None
 view_of side true (Some name) line =
     Some (record { home = home_of name line; start = columns side / 64 * seen_from name })
 
--- a part that there is, and a unit of words from there on
+-- the home is one of the twelve lines, and its part has a whole unit of words from the start on
 abbrev pub IsInside : View → Type 0
 IsInside view = (view.home < LINES) × (view.start ≤ PART - UNIT)
 
@@ -73,13 +73,13 @@ abbrev pub unit_of : List (List ℕ) → Option View → List ℕ
 unit_of parts None = replicate UNIT 0
 unit_of parts (Some view) = take UNIT (drop view.start (slice_index_or parts view.home []))
 
--- of lines with these names, every line that a mask asks for has its home among those marked
+-- each line with a name that a mask asks for has its home marked
 abbrev pub AreHomes : ℕ → List (Option Name) → List Bool → Type 0
 AreHomes asked names homes =
     (k : ℕ) (name : Name) → k < LINES → bit_at asked k ≡ 1 →
     slice_index_or names k None ≡ Some name → slice_index_or homes (home_of name k) false ≡ true
 
--- how lines with these names are seen that a mask asks for
+-- how lines with these names are seen, if a mask asks for them
 abbrev pub AreViews : Side → ℕ → List (Option Name) → List (Option View) → Type 0
 AreViews side asked names views =
     (length views ≡ LINES) × ((k : ℕ) → k < LINES →

@@ -1,4 +1,4 @@
--- What steps along a cycle are answered.
+-- The replies to steps along a cycle.
 use Rattle.std.specs.Prelude.{ℕ, zero, suc}
 use Rattle.cam6_cycle.specs.declared.tables.Direction.{Direction}
 use Rattle.cam6_cycle.specs.declared.tables.Direction.TheVariants.{Forward, Backward}
@@ -8,7 +8,7 @@ use Rattle.cam6_machine.specs.declared.replies.Now.TheVariants as now
 use Rattle.cam6_commands.specs.declared.replies.Reply.{Reply}
 use Rattle.cam6_commands.specs.declared.replies.Reply.TheVariants as reply
 
--- the reply once a position is come to
+-- the reply once a position is reached
 abbrev pub reply_at : Direction → ℕ → Reply
 reply_at Forward position = reply.Done (done.Run position)
 reply_at Backward position = reply.Done (done.Back position)

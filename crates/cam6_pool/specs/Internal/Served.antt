@@ -1,70 +1,40 @@
--- A lease and what its board holds, while a worker serves it.
-use Rattle.std.specs.Prelude.{◌≡◌, ◌<◌, Result, Ok, Err, true}
-use Rattle.cam6_board.specs.declared.boards.BoardFault.{BoardFault}
-use Rattle.cam6_board.specs.declared.images.Image.{Image}
-use Rattle.cam6_board.specs.Held.{Load, empty, loaded}
-use Rattle.cam6_board.specs.Images.{is_rest}
+-- A seat and its station, while a worker serves a lease.
+use Rattle.std.specs.Prelude.{ℕ, ◌≡◌, ◌<◌, ◌+◌, Option, Some, None}
 use Rattle.cam6_board.specs.Jobs.{StoredJob}
 use Rattle.cam6_commands.specs.declared.commands.Command.{Command}
+use Rattle.cam6_handoff.specs.Holding.{BoardStance, Holding, nothing, holding, emptied}
+use Rattle.cam6_handoff.specs.Seats.{TakeGives}
 use Rattle.cam6_model.specs.Machine.{Machine}
-use Rattle.cam6_slot.specs.Leases.{StoredLease, ImageFits, JobFits, TablesFit}
+use Rattle.cam6_slot.specs.Leases.{StoredLease, JobFits}
 use Rattle.cam6_slot.specs.Lefts.{lease_left}
-use Rattle.cam6_slot.specs.Stands.{StandsOut}
-use Rattle.cam6_pool.specs.declared.gates.Turn.{Turn}
-use Rattle.cam6_pool.specs.declared.gates.Turn.TheVariants.{Go, Preempt, Stop}
+use Rattle.cam6_slot.specs.Stands.{Stands, StandsOut}
+use Rattle.cam6_station.specs.Calls.{Rises}
+use Rattle.cam6_station.specs.Held.{Manned, Stationed, idle, loaded, dead, is_dead, held_left}
+use Rattle.cam6_pool.specs.Serving.{Serves}
 
--- a board holds the job of a lease, and the tables that the lease needs
-abbrev pub HoldsJobOf : StoredLease → Load → Type 0
-HoldsJobOf lease empty = ⊥
-HoldsJobOf lease (loaded job tables) = JobFits lease job × TablesFit lease.work tables
+-- nobody's command waits and the seat is as it was, or it holds this user's place, leased
+abbrev pub TakesNext :
+    BoardStance → Option (ℕ × StoredLease × StoredJob) → BoardStance → Type 0
+TakesNext old None new = new ≡ old
+TakesNext old (Some taken) new = TakeGives old taken.0 (Some (taken.1, taken.2)) new
 
--- with what is held the lease stands for a machine and a command
-abbrev pub StandsWith : StoredLease → Load → Machine → Command → Type 0
-StandsWith lease empty m c = ⊥
-StandsWith lease (loaded job tables) m c = StandsOut lease job m c
+-- a lease with its job, of which a band is left, and which stand for whatever the place stood for
+abbrev pub Carries : Holding → StoredLease → StoredJob → Type 0
+Carries nothing lease job = ⊥
+Carries (holding user v) lease job =
+    JobFits lease job × (0 < lease_left lease)
+    × ((m : Machine) (c : Command) → Stands v m c → StandsOut lease job m c)
 
--- it did so with some job, which is lost
-abbrev pub Stood : StoredLease → Machine → Command → Type 0
-Stood lease m c = (job : StoredJob) × StandsOut lease job m c
+-- the station serves the seat, which is the same but for what it holds; the station is dead only if
+-- its board failed
+pub record ServesOn (seat : BoardStance) (station : Stationed) (later : BoardStance)
+    (after : Stationed) : Type 0 where
+  pub serves : Serves later.holds after.at
+  pub alike : emptied later ≡ emptied seat
+  pub faults : Rises (is_dead after.at) station.faults after.faults
 
--- it did so with a job of this image
-abbrev pub StoodWith : Image → StoredLease → Machine → Command → Type 0
-StoodWith image lease m c = (job : StoredJob) × (job.image ≡ image) × StandsOut lease job m c
-
--- what is held is at rest
-abbrev pub RestsOn : Load → Type 0
-RestsOn empty = ⊥
-RestsOn (loaded job tables) = is_rest job.image ≡ true
-
--- no band is left where the gate let all be done, and what is held is at rest; else one is, at least
-abbrev pub IsLeftBy : Turn → StoredLease → Load → Type 0
-IsLeftBy Go lease held = (lease_left lease ≡ 0) × RestsOn held
-IsLeftBy Preempt lease held = 0 < lease_left lease
-IsLeftBy Stop lease held = 0 < lease_left lease
-
--- bands take lease and board on, and they stand for what they stood for; or the board failed, which
--- gives planes of the limit of those at home
-abbrev pub RunGives :
-    StoredLease → Load → Result Turn BoardFault → StoredLease → Load → Type 0
-RunGives before held (Ok turn) after now =
-    IsLeftBy turn after now × HoldsJobOf after now
-    × ((m : Machine) (c : Command) → StandsWith before held m c → StandsWith after now m c)
-RunGives before held (Err fault) after now =
-    (now ≡ empty) × (fault.spare.planes.limit ≡ after.work.home.limit)
-    × ((m : Machine) (c : Command) → StandsWith before held m c → Stood after m c)
-
--- the same of an image that is off its board
-abbrev pub IsLeftOff : Turn → StoredLease → Image → Type 0
-IsLeftOff Go lease image = (lease_left lease ≡ 0) × (is_rest image ≡ true)
-IsLeftOff Preempt lease image = 0 < lease_left lease
-IsLeftOff Stop lease image = 0 < lease_left lease
-
--- a job was on a board, and is off it
-abbrev pub OffBoard :
-    StoredLease → StoredJob → Result (Turn × Image) BoardFault → StoredLease → Type 0
-OffBoard before job (Ok off) after =
-    IsLeftOff off.0 after off.1 × ImageFits after.work after.rows off.1
-    × ((m : Machine) (c : Command) → StandsOut before job m c → StoodWith off.1 after m c)
-OffBoard before job (Err fault) after =
-    (fault.spare.planes.limit ≡ after.work.home.limit)
-    × ((m : Machine) (c : Command) → StandsOut before job m c → Stood after m c)
+-- how often the gate is asked at most, until the board is free
+abbrev pub turns_left : Manned → ℕ
+turns_left (loaded u h) = held_left h + 1
+turns_left idle = 0
+turns_left dead = 0

@@ -42,7 +42,7 @@ half_rule number None = None
 half_rule number (Some rule) =
     Some (record { number = number; hood = rule.wiring.hood; minor = rule.wiring.minor })
 
--- the same of a rule that is compiled, if there is a number and a rule at it
+-- the same for the rule at a number, if there is a number and a rule at it
 abbrev pub half_rule_at : List Rule → Option ℕ → Option HalfRule
 half_rule_at rules None = None
 half_rule_at rules (Some number) = half_rule number (slice_get rules number)
@@ -72,7 +72,7 @@ abbrev pub uses_number : ℕ → Entry → Bool
 uses_number number entry =
     is_number number (number_in entry.a) || is_number number (number_in entry.b)
 
--- a number once the rule at a number is gone: those behind it close up
+-- a number once the rule at a number is gone: those after it close up
 abbrev pub closed_up : ℕ → ℕ → ℕ
 closed_up number other = if nat_lt number other then other - 1 else other
 
@@ -80,7 +80,7 @@ abbrev pub closed_half : ℕ → Option HalfRule → Option HalfRule
 closed_half number None = None
 closed_half number (Some rule) = Some (record rule { number = closed_up number rule.number })
 
--- an entry then
+-- an entry once the rule at a number is gone
 abbrev pub closed_entry : ℕ → Entry → Entry
 closed_entry number entry =
     record entry { a = closed_half number entry.a; b = closed_half number entry.b }

@@ -9,7 +9,7 @@ use Rattle.cam6_model.specs.Refusals.{words_refusal}
 use Rattle.cam6_commands.specs.declared.refusals.Refusal.TheVariants as refused
 
 -- a text was tried: it is UTF-8 and a rule that stops nowhere and is kept, or it is refused for its
--- fault, or for the least address at which it stops; for want of memory nothing is said
+-- fault, or for the least address at which it stops; if an allocation failed, nothing is said
 abbrev pub IsVerdict : Wiring → List ℕ → Result Compiled NotCompiled → Type 0
 IsVerdict wiring text (Ok rule) =
     (words_refusal wiring text ≡ None) × (rule.wiring ≡ wiring) × (rule.text ≡ text) × IsUtf8 text

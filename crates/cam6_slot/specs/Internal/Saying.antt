@@ -6,7 +6,7 @@ use Rattle.cam6_machine.specs.declared.replies.Now.{Now}
 use Rattle.cam6_model.specs.Alone.{work_of}
 use Rattle.cam6_model.specs.Machine.{Machine}
 
--- it is said of the command c by the machine m, which has come to be the machine `later`
+-- the machine m says this of the command c, and becomes the machine `later`
 pub record IsSaid (m : Machine) (c : Command) (now : Now) (later : Machine) : Type 0 where
   pub work : work_in now ≡ work_of m c
   pub told : IsReplyTo now m c

@@ -1,5 +1,5 @@
 -- What a station holds, by its post and by what its board holds.
-use Rattle.std.specs.Prelude.{◌≡◌}
+use Rattle.std.specs.Prelude.{◌≡◌, ⊤}
 use Rattle.cam6_board.specs.Held.{Load, empty, loaded as holds}
 use Rattle.cam6_station.specs.declared.stations.Post.{Post}
 use Rattle.cam6_station.specs.declared.stations.Post.TheVariants.{Idle, Loaded, Dead}
@@ -19,3 +19,8 @@ IsManned Dead load = load ≡ empty
 IsManned (Loaded u lease) empty = ⊥
 IsManned (Loaded u lease) (holds job tables) =
     HeldFits (record { lease = lease; job = job; tables = tables })
+
+-- there is a lease
+abbrev pub HasLease : Post → Type 0
+HasLease (Loaded u lease) = ⊤
+HasLease post = ⊥

@@ -1,5 +1,5 @@
--- How a rule becomes flat code. Its words are taken from the last to the first, so that what a jump
--- leads over is there before the jump.
+-- How a rule becomes flat code, from the last of its words to the first. So what a jump leads over
+-- is there before the jump.
 use Rattle.std.specs.Prelude.{ℕ, ◌+◌, ◌-◌, ◌<◌, List, [], ◌∷◌, ◌++◌, length, ⊤}
 use Rattle.std.specs.Prelude.{Option, Some, None, slice_index_or}
 use Rattle.cam6_wiring.specs.declared.wirings.Wiring.{Wiring}
@@ -19,8 +19,8 @@ use Rattle.cam6_table.specs.declared.emitter.OpenCase.{OpenCase}
 abbrev pub Instructions : Type 0
 Instructions = List Instruction
 
--- code by what stands behind it: the instructions so far; for each open IF, the innermost first,
--- how many of them stand from where it leads on; and the open case
+-- code that is written from its end to its start: the instructions so far; for each open IF, the
+-- innermost first, how many there are from its target on; and the open case
 pub record Emitted : Type 0 where
   pub code : Instructions
   pub landings : List ℕ
@@ -118,7 +118,7 @@ HasCode wiring codes (single.Stack stack) = ⊤
 HasCode wiring codes (single.Output target) = ⊤
 HasCode wiring codes (single.Defined position) = position < length codes
 
--- what a word needs of what stands behind it: IF and ELSE an end, a case its words
+-- what a word needs of what stands after it: IF and ELSE an end, a case its words
 abbrev pub HasIts : Wiring → List Instructions → Word → Emitted → Type 0
 HasIts wiring codes (word.Single said) e = HasCode wiring codes said
 HasIts wiring codes word.Then e = ⊤

@@ -1,4 +1,4 @@
--- What a word leaves of two values, if it leaves one of them.
+-- The words that leave one value of two, and when that value is in range.
 use Rattle.std.specs.Prelude.{◌≤◌, ◌+◌, ◌*◌, ℕ, ⊤}
 use Rattle.cam6_forth.specs.declared.words.StackWord.{StackWord}
 use Rattle.cam6_forth.specs.declared.words.StackWord.TheVariants as word
@@ -6,7 +6,7 @@ use Rattle.cam6_table.specs.declared.lane_values.Merge.{Merge}
 use Rattle.cam6_table.specs.declared.lane_values.Merge.TheVariants as merge
 use Rattle.cam6_table.specs.Limits.{max_value}
 
--- of two values, the lower one first, a word leaves one that is in range
+-- the value that a word leaves of two is in range; the lower one is first
 abbrev pub Fits : Merge → ℕ → ℕ → Type 0
 Fits merge.Plus a b = a + b ≤ max_value
 Fits merge.Minus a b = b ≤ a
@@ -18,7 +18,7 @@ Fits merge.Equal a b = ⊤
 Fits merge.Less a b = ⊤
 Fits merge.Greater a b = ⊤
 
--- the stack word
+-- the word as a stack word
 abbrev pub stack_word : Merge → StackWord
 stack_word merge.Plus = word.Plus
 stack_word merge.Minus = word.Minus

@@ -161,6 +161,18 @@ AreLeft addresses code places lanes = (lane : ℕ) → lane < LANES →
     IsLeft (slice_index addresses lane) code (slice_index places.behinds lane)
     (slice_index places.tops lane) lanes lane
 
+-- so it is in each lane of a set, where so many instructions are left, and in each other one, where
+-- it waits
+pub record AreLeftAt (addresses : List ℕ) (code : List Instruction) (set : List ℕ) (behind : ℕ)
+    (places : Places) (lanes : Lanes) : Type 0 where
+  pub within : behind ≤ length code
+  pub each : (lane : ℕ) → lane < LANES → IsIn set lane ⊎ IsOut set lane
+  pub inside : (lane : ℕ) → lane < LANES → IsIn set lane →
+      IsLeft (slice_index addresses lane) code behind lanes.stacks.len lanes lane
+  pub outside : (lane : ℕ) → lane < LANES → IsOut set lane →
+      IsLeft (slice_index addresses lane) code (slice_index places.behinds lane)
+      (slice_index places.tops lane) lanes lane
+
 -- so it is in each lane of a flow, and in each other one, where it waits
 pub record AreLeftWith (addresses : List ℕ) (code : List Instruction) (flow : Flow)
     (places : Places) (lanes : Lanes) : Type 0 where
@@ -169,8 +181,6 @@ pub record AreLeftWith (addresses : List ℕ) (code : List Instruction) (flow : 
   pub floors : (lane : ℕ) → lane < LANES → IsIn flow.set.mask lane →
       IsFor flow.span (floor_of lane lanes)
   pub each : (lane : ℕ) → lane < LANES → IsIn flow.set.mask lane ⊎ IsOut flow.set.mask lane
-  pub tops : (lane : ℕ) → lane < LANES → IsIn flow.set.mask lane →
-      slice_index places.tops lane ≡ flow.top
   pub inside : (lane : ℕ) → lane < LANES → IsIn flow.set.mask lane →
       IsLeft (slice_index addresses lane) code flow.behind lanes.stacks.len lanes lane
   pub outside : (lane : ℕ) → lane < LANES → IsOut flow.set.mask lane →
@@ -182,8 +192,7 @@ pub record IsKept (top : ℕ) (lanes : Lanes) (after : ℕ) (new : Lanes) (lane 
   pub stands : Stands (floor_of lane new) after
   pub same : state_at lane after new ≡ state_at lane top lanes
 
--- each lane has its state, wherever its stack ends now
-abbrev pub Keep : List ℕ → Lanes → List ℕ → Lanes → Type 0
-Keep tops lanes after new = (lane : ℕ) → lane < LANES →
-    Stands (floor_of lane lanes) (slice_index tops lane) →
-    IsKept (slice_index tops lane) lanes (slice_index after lane) new lane
+-- nothing was done in a lane
+pub record IsUntouched (lanes new : Lanes) (lane : ℕ) : Type 0 where
+  pub floor : floor_of lane new ≡ floor_of lane lanes
+  pub state : (top : ℕ) → state_at lane top new ≡ state_at lane top lanes

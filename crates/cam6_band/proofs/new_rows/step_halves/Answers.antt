@@ -5,7 +5,7 @@ use Rattle.cam6_planes.specs.Stored.{width}
 use Rattle.cam6_wiring.specs.Name.{plane_of, other_half}
 use Rattle.cam6_wiring.specs.declared.names.Half.TheVariants.{A}
 use Rattle.cam6_wiring.specs.declared.neighbours.Setting.{Setting}
-use Rattle.cam6_table.specs.Bands.{ShowNewBits}
+use Rattle.cam6_entries.specs.Bands.{ShowNewBits}
 use Rattle.cam6_band.specs.ByTables.{setting_by, values_of}
 use Rattle.cam6_band.specs.Internal.HalfRows.{rows_of}
 use Rattle.cam6_band.proofs.HalfPlanes.{plane-lt}

@@ -1,4 +1,4 @@
-use Rattle.cam6_lines.proofs.ChosenWords.{by_sides, chosen_here}
+use Rattle.cam6_lines.proofs.ChosenRows.{by_sides, chosen_here}
 use Rattle.cam6_lines.proofs.RowsOfUnits.{four_words}
 use Rattle.cam6_lines.proofs.rows.by_sides.Goals as goal
 

@@ -1,4 +1,4 @@
-use Rattle.cam6_lines.proofs.SameWords.{odd_word, even_word}
+use Rattle.cam6_lines.proofs.RightColumns.{odd_word, even_word}
 use Rattle.cam6_lines.proofs.words.right_columns.Goals as goal
 
 pub returns-in-Even : goal.returns-in-Even

@@ -8,15 +8,15 @@ unreachable-requires c =
     let some = subst (λ side. IsSome side) none c.requires in
     cc
 
-pub unreachable-requires-in_default-side_of_word :
-    goal.unreachable-requires-in_default-side_of_word
-unreachable-requires-in_default-side_of_word c =
+pub unreachable-requires-in_default-named :
+    goal.unreachable-requires-in_default-named
+unreachable-requires-in_default-named c =
     let said = side_by c.args.matches.now (Some c.in-Some.word.now) c.in-Some.ensures
-    ∙ sym c.side_of_word.ensures ∙ c.in_default-side_of_word.is in
+    ∙ sym c.named.ensures.side ∙ c.in_default-named.is in
     let some = subst (λ side. IsSome side) said c.requires in
     cc
 
 pub returns : goal.returns
 returns c =
     side_by c.args.matches.now (Some c.in-Some.word.now) c.in-Some.ensures
-    ∙ sym c.side_of_word.ensures ∙ c.in-Some-side_of_word.is
+    ∙ sym c.named.ensures.side ∙ c.in-Some-named.is

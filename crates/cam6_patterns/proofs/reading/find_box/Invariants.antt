@@ -1,6 +1,6 @@
 use Rattle.std.proofs.Common.{◌≡◌, ◌+◌, ◌≤◌, ℕ, length, None}
 use Rattle.cam6_planes.specs.Side.{side_number}
-use Rattle.cam6_frames.specs.Lines.{lines}
+use Rattle.cam6_show_frames.specs.Lines.{lines}
 use Rattle.cam6_patterns.specs.Reading.{lines_read, before}
 use Rattle.cam6_patterns.proofs.reading.find_box.Given as goal
 

@@ -1,5 +1,5 @@
 use Rattle.std.proofs.Common.{◌≡◌, ◌+◌, ◌≤◌, ℕ, length}
-use Rattle.cam6_frames.specs.Lines.{lines}
+use Rattle.cam6_show_frames.specs.Lines.{lines}
 use Rattle.cam6_patterns.specs.Body.{nothing_read}
 use Rattle.cam6_patterns.specs.Reading.{lines_read, within}
 use Rattle.cam6_patterns.specs.Outcome.{boxed, bounds_of}

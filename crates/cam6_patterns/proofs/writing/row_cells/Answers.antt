@@ -1,5 +1,5 @@
 use Rattle.std.proofs.Common.{◌∙◌, arith, length-set}
-use Rattle.cam6_frames.specs.Frame.{colour_at}
+use Rattle.cam6_show_frames.specs.Frame.{colour_at}
 use Rattle.cam6_patterns.proofs.Filling.{filled_more}
 use Rattle.cam6_patterns.proofs.Rows.{row_taken}
 use Rattle.cam6_patterns.proofs.writing.row_cells.Goals as goal

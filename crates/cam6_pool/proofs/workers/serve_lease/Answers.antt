@@ -1,18 +1,20 @@
-use Rattle.cam6_pool.proofs.Carrying.{accepts_lost, accepts_off}
+use Rattle.std.proofs.Common.{rules}
+use Rattle.cam6_pool.proofs.Going.{emptied_then, on_and_on, is_loaded_then}
 use Rattle.cam6_pool.proofs.workers.serve_lease.Goals as goal
 
-pub put_back-requires : goal.put_back-requires
-put_back-requires g c =
-    accepts_lost c.args.seat.now.holds c.args.lease c.on_board.new.lease c.args.job c.requires.seat
-    c.in-Err.fault c.lost.result c.in-Err.ensures.gives c.lost.ensures.stands
+pub loop-stops-preserved : goal.loop-stops-preserved
+loop-stops-preserved g c =
+    let next = on_and_on c.args.seat.now c.loop-stops.seat c.go_on-stops.new.seat c.args.station.now
+    c.loop-stops.station c.go_on-stops.new.station c.loop-stops.invariant.on in
+    record { on = search rules }
 
-pub put_back-requires-in-Preempt : goal.put_back-requires-in-Preempt
-put_back-requires-in-Preempt g c =
-    accepts_off c.args.seat.now.holds c.args.lease c.on_board.new.lease c.args.job c.requires.seat
-    c.in-Ok.off.0 c.in-Ok.off.1 c.preempt.result c.in-Ok.ensures.gives c.preempt.ensures.stands
+pub go_on-stops-requires-clause-loaded : goal.go_on-stops-requires-clause-loaded
+go_on-stops-requires-clause-loaded g c =
+    let loaded = is_loaded_then c.loop-stops.station.at in
+    search rules
 
-pub put_back-requires-in-Stop : goal.put_back-requires-in-Stop
-put_back-requires-in-Stop g c =
-    accepts_off c.args.seat.now.holds c.args.lease c.on_board.new.lease c.args.job c.requires.seat
-    c.in-Ok.off.0 c.in-Ok.off.1 c.preempt-in-Stop.result c.in-Ok.ensures.gives
-    c.preempt-in-Stop.ensures.stands
+pub returns-clause-seat : goal.returns-clause-seat
+returns-clause-seat g c =
+    let empty = emptied_then c.args.seat.now c.loop-stops.seat c.args.station.now c.loop-stops.station
+    c.loop-stops.invariant.on in
+    search rules

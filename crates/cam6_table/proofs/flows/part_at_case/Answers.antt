@@ -17,7 +17,6 @@ returns-clause-left c = λ addresses left.
       holds = record { low = omega arith; high = omega arith; within = c.requires.holds.within };
       floors = λ lane below inside. absurd (let empty = none lane below in omega arith);
       each = λ lane below. inr (none lane below);
-      tops = λ lane below inside. absurd (let empty = none lane below in omega arith);
       inside = λ lane below inside. absurd (let empty = none lane below in omega arith);
       outside = λ lane below outside.
           let v = value_at lane rows (len - 1) in

@@ -1,7 +1,7 @@
 use Rattle.std.proofs.Common.{◌≡◌, ◌∙◌, ◌-◌, List, ℕ, slice_index, sym, ap, refl, arith, inl, inr}
 use Rattle.cam6_table.specs.Internal.Lanes.{value_at}
 use Rattle.cam6_table.proofs.Parting.{not_zero, is_zero, set_of_others, value_of_others}
-use Rattle.cam6_table.proofs.Parting.{no_zero, all_zero, set_of_zeros, none_of_none, each_other}
+use Rattle.cam6_table.proofs.Parting.{all_zero, none_of_none, each_other}
 use Rattle.cam6_table.proofs.Parting.{same_left, left_there, left_after_if}
 use Rattle.cam6_table.proofs.Parting.{never_passes, goes_in, goes_past}
 use Rattle.cam6_table.proofs.flows.part_at_if.Goals as goal
@@ -17,7 +17,6 @@ returns-then-distance-eq0-clause-left c = λ addresses code next left.
       holds = record { low = omega arith; high = omega arith; within = c.requires.holds.within };
       floors = left.floors;
       each = left.each;
-      tops = left.tops;
       inside = λ lane below inside.
           let v = value_at lane lanes.stacks.rows (len - 1) in
           left_after_if (slice_index addresses lane) code flow.behind (flow.behind - 1) len lanes _
@@ -38,7 +37,6 @@ returns-then-is_none-clause-left c = λ addresses code next left.
       holds = record { low = omega arith; high = omega arith; within = c.requires.holds.within };
       floors = left.floors;
       each = left.each;
-      tops = left.tops;
       inside = λ lane below inside.
           let v = value_at lane lanes.stacks.rows (len - 1) in
           let top : slice_index c.at_depth-top.result.now lane ≡ v =
@@ -67,7 +65,6 @@ returns-then-is_none-2-clause-left c = λ addresses code next left.
       holds = record { low = omega arith; high = omega arith; within = c.requires.holds.within };
       floors = left.floors;
       each = left.each;
-      tops = left.tops;
       inside = λ lane below inside.
           let v = value_at lane lanes.stacks.rows (len - 1) in
           let top : slice_index c.at_depth-top.result.now lane ≡ v =
@@ -84,14 +81,6 @@ returns-then-is_none-2-clause-left c = λ addresses code next left.
       outside = λ lane below outside. same_left _ _ _ _ lanes _ lane refl refl
           (left.outside lane below outside);
     }
-
-pub wait-requires-clause-old : goal.wait-requires-clause-old
-wait-requires-clause-old c = λ lane below inside.
-    c.requires.tops lane below
-    (set_of_zeros (slice_index c.args.flow.now.set.mask lane)
-    (slice_index c.at_depth-top.result.now lane) (slice_index c.those_with-zeros.result lane)
-    (slice_index c.those_without-others.result lane) (c.those_with-zeros.ensures lane below)
-    (c.those_without-others.ensures lane below) inside)
 
 pub returns-clause-left : goal.returns-clause-left
 returns-clause-left c = λ addresses code next left.
@@ -115,14 +104,6 @@ returns-clause-left c = λ addresses code next left.
           (zeros_are lane below) (others_are lane below) inside);
       each = λ lane below. each_other (set lane) (top lane) (zeros lane) (others lane)
           (zeros_are lane below) (others_are lane below) (left.each lane below);
-      tops = λ lane below inside.
-          let other = value_of_others (set lane) (top lane) (zeros lane) (others lane)
-          (zeros_are lane below) (others_are lane below) inside in
-          let none = no_zero (set lane) (top lane) (zeros lane) (others lane)
-          (zeros_are lane below) (others_are lane below) other in
-          c.wait.ensures.other_tops lane below none ∙
-          left.tops lane below (set_of_others (set lane) (top lane) (zeros lane) (others lane)
-          (zeros_are lane below) (others_are lane below) inside);
       inside = λ lane below inside.
           let v = value_at lane rows (len - 1) in
           let is : top lane ≡ v = ap (λ (row : List ℕ). slice_index row lane) c.at_depth-top.ensures in

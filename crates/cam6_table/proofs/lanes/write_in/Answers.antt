@@ -3,7 +3,7 @@ use Rattle.std.proofs.Common.{slice_index, ap, sym, refl, arith}
 use Rattle.cam6_forth.specs.declared.words.Target.TheVariants.{Both, Lower, Upper}
 use Rattle.cam6_table.specs.declared.faults.RuleFault.{RuleFault}
 use Rattle.cam6_table.specs.declared.outputs.State.{State}
-use Rattle.cam6_table.specs.Outputs.{is_odd}
+use Rattle.cam6_entries.specs.NewBits.{is_odd}
 use Rattle.cam6_table.specs.Internal.Lanes.{column, value_at, floor_of, bit_written}
 use Rattle.cam6_table.proofs.LaneOutputs.{kept_bit, state_of, top_written}
 use Rattle.cam6_table.proofs.lanes.write_in.Goals as goal

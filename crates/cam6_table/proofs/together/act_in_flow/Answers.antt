@@ -34,7 +34,6 @@ returns-in_ok-passed-in_default c =
             subst (λ (f : Floors). IsFor flow.span (slice_index f.rows lane))
             (sym done.ensures.floors) (left.floors lane below inside);
         each = left.each;
-        tops = left.tops;
         inside = λ lane below inside.
             still_left (slice_index c.args.addresses.now lane) code c.before-2.result flow.behind
             fewer.result lanes.stacks.len new.stacks.len lanes new lane (omega arith)

@@ -1,16 +1,11 @@
-use Rattle.cam6_table.proofs.Parting.{same_left}
+use Rattle.cam6_table.proofs.TakenAlong.{all_left}
 use Rattle.cam6_table.proofs.together.run_together.Goals as goal
 
-pub returns-then-flow-eq0 : goal.returns-then-flow-eq0
-returns-then-flow-eq0 c = record {
-  left = λ lane below.
-      same_left _ _ _ _ c.level_if_due.new.lanes _ lane c.next_flow-flow.ensures.floors
-      (c.next_flow-flow.ensures.states lane _)
-      (c.level_if_due.ensures.left c.args.addresses.now c.args.code.now c.loop.invariant.left lane
-      below);
-}
-
-pub run_flow-ran-requires-clause-left : goal.run_flow-ran-requires-clause-left
-run_flow-ran-requires-clause-left c =
-    c.next_flow-flow.ensures.left c.args.addresses.now
-    (c.level_if_due.ensures.left c.args.addresses.now c.args.code.now c.loop.invariant.left)
+pub returns : goal.returns
+returns c =
+    let waits = c.wait.ensures in
+    record {
+      left = all_left c.args.addresses.now c.args.code.now c.run_flows.new.flow
+          c.run_flows.new.places c.wait.new.places c.run_flows.new.lanes c.run_flows.ensures.left
+          waits.behinds waits.tops waits.other_behinds waits.other_tops;
+    }

@@ -1,16 +1,16 @@
 use Rattle.std.proofs.Common.{ℕ, get_or}
 use Rattle.cam6_planes.specs.Row.{word_column}
 use Rattle.cam6_view.specs.Internal.{lower_state}
-use Rattle.cam6_view.proofs.Choices.{by_upper}
+use Rattle.cam6_view.proofs.StatesOfWords.{by_upper}
 use Rattle.cam6_view.proofs.columns.by_state.Goals as goal
 
 pub returns : goal.returns
 returns c k h =
     let plane = λ (p : ℕ). word_column (get_or c.args.words.now p 0) k in
     rw (
-      c.choose.ensures k h,
-      c.choose-below_8.ensures k h,
-      c.choose-from_8.ensures k h,
+      c.chosen_word.ensures k h,
+      c.chosen_word-below_8.ensures k h,
+      c.chosen_word-from_8.ensures k h,
       c.by_lower.ensures k h,
       c.by_lower-2.ensures k h,
       c.by_lower-3.ensures k h,

@@ -24,7 +24,7 @@ unreachable-requires c =
     let none : None ≡ entries_in (items_view c.args.values.now) =
     none_read entry_in entries_in (λ d ds. refl) c.args.values.now now.value-index
     c.value-item.result now.entries.items c.loop-value-test.true c.value-item.is
-    (sym c.in_ok-entry.ensures ∙ c.in_default.is) (entries_in (items_view c.args.values.now))
+    (sym c.in_ok-entry.ensures ∙ c.in-None.is) (entries_in (items_view c.args.values.now))
     now.invariant in
     let all = rw (← none) at c.are_entries.ensures in
     grind (arith, all)

@@ -21,7 +21,7 @@ invariant_of-self c =
     let there = loaded_there bs b (subst (λ (x : State). IsLoaded (board_of x b)) (sym c.self.view_is) c.requires) in
     let here = seen bs b (board_of s b) c.index_mut.result.now there c.index_mut.ensures.value in
     let n = length c.self.inside.users.items in
-    let gives = subst (λ (y : Manned). BandGives y c.band.result c.band.new.self) here c.band.ensures in (
+    let gives = subst (λ (y : Manned). BandGives y c.band.result c.band.new.self) here c.band.ensures.gives in (
       held_with n bs b c.band.new.self c.self.invariant.0
           (band_held n (board_of s b) c.band.result c.band.new.self
           (c.self.invariant.0 b (board_of s b) there) gives).0
@@ -43,7 +43,7 @@ returns-clause-gives c =
     subst (λ (y : Manned). BandGives (board_of c.args.self.now b) c.band.result y)
     (sym (stands_there bs b (board_of s b) c.band.new.self there))
     (subst (λ (x : State). BandGives (board_of x b) c.band.result c.band.new.self) c.self.view_is
-    (subst (λ (y : Manned). BandGives y c.band.result c.band.new.self) here c.band.ensures))
+    (subst (λ (y : Manned). BandGives y c.band.result c.band.new.self) here c.band.ensures.gives))
 
 pub returns-clause-others : goal.returns-clause-others
 returns-clause-others c =
@@ -73,7 +73,7 @@ returns-clause-user c =
     let there = loaded_there bs b (subst (λ (x : State). IsLoaded (board_of x b)) (sym c.self.view_is) c.requires) in
     let here = seen bs b (board_of s b) c.index_mut.result.now there c.index_mut.ensures.value in
     let n = length c.self.inside.users.items in
-    let gives = subst (λ (y : Manned). BandGives y c.band.result c.band.new.self) here c.band.ensures in
+    let gives = subst (λ (y : Manned). BandGives y c.band.result c.band.new.self) here c.band.ensures.gives in
     subst (λ (x : State). IsOfUser (length x.users) c.band.result) c.self.view_is
     (band_held n (board_of s b) c.band.result c.band.new.self
     (c.self.invariant.0 b (board_of s b) there) gives).1

@@ -1,6 +1,7 @@
 use Rattle.std.proofs.Common.{sym, subst, arith, length, length-set}
 use Rattle.cam6_station.specs.Calls.{PreemptGives}
-use Rattle.cam6_station.specs.Held.{Manned, IsLoaded}
+use Rattle.cam6_station.specs.Held.{Manned, idle, IsLoaded}
+use Rattle.cam6_station.specs.declared.stations.Preempted.TheVariants.{Back}
 use Rattle.cam6_core.specs.State.{State, board_of, IsNumber, IsHeldWithin}
 use Rattle.cam6_core.proofs.Numbers.{within}
 use Rattle.cam6_core.proofs.Changing.{loaded_there, seen, held_with}
@@ -35,9 +36,9 @@ returns-clause-back c =
     } in
     let there = loaded_there bs b (subst (λ (x : State). IsLoaded (board_of x b)) (sym c.self.view_is) c.requires) in
     let here = seen bs b (board_of s b) c.index_mut.result.now there c.index_mut.ensures.value in
-    subst (λ (x : State). PreemptGives (board_of x b) c.preempt.result.0 c.preempt.result.1)
+    subst (λ (x : State). PreemptGives (board_of x b) (Back c.preempt.result.0 c.preempt.result.1) idle)
     c.self.view_is
-    (subst (λ (y : Manned). PreemptGives y c.preempt.result.0 c.preempt.result.1) here
+    (subst (λ (y : Manned). PreemptGives y (Back c.preempt.result.0 c.preempt.result.1) idle) here
     c.preempt.ensures.back)
 
 pub returns-clause-user : goal.returns-clause-user
@@ -55,5 +56,5 @@ returns-clause-user c =
     subst (λ (x : State). IsNumber (length x.users) c.preempt.result.0) c.self.view_is
     (preempt_held n (board_of s b) c.preempt.result.0 c.preempt.result.1
     (c.self.invariant.0 b (board_of s b) there)
-    (subst (λ (y : Manned). PreemptGives y c.preempt.result.0 c.preempt.result.1) here
+    (subst (λ (y : Manned). PreemptGives y (Back c.preempt.result.0 c.preempt.result.1) idle) here
     c.preempt.ensures.back))

@@ -11,7 +11,7 @@ pub returns-in-Ok-clause-rules : goal.returns-in-Ok-clause-rules
 returns-in-Ok-clause-rules c =
     let rules = c.args.self.now in
     let new : rule_named c.args.rule.name rules ≡ None =
-    nothing (rule_named c.args.rule.name rules) (sym c.has.ensures ∙ c.if-has.false) in (
+    nothing (rule_named c.args.rule.name rules) (sym c.has_name.ensures ∙ c.if-has_name.false) in (
       is_after rules c.args.rule new c.in-Ok.ensures.refusal,
       c.in-Ok.ensures.rules ∙ goes_last c.args.rule rules new,
     )

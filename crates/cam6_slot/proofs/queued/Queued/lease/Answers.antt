@@ -16,7 +16,7 @@ returns-clause-stands c m by stands =
     subst (λ (p : Stored). LeavesAs p parked out) c.home-2.ensures.planes
     c.into_image-image.ensures in
     let is = c.new.ensures ∙
-    ap (λ r. record { work = w; rows = r; board = c.args.board }) c.rows-rows.ensures.rows in
+    ap (λ r. record { work = w; rows = r; board = c.args.board }) c.rows_done-rows.ensures.rows in
     subst (λ (l : StoredLease). StandsOut l c.job-job.result m by) (sym is)
     (goes_out w c.self.invariant.work parked out c.self.invariant.parked leaves c.args.board
     c.job-job.result c.job-job.ensures.image c.job-job.ensures.cycle c.job-job.ensures.direction
@@ -32,7 +32,7 @@ returns-clause-fits c =
     subst (λ (p : Stored). LeavesAs p parked out) c.home-2.ensures.planes
     c.into_image-image.ensures in
     let is = c.new.ensures ∙
-    ap (λ r. record { work = w; rows = r; board = c.args.board }) c.rows-rows.ensures.rows in
+    ap (λ r. record { work = w; rows = r; board = c.args.board }) c.rows_done-rows.ensures.rows in
     subst (λ (l : StoredLease). JobFits l c.job-job.result) (sym is)
     (job_fits w c.self.invariant.work parked out c.self.invariant.parked leaves c.args.board
     c.job-job.result c.job-job.ensures.image c.job-job.ensures.cycle c.job-job.ensures.direction

@@ -1,4 +1,4 @@
-use Rattle.std.proofs.Common.{◌≡◌, ◌<◌, ◌≤◌, ℕ, [], length, slice_index_or}
+use Rattle.std.proofs.Common.{◌≡◌, ◌<◌, ◌≤◌, ℕ, [], slice_index_or}
 use Rattle.cam6_cycle.specs.Limits.{max_tables}
 use Rattle.cam6_slot.specs.Needs.{needs_of, IsTableNeeded}
 use Rattle.cam6_station.specs.Loading.{IsBehindLoadsOf}

@@ -1,20 +1,37 @@
 use Rattle.std.proofs.Common.{◌≡◌, ◌∙◌, ℕ, sym, ap, subst, arith}
-use Rattle.cam6_board.specs.Soft.{load_in}
+use Rattle.cam6_board.specs.Images.{planes_in}
 use Rattle.cam6_slot.specs.Leases.{StoredLease}
+use Rattle.cam6_slot.specs.Lefts.{lease_home}
 use Rattle.cam6_slot.specs.Stands.{StandsOut}
 use Rattle.cam6_station.specs.declared.stations.Post.{Post}
 use Rattle.cam6_station.specs.declared.stations.Post.TheVariants.{Loaded}
-use Rattle.cam6_station.specs.declared.stations.Banded.TheVariants.{More, Last}
-use Rattle.cam6_station.specs.Held.{Manned, idle}
+use Rattle.cam6_station.specs.declared.stations.Banded.TheVariants.{More, Last, Lost}
+use Rattle.cam6_station.specs.Held.{Manned, Stationed, idle, dead}
 use Rattle.cam6_station.specs.Calls.{BandGives}
 use Rattle.cam6_station.specs.Internal.Posts.{manned, IsManned}
-use Rattle.cam6_station.proofs.Shifts.{keeps, goes_on, limit_of, is_at_rest, ends}
+use Rattle.cam6_station.proofs.Shifts.{keeps, goes_on, fits_on, ends, ends_lost, goes_home}
+use Rattle.cam6_station.proofs.Shifts.{limit_lost, limit_back, as_known}
 use Rattle.cam6_station.proofs.stations.Station.band.Goals as goal
 
-pub invariant_of-self : goal.invariant_of-self
-invariant_of-self c =
-    let load = load_in c.self.inside.board in
-    let after = load_in c.band.new.self in
+pub returns-in-Err-clause-gives : goal.returns-in-Err-clause-gives
+returns-in-Err-clause-gives g c =
+    let load = g.B.Board.held c.self.inside.board in
+    let now = g.B.Board.held c.band.new.self in
+    let u = c.taken-user.result.0 in
+    let l = c.taken-user.result.1 in
+    let was = c.in-Loaded.is ∙ c.taken-user.ensures.was in
+    let held = subst (λ (p : Post). IsManned p load) was c.self.invariant in
+    as_known (λ (s after : Manned). BandGives s (Lost u c.lost.result) after)
+    c.self.inside.post (Loaded u l) load c.args.self.now.at (manned c.taken-user.new.post now) dead
+    was (ap (λ (s : Stationed). s.at) c.self.view_is)
+    (ap (λ (p : Post). manned p now) c.taken-user.ensures.after)
+    (goes_home u l load c.lost.result held c.lost.ensures.stands c.lost.ensures.left
+    c.lost.ensures.home).0
+
+pub invariant_of-self-then-left-gt0 : goal.invariant_of-self-then-left-gt0
+invariant_of-self-then-left-gt0 g c =
+    let load = g.B.Board.held c.self.inside.board in
+    let after = g.B.Board.held c.band.new.self in
     let u = c.in-Loaded.field-0 in
     let l = c.in-Loaded.lease in
     let k = c.advance.new.self in
@@ -24,16 +41,17 @@ invariant_of-self c =
     c.in-Ok.ensures.ok (omega (arith, c.if-left-gt0.true, c.left-left.ensures.left))
     c.left-left.ensures.always
 
-pub returns-then-left-gt0 : goal.returns-then-left-gt0
-returns-then-left-gt0 c =
-    let load = load_in c.self.inside.board in
-    let after = load_in c.band.new.self in
+pub returns-then-left-gt0-clause-gives : goal.returns-then-left-gt0-clause-gives
+returns-then-left-gt0-clause-gives g c =
+    let load = g.B.Board.held c.self.inside.board in
+    let after = g.B.Board.held c.band.new.self in
     let u = c.in-Loaded.field-0 in
     let l = c.in-Loaded.lease in
     let k = c.advance.new.self in
     let by = c.advance.ensures in
     let held = subst (λ (p : Post). IsManned p load) c.in-Loaded.is c.self.invariant in
-    let is = ap (λ (p : Post). manned p load) (sym c.in-Loaded.is) ∙ c.self.view_is in
+    let is = ap (λ (p : Post). manned p load) (sym c.in-Loaded.is)
+    ∙ ap (λ (s : Stationed). s.at) c.self.view_is in
     subst (λ (s : Manned). BandGives s (More c.left-left.result) (manned (Loaded u k) after)) is
     (goes_on u l k by.stands by.fits by.tables by.left by.home c.in-Ok.end load after
     c.left-left.result held c.in-Ok.ensures.ok c.left-left.ensures.left
@@ -41,42 +59,90 @@ returns-then-left-gt0 c =
     by.board)
 
 pub finish-requires-clause-limit : goal.finish-requires-clause-limit
-finish-requires-clause-limit c =
-    let load = load_in c.self.inside.board in
-    let after = load_in c.band.new.self in
+finish-requires-clause-limit g c =
+    let load = g.B.Board.held c.self.inside.board in
+    let after = g.B.Board.held c.band.new.self in
     let u = c.in-Loaded.field-0 in
     let l = c.in-Loaded.lease in
     let k = c.advance.new.self in
     let by = c.advance.ensures in
     let held = subst (λ (p : Post). IsManned p load) c.in-Loaded.is c.self.invariant in
-    let same : c.in-Loaded-replace.lease ≡ k = cc c.in-Loaded-replace.ensures.value in
-    limit_of u l k by.stands by.fits by.tables by.left by.home c.in-Ok.end load after
-    c.in-Ok-unload.image c.in-Ok-into_rest.image held c.in-Ok.ensures.ok
-    c.in-Ok-unload.ensures.image c.in-Ok-into_rest.ensures.rest
+    let same : c.taken-user-in-Ok-unload.result.1 ≡ k = cc c.taken-user-in-Ok-unload.ensures.was in
+    sym (ap (λ i. (planes_in i).limit) c.at_rest.ensures)
+    ∙ limit_back k after c.in-Ok-unload.image
+    (fits_on u l k by.stands by.fits by.tables by.left by.home c.in-Ok.end load after held
+    c.in-Ok.ensures.ok) c.in-Ok-unload.ensures.image
     ∙ ap (λ (x : StoredLease). x.work.home.limit) (sym same)
 
-pub returns : goal.returns
-returns c =
-    let load = load_in c.self.inside.board in
-    let after = load_in c.band.new.self in
+pub lost-requires-in-Err-unload : goal.lost-requires-in-Err-unload
+lost-requires-in-Err-unload g c =
+    let load = g.B.Board.held c.self.inside.board in
+    let after = g.B.Board.held c.band.new.self in
     let u = c.in-Loaded.field-0 in
     let l = c.in-Loaded.lease in
     let k = c.advance.new.self in
     let by = c.advance.ensures in
     let held = subst (λ (p : Post). IsManned p load) c.in-Loaded.is c.self.invariant in
-    let is = ap (λ (p : Post). manned p load) (sym c.in-Loaded.is) ∙ c.self.view_is in
-    let same : c.in-Loaded-replace.lease ≡ k = cc c.in-Loaded-replace.ensures.value in
-    let user : c.in-Loaded-replace.user ≡ u = cc c.in-Loaded-replace.ensures.value in
-    let idle_again : manned c.replace.new.dest (load_in c.unload.new.self) ≡ idle =
-    ap (λ (p : Post). manned p (load_in c.unload.new.self)) c.in-Loaded-replace.ensures.after in
-    subst (λ (s : Manned).
-    BandGives c.args.self.now (Last c.in-Loaded-replace.user c.finish.result) s) (sym idle_again)
-    (subst (λ (v : ℕ). BandGives c.args.self.now (Last v c.finish.result) idle) (sym user)
-    (subst (λ (s : Manned). BandGives s (Last u c.finish.result) idle) is
+    let same : c.taken-user-in-Err-unload.result.1 ≡ k =
+    cc c.taken-user-in-Err-unload.ensures.was in
+    limit_lost k after c.in-Err-unload.fault.spare.planes.limit
+    (fits_on u l k by.stands by.fits by.tables by.left by.home c.in-Ok.end load after held
+    c.in-Ok.ensures.ok) c.in-Err-unload.ensures.spare
+    ∙ ap (λ (x : StoredLease). x.work.home.limit) (sym same)
+
+pub returns-in-Ok-unload-clause-gives : goal.returns-in-Ok-unload-clause-gives
+returns-in-Ok-unload-clause-gives g c =
+    let load = g.B.Board.held c.self.inside.board in
+    let after = g.B.Board.held c.band.new.self in
+    let u = c.in-Loaded.field-0 in
+    let l = c.in-Loaded.lease in
+    let k = c.advance.new.self in
+    let by = c.advance.ensures in
+    let held = subst (λ (p : Post). IsManned p load) c.in-Loaded.is c.self.invariant in
+    let now = g.B.Board.held c.unload.new.self in
+    let same : c.taken-user-in-Ok-unload.result.1 ≡ k = cc c.taken-user-in-Ok-unload.ensures.was in
+    let user : c.taken-user-in-Ok-unload.result.0 ≡ u = cc c.taken-user-in-Ok-unload.ensures.was in
+    as_known (λ (s out : Manned).
+    BandGives s (Last c.taken-user-in-Ok-unload.result.0 c.finish.result) out)
+    c.self.inside.post (Loaded u l) load c.args.self.now.at
+    (manned c.taken-user-in-Ok-unload.new.post now) idle c.in-Loaded.is
+    (ap (λ (s : Stationed). s.at) c.self.view_is)
+    (ap (λ (p : Post). manned p now) c.taken-user-in-Ok-unload.ensures.after)
+    (subst (λ (v : ℕ). BandGives (manned (Loaded u l) load) (Last v c.finish.result) idle) (sym user)
     (ends u l k by.stands by.fits by.tables by.left by.home c.in-Ok.end load after
-    c.in-Ok-unload.image c.in-Ok-into_rest.image c.finish.result
+    c.in-Ok-unload.image c.at_rest.result c.finish.result
     (λ m by job stands at.
     c.finish.ensures m by job (subst (λ (x : StoredLease). StandsOut x job m by) (sym same) stands)
     at) held
-    c.in-Ok.ensures.ok c.in-Ok-unload.ensures.image c.in-Ok-into_rest.ensures.rest
-    (omega (arith, c.if-left-gt0.false, c.left-left.ensures.left)))))
+    c.in-Ok.ensures.ok c.in-Ok-unload.ensures.image c.at_rest.ensures
+    (omega (arith, c.if-left-gt0.false, c.left-left.ensures.left))))
+
+pub returns-in-Err-unload-clause-gives : goal.returns-in-Err-unload-clause-gives
+returns-in-Err-unload-clause-gives g c =
+    let load = g.B.Board.held c.self.inside.board in
+    let after = g.B.Board.held c.band.new.self in
+    let u = c.in-Loaded.field-0 in
+    let l = c.in-Loaded.lease in
+    let k = c.advance.new.self in
+    let by = c.advance.ensures in
+    let held = subst (λ (p : Post). IsManned p load) c.in-Loaded.is c.self.invariant in
+    let now = g.B.Board.held c.unload.new.self in
+    let lost = c.lost-in-Err-unload.ensures in
+    let same : c.taken-user-in-Err-unload.result.1 ≡ k =
+    cc c.taken-user-in-Err-unload.ensures.was in
+    let user : c.taken-user-in-Err-unload.result.0 ≡ u =
+    cc c.taken-user-in-Err-unload.ensures.was in
+    as_known (λ (s out : Manned).
+    BandGives s (Lost c.taken-user-in-Err-unload.result.0 c.lost-in-Err-unload.result) out)
+    c.self.inside.post (Loaded u l) load c.args.self.now.at
+    (manned c.taken-user-in-Err-unload.new.post now) dead c.in-Loaded.is
+    (ap (λ (s : Stationed). s.at) c.self.view_is)
+    (ap (λ (p : Post). manned p now) c.taken-user-in-Err-unload.ensures.after)
+    (subst (λ (v : ℕ).
+    BandGives (manned (Loaded u l) load) (Lost v c.lost-in-Err-unload.result) dead) (sym user)
+    (ends_lost u l k by.stands by.fits by.tables by.left by.home c.in-Ok.end load after
+    c.lost-in-Err-unload.result
+    (λ m by job stands.
+    lost.stands m by job (subst (λ (x : StoredLease). StandsOut x job m by) (sym same) stands))
+    (lost.left ∙ ap (λ (x : StoredLease). lease_home x) same)
+    (lost.home ∙ ap (λ (x : StoredLease). lease_home x) same) held c.in-Ok.ensures.ok))

@@ -1,0 +1,45 @@
+-- The bits that a program makes which computes the entries.
+use Rattle.std.proofs.Common.{◌≡◌, ℕ, ◌%◌, ◌==◌, ◌∙◌, ap, Bool, List, map}
+use Rattle.std.proofs.Common.{get_or, subst, sym}
+use Rattle.std.proofs.Math.Nat.{div-one}
+use Rattle.std.proofs.lemmas.List.{length-map}
+use Rattle.cam6_planes.specs.Cells.{Cells}
+use Rattle.cam6_wiring.specs.Lines.{sees_at}
+use Rattle.cam6_wiring.specs.Seen.{line_shows, number_of, address_of}
+use Rattle.cam6_wiring.specs.Wiring.{names_of}
+use Rattle.cam6_wiring.specs.declared.names.Level.{Level}
+use Rattle.cam6_wiring.specs.declared.names.Level.TheVariants.{Lower, Upper}
+use Rattle.cam6_wiring.specs.declared.neighbours.Setting.{Setting}
+use Rattle.cam6_wiring.specs.declared.wirings.Hood.{Hood}
+use Rattle.cam6_wiring.specs.declared.wirings.Minor.{Minor}
+use Rattle.cam6_wiring.proofs.Numbers.{length-names_of}
+use Rattle.cam6_lines.specs.Plans.{Asked}
+use Rattle.cam6_program.specs.Computing.{Computes}
+use Rattle.cam6_program.specs.Meaning.{bit_by}
+use Rattle.cam6_program.specs.Programs.{Steps}
+use Rattle.cam6_entries.specs.Bands.{new_bit}
+
+pub computed : (entries : List ℕ) (program : Steps) → Computes entries program → (level : Level)
+    (s : ℕ) (f : Cells) (setting : Setting) (hood : Hood) (minor : Minor) (x y : ℕ) →
+    bit_by level program (map (line_shows (sees_at s f setting x y)) (names_of hood minor))
+    ≡ new_bit entries s f setting hood minor level x y
+unfolding address_of
+computed entries program computes Lower s f setting hood minor x y =
+    let bits : List Bool = map (line_shows (sees_at s f setting x y)) (names_of hood minor) in
+    computes Lower bits (length-map _ _ ∙ length-names_of hood minor) ∙
+    ap (λ n. n % 2 == 1) (div-one (get_or entries (number_of bits) 0))
+computed entries program computes Upper s f setting hood minor x y =
+    let bits : List Bool = map (line_shows (sees_at s f setting x y)) (names_of hood minor) in
+    computes Upper bits (length-map _ _ ∙ length-names_of hood minor)
+
+-- the same by the names of a plan that is for this wiring
+pub computed_by : (entries : List ℕ) (program : Steps) → Computes entries program →
+    (level : Level) (s : ℕ) (f : Cells) (setting : Setting) (hood : Hood) (minor : Minor)
+    (asked x y : ℕ) (plan : Asked) → plan ≡ record { lines = asked; hood = hood; minor = minor } →
+    bit_by level program (map (line_shows (sees_at s f setting x y)) (names_of plan.hood plan.minor))
+    ≡ new_bit entries s f setting hood minor level x y
+computed_by entries program computes level s f setting hood minor asked x y plan e =
+    subst (λ (q : Asked). bit_by level program
+    (map (line_shows (sees_at s f setting x y)) (names_of q.hood q.minor))
+    ≡ new_bit entries s f setting hood minor level x y) (sym e)
+    (computed entries program computes level s f setting hood minor x y)

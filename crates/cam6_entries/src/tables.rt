@@ -1,0 +1,129 @@
+//! A rule's table: its entry at each address.
+ghost use Rattle.std.specs.Prelude.{◌≡◌, ◌<◌, ℕ, IfOk, length};
+ghost use Rattle.std.specs.Prelude.{slice_index, replicate};
+ghost use Rattle.cam6_entries.specs.declared.tables.TheConstants.{ENTRIES};
+
+use cam6_lines::Plan;
+use cam6_lookup::look_up_rows;
+use cam6_planes::{NoMemory, Row, Side};
+use cam6_program::Program;
+use cam6_wiring::{Hood, Lines, Minor};
+use std::alloc::Global;
+use std::marker::Model;
+
+/// Entries of a table, one for each address.
+pub const ENTRIES: u16 = 4096;
+
+/// Two new bits for each address: bit 0 the lower plane's, bit 1 the upper plane's. Contracts see a
+/// table as the list of its entries.
+#[derive(Drop)]
+pub struct Table {
+    pub(crate) entries: Vec<u8>,
+    /// A program that computes the entries, if the table was given one.
+    pub(crate) program: Option<Program>,
+    /// How the program's lines are seen under the wiring for which it was given.
+    pub(crate) plan: Option<Plan>,
+}
+
+impl Model for Table {
+    ghost use Rattle.std.specs.Prelude.{◌≡◌, List, ℕ, IfSome, vec_len};
+    ghost use Rattle.cam6_program.specs.Computing.{Computes};
+    ghost use Rattle.cam6_entries.specs.Limits.{addresses};
+
+    ghost Value = { List ℕ };
+
+    ghost view = { λ t. t.entries.items };
+
+    ghost invariant = { λ t. (vec_len t.entries ≡ addresses)
+        × IfSome t.program (λ program. Computes t.entries.items program) };
+}
+
+impl Table {
+    ghost use Rattle.std.specs.Prelude.{◌<◌, ℕ, length, slice_set};
+    ghost use Rattle.cam6_planes.specs.Row.{column_bit};
+    ghost use Rattle.cam6_planes.specs.Side.{side_number};
+    ghost use Rattle.cam6_wiring.specs.Lines.{address_in};
+    ghost use Rattle.cam6_wiring.specs.declared.names.Level.TheVariants.{Lower, Upper};
+    ghost use Rattle.cam6_entries.specs.NewBits.{bit_for};
+
+    /// Allocates a table with every entry 0.
+    pub fn blank(alloc: Global) -> Result<Table, NoMemory>
+        ensures { IfOk result (λ table. table ≡ replicate ENTRIES 0) }
+    {
+        let entries = vec![in alloc; 0; usize::from(ENTRIES)]?;
+        Ok(Table {
+            entries,
+            program: None,
+            plan: None,
+        })
+    }
+
+    /// The number of entries: 4,096 in every table.
+    pub fn len(&self) -> u16
+        ensures entries { result ≡ length self.now }
+        ensures whole { result ≡ ENTRIES }
+    {
+        prove!(self.entries.len() == usize::from(ENTRIES));
+        ENTRIES
+    }
+
+    /// The entry at an address.
+    pub fn at(&self, address: u16) -> u8
+        requires { address < ENTRIES }
+        ensures { result ≡ slice_index self.now address }
+    {
+        self.entries[usize::from(address)]
+    }
+
+    /// Writes the entry at an address. A cell gets only the entry's two lowest bits.
+    pub fn put(&mut self, address: u16, entry: u8)
+        requires { address < ENTRIES }
+        ensures { self.new ≡ slice_set self.old address entry }
+    {
+        let position = usize::from(address);
+        self.entries[position] = entry;
+        // Emptying the program's place costs more than the entry, and there is seldom one.
+        if self.program.is_some() {
+            self.program = None;
+        }
+    }
+
+    /// Writes both planes' new rows: at each column the plane's bit of the entry at the address
+    /// that the lines show there. Words past the side may hold anything.
+    pub fn look_up(&self, lower: &mut Row, upper: &mut Row, lines: &Lines, side: Side)
+        ensures lower { (x : ℕ) → x < side_number side → column_bit lower.new x
+            ≡ bit_for Lower (slice_index self.now (address_in lines.now x)) }
+        ensures upper { (x : ℕ) → x < side_number side → column_bit upper.new x
+            ≡ bit_for Upper (slice_index self.now (address_in lines.now x)) }
+    {
+        look_up_rows(lower, upper, lines, side, &self.entries);
+    }
+
+    /// Gives the table a program, if its entries have a short one. It makes bands faster, and
+    /// fastest under this neighbourhood and minor assignment. Copies of the table get it too.
+    /// Writing an entry removes it. Does not allocate.
+    pub fn quicken(&mut self, hood: Hood, minor: Minor)
+        ensures { self.new ≡ self.old }
+    {
+        self.program = Program::of(&self.entries);
+        self.plan = match &self.program {
+            Some(program) => Some(Plan::of(program.asked(), hood, minor)),
+            None => None,
+        };
+    }
+
+    /// Makes the table a copy of another one. Does not allocate.
+    pub fn copy_from(&mut self, other: &Table)
+        ensures { self.new ≡ other.now }
+    {
+        self.entries.copy_from_slice(&other.entries);
+        self.program = match &other.program {
+            Some(program) => Some(program.copy()),
+            None => None,
+        };
+        self.plan = match &other.plan {
+            Some(plan) => Some(plan.copy()),
+            None => None,
+        };
+    }
+}

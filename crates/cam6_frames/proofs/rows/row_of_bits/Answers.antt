@@ -1,6 +1,0 @@
-use Rattle.std.proofs.Common.{rules}
-use Rattle.cam6_frames.proofs.Filled.{front_filled}
-use Rattle.cam6_frames.proofs.rows.row_of_bits.Goals as goal
-
-pub returns : goal.returns
-returns c = search (rules, front_filled)

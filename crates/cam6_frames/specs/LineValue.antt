@@ -1,9 +1,0 @@
--- The JSON value of a line.
-use Rattle.std.specs.Prelude.{ℕ, List, Option, None, if◌then◌else◌}
-use Rattle.std.specs.Str.{is_utf8}
-use Rattle.serde_json.specs.Data.{Data}
-use Rattle.serde_json.specs.Read.{read}
-
--- the value that a line is, if it is UTF-8 and one
-abbrev pub value_of : List ℕ → Option Data
-value_of line = if is_utf8 line then read line else None

@@ -1,0 +1,20 @@
+//! The 64 columns of a word: chosen one by one, or all the same.
+ghost use Rattle.std.specs.Prelude.{◌≡◌, ◌<◌, ℕ, if◌then◌else◌};
+ghost use Rattle.cam6_planes.specs.Row.{word_column};
+
+/// The columns of one word where a mask has them, and those of another elsewhere.
+#[inline]
+pub fn chosen_word(mask: u64, unset: u64, set: u64) -> u64
+    ensures { (c : ℕ) → c < 64 → word_column result c
+        ≡ (if word_column mask c then word_column set c else word_column unset c) }
+{
+    mask & set | !mask & unset
+}
+
+/// The same bit in every column.
+#[inline]
+pub fn word_of(bit: bool) -> u64
+    ensures { (c : ℕ) → c < 64 → word_column result c ≡ bit }
+{
+    if bit { u64::MAX } else { 0 }
+}

@@ -1,9 +1,0 @@
-use Rattle.std.proofs.Common.{◌≤◌}
-use Rattle.cam6_program.specs.declared.programs.TheConstants.{MAX_STEPS}
-use Rattle.cam6_program.proofs.writing.Writer.+write.Given as goal
-
-abbrev pub decreases-write : goal.decreases-write
-decreases-write l = l.place
-
-abbrev pub invariant-loop-source : goal.invariant-loop-source
-invariant-loop-source l = l.self.count ≤ MAX_STEPS

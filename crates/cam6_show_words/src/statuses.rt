@@ -1,0 +1,100 @@
+//! The exit statuses of the programs.
+ghost use Rattle.std.specs.Prelude.{◌≡◌, IfOk, IfSome, option_map, string_bytes};
+ghost use Rattle.cam6_show_words.specs.Program.{at_line as at_line_told, told as told_in};
+ghost use Rattle.cam6_show_words.specs.Statuses.{cause_told, column_told, failure, fault_told};
+
+use crate::programs::Program;
+use cam6_patterns::{Cause, PatternFault};
+use cam6_planes::COLUMNS;
+use cam6_show_frames::End;
+use std::alloc::{AllocError, Global};
+
+/// Arguments that are refused.
+pub const REFUSED_WORDS: u8 = 2;
+
+/// A text that is no pattern, a line that is no reply, a frame that breaks off, or a read that failed.
+pub const BAD_INPUT: u8 = 3;
+
+/// A write that failed.
+pub const WRITE_FAILED: u8 = 4;
+
+/// An allocation that failed.
+pub const NO_MEMORY: u8 = 5;
+
+/// More lines than can be counted.
+pub const TOO_MANY_LINES: u8 = 6;
+
+/// Returns the exit status of an end that is a failure, and its line for standard error, unless an
+/// allocation for the line failed.
+pub fn failure_of(
+    alloc: Global,
+    program: Program,
+    end: End,
+) -> Option<(u8, Result<String, AllocError>)>
+    ensures status { option_map (λ f. f.0) result
+        ≡ option_map (λ told. told.0) (failure program end) }
+    ensures text { IfSome result (λ f. IfOk f.1 (λ text.
+        IfSome (failure program end) (λ told. string_bytes text ≡ told.1))) }
+{
+    let (status, text) = match end {
+        End::EndOfInput => return None,
+        End::NoReply { line } => (BAD_INPUT, at_line(alloc, program, line, " is no reply\n")),
+        End::BreaksOff { line } => (
+            BAD_INPUT,
+            at_line(alloc, program, line, " breaks off a frame\n"),
+        ),
+        End::ReadFault => (BAD_INPUT, told(alloc, program, "read failed\n")),
+        End::WriteFault => (WRITE_FAILED, told(alloc, program, "write failed\n")),
+        End::NoMemory => (NO_MEMORY, told(alloc, program, "no memory\n")),
+        End::TooManyLines => (TOO_MANY_LINES, told(alloc, program, "too many lines\n")),
+    };
+    Some((status, text))
+}
+
+/// A text after the program's name.
+pub(crate) fn told(alloc: Global, program: Program, text: &str) -> Result<String, AllocError>
+    ensures { IfOk result (λ line. string_bytes line ≡ told_in program text.now) }
+{
+    let name = program.name();
+    format!(in alloc; "{name}: {text}")
+}
+
+/// A text after the program's name and the number of a line.
+fn at_line(alloc: Global, program: Program, line: u64, text: &str) -> Result<String, AllocError>
+    ensures { IfOk result (λ told. string_bytes told ≡ at_line_told program line text.now) }
+{
+    let name = program.name();
+    format!(in alloc; "{name}: line {line}{text}")
+}
+
+/// Returns the line that says why a text isn't a pattern, and where.
+pub fn fault_text(alloc: Global, fault: PatternFault) -> Result<String, AllocError>
+    ensures { IfOk result (λ told. string_bytes told ≡ fault_told fault) }
+{
+    let cause = cause_text(alloc, fault.cause)?;
+    let text = at_column(alloc, fault.column, cause.as_str())?;
+    at_line(alloc, Program::Rle, fault.line as u64, text.as_str())
+}
+
+/// A text after the number of a column.
+fn at_column(alloc: Global, column: usize, text: &str) -> Result<String, AllocError>
+    ensures { IfOk result (λ told. string_bytes told ≡ column_told column text.now) }
+{
+    format!(in alloc; ", column {column}{text}")
+}
+
+/// The text of a cause.
+fn cause_text(alloc: Global, cause: Cause) -> Result<String, AllocError>
+    ensures { IfOk result (λ told. string_bytes told ≡ cause_told cause) }
+{
+    let text = match cause {
+        Cause::NoHeader => ": a header is wanted, as x = 3, y = 3\n",
+        Cause::Unexpected => ": a byte that says nothing here\n",
+        Cause::CountTooLarge => return format!(in alloc; ": a number above {}\n", COLUMNS),
+        Cause::TooWide => ": too wide\n",
+        Cause::TooHigh => ": too high\n",
+        Cause::TooManyStates => ": more states than the planes hold\n",
+        Cause::NoEnd => ": the end, !, is missing\n",
+    };
+    String::from_str(alloc, text)
+}

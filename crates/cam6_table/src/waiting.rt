@@ -1,0 +1,130 @@
+//! Where lanes wait, in the order in which they go on. No result depends on it: lanes that it misses
+//! are run one by one.
+
+use crate::lane_stacks::ROWS;
+use crate::lane_values::LANES;
+
+/// The most instructions that code has.
+const MOST_BEHIND: usize = 4096;
+
+/// A place where lanes wait: how many instructions are left, and the row at which their stacks end.
+#[derive(Clone, Copy, Debug, PartialEq, Eq)]
+pub struct Waiting {
+    pub behind: u16,
+    pub top: u16,
+    /// More than 0 if the lanes passed instructions apart from others at the same place.
+    pub lost: u16,
+}
+
+/// A place. No code has more instructions, and no stack ends above the last row.
+#[inline(always)]
+pub fn waiting_at(behind: usize, top: usize, lost: u16) -> Waiting {
+    Waiting {
+        behind: behind.min(MOST_BEHIND) as u16,
+        top: top.min(ROWS) as u16,
+        lost,
+    }
+}
+
+/// Places where lanes wait. The one with the most instructions left is the last, and goes on first.
+#[derive(Drop)]
+pub struct Queue {
+    waiting: [Waiting; LANES],
+    len: usize,
+}
+
+impl Queue {
+    /// No place.
+    pub fn new() -> Queue {
+        Queue {
+            waiting: [waiting_at(0, 0, 0); LANES],
+            len: 0,
+        }
+    }
+
+    /// How many instructions are left at the place that goes on next.
+    #[inline(always)]
+    pub fn until(&self) -> usize {
+        let len = self.len.min(LANES);
+        if len == 0 {
+            0
+        } else {
+            usize::from(self.waiting[len - 1].behind)
+        }
+    }
+
+    /// Takes off the place that goes on next.
+    #[inline(always)]
+    pub fn pop(&mut self) -> Option<Waiting> {
+        let len = self.len.min(LANES);
+        if len == 0 {
+            return None;
+        }
+        self.len = len - 1;
+        Some(self.waiting[len - 1])
+    }
+
+    /// Adds a place, unless it is the end of the code, is there already or finds no room.
+    #[inline(always)]
+    pub fn put(&mut self, new: Waiting) {
+        if new.behind == 0 || self.len >= LANES {
+            return;
+        }
+        if self.until() < usize::from(new.behind) {
+            self.waiting[self.len] = new;
+            self.len += 1;
+        } else {
+            self.put_between(new);
+        }
+    }
+
+    /// Adds a place before those that go on earlier.
+    fn put_between(&mut self, new: Waiting) {
+        if self.len >= LANES || self.has(new) {
+            return;
+        }
+        let mut at = self.len;
+        self.waiting[at] = new;
+        self.len += 1;
+        while at > 0 && at < LANES && self.waiting[at - 1].behind > new.behind {
+            self.waiting[at] = self.waiting[at - 1];
+            self.waiting[at - 1] = new;
+            at -= 1;
+        }
+    }
+
+    /// Whether a place is there already.
+    fn has(&self, new: Waiting) -> bool {
+        let len = self.len.min(LANES);
+        for back in 1..len + 1 {
+            let other = self.waiting[len - back];
+            if other.behind < new.behind {
+                return false;
+            }
+            if other.behind == new.behind && other.top == new.top {
+                return true;
+            }
+        }
+        false
+    }
+
+    /// Adds the places of another queue, the last of them first.
+    #[inline(always)]
+    pub fn put_all(&mut self, others: &mut Queue) {
+        for _ in 0..LANES {
+            match others.pop() {
+                None => return,
+                Some(next) => self.put(next),
+            }
+        }
+    }
+
+    /// Adds a place at the end, without a look at the others.
+    #[inline(always)]
+    pub fn push(&mut self, new: Waiting) {
+        if self.len < LANES {
+            self.waiting[self.len] = new;
+            self.len += 1;
+        }
+    }
+}

@@ -1,0 +1,24 @@
+//! Why an example can't be played.
+
+use std::alloc::{AllocError, AllocFailed};
+
+/// Why an example, or a line of one, can't be played.
+#[derive(Clone, Copy, Debug, PartialEq, Eq)]
+pub enum Unplayable {
+    /// An allocation failed.
+    NoMemory,
+    /// A line isn't of any kind that is known.
+    Unread,
+}
+
+impl From<AllocError> for Unplayable {
+    fn from(_: AllocError) -> Unplayable {
+        Unplayable::NoMemory
+    }
+}
+
+impl<T: Drop> From<AllocFailed<T>> for Unplayable {
+    fn from(_: AllocFailed<T>) -> Unplayable {
+        Unplayable::NoMemory
+    }
+}

@@ -1,0 +1,30 @@
+//! The worked examples: how their files are read, and what is printed of them after they are
+//! played.
+//!
+//! Contract: it makes no claim beyond being safe, but that a size is within its bounds (`size_of`).
+//! A program plays the examples. It has the ways (`Way`) that its own files ask for, and says how
+//! their lines are played (`Played`, or a closure that may start threads). `play` and `play_by` do
+//! the rest.
+//!
+//! Stands on: `cam6_planes`, for rows and sides, and `cam6_wiring`, for the words of a wiring.
+//!
+//! Read next: `examples`, a file line by line; `repeats` and `rows`, its texts and its planes;
+//! `ways`, what a program has of its own; `settings` and `answers`; `faults`; then `players`, and the
+//! programs `cam6_try_sessions` and `cam6_try_places`, beside which the examples lie.
+#![tactic(auto)]
+
+mod answers;
+mod examples;
+mod faults;
+mod players;
+mod repeats;
+mod rows;
+mod settings;
+mod ways;
+
+pub use answers::{add_line, no_memory};
+pub use examples::{Part, Sent, bytes_of, read_example};
+pub use faults::Unplayable;
+pub use players::{play, play_by};
+pub use settings::{limit_of, size_of, wiring_before, wiring_of};
+pub use ways::{Played, Way};

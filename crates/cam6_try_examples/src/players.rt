@@ -1,0 +1,193 @@
+//! Files that are played, and what is printed of each.
+
+use crate::answers::no_memory;
+use crate::examples::{Part, Sent, bytes_of, read_example};
+use crate::faults::Unplayable;
+use crate::ways::{Played, Way};
+use std::alloc::Global;
+use std::env::Env;
+use std::fs::Files;
+use std::io::Write;
+use std::process::ExitCode;
+use std::{fs, io};
+
+/// Does what the program's arguments ask for.
+///
+/// The arguments name files, for example `parity.example`. Each is played in the ways that it says,
+/// and a line reports whether all came back byte for byte. A file with a name that begins with
+/// `wrong_` has one answer that is wrong on purpose. What is printed of it shows that answers are
+/// compared. After the argument `lines` comes one file, and the number of one of its sessions, or
+/// none for the first. The lines of that session are printed as they are sent, for the program
+/// `cam6` to take.
+pub fn play<W: Played, R: Env + Files + Print + AllocGlobal>(rt: &R) -> io::Result<ExitCode> {
+    let alloc = rt.alloc();
+    play_by(rt, &|way: &W, sent: &[Sent]| way.played(alloc, sent))
+}
+
+/// The same, but a closure plays the ways. It may use all of the handle that it has, for example to
+/// start threads.
+pub fn play_by<
+    W: Way,
+    R: Env + Files + Print + AllocGlobal,
+    F: Fn(&W, &[Sent]) -> io::Result<Vec<Vec<u8>>>,
+>(rt: &R, played: &F) -> io::Result<ExitCode>
+    requires { F.IsAlwaysCallable played.now }
+{
+    let words = std::env::args(rt)?
+        .skip(1)
+        .collect::<Vec<String>>(rt.alloc())?;
+    let is_well = match words.as_slice() {
+        [first, name] if first.as_str() == "lines" => send::<W, R>(rt, name.as_str(), "1"),
+        [first, name, number] if first.as_str() == "lines" => {
+            send::<W, R>(rt, name.as_str(), number.as_str())
+        }
+        names => play_files(rt, names, played),
+    };
+    is_well.map(|is_well| if is_well {
+        ExitCode::SUCCESS
+    } else {
+        ExitCode::FAILURE
+    })
+}
+
+/// Returns the parts of an example. If a line can't be played, prints this and returns `None`.
+fn parts_of<W: Way, R: Files + Print + AllocGlobal>(
+    rt: &R,
+    name: &str,
+) -> io::Result<Option<Vec<Part<W>>>> {
+    let text = fs::read_to_string(rt, name)?;
+    match read_example(rt.alloc(), text.as_str()) {
+        Ok(parts) => Ok(Some(parts)),
+        Err((_, Unplayable::NoMemory)) => Err(no_memory()),
+        Err((line, Unplayable::Unread)) => {
+            println!(rt; "{name}: line {line} can't be played")?;
+            Ok(None)
+        }
+    }
+}
+
+/// Plays examples. Returns whether all came back, except for those that are wrong on purpose.
+fn play_files<
+    W: Way,
+    R: Files + Print + AllocGlobal,
+    F: Fn(&W, &[Sent]) -> io::Result<Vec<Vec<u8>>>,
+>(rt: &R, names: &[String], played: &F) -> io::Result<bool>
+    requires { F.IsAlwaysCallable played.now }
+{
+    let mut is_well = true;
+    for name in names {
+        is_well &= play_file(rt, name.as_str(), played)?;
+    }
+    Ok(is_well)
+}
+
+/// Plays an example. Returns whether all came back, or whether not all did if it is wrong on
+/// purpose.
+fn play_file<
+    W: Way,
+    R: Files + Print + AllocGlobal,
+    F: Fn(&W, &[Sent]) -> io::Result<Vec<Vec<u8>>>,
+>(rt: &R, name: &str, played: &F) -> io::Result<bool>
+    requires { F.IsAlwaysCallable played.now }
+{
+    match parts_of::<W, R>(rt, name)? {
+        Some(parts) => show(rt, name, parts.as_slice(), played).map(|is_well| is_well
+            != name.starts_with("wrong_")),
+        None => Ok(false),
+    }
+}
+
+/// Prints the lines that an example sends in its session of this number, counted from 1. Returns
+/// whether it has such a session.
+fn send<W: Way, R: Files + Print + AllocGlobal>(
+    rt: &R,
+    name: &str,
+    number: &str,
+) -> io::Result<bool> {
+    match parts_of::<W, R>(rt, name)? {
+        Some(parts) => send_session(rt, name, parts.as_slice(), number.parse().unwrap_or(0)),
+        None => Ok(false),
+    }
+}
+
+/// The same for an example that has been read.
+fn send_session<W: Way, R: Print + AllocGlobal>(
+    rt: &R,
+    name: &str,
+    parts: &[Part<W>],
+    number: usize,
+) -> io::Result<bool> {
+    let mut sessions: usize = 0;
+    for part in parts {
+        if part.way.is_session() && !part.sent.is_empty() {
+            sessions = sessions.saturating_add(1);
+            if sessions == number {
+                return write_lines(rt, part.sent.as_slice());
+            }
+        }
+    }
+    println!(rt; "{name}: it has sessions 1 to {sessions}")?;
+    Ok(false)
+}
+
+/// Prints lines as they are sent.
+fn write_lines<R: Print + AllocGlobal>(rt: &R, sent: &[Sent]) -> io::Result<bool> {
+    let bytes = bytes_of(rt.alloc(), sent)?;
+    io::writer(rt).write_all(bytes.as_slice())?;
+    Ok(true)
+}
+
+/// Plays an example, and prints and returns whether all its lines came back.
+fn show<W: Way, R: Print + AllocGlobal, F: Fn(&W, &[Sent]) -> io::Result<Vec<Vec<u8>>>>(
+    rt: &R,
+    name: &str,
+    parts: &[Part<W>],
+    played: &F,
+) -> io::Result<bool>
+    requires { F.IsAlwaysCallable played.now }
+{
+    let mut lines: usize = 0;
+    for part in parts {
+        let wanted = part.wanted.as_slice();
+        let answers = played(&part.way, part.sent.as_slice())?;
+        if let Some(line) = first_other_of_all(answers, wanted) {
+            let line = line.saturating_add(lines);
+            println!(rt; "{name}: line {line} that came back is another")?;
+            return Ok(false);
+        }
+        lines = lines.saturating_add(lines_of(wanted));
+    }
+    if lines == 0 {
+        println!(rt; "{name}: no line is wanted")?;
+        return Ok(false);
+    }
+    println!(rt; "{name}: all lines came back")?;
+    Ok(true)
+}
+
+fn lines_of(bytes: &[u8]) -> usize {
+    bytes.iter().filter(|byte| **byte == b'\n').count()
+}
+
+/// The first line, from 1, in which one of the answers differs from the wanted one, if one does.
+fn first_other_of_all(answers: Vec<Vec<u8>>, wanted: &[u8]) -> Option<usize> {
+    for answer in answers.as_slice() {
+        if let Some(line) = first_other(answer.as_slice(), wanted) {
+            return Some(line);
+        }
+    }
+    None
+}
+
+/// The first line, from 1, in which two texts differ, if they do.
+fn first_other(answers: &[u8], wanted: &[u8]) -> Option<usize> {
+    if answers == wanted {
+        return None;
+    }
+    let same = answers
+        .iter()
+        .zip(wanted)
+        .take_while(|pair| pair.0 == pair.1)
+        .count();
+    Some(lines_of(&answers[..same]).saturating_add(1))
+}

@@ -1,0 +1,21 @@
+//! Ways in which the lines of an example are played. Each program has its own.
+
+use crate::examples::Sent;
+use crate::faults::Unplayable;
+use std::alloc::Global;
+use std::io;
+
+/// What is made of the lines that a part of an example sends.
+pub trait Way: Drop {
+    /// Reads the words after `as`. Lines above the first `as` have the way `session`.
+    fn read(alloc: Global, words: &str) -> Result<Self, Unplayable>;
+
+    /// Whether the program `cam6` takes such lines.
+    fn is_session(&self) -> bool;
+}
+
+/// A way that needs nothing but memory to be played. `play_by` is for ways that need more.
+pub trait Played: Way {
+    /// What comes back for the lines, by each way in.
+    fn played(&self, alloc: Global, sent: &[Sent]) -> io::Result<Vec<Vec<u8>>>;
+}

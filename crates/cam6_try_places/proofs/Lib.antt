@@ -1,0 +1,4 @@
+-- Lemmas.
+
+-- The board of a lease, behind a band.
+pub mod Moving

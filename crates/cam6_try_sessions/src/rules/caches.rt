@@ -1,0 +1,140 @@
+//! A cache of tables, asked line by line.
+//!
+//! ```text
+//! load HALF HOOD MINOR TEXT     whether the table of the rule's text was kept
+//! undo HALF HOOD MINOR TEXT     the same for the inverse of that table, or why there is none
+//! table                         the table of the last load, 64 entries in a line
+//! evict                         drops the oldest table: whether there was one
+//! ```
+ghost use Rattle.std.specs.Prelude.{◌≡◌, ◌<◌, ◌≤◌, IfOk, None, true};
+ghost use Rattle.cam6_cache.specs.Keys.{IsReversibleKey};
+ghost use Rattle.cam6_cache.specs.declared.caches.TheConstants.{MAX_CAPACITY};
+ghost use Rattle.cam6_table.specs.RuleTexts.{IsTableOf};
+
+use crate::rules::inverses::cause_text;
+use crate::rules::texts::{add_table, code_of, text_of};
+use cam6_block::{NotReversible, invert};
+use cam6_cache::laws::a_table_that_can_be_inverted_makes_its_key_reversible;
+use cam6_cache::{Key, MAX_CAPACITY, TableCache};
+use cam6_table::Table;
+use cam6_try_examples::{Sent, add_line, no_memory, wiring_before};
+use cam6_wiring::Wiring;
+use std::alloc::Global;
+use std::io;
+
+/// A cache with the key that it is asked by, and room for the tables by which a rule is tried
+/// first.
+#[derive(Drop)]
+struct Asked {
+    cache: TableCache,
+    key: Key,
+    /// The table of the last load.
+    out: Table,
+    table: Table,
+    inverse: Table,
+}
+
+impl Asked {
+    /// An empty cache of so many tables, at least one and at most 64, if there is memory.
+    fn new(alloc: Global, capacity: usize) -> Option<Asked> {
+        let capacity = capacity.clamp(1, MAX_CAPACITY);
+        Some(Asked {
+            cache: TableCache::new(alloc, capacity).ok()?,
+            key: Key::scratch(alloc).ok()?,
+            out: Table::blank(alloc).ok()?,
+            table: Table::blank(alloc).ok()?,
+            inverse: Table::blank(alloc).ok()?,
+        })
+    }
+}
+
+/// What comes back for each line.
+pub fn loads(alloc: Global, capacity: usize, sent: &[Sent]) -> io::Result<Vec<u8>> {
+    let mut asked = Asked::new(alloc, capacity).ok_or(no_memory())?;
+    let mut answers = Vec::new(alloc);
+    for line in sent {
+        add_answer(alloc, &mut answers, &mut asked, line.bytes.as_slice())?;
+    }
+    Ok(answers)
+}
+
+/// Adds what comes back for a line.
+fn add_answer(
+    alloc: Global,
+    answers: &mut Vec<u8>,
+    asked: &mut Asked,
+    line: &[u8],
+) -> io::Result<()> {
+    let line = text_of(line)?;
+    match line.split_once(' ').unwrap_or((line, "")) {
+        ("load", rest) => add_load(alloc, answers, asked, rest, false),
+        ("undo", rest) => add_load(alloc, answers, asked, rest, true),
+        ("table", "") => add_table(answers, &asked.out),
+        ("evict", "") => add_truth(answers, asked.cache.evict_oldest()),
+        _ => add_line(answers, "unread"),
+    }
+}
+
+fn add_truth(answers: &mut Vec<u8>, is_so: bool) -> io::Result<()> {
+    add_line(answers, if is_so { "true" } else { "false" })
+}
+
+fn add_load(
+    alloc: Global,
+    answers: &mut Vec<u8>,
+    asked: &mut Asked,
+    rest: &str,
+    inverted: bool,
+) -> io::Result<()> {
+    let Some((wiring, text)) = wiring_before(rest) else {
+        return add_line(answers, "unread");
+    };
+    match load(alloc, asked, wiring, text, inverted)? {
+        Ok(is_hit) => add_truth(answers, is_hit),
+        Err(cause) => add_line(answers, cause.as_str()),
+    }
+}
+
+/// Loads a table, and says whether it was kept; or why the text has none.
+fn load(
+    alloc: Global,
+    asked: &mut Asked,
+    wiring: Wiring,
+    text: &str,
+    inverted: bool,
+) -> io::Result<Result<bool, String>> {
+    let code = match code_of(alloc, wiring, text, &mut asked.table)? {
+        Ok(code) => code,
+        Err(fault) => return Ok(Err(fault)),
+    };
+    if let Some(cause) = why_refused(wiring, text, inverted, &asked.table, &mut asked.inverse) {
+        return Ok(Err(cause_text(alloc, cause)?));
+    }
+    let key = &mut asked.key;
+    key.set(wiring.half, wiring.hood, wiring.minor, text, inverted);
+    Ok(Ok(asked.cache.load(key, &code, &mut asked.out)))
+}
+
+/// Why a rule that is to be undone can't be, if it can't.
+fn why_refused(
+    wiring: Wiring,
+    text: &str,
+    inverted: bool,
+    table: &Table,
+    room: &mut Table,
+) -> Option<NotReversible>
+    requires { IsTableOf wiring text.now table.now }
+    ensures { result ≡ None → inverted ≡ true →
+        IsReversibleKey (record { wiring = wiring; text = text.now; inverted = inverted }) }
+{
+    if !inverted {
+        return None;
+    }
+    match invert(table, wiring.hood, wiring.minor, room) {
+        Ok(()) => {
+            a_table_that_can_be_inverted_makes_its_key_reversible();
+            None
+        }
+        Err(cause) => Some(cause),
+    }
+}
