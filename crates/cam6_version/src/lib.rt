@@ -1,4 +1,4 @@
-//! The version of the programs. It stands here alone, so that all three tell the same one.
+//! The version of the programs. It stands here alone, so that all of them tell the same one.
 //!
 //! Stands on: nothing.
 //!

@@ -1,0 +1,281 @@
+"""A journal: a machine that was saved, the commands that changed it since, and those that are not answered yet.
+
+Together they are the machine that counts. It can be built again at any seat of any host that has the same limit.
+
+A journal in a file has one JSON object a line:
+
+    {"journal":1,"limit":256,"number":12,"load":L}   begins each journal: the load line L, after 12 commands in all
+    {"ask":C}                                        the command C is about to be sent
+    {"part":C,"reply":R}                             some steps of the first command without an answer were done by C
+    {"reply":R}                                      the first command without an answer has the reply R
+    {"reply":null}                                   the same, of a command that changed nothing
+    {"drop":n}                                       the n commands without an answer were given up, and don't count
+    {"done":C,"reply":R}                             a command that changed the machine, of a file that was written anew
+
+A command is written before it is sent. If the program or the computer stops, the last line may be torn. It is cut off
+when the file is opened. A checkpoint writes a new file beside the old one, and then takes its place.
+"""
+
+from __future__ import annotations
+
+import json
+import os
+from collections import deque
+from collections.abc import Sequence
+from typing import IO, Any, Optional
+
+from . import lines
+from .errors import BadJournal, command_of
+
+MEMORY = ":memory:"
+SYNCS = ("none", "checkpoint", "each")
+
+
+class Journal:
+    """What is known of the machine that counts.
+
+    `load` is the load line, `tail` the commands since then with their replies, and `pending` the commands without an
+    answer. `number` counts the commands that were asked for, from the journal's beginning.
+
+    `sync` says when the system has to have written a file to its disk: `none` never, `checkpoint` at checkpoints, and
+    `each` also before commands are sent. Whatever it is, nothing is lost if only the program ends.
+    """
+
+    def __init__(self, path: Optional[str], sync: str, limit: int) -> None:
+        self.path, self.sync, self.limit = path, sync, limit
+        self.load = lines.blank(min(256, limit))
+        self.tail: list[tuple[bytes, bytes]] = []
+        self.pending: deque[bytes] = deque()
+        self.number = 0
+        self.size = 0
+        self._file: Optional[IO[bytes]] = None
+        # Whether a write failed, so that the file lacks what is known here.
+        self._is_behind = False
+        if path is not None:
+            self._open(path)
+
+    @property
+    def side(self) -> int:
+        """The side of the machine that counts."""
+        sides = (command_of(line).get("side") for line, reply in reversed(self.tail) if reply == b'{"ok":"side"}')
+        return int(next(sides, None) or lines.side_of_load(self.load))
+
+    def _open(self, path: str) -> None:
+        """Reads the journal that is there, or begins one."""
+        if not os.path.exists(path) or os.path.getsize(path) == 0:
+            self._rewrite()
+            return
+        self._file = open(path, "r+b", buffering=0)
+        try:
+            lock(self._file, path)
+            if os.fstat(self._file.fileno()).st_ino != os.stat(path).st_ino:
+                raise BadJournal(f"The journal {path!r} is open in another program. End that one first.")
+            good = self._read(self._file.read(), path)
+        except BaseException:
+            self._close()
+            raise
+        self._file.truncate(good)
+        self._file.seek(good)
+        self.size = good
+
+    def _read(self, data: bytes, path: str) -> int:
+        """Takes up what whole lines say. Returns how many bytes these are."""
+        whole = data.rfind(b"\n") + 1
+        rows = data[:whole].split(b"\n")[:-1]
+        if not rows:
+            raise BadJournal(f"{path!r} is no journal: it has no whole line. It stays as it is.")
+        limit = self.limit
+        for place, row in enumerate(rows, 1):
+            try:
+                self._take(json.loads(row), place == 1)
+            except (ValueError, KeyError, TypeError, IndexError, AttributeError):
+                what = "is no journal" if place == 1 else "is damaged"
+                raise BadJournal(f"{path!r} {what}: line {place} is not one of a journal. It stays as it is.") from None
+        if self.limit != limit:
+            raise BadJournal(f"{path!r} is the journal of a machine with the limit {self.limit}: say limit={self.limit}.")
+        return whole
+
+    def _take(self, said: dict[str, Any], is_first: bool) -> None:
+        if is_first:
+            if said["journal"] != 1 or said["limit"] not in (128, 256, 512):
+                raise ValueError
+            self.limit, self.number = int(said["limit"]), int(said["number"])
+            self.load = bytes_of(said["load"])
+            if not self.load.startswith(lines.LOAD_HEAD):
+                raise ValueError
+        elif "ask" in said:
+            self.pending.append(bytes_of(said["ask"]))
+            self.number += 1
+        elif "part" in said:
+            self._part(bytes_of(said["part"]), bytes_of(said["reply"]))
+        elif "done" in said:
+            self.tail.append((bytes_of(said["done"]), bytes_of(said["reply"])))
+        elif "drop" in said:
+            self._drop(int(said["drop"]))
+        else:
+            self._answered(None if said["reply"] is None else bytes_of(said["reply"]))
+
+    # What happens, in memory
+
+    def _part(self, line: bytes, reply: bytes) -> None:
+        self.tail.append((line, reply))
+        self.pending[0] = rest_of(self.pending[0], line)
+
+    def _answered(self, reply: Optional[bytes]) -> None:
+        line = self.pending.popleft()
+        if reply == lines.LOADED:
+            self.load, self.tail = line, []
+        elif reply is not None:
+            self.tail.append((line, reply))
+
+    def _drop(self, count: int) -> None:
+        if count != len(self.pending):
+            raise ValueError
+        self.pending.clear()
+        self.number -= count
+
+    # What happens, in memory and in the file
+
+    def asked(self, commands: Sequence[bytes]) -> None:
+        """Commands are about to be sent. If they can't be written, raises `OSError`, and nothing has changed."""
+        self._write([{"ask": text_of(command)} for command in commands], self.sync == "each", is_known=False)
+        self.pending.extend(commands)
+        self.number += len(commands)
+
+    def part(self, line: bytes, reply: bytes) -> None:
+        """Some steps of the first command without an answer were done."""
+        self._part(line, reply)
+        self._write([{"part": text_of(line), "reply": text_of(reply)}], False)
+
+    def answered(self, replies: Sequence[bytes]) -> None:
+        """The first commands without an answer have these replies."""
+        rows = []
+        for reply in replies:
+            kept = reply if is_change(self.pending[0], reply) else None
+            self._answered(kept)
+            rows.append({"reply": None if kept is None else text_of(kept)})
+        self._write(rows, False)
+
+    def drop(self) -> list[bytes]:
+        """The commands without an answer are given up. Returns them."""
+        dropped = list(self.pending)
+        if dropped:
+            self._drop(len(dropped))
+            self._write([{"drop": len(dropped)}], self.sync != "none")
+        return dropped
+
+    def checkpoint(self, load: bytes) -> None:
+        """The machine that counts is the one of this load line, but for what is not answered."""
+        self.load, self.tail = load, []
+        if self._file:
+            self._rewrite()
+        self.size = 0
+
+    def close(self) -> None:
+        """Writes the file to its disk, unless `sync` is `none`, and closes it."""
+        if self._file:
+            if self.sync != "none":
+                os.fsync(self._file.fileno())
+            self._close()
+
+    def _close(self) -> None:
+        if self._file:
+            self._file.close()
+            self._file = None
+
+    def _write(self, rows: list[dict[str, Any]], is_synced: bool, is_known: bool = True) -> None:
+        """Writes lines of what is known already, or not yet."""
+        if self._file is None:
+            return
+        if self._is_behind:
+            self._rewrite()
+            if is_known:
+                return
+        data = b"".join(lines.compact(row) + b"\n" for row in rows)
+        try:
+            written = self._file.write(data)
+            while written < len(data):
+                written += self._file.write(data[written:])
+            if is_synced:
+                os.fsync(self._file.fileno())
+        except BaseException:
+            self._is_behind = True
+            raise
+        self.size += len(data)
+
+    def _rewrite(self) -> None:
+        """Begins the file anew: beside the old one, so that one of them is whole at any time."""
+        assert self.path is not None
+        new = open(self.path + ".new", "a+b", buffering=0)
+        try:
+            lock(new, self.path)
+            new.truncate(0)
+            data = b"".join(lines.compact(row) + b"\n" for row in self._rows())
+            if new.write(data) != len(data):
+                raise OSError(f"the journal {self.path!r} can't be written whole: is the disk full?")
+            if self.sync != "none":
+                os.fsync(new.fileno())
+            os.replace(self.path + ".new", self.path)
+        except BaseException:
+            new.close()
+            raise
+        self._close()
+        self._file, self._is_behind = new, False
+        if self.sync != "none":
+            sync_folder(os.path.dirname(self.path) or ".")
+
+    def _rows(self) -> list[dict[str, Any]]:
+        """All that is known, as the lines of a file."""
+        number = self.number - len(self.pending)
+        rows: list[dict[str, Any]] = [{"journal": 1, "limit": self.limit, "number": number, "load": text_of(self.load)}]
+        rows += [{"done": text_of(command), "reply": text_of(reply)} for command, reply in self.tail]
+        return rows + [{"ask": text_of(command)} for command in self.pending]
+
+
+def is_change(line: bytes, reply: bytes) -> bool:
+    """Whether a command has changed the machine, by its reply."""
+    return reply.startswith(b'{"ok":') and command_of(line).get("do") in lines.CHANGES
+
+
+def rest_of(line: bytes, part: bytes) -> bytes:
+    """What is left of a line of steps after a part of them."""
+    whole, done = lines.STEPS.fullmatch(line), lines.STEPS.fullmatch(part)
+    if not whole or not done or whole[1] != done[1] or int(done[2]) > int(whole[2]):
+        raise ValueError
+    return lines.steps_line(whole[1], int(whole[2]) - int(done[2]))
+
+
+def text_of(data: bytes) -> str:
+    """Bytes as a text that JSON can say, also if they are no UTF-8."""
+    return data.decode("utf-8", "surrogateescape") if data.isascii() else data.decode("latin-1").translate(_SHIFTED)
+
+
+def bytes_of(text: str) -> bytes:
+    """The bytes of such a text."""
+    return text.translate(_SHIFTED_BACK).encode("latin-1")
+
+
+# Bytes above 127 stand as the characters U+E080 to U+E0FF, which mean nothing, so that each text is valid UTF-8.
+_SHIFTED = {byte: 0xE000 + byte for byte in range(128, 256)}
+_SHIFTED_BACK = {0xE000 + byte: byte for byte in range(128, 256)}
+
+
+def lock(file: IO[bytes], path: str) -> None:
+    """Keeps other programs from the file until it is closed. Raises `BadJournal` if one has it."""
+    try:
+        import fcntl
+    except ImportError:
+        return
+    try:
+        fcntl.flock(file.fileno(), fcntl.LOCK_EX | fcntl.LOCK_NB)
+    except OSError:
+        raise BadJournal(f"The journal {path!r} is open in another program. End that one first.") from None
+
+
+def sync_folder(path: str) -> None:
+    """Has the system write the names in a folder to its disk."""
+    number = os.open(path, os.O_RDONLY)
+    try:
+        os.fsync(number)
+    finally:
+        os.close(number)

@@ -1,0 +1,397 @@
+"""Sessions that lose nothing: a machine that outlives its hosts.
+
+What a machine replies depends on its own accepted commands alone. That is the clause `headline` of `run` in `cam6_core`:
+two lists of events that agree on a user's accepted commands give them equal replies. So a load line and the commands
+since then make the same machine again at any seat of any host with the same limit.
+"""
+
+from __future__ import annotations
+
+import random
+import ssl
+import time
+from collections.abc import Iterator, Sequence
+from typing import Optional, Union
+
+from . import lines
+from .channels import Connection, Heard, connected
+from .errors import Diverged, GaveUp, Lost, NoSeat, shortened
+from .journal import Journal
+
+Address = tuple[str, int]
+
+SEATED, TAKEN, NO_SUCH = b'{"ok":"seat"}', b'{"fault":80}', b'{"fault":81}'
+# Seconds to wait before the next try: the first time, and at most. Each wait is times 0.5 to 1.5 at random.
+FIRST_WAIT, LONGEST_WAIT = 0.02, 1.0
+# Seconds in which a host has to answer the first line, and for how long a taken seat is asked for again.
+TO_SIT, TO_BE_FREE = 10.0, 0.5
+# How many lines and bytes are written to the journal, and then sent, at once.
+CHUNK_LINES, CHUNK_BYTES = 1000, 1 << 20
+# How many steps a second a board is taken to do before that is measured.
+FIRST_RATE = 2000.0
+# Bytes after which a journal is written anew, whatever its commands took.
+MOST_JOURNAL = 8 << 20
+
+
+class Door:
+    """The addresses of hosts, and how a seat is taken at one of them."""
+
+    def __init__(
+        self,
+        addresses: Sequence[Address],
+        seats: int,
+        seat: Optional[int],
+        tls: Union[None, bool, ssl.SSLContext],
+        server_name: Optional[str],
+    ) -> None:
+        self.addresses, self.seats, self.tls, self.server_name = list(addresses), seats, tls, server_name
+        self.address, self.seat = self.addresses[0], seat
+        self.is_bound = False
+
+    def tried(self, seconds: float) -> Connection:
+        """A connection that has a seat: the last seat again if it is free, then any. Raises `Lost` or `NoSeat`."""
+        last: Union[Lost, NoSeat, None] = None
+        at = self.addresses.index(self.address)
+        for address in self.addresses[at:] + self.addresses[:at]:
+            try:
+                return self._seated(address, time.monotonic() + seconds)
+            except (Lost, NoSeat) as cause:
+                last = cause if last is None or isinstance(cause, NoSeat) else last
+        assert last is not None
+        raise last
+
+    def _seated(self, address: Address, until: float) -> Connection:
+        taken, end = 0, self.seats + 1
+        for seat in self._order():
+            if seat >= end:
+                continue
+            left = max(0.001, until - time.monotonic())
+            there = connected(address, self.tls, self.server_name, left)
+            reply = self._first_reply(there, seat, left)
+            if reply == SEATED:
+                self.address, self.seat = address, seat
+                return there
+            there.close()
+            if reply == NO_SUCH:
+                end = min(end, seat)
+            elif reply == TAKEN:
+                taken += 1
+            else:
+                raise Lost(f"{address[0]}:{address[1]} answers {shortened(reply)}. Does cam6 serve really run there?")
+        raise NoSeat(self._why_none(address, taken, end))
+
+    def _order(self) -> list[int]:
+        if self.is_bound and self.seat is not None:
+            return [self.seat]
+        first = [] if self.seat is None else [self.seat]
+        return first + [seat for seat in range(1, self.seats + 1) if seat != self.seat]
+
+    def _first_reply(self, there: Connection, seat: int, seconds: float) -> bytes:
+        replies: list[bytes] = []
+        try:
+            there.exchange([b'{"seat":%d}' % seat], replies.extend, time.monotonic() + min(TO_SIT, seconds))
+        except BaseException:
+            there.close()
+            raise
+        return replies[0]
+
+    def _why_none(self, address: Address, taken: int, end: int) -> str:
+        where = f"{address[0]}:{address[1]}"
+        if self.is_bound and taken:
+            return f"Seat {self.seat} at {where} is taken. Ask for another one, or wait until it is free."
+        if self.is_bound:
+            return f"There is no seat {self.seat} at {where}: seats are numbered from 1. Start cam6 serve with --users."
+        if end == self.seats + 1 and self.seats < 32:
+            return f"The seats 1 to {self.seats} at {where} are taken. Say seats= if there are more of them."
+        return f"All {taken} seats at {where} are taken. Wait until one is free, or start cam6 serve with more --users."
+
+
+def seated(door: Door) -> Connection:
+    """A seat of a host, for a connection without a journal. A seat that has just been left is waited for."""
+    until = time.monotonic() + TO_BE_FREE
+    while True:
+        try:
+            return door.tried(TO_SIT)
+        except NoSeat:
+            if time.monotonic() > until:
+                raise
+        time.sleep(FIRST_WAIT)
+
+
+class Session:
+    """A machine whose commands are kept in a journal until they are in a saved machine.
+
+    It carries lines as a `Channel` does. If the connection ends it takes another seat, loads the saved machine, plays
+    the commands since then and compares their replies, and goes on.
+
+    - `seat` and `address`: where it sits, or sat last.
+    - `asked`: how many commands were asked for since the journal's beginning.
+    - `resumed`: the commands without an answer that the journal had when it was opened, with their replies.
+    - `recoveries`, `replayed`, `checkpoints`: how often it took a new seat after the first one, how many commands it
+      played again, and how often it saved.
+    """
+
+    def __init__(self, door: Door, journal: Journal, every_seconds: float, deadline: Optional[float]) -> None:
+        self.journal = journal
+        self.every_seconds, self.deadline = every_seconds, deadline
+        self.recoveries = self.replayed = self.checkpoints = 0
+        self.resumed: list[tuple[bytes, bytes]] = []
+        self._door = door
+        self._there: Optional[Connection] = None
+        # Seconds of answers since the last checkpoint, steps a second, and how many answers there were in all.
+        self._busy, self._rate, self._done = 0.0, FIRST_RATE, 0
+        # Whether this call has sent anything, and whether all is over.
+        self._is_sent = self._is_closed = False
+        try:
+            self._begin()
+        except BaseException:
+            self.close()
+            raise
+
+    @property
+    def seat(self) -> Optional[int]:
+        """The seat, or None before the first one."""
+        return self._door.seat
+
+    @property
+    def address(self) -> Address:
+        """The host and the port."""
+        return self._door.address
+
+    @property
+    def asked(self) -> int:
+        """How many commands were asked for since the journal's beginning."""
+        return self.journal.number
+
+    def _begin(self) -> None:
+        """Takes the first seat. A new journal is not worth waiting for: a mistyped address is told at once."""
+        if self.journal.number == 0:
+            try:
+                self._rebuild(seated(self._door), self._until())
+            except Lost:
+                if self._door.seat is None:
+                    raise
+        if self._there is None:
+            self._recover(self._until(), Lost("No host was reached."))
+        self.recoveries = 0
+        waiting = list(self.journal.pending)
+        self.resumed = list(zip(waiting, self._finish()))
+
+    def _until(self) -> float:
+        return float("inf") if self.deadline is None else time.monotonic() + self.deadline
+
+    def _patience(self) -> float:
+        """Seconds after which a silent host is left for another one."""
+        return float("inf") if self.deadline is None else self.deadline / 3
+
+    # Lines
+
+    def talk(self, sent: Sequence[bytes]) -> list[bytes]:
+        """The replies to lines, each as of one machine that never failed.
+
+        Raises `GaveUp` if no host did the next of them before the deadline, and `Diverged`.
+        """
+        if self._is_closed:
+            raise Lost("This machine was closed.")
+        replies: list[bytes] = []
+        left = list(chunks_of(sent))
+        try:
+            self._finish()  # What is left of a call that was interrupted.
+            while left:
+                self.journal.asked(left[0])
+                del left[0]
+                replies += self._finish()
+                self._checkpoint_if_due()
+        except GaveUp as cause:
+            undone = cause.undone + [line for chunk in left for line in chunk]
+            raise GaveUp(str(cause), undone, replies + cause.replies) from cause.__cause__
+        return replies
+
+    def _finish(self) -> list[bytes]:
+        """The replies to all commands without an answer."""
+        replies: list[bytes] = []
+        until, wait = self._until(), FIRST_WAIT
+        self._is_sent = False
+        while self.journal.pending:
+            done = self._done
+            failure: Union[Lost, GaveUp, None] = None
+            try:
+                if self._there is None:
+                    self._recover(until, Lost("The connection ended."))
+                self._send(replies, until)
+            except (Lost, GaveUp) as cause:
+                failure = cause
+                self._leave()
+            if self._done != done:
+                until, wait = self._until(), FIRST_WAIT
+            elif isinstance(failure, GaveUp) or failure and time.monotonic() >= until:
+                sentence = self._why_given_up(failure)
+                raise GaveUp(sentence, self.journal.drop(), replies) from failure
+            elif failure:
+                wait = paused(wait, until)
+        return replies
+
+    def _why_given_up(self, cause: Exception) -> str:
+        what = "A host was lost each time that it did" if self._is_sent else "No host could do"
+        return f"{what} {shortened(self.journal.pending[0])}, for {self.deadline:g} seconds. At last: {cause}"
+
+    def _send(self, replies: list[bytes], until: float) -> None:
+        """Sends what is not answered: all up to a long run, or a part of one."""
+        there = self._there
+        assert there is not None
+        pending = list(self.journal.pending)
+        short = next((at for at, line in enumerate(pending) if self._is_long(line)), len(pending))
+        started = time.monotonic()
+        until = min(until, started + self._patience())
+        self._is_sent = True
+
+        def heard(some: list[bytes]) -> None:
+            self._done += len(some)
+            replies.extend(some)
+            self.journal.answered(some)
+
+        try:
+            if short:
+                there.exchange(pending[:short], heard, until)
+            else:
+                self._send_part(there, pending[0], heard, until)
+        except BaseException:
+            self._leave()
+            raise
+        finally:
+            self._busy += time.monotonic() - started
+        if not short:
+            self._checkpoint_if_due()
+
+    def _most_steps(self) -> int:
+        """How many steps take about as long as a checkpoint is to be away."""
+        return max(1, min(lines.MOST_STEPS, int(self._rate * max(self.every_seconds, 0.01))))
+
+    def _is_long(self, line: bytes) -> bool:
+        found = lines.STEPS.fullmatch(line)
+        return found is not None and self._most_steps() < int(found[2]) <= lines.MOST_STEPS
+
+    def _send_part(self, there: Connection, line: bytes, heard: Heard, until: float) -> None:
+        """Does a part of a long run. If a part is refused, the whole is."""
+        found = lines.STEPS.fullmatch(line)
+        assert found is not None
+        steps = self._most_steps()
+        part = lines.steps_line(found[1], steps)
+        started = time.monotonic()
+        replies: list[bytes] = []
+        there.exchange([part], replies.extend, until)
+        if lines.is_fault(replies[0]):
+            heard(replies)
+            return
+        self._done += 1
+        self.journal.part(part, replies[0])
+        rate = steps / max(time.monotonic() - started, 1e-6)
+        self._rate = min(max(rate, self._rate / 4, 1.0), self._rate * 4)
+
+    # Checkpoints
+
+    def _checkpoint_if_due(self) -> None:
+        is_long_ago = self._busy >= self.every_seconds and self.journal.tail
+        if is_long_ago or self.journal.size > MOST_JOURNAL:
+            self.checkpoint()
+
+    def checkpoint(self) -> bool:
+        """Saves the machine into the journal, so that the commands so far need not be played again.
+
+        It happens by itself each time that the answers took `every_seconds` together. Returns whether the host could
+        do it. If not, nothing is lost: the next command takes another seat.
+        """
+        if self._there is None:
+            return False
+        try:
+            heard: list[bytes] = []
+            self._there.exchange([lines.SAVE], heard.extend, time.monotonic() + self._patience())
+        except Lost:
+            self._leave()
+            return False
+        except BaseException:
+            self._leave()
+            raise
+        self.journal.checkpoint(lines.load_line(heard[0]))
+        self._busy = 0.0
+        self.checkpoints += 1
+        return True
+
+    # Seats
+
+    def _recover(self, until: float, cause: Lost) -> None:
+        """Takes a seat and makes its machine the one that counts, as soon as a host is there. Raises `GaveUp`."""
+        wait = FIRST_WAIT
+        last: Union[Lost, NoSeat] = cause
+        while True:
+            left = until - time.monotonic()
+            if left <= 0:
+                raise GaveUp(str(last)) from last
+            try:
+                self._rebuild(self._door.tried(min(left, TO_SIT)), min(until, time.monotonic() + self._patience()))
+                self.recoveries += 1
+                return
+            except (Lost, NoSeat) as error:
+                last = error
+            wait = paused(wait, until)
+
+    def _rebuild(self, there: Connection, until: float) -> None:
+        """Makes the machine at a seat the one that counts. What was there is somebody's, so it is always loaded."""
+        try:
+            self._compare_limit(there, until)
+            known = [(self.journal.load, lines.LOADED), *self.journal.tail]
+            replies: list[bytes] = []
+            there.exchange([line for line, _ in known], replies.extend, until)
+        except BaseException:
+            there.close()
+            raise
+        for (line, before), now in zip(known, replies):
+            if now != before:
+                there.close()
+                raise Diverged(
+                    f"The host at {self.address[0]}:{self.address[1]} answers {shortened(line)} by {shortened(now)}. "
+                    f"Before it was {shortened(before)}. Use hosts of one version and one limit."
+                )
+        self.replayed += len(known) - 1
+        self._there = there
+
+    def _compare_limit(self, there: Connection, until: float) -> None:
+        replies: list[bytes] = []
+        there.exchange([b'{"do":"side","side":512}', b'{"do":"side","side":256}'], replies.extend, until)
+        limit = next((side for side, reply in zip((512, 256), replies) if reply == b'{"ok":"side"}'), 128)
+        if limit != self.journal.limit:
+            raise Diverged(
+                f"The host at {self.address[0]}:{self.address[1]} has the limit {limit}, and the session has "
+                f"{self.journal.limit}. Say limit={limit}, or start cam6 serve with --side {self.journal.limit}."
+            )
+
+    def _leave(self) -> None:
+        if self._there is not None:
+            self._there.close()
+            self._there = None
+
+    def close(self) -> None:
+        """Leaves the seat and closes the journal, which stays. A second time it does nothing."""
+        self._is_closed = True
+        self._leave()
+        self.journal.close()
+
+
+def chunks_of(sent: Sequence[bytes]) -> Iterator[list[bytes]]:
+    """The lines, as many at a time as are written to the journal at once."""
+    chunk: list[bytes] = []
+    size = 0
+    for line in sent:
+        if chunk and (len(chunk) >= CHUNK_LINES or size + len(line) > CHUNK_BYTES):
+            yield chunk
+            chunk, size = [], 0
+        chunk.append(line)
+        size += len(line)
+    if chunk:
+        yield chunk
+
+
+def paused(wait: float, until: float) -> float:
+    """Waits about so many seconds, but not beyond `until`. Returns how long to wait the next time."""
+    time.sleep(max(0.0, min(wait * random.uniform(0.5, 1.5), until - time.monotonic())))
+    return min(LONGEST_WAIT, 2 * wait)

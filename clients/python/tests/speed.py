@@ -1,0 +1,72 @@
+#!/usr/bin/env python3
+"""Measures the client: 256 rows set in one write, and a frame of a run, at sides 256 and 512. Prints least and median.
+
+usage: CAM6=path/to/cam6 tests/speed.py [REPEATS]
+"""
+
+from __future__ import annotations
+
+import statistics
+import sys
+import time
+from collections.abc import Callable
+from typing import Any
+
+import support
+
+import cam6
+from cam6 import cells
+
+
+def measured(what: str, act: Callable[[], Any], times: int, each: int = 1) -> None:
+    """Prints how many milliseconds an act takes, of which one has `each` parts."""
+    act()
+    taken = []
+    for _ in range(times):
+        started = time.perf_counter()
+        act()
+        taken.append(1000 * (time.perf_counter() - started) / each)
+    print(f"{what:58} {min(taken):7.3f} {statistics.median(taken):7.3f} ms")
+
+
+def measure(machine: cam6.Machine, where: str, times: int) -> None:
+    """Measures a machine."""
+    side = machine.side
+    rows = [f"{row:0{side // 4}x}" for row in range(side)]
+    array = cells.bits_of(rows, side)
+
+    def set_all() -> None:
+        many = machine.pipeline()
+        for row in range(side):
+            many.set_row(0, row, rows[row])
+        many.execute()
+
+    measured(f"{where}: {side} set_row in a pipeline", set_all, times)
+    measured(f"{where}: put of a whole plane", lambda: machine.put(0, array), times)
+    measured(f"{where}: a frame, run(1) and plane(0)", lambda: list(machine.frames(20)), times, 20)
+    measured(f"{where}: the same, 16 ahead", lambda: list(machine.frames(32, ahead=16)), times, 32)
+    measured(f"{where}: cells()", machine.cells, times)
+    measured(f"{where}: run(1)", lambda: [machine.run() for _ in range(20)], times, 20)
+    measured(f"{where}: save()", machine.save, times)
+
+
+def main() -> None:
+    times = int(sys.argv[1]) if len(sys.argv) > 1 else 50
+    print(f"numpy: {'yes' if cells.numpy() else 'no'}; {support.program()}; least and median of {times}")
+    for side in (256, 512):
+        with support.Host(side=side) as host:
+            starts = {
+                "local": lambda: cam6.local(support.program(), side_limit=side),
+                "connection": lambda: cam6.connect("127.0.0.1", host.port, seat=1),
+                "journal in memory": lambda: cam6.connect("127.0.0.1", host.port, limit=side, journal=":memory:"),
+            }
+            for where, start in starts.items():
+                with start() as machine:
+                    machine.set_side(side)
+                    machine.rule("B", support.BALLS, hood="N/MARG", minor="&/PHASES")
+                    machine.cycle(("B", "-", "EVEN"), ("B", "-", "ODD"))
+                    measure(machine, where, times)
+
+
+if __name__ == "__main__":
+    main()

@@ -1,0 +1,2 @@
+-- The connections of a server, by what they have.
+pub mod Visitors

@@ -1,0 +1,55 @@
+//! What the threads of a server share.
+
+use crate::visitors::{Standing, Visitors};
+use cam6_planes::Side;
+use cam6_web_door::Door;
+use std::net::SocketAddr;
+use std::random::RandomSource;
+use std::sync::{Condvar, Mutex, Wait};
+use std::thread::Threads;
+use std::time::Clock;
+
+/// What a server needs of its runtime, besides the network.
+pub trait Handle: Threads + Wait + Clock + RandomSource + AllocGlobal + Copy + Drop {}
+
+impl<R: Threads + Wait + Clock + RandomSource + AllocGlobal + Copy + Drop> Handle for R {}
+
+/// The door of the server, the hosts, the largest side of a page's own machine, and the connections.
+#[derive(Drop)]
+pub struct Hall<R: Handle> {
+    pub rt: R,
+    pub door: Door,
+    pub hosts: Vec<SocketAddr>,
+    pub limit: Side,
+    pub visitors: Mutex<Visitors>,
+    /// Notified when the last connection goes.
+    pub left: Condvar,
+}
+
+impl<R: Handle> Hall<R> {
+    /// Lets one more connection wait for an answer, or returns false if there is no room.
+    pub fn enter(&self) -> bool {
+        self.visitors.lock(&self.rt).enter()
+    }
+
+    /// Gives a connection its socket, or returns false if there is no room.
+    pub fn open(&self) -> bool {
+        self.visitors.lock(&self.rt).open()
+    }
+
+    /// Removes a connection that had this, and notifies `left` if it was the last one.
+    pub fn leave(&self, standing: Standing) {
+        let mut visitors = self.visitors.lock(&self.rt);
+        visitors.leave(standing);
+        if visitors.are_none() {
+            self.left.notify_all();
+        }
+    }
+
+    /// Waits until there is no connection.
+    pub fn wait(&self) {
+        let visitors = self.visitors.lock(&self.rt);
+        self.left
+            .wait_while(&self.rt, visitors, |visitors| !visitors.are_none());
+    }
+}

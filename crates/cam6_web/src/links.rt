@@ -1,0 +1,236 @@
+//! The bytes of a connection, and how long each call on it may take.
+
+ghost use Rattle.std.specs.Prelude.{◌≤◌, IfOk, length};
+
+use cam6_web_talk::{Pace, Paced};
+use std::cell::Cell;
+use std::io;
+use std::io::{Error, ErrorKind, Read, Write};
+use std::net::{Shutdown, TcpStream};
+use std::thread::sleep;
+use std::time::{Clock, Duration, Instant};
+
+/// How often a system call is tried, at most, if signals interrupt it.
+const TRIES: u32 = 1_000;
+
+/// How a request for a socket begins.
+const SOCKET_BEGIN: &[u8] = b"GET /ws";
+
+/// How often, and how many milliseconds after each other, the first bytes of a request are looked at.
+const LOOKS: u32 = 1_000;
+
+const PAUSE: u64 = 10;
+
+/// Seconds after which a read that waits looks whether the host is still there.
+const LOOK_SECONDS: u64 = 1;
+
+/// Seconds within which a request has to come and be answered.
+const REQUEST_SECONDS: u64 = 10;
+
+/// Seconds after which a page that says nothing is silent.
+const SILENT_SECONDS: u64 = 30;
+
+/// Seconds within which a page has to take a message.
+const SEND_SECONDS: u64 = 60;
+
+/// Seconds within which a page has to take a close.
+const PART_SECONDS: u64 = 5;
+
+/// Seconds for which bytes are read and dropped, at most, after the last answer.
+const DRAIN_SECONDS: u64 = 2;
+
+/// Bytes that are read and dropped, at most, after the last answer.
+const DRAINED: usize = 4_194_304;
+
+/// A connection, and the host that answers its lines if that is at the other end of a stream. A call
+/// fails with `WouldBlock` or `TimedOut` once its time is over. A read fails with `HostUnreachable` once
+/// the host is gone.
+#[derive(Drop)]
+pub struct Link<'a, R: Clock> {
+    clock: &'a R,
+    stream: &'a TcpStream,
+    host: Option<&'a TcpStream>,
+    until: Cell<Instant>,
+}
+
+impl<'a, R: Clock> Link<'a, R> {
+    /// A connection whose request has to come.
+    pub fn new(clock: &'a R, stream: &'a TcpStream) -> io::Result<Link<'a, R>> {
+        // Answers are sent even if the socket can't be set to send them at once.
+        let _ = stream.set_nodelay(true);
+        Ok(Link {
+            clock,
+            stream,
+            host: None,
+            until: Cell::new(after(clock, REQUEST_SECONDS)?),
+        })
+    }
+
+    /// Whether a request begins as one for a socket. Waits for as much of it as shows that. It is none
+    /// if the time is over before.
+    pub fn asks_for_socket(&self) -> bool {
+        let mut begin = [0; SOCKET_BEGIN.len()];
+        for _ in 0..LOOKS {
+            let Ok(count) = self.peek(&mut begin) else {
+                return false;
+            };
+            let shown = &begin[..count];
+            if count == 0 || !SOCKET_BEGIN.starts_with(shown) {
+                return false;
+            }
+            if count == SOCKET_BEGIN.len() {
+                return true;
+            }
+            sleep(self.clock, Duration::from_millis(PAUSE));
+        }
+        false
+    }
+
+    /// The bytes that come next, which are left for the next read.
+    fn peek(&self, bytes: &mut [u8]) -> io::Result<usize>
+        ensures { IfOk result (λ count. count ≤ length bytes.new) }
+    {
+        for _ in 0..TRIES {
+            let left = left_until(self.clock, self.until.get())?;
+            self.stream.set_read_timeout(Some(left))?;
+            match self.stream.peek(bytes) {
+                Err(fault) if goes_on(fault.kind()) => {}
+                peeked => return peeked,
+            }
+        }
+        Err(Error::from(ErrorKind::TimedOut))
+    }
+
+    /// The same connection, with its host.
+    pub fn beside<'b>(&'b self, host: &'b TcpStream) -> Link<'b, R> {
+        Link {
+            clock: self.clock,
+            stream: self.stream,
+            host: Some(host),
+            until: Cell::new(self.until.get()),
+        }
+    }
+
+    /// Fails if the host is gone.
+    fn look(&self) -> io::Result<()> {
+        match self.host {
+            Some(host) if has_ended(host) => Err(Error::from(ErrorKind::HostUnreachable)),
+            _ => Ok(()),
+        }
+    }
+
+    /// Lets the next calls take so many seconds.
+    fn allow(&self, seconds: u64) {
+        // A clock that fails leaves the time as it was.
+        if let Ok(until) = after(self.clock, seconds) {
+            self.until.set(until);
+        }
+    }
+
+    /// Shuts the sending side, and drops what the client still sends for a while. A socket that is
+    /// closed with unread bytes resets the connection, and the client may lose its last answer.
+    pub fn part(&self) -> io::Result<()> {
+        self.stream.shutdown(Shutdown::Write)?;
+        self.allow(DRAIN_SECONDS);
+        let mut reader = self;
+        let mut bytes = [0; 4_096];
+        let mut drained = 0;
+        while drained < DRAINED {
+            match reader.read(&mut bytes)? {
+                0 => break,
+                count => drained += count,
+            }
+        }
+        Ok(())
+    }
+}
+
+impl<R: Clock> Paced for &Link<'_, R> {
+    fn pace(&self, pace: Pace) {
+        self.allow(seconds_of(pace));
+    }
+}
+
+/// How many seconds calls may take.
+fn seconds_of(pace: Pace) -> u64 {
+    match pace {
+        Pace::Listening => SILENT_SECONDS,
+        Pace::Sending => SEND_SECONDS,
+        Pace::Parting => PART_SECONDS,
+    }
+}
+
+impl<R: Clock> Read for &Link<'_, R> {
+    fn read(&mut self, bytes: &mut [u8]) -> io::Result<usize> {
+        let mut stream = self.stream;
+        for _ in 0..TRIES {
+            let left = left_until(self.clock, self.until.get())?;
+            stream.set_read_timeout(Some(left.min(Duration::from_secs(LOOK_SECONDS))))?;
+            match stream.read(bytes) {
+                Err(fault) if goes_on(fault.kind()) => self.look()?,
+                read => return read,
+            }
+        }
+        Err(Error::from(ErrorKind::TimedOut))
+    }
+}
+
+impl<R: Clock> Write for &Link<'_, R> {
+    fn write(&mut self, bytes: &[u8]) -> io::Result<usize> {
+        let mut stream = self.stream;
+        for _ in 0..TRIES {
+            stream.set_write_timeout(Some(left_until(self.clock, self.until.get())?))?;
+            match stream.write(bytes) {
+                Err(fault) if fault.kind() == ErrorKind::Interrupted => {}
+                written => return written,
+            }
+        }
+        Err(Error::from(ErrorKind::Interrupted))
+    }
+
+    fn flush(&mut self) -> io::Result<()> {
+        let mut stream = self.stream;
+        stream.flush()
+    }
+}
+
+/// Whether a read that failed so is made again.
+fn goes_on(kind: ErrorKind) -> bool {
+    match kind {
+        ErrorKind::Interrupted => true,
+        ErrorKind::WouldBlock => true,
+        _ => false,
+    }
+}
+
+/// Whether the other end of a stream has ended it.
+fn has_ended(host: &TcpStream) -> bool {
+    if host.set_nonblocking(true).is_err() {
+        return true;
+    }
+    let peeked = host.peek(&mut [0; 1]);
+    if host.set_nonblocking(false).is_err() {
+        return true;
+    }
+    match peeked {
+        Ok(count) => count == 0,
+        Err(fault) => !goes_on(fault.kind()),
+    }
+}
+
+/// So many seconds from now.
+fn after(clock: &impl Clock, seconds: u64) -> io::Result<Instant> {
+    match Instant::now(clock)?.checked_add(Duration::from_secs(seconds)) {
+        Some(until) => Ok(until),
+        None => Err(Error::from(ErrorKind::TimedOut)),
+    }
+}
+
+/// The time until `until`. Fails with `TimedOut` if none is left.
+fn left_until(clock: &impl Clock, until: Instant) -> io::Result<Duration> {
+    let left = until.saturating_duration_since(Instant::now(clock)?);
+    if left.is_zero() {
+        return Err(Error::from(ErrorKind::TimedOut));
+    }
+    Ok(left)
+}

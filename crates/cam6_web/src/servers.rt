@@ -1,0 +1,89 @@
+//! A server of pages: a thread for each connection.
+
+use crate::halls::{Hall, Handle};
+use crate::visitors::Visitors;
+use crate::visits::receive;
+use cam6_web_door::{Door, Hosts, Names};
+use cam6_web_words::{Fault, Options};
+use std::alloc::AllocError;
+use std::io::Error;
+use std::net::{Net, TcpListener, TcpStream};
+use std::sync::{Arc, Condvar, Mutex};
+use std::thread::sleep;
+use std::time::Duration;
+
+/// Milliseconds between a connection that could not be accepted and the next try.
+const PAUSE: u64 = 20;
+
+/// How many failures are not reported after one that is: those of a minute.
+const QUIET: u32 = 3_000;
+
+/// Answers the connections of a listener. Closes it after as many as `options` say, and waits until
+/// all connections are over.
+///
+/// Accepting fails if the system has no file left, for example. The server then tries again without
+/// end, and reports that on standard error once a minute.
+pub fn serve_pages<
+    R: Handle + Net<Listener = TcpListener, Stream = TcpStream> + Eprint + Send + Sync + 'static,
+>(rt: R, listener: TcpListener, options: Options) -> Result<(), Fault> {
+    let requests = options.requests;
+    let Ok(hall) = open(rt, options) else {
+        return Err(Fault::NoMemory);
+    };
+    accept(rt, &hall, listener, requests);
+    hall.wait();
+    Ok(())
+}
+
+/// What the threads of a server share.
+fn open<R: Handle>(rt: R, options: Options) -> Result<Arc<Hall<R>>, AllocError> {
+    let alloc = rt.alloc();
+    let mut names = Names::new(alloc, options.port)?;
+    for name in options.names.as_slice() {
+        names.add(name.as_str())?;
+    }
+    let hosts = Hosts::new(alloc, options.hosts.len())?;
+    let hall = Hall {
+        rt,
+        door: Door { names, hosts },
+        hosts: options.hosts,
+        limit: options.limit,
+        visitors: Mutex::new(Visitors::new(options.connections)),
+        left: Condvar::new(),
+    };
+    Ok(Arc::new(alloc, hall)?)
+}
+
+/// Accepts so many connections, or connections without end if the number is 0. Then closes the
+/// listener.
+fn accept<
+    R: Handle + Net<Listener = TcpListener, Stream = TcpStream> + Eprint + Send + Sync + 'static,
+>(rt: R, hall: &Arc<Hall<R>>, listener: TcpListener, requests: u64) {
+    let mut accepted: u64 = 0;
+    let mut quiet: u32 = 0;
+    for stream in listener.incoming() {
+        match stream {
+            Ok(stream) => {
+                receive(hall, stream);
+                accepted = accepted.wrapping_add(1);
+                if accepted == requests {
+                    break;
+                }
+            }
+            Err(error) => {
+                quiet = report(&rt, &error, quiet);
+                sleep(&rt, Duration::from_millis(PAUSE));
+            }
+        }
+    }
+}
+
+/// Reports a failure, unless so many more are not to be reported. Returns how many aren't after it.
+fn report(rt: &impl Eprint, error: &Error, quiet: u32) -> u32 {
+    if quiet > 0 {
+        return quiet - 1;
+    }
+    // The server goes on if standard error fails.
+    let _ = eprintln!(rt; "cam6_web: cannot accept a connection, trying again: {error}");
+    QUIET
+}

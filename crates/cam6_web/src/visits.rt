@@ -1,0 +1,157 @@
+//! Connections, each in a thread of its own.
+
+use crate::halls::{Hall, Handle};
+use crate::links::Link;
+use crate::visitors::Standing;
+use cam6_web_door::{Opening, Site, Way, greet};
+use cam6_web_machine::PrivateMachine;
+use cam6_web_talk::{Away, HostLines, talk, turn_away};
+use std::io;
+use std::io::{BufReader, ErrorKind};
+use std::net::{Net, TcpListener, TcpStream};
+use std::sync::Arc;
+use std::thread::spawn;
+use std::time::Duration;
+
+/// Seconds within which a host has to take a connection.
+const CONNECT_SECONDS: u64 = 10;
+
+/// Seconds for which a host may say nothing while its answer is awaited.
+const ANSWER_SECONDS: u64 = 600;
+
+/// Seconds for which a host may take none of the bytes that it is sent.
+const HAND_SECONDS: u64 = 60;
+
+/// Bytes that one read of a host asks for.
+const READ_SIZE: usize = 65_536;
+
+/// Answers a connection in a thread of its own. Closes it at once if too many connections wait for an
+/// answer, or if there is no thread or no memory for it.
+pub fn receive<R: Handle + Net<Listener = TcpListener, Stream = TcpStream> + Send + Sync + 'static>(
+    hall: &Arc<Hall<R>>,
+    stream: TcpStream,
+) {
+    if !hall.enter() {
+        return;
+    }
+    if begin(hall, stream).is_none() {
+        hall.leave(Standing::Greeted);
+    }
+}
+
+/// Starts the thread of a connection. Nobody joins it.
+fn begin<R: Handle + Net<Listener = TcpListener, Stream = TcpStream> + Send + Sync + 'static>(
+    hall: &Arc<Hall<R>>,
+    stream: TcpStream,
+) -> Option<()> {
+    let theirs = Arc::try_clone(hall).ok()?;
+    let thread = spawn(&hall.rt, move || attend(&theirs, stream)).ok()?;
+    // Its memory is freed when it ends.
+    drop(thread);
+    Some(())
+}
+
+/// Answers a connection, closes it, and then makes its place free.
+fn attend<R: Handle + Net<Listener = TcpListener, Stream = TcpStream>>(
+    hall: &Hall<R>,
+    stream: TcpStream,
+) {
+    let standing = visit(hall, &stream);
+    drop(stream);
+    hall.leave(standing);
+}
+
+/// Answers a connection. Returns what it had at the end.
+///
+/// A request for a socket has its place before it is answered, so that the answer says whether there
+/// is room.
+fn visit<'a, R: Handle + Net<Listener = TcpListener, Stream = TcpStream>>(
+    hall: &'a Hall<R>,
+    stream: &'a TcpStream,
+) -> Standing {
+    let Ok(link) = Link::new(&hall.rt, stream) else {
+        return Standing::Greeted;
+    };
+    let standing = if link.asks_for_socket() && hall.open() {
+        Standing::Talking
+    } else {
+        Standing::Greeted
+    };
+    match greeted(hall, &link, standing == Standing::Talking) {
+        Ok(Some(opening)) => converse(hall, &link, opening),
+        Ok(None) => {}
+        Err(_) => return standing,
+    }
+    // The connection is closed next, so a failure here changes nothing.
+    let _ = link.part();
+    standing
+}
+
+/// Answers the requests of a connection. Returns the opening if the last answer opened a socket.
+fn greeted<R: Handle>(
+    hall: &Hall<R>,
+    link: &Link<'_, R>,
+    has_room: bool,
+) -> io::Result<Option<Opening>> {
+    let alloc = hall.rt.alloc();
+    let mut site = Site::new(alloc, &hall.door, has_room);
+    greet(&hall.rt, alloc, &mut site, &mut &*link, &mut &*link)
+}
+
+/// Carries the messages of a page to where its socket leads.
+fn converse<R: Handle + Net<Listener = TcpListener, Stream = TcpStream>>(
+    hall: &Hall<R>,
+    link: &Link<'_, R>,
+    opening: Opening,
+) {
+    let Opening { way, unread } = opening;
+    match way {
+        Way::Own => talk_to_machine(hall, link, unread),
+        Way::Host(number) => talk_to_host(hall, link, unread, number),
+    }
+}
+
+/// Carries the messages of a page to a machine of its own.
+fn talk_to_machine<R: Handle>(hall: &Hall<R>, link: &Link<'_, R>, unread: Vec<u8>) {
+    let alloc = hall.rt.alloc();
+    match PrivateMachine::new(alloc, hall.limit) {
+        Ok(mut machine) => {
+            talk(alloc, link, unread, &mut machine);
+        }
+        Err(_) => turn_away(alloc, link, unread, Away::NoMemory),
+    }
+}
+
+/// Carries the messages of a page to the host of this number.
+fn talk_to_host<R: Handle + Net<Listener = TcpListener, Stream = TcpStream>>(
+    hall: &Hall<R>,
+    link: &Link<'_, R>,
+    unread: Vec<u8>,
+    number: usize,
+) {
+    let alloc = hall.rt.alloc();
+    let Ok(stream) = reach(hall, number) else {
+        return turn_away(alloc, link, unread, Away::NoHost);
+    };
+    let Ok(reader) = BufReader::with_capacity(alloc, READ_SIZE, &stream) else {
+        return turn_away(alloc, link, unread, Away::NoMemory);
+    };
+    let mut host = HostLines::new(alloc, reader, &stream);
+    talk(alloc, &link.beside(&stream), unread, &mut host);
+}
+
+/// Connects to the host of this number.
+fn reach<R: Handle + Net<Listener = TcpListener, Stream = TcpStream>>(
+    hall: &Hall<R>,
+    number: usize,
+) -> io::Result<TcpStream> {
+    let Some(address) = hall.hosts.get(number.wrapping_sub(1)) else {
+        return Err(io::Error::from(ErrorKind::NotFound));
+    };
+    let timeout = Duration::from_secs(CONNECT_SECONDS);
+    let stream = TcpStream::connect_timeout(&hall.rt, address, timeout)?;
+    stream.set_nodelay(true)?;
+    stream.set_read_timeout(Some(Duration::from_secs(ANSWER_SECONDS)))?;
+    stream.set_write_timeout(Some(Duration::from_secs(HAND_SECONDS)))?;
+    Ok(stream)
+}

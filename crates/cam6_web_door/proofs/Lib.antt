@@ -1,0 +1,2 @@
+pub mod NoWay
+pub mod Openings

@@ -1,0 +1,2 @@
+-- How a private machine answers lines.
+pub mod Answers

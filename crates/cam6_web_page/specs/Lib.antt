@@ -1,0 +1,2 @@
+-- The page's files.
+pub mod Files

@@ -1,0 +1,118 @@
+//! Messages carried to a host, and its answers carried back.
+ghost use Rattle.std.specs.Prelude.{◌≡◌, ◌↔◌, ◌<◌, IsTrue, IfOk, IfErr};
+ghost use Rattle.cam6_web_talk.specs.Lines.{HasNoLf};
+ghost use Rattle.cam6_web_talk.specs.Talks.{Exchanges, IsCarried, IsWaitedOn, TalksUntil};
+ghost use Rattle.cam6_web_talk.specs.Talks.{max_silences};
+
+use crate::hosts::{Host, MESSAGE_LIMIT, Silence};
+use crate::pages::{Page, Said, Unheard, Unsent};
+
+/// How often in a row a page may be silent before the talk ends.
+const SILENCES: u8 = 3;
+
+/// How many messages and silences a talk has at most.
+const TURNS: u64 = 1_099_511_627_776;
+
+/// How a talk ended.
+#[derive(Clone, Copy, Debug, PartialEq, Eq)]
+pub enum End {
+    /// The page could not be heard, for this reason.
+    Unheard(Unheard),
+    /// A text has an LF in it, so that it is no line.
+    NotALine,
+    /// A text is longer than any line may be.
+    TooLong,
+    /// The host gave no answer, for this reason.
+    Unanswered(Silence),
+    /// The host's answer isn't UTF-8.
+    NoText,
+    /// The host's answer could not be sent, for this reason.
+    Unsent(Unsent),
+    /// A ping could not be sent, for this reason.
+    Unpinged(Unsent),
+    /// The page was silent, and was silent again after each of two pings.
+    Silent,
+    /// There were as many messages and silences as there may be.
+    TurnBound,
+}
+
+/// Hands each text of the page to the host as a line, and sends the host's answer to it as a text,
+/// until something ends the talk. Sends a ping after each silence.
+pub fn carry<P: Page, H: Host>(page: &mut P, host: &mut H) -> End
+    ensures { TalksUntil P.talking H.answering result
+        (P.stands page.old) (H.stands host.old) (P.stands page.new) (H.stands host.new) }
+{
+    let mut silences = 0;
+    let mut turns = TURNS;
+    while turns > 0 {
+        turns -= 1;
+        match exchange(page, host, silences) {
+            Ok(count) => silences = count,
+            Err(end) => return end,
+        }
+    }
+    End::TurnBound
+}
+
+/// Hears what the page says next, and carries it. Returns how often in a row the page was silent.
+fn exchange<P: Page, H: Host>(page: &mut P, host: &mut H, silences: u8) -> Result<u8, End>
+    requires { silences < max_silences }
+    ensures { Exchanges P.talking H.answering result silences
+        (P.stands page.old) (H.stands host.old) (P.stands page.new) (H.stands host.new) }
+{
+    match page.hear() {
+        Ok(Said::Text(text)) => match carry_line(page, host, text.as_str().as_bytes()) {
+            Ok(()) => Ok(0),
+            Err(end) => Err(end),
+        },
+        Ok(Said::Life) => Ok(0),
+        Ok(Said::Nothing) => wait_on(page, silences),
+        Err(why) => Err(End::Unheard(why)),
+    }
+}
+
+/// Asks a page for a sign of life that was silent, unless it was silent too often. Returns how often
+/// in a row it was silent.
+fn wait_on<P: Page>(page: &mut P, silences: u8) -> Result<u8, End>
+    requires { silences < max_silences }
+    ensures { IsWaitedOn P.talking result silences (P.stands page.old) (P.stands page.new) }
+{
+    if silences + 1 == SILENCES {
+        return Err(End::Silent);
+    }
+    match page.ping() {
+        Ok(()) => Ok(silences + 1),
+        Err(why) => Err(End::Unpinged(why)),
+    }
+}
+
+/// Hands a text to the host, if it is a line, and sends the answer.
+fn carry_line<P: Page, H: Host>(page: &mut P, host: &mut H, line: &[u8]) -> Result<(), End>
+    ensures { IsCarried P.talking H.answering result line.now
+        (P.stands page.old) (H.stands host.old) (P.stands page.new) (H.stands host.new) }
+{
+    if !has_no_lf(line) {
+        return Err(End::NotALine);
+    }
+    if line.len() > MESSAGE_LIMIT {
+        return Err(End::TooLong);
+    }
+    let answer = match host.ask(line) {
+        Ok(answer) => answer,
+        Err(silence) => return Err(End::Unanswered(silence)),
+    };
+    let Ok(text) = String::from_utf8(answer) else {
+        return Err(End::NoText);
+    };
+    match page.send(text) {
+        Ok(()) => Ok(()),
+        Err(why) => Err(End::Unsent(why)),
+    }
+}
+
+/// Whether no byte of a text is an LF.
+fn has_no_lf(text: &[u8]) -> bool
+    ensures { IsTrue result ↔ HasNoLf text.now }
+{
+    text.iter().all(|byte| *byte != b'\n')
+}

@@ -1,0 +1,41 @@
+//! Whatever answers lines.
+
+/// The most bytes of a message, which are those of the longest line.
+pub const MESSAGE_LIMIT: usize = 2_097_152;
+
+/// Why a host gave no answer to a line.
+#[derive(Clone, Copy, Debug, PartialEq, Eq)]
+pub enum Silence {
+    /// The line could not be written whole.
+    Unwritten,
+    /// The line was written, and its answer could not be read.
+    Unread,
+    /// The line was written, and the host ended before its answer was whole.
+    Ended,
+    /// An allocation failed.
+    NoMemory,
+}
+
+/// Something that answers lines, one after another.
+pub trait Host {
+    ghost use Rattle.std.specs.Prelude.{List, ℕ, IfOk, IfErr};
+    ghost use Rattle.cam6_web_talk.specs.Lines.{IsLine};
+    ghost use Rattle.cam6_web_talk.specs.Hosts.{HostWays};
+
+    /// The type of what it stands at.
+    ghost state: { Type 0 };
+
+    /// Where it stands.
+    ghost stands: { Self → state };
+
+    /// How it answers lines, and how it fails to.
+    ghost answering: { HostWays state };
+
+    /// Takes a line, and returns the text that answers it.
+    fn ask(&mut self, line: &[u8]) -> Result<Vec<u8>, Silence>
+        requires { IsLine line.now }
+        ensures answer { IfOk result (λ answer.
+            answering.answers (stands self.old) line.now answer.items (stands self.new)) }
+        ensures silence { IfErr result (λ silence.
+            answering.fails (stands self.old) line.now silence (stands self.new)) };
+}

@@ -1,0 +1,34 @@
+//! Bytes written, however much a writer takes at a time.
+ghost use Rattle.cam6_web_talk.specs.Writing.{WritesFront};
+
+use std::io::Write;
+
+/// The writer failed, or took no byte.
+#[derive(Clone, Copy, Debug, PartialEq, Eq)]
+pub struct WriteFault;
+
+/// Writes a line with its LF, and flushes.
+pub fn send<W: Write>(writer: &mut W, line: &[u8]) -> Result<(), WriteFault>
+    ensures { WritesFront result (W.contents writer.old) (W.contents writer.new) line.now }
+{
+    write_bytes(writer, line)?;
+    match writer.flush() {
+        Ok(()) => Ok(()),
+        Err(_) => Err(WriteFault),
+    }
+}
+
+/// Writes the bytes, in as many writes as it takes. A write that takes none is a fault.
+fn write_bytes<W: Write>(writer: &mut W, bytes: &[u8]) -> Result<(), WriteFault>
+    ensures { WritesFront result (W.contents writer.old) (W.contents writer.new) bytes.now }
+{
+    let mut rest = bytes;
+    while !rest.is_empty() {
+        match writer.write(rest) {
+            Ok(0) => return Err(WriteFault),
+            Ok(n) => rest = &rest[n..],
+            Err(_) => return Err(WriteFault),
+        }
+    }
+    Ok(())
+}

@@ -1,0 +1,12 @@
+-- Lemmas, in the order of reading.
+
+-- What the code reads of an option's text is the number there.
+pub mod Numbers
+-- Words are read one after another.
+pub mod Lists
+-- What is asked for, by the parts that clap's rows say.
+pub mod Parts
+-- What the words at `--host` and `--name` ask for, by clap's rows.
+pub mod Given
+-- Clap's matches and faults are functions of the words.
+pub mod Refusing

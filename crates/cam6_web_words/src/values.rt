@@ -1,0 +1,127 @@
+//! What the word at an option says.
+ghost use Rattle.std.specs.Prelude.{◌≡◌, ◌≤◌, ◌&&◌, IfErr, IfOk, IfSome, Some, None, if◌then◌else◌};
+ghost use Rattle.std.specs.Prelude.{List, map, nat_le, option_map, string_bytes};
+ghost use Rattle.std.specs.Net.Grammar.{IsSocketText};
+ghost use Rattle.clap.specs.Walk.{texts};
+ghost use Rattle.cam6_web_words.specs.Values.{AreAddresses, number_by as number_told, number_said};
+ghost use Rattle.cam6_web_words.specs.Values.{side_by as side_told};
+ghost use Rattle.cam6_web_words.specs.Words.{given};
+ghost use Rattle.std.specs.declared.net.socket_addr.SocketAddr.{SocketAddr};
+
+use cam6_planes::Side;
+use std::alloc::{AllocError, Global};
+use std::net::SocketAddr;
+
+/// The number at an option, from `least` to `most`, or the default if the option isn't there.
+pub fn number_by(word: Option<&str>, least: u64, most: u64, default: u64) -> Option<u64>
+    requires { (least ≤ default) × (default ≤ most) }
+    ensures number { result
+        ≡ number_told (option_map (λ word. word.now) word.entry) least most default }
+    ensures within { IfSome result (λ number. (least ≤ number) × (number ≤ most)) }
+{
+    match word {
+        Some(word) => number_of(word, least, most),
+        None => Some(default),
+    }
+}
+
+/// The number that a word is, if it is from `least` to `most`.
+fn number_of(word: &str, least: u64, most: u64) -> Option<u64>
+    ensures number { result ≡ number_said least most word.now }
+    ensures within { IfSome result (λ number. (least ≤ number) × (number ≤ most)) }
+{
+    let Ok(number) = word.parse::<u64>() else {
+        return None;
+    };
+    bounded(number, least, most)
+}
+
+/// The number, if it is from `least` to `most`.
+fn bounded(number: u64, least: u64, most: u64) -> Option<u64>
+    ensures number { result
+        ≡ (if nat_le least number && nat_le number most then Some number else None) }
+    ensures within { IfSome result (λ number. (least ≤ number) × (number ≤ most)) }
+{
+    if least <= number && number <= most {
+        Some(number)
+    } else {
+        None
+    }
+}
+
+/// The side at an option, or 512 if the option isn't there.
+pub fn side_by(word: Option<&str>) -> Option<Side>
+    ensures { result ≡ side_told (option_map (λ word. word.now) word.entry) }
+{
+    match word {
+        Some(word) => Side::named(word),
+        None => Some(Side::S512),
+    }
+}
+
+/// Why words at `--host` are no addresses.
+#[derive(Clone, Copy, Debug, PartialEq, Eq)]
+pub enum Unaddressed {
+    /// One of them isn't an address and a port.
+    NoAddress,
+    /// An allocation failed.
+    NoMemory,
+}
+
+/// The addresses that are given at an option, in order.
+pub fn addresses_by(alloc: Global, words: Option<&[&str]>) -> Result<Vec<SocketAddr>, Unaddressed>
+    ensures addresses { IfOk result (λ addresses.
+        AreAddresses (given (option_map (λ words. texts words.now) words.entry)) addresses.items) }
+    ensures none { IfErr result (λ why. why ≡ Unaddressed.NoAddress →
+        (addresses : List SocketAddr) →
+        ¬ (AreAddresses (given (option_map (λ words. texts words.now) words.entry)) addresses)) }
+{
+    match words {
+        Some(words) => addresses_of(alloc, words),
+        None => Ok(Vec::new(alloc)),
+    }
+}
+
+/// The addresses that words say, in order.
+fn addresses_of(alloc: Global, words: &[&str]) -> Result<Vec<SocketAddr>, Unaddressed>
+    ensures addresses { IfOk result (λ addresses. AreAddresses (texts words.now) addresses.items) }
+    ensures none { IfErr result (λ why. why ≡ Unaddressed.NoAddress →
+        (addresses : List SocketAddr) → ¬ (AreAddresses (texts words.now) addresses)) }
+{
+    let mut addresses = Vec::new(alloc);
+    let mut rest = words;
+    while let [first, later @ ..] = rest {
+        let Ok(address) = first.parse::<SocketAddr>() else {
+            return Err(Unaddressed::NoAddress);
+        };
+        if addresses.push(address).is_err() {
+            return Err(Unaddressed::NoMemory);
+        }
+        rest = later;
+    }
+    Ok(addresses)
+}
+
+/// The words that are given at an option as texts of their own, in order.
+pub fn copied_by(alloc: Global, words: Option<&[&str]>) -> Result<Vec<String>, AllocError>
+    ensures { IfOk result (λ copies. map string_bytes copies.items
+        ≡ given (option_map (λ words. texts words.now) words.entry)) }
+{
+    match words {
+        Some(words) => copied(alloc, words),
+        None => Ok(Vec::new(alloc)),
+    }
+}
+
+/// The words as texts of their own, in order.
+fn copied(alloc: Global, words: &[&str]) -> Result<Vec<String>, AllocError>
+    ensures { IfOk result (λ copies. map string_bytes copies.items ≡ texts words.now) }
+{
+    let mut copies = Vec::new(alloc);
+    let mut rest = words;
+    while let [first, later @ ..] = rest {
+        copies.push(String::from_str(alloc, first)?)?;
+        rest = later;
+    }
+    Ok(copies)
+}

@@ -1,0 +1,288 @@
+// Time: run, pause, step, back, the speed dial, and the way to any step since the first state.
+
+import { announce, at, grouped, joinClicks, numberOf, setPressed, setText } from './dom.js';
+import { Pace, positionOf, stepsASecond } from './dial.js';
+
+const MOST_UNDER_WAY = 2;       // frames that the machine is asked for at once
+const SLOW = 0.8;               // the share of the steps below which the page says that it is slow
+const MEASURED = 4;             // steps a second from which on the page says so
+
+/** The bar of time. */
+export class Controls {
+  /**
+   * @param {import('./machine.js').Machine} machine
+   * @param {(error: Error) => void} fail shows why something wasn't done
+   * @param {() => unknown} before what is to be done before a step, as to put down a piece that floats
+   */
+  constructor(machine, fail, before) {
+    Object.assign(this, { machine, fail, before });
+    /** Which way time runs: 0 if it stands still. */
+    this.way = 0;
+    /** The half of the dial that it stands in. */
+    this.side = 1;
+    /** Whether each step inverts the torus. */
+    this.flashes = false;
+    this.held = 0;
+    this.underWay = new Set();
+    this.pace = new Pace();
+    this.last = 0;
+    /** The frames of the last second: when each was shown, and its steps. @type {{when: number, steps: number}[]} */
+    this.shown = [];
+    this.bounds = { low: 0, high: 0 };
+    /** The step that the scrubber goes to. @type {number|null} */
+    this.target = null;
+    this.listen();
+    requestAnimationFrame(now => this.tick(now));
+  }
+
+  /** Joins the buttons. */
+  listen() {
+    joinClicks({
+      run: () => this.toggle(Math.sign(this.dial) || 1),
+      'run-back': () => this.toggle(-1),
+      step: () => this.step(1),
+      back: () => this.step(-1),
+      start: () => this.seek(0),
+    });
+    at('dial').addEventListener('input', () => this.turned());
+    at('each').addEventListener('input', () => this.eachChanged());
+    at('each').addEventListener('change', () => this.setEach(numberOf(at('each'))));
+    for (const type of ['input', 'change']) {
+      at('scrubber').addEventListener(type, () => this.seek(Number(at('scrubber').value)));
+    }
+  }
+
+  /** Where the dial stands: from -1, the fastest way back, to 1. @returns {number} */
+  get dial() {
+    return Number(at('dial').value);
+  }
+
+  /** Steps a frame: two at least, and an even number, if each step inverts the torus. @returns {number} */
+  get each() {
+    const each = numberOf(at('each'));
+    return this.flashes ? each + each % 2 : each;
+  }
+
+  /** The fewest steps that may be shown at once again and again. @returns {number} */
+  get least() {
+    return this.flashes ? 2 : 1;
+  }
+
+  /** @param {number} each steps a frame, or more if the dial asks for it */
+  setEach(each) {
+    at('each').value = String(each);
+    at('each').value = String(this.each);
+    this.eachChanged();
+  }
+
+  /** Takes another number of steps a frame. As many frames a second come as before. */
+  eachChanged() {
+    const { pace, each } = this;
+    if (pace.stepsAFrame === pace.each && each !== pace.each) {
+      const speed = Math.abs(pace.speed) / pace.each * each;
+      at('dial').value = String(Math.sign(this.dial) * positionOf(speed));
+    }
+    this.turned();
+  }
+
+  /** Turns the dial to so many frames a second. @param {number} rate */
+  setRate(rate) {
+    at('dial').value = String(positionOf(rate * this.each));
+    this.turned();
+  }
+
+  /** Whether each step inverts the torus. Then a frame has two steps. @param {boolean} flashes */
+  setFlashes(flashes) {
+    this.flashes = flashes;
+    Object.assign(at('each'), { min: this.least, step: this.least });
+    at('warning').hidden = !flashes;
+    this.setEach(this.each);
+  }
+
+  /** Another first state came: the scrubber begins there, unless it is on its way to a step. */
+  begin() {
+    if (this.target === null) {
+      this.bounds = { low: Math.min(0, this.machine.count), high: Math.max(0, this.machine.count) };
+    }
+    this.tell();
+  }
+
+  /** Runs that way, or pauses if it does so already. @param {number} way 1 or -1 */
+  toggle(way) {
+    if (this.way === way) {
+      this.pause();
+      return;
+    }
+    this.before();
+    this.way = way;
+    this.pace.rest();
+    announce(way < 0 ? 'Runs back' : 'Runs');
+    this.tell();
+  }
+
+  /** Stands still. */
+  pause() {
+    if (this.way !== 0) {
+      this.way = 0;
+      announce(`Paused at step ${this.machine.count}`);
+    }
+    this.tell();
+  }
+
+  /** The dial was turned: if it was turned over its middle while time runs, time turns too. */
+  turned() {
+    const side = Math.sign(this.dial);
+    if (this.way !== 0 && side !== 0 && side !== this.side) {
+      this.way = side;
+    }
+    this.side = side || this.side;
+    this.tell();
+  }
+
+  /** Turns the dial by so much. @param {number} by */
+  turn(by) {
+    at('dial').value = String(this.dial + by);
+    this.turned();
+  }
+
+  /** Does some steps, or undoes them, and stands still then. @param {number} steps below 0 to undo */
+  async step(steps) {
+    this.pause();
+    await this.before();
+    await this.follow(steps < 0 ? this.machine.back(-steps) : this.machine.run(steps), Math.abs(steps));
+  }
+
+  /** Does some steps as a frame, unless two frames are under way. @param {number} steps below 0 to undo */
+  frame(steps) {
+    return this.follow(this.machine.frame(steps), Math.abs(steps));
+  }
+
+  /**
+   * Waits for steps, and counts what they show as a frame.
+   * @param {Promise<unknown>} done
+   * @param {number} steps
+   */
+  async follow(done, steps) {
+    this.underWay.add(done);
+    try {
+      await done;
+      this.shown.push({ when: performance.now(), steps });
+    } catch (error) {
+      this.pause();
+      this.fail(error);
+    } finally {
+      this.underWay.delete(done);
+    }
+  }
+
+  /** Lets no more frames begin, and waits for those that have. @returns {Promise<void>} */
+  async hold() {
+    this.held++;
+    if (this.machine.state === 'ready') {
+      await Promise.allSettled(this.underWay);
+    }
+  }
+
+  /** Lets frames begin again. */
+  release() {
+    this.held--;
+  }
+
+  /**
+   * Goes to a step. Of many wishes the last one counts.
+   * @param {number} count
+   */
+  async seek(count) {
+    const isUnderWay = this.target !== null;
+    this.target = this.flashes ? count - count % 2 : count;
+    if (isUnderWay) {
+      return;
+    }
+    this.pause();
+    await this.before();
+    await this.hold();
+    try {
+      while (this.target !== this.machine.count) {
+        await this.machine.goTo(this.target);
+      }
+    } catch (error) {
+      this.fail(error);
+    } finally {
+      this.target = null;
+      this.release();
+      this.tell();
+    }
+  }
+
+  /** Begins the frames that are due. @param {number} now */
+  tick(now) {
+    const { pace } = this;
+    const isRunning = this.way !== 0 && this.held === 0 && this.machine.state === 'ready';
+    if (isRunning && this.underWay.size < MOST_UNDER_WAY) {
+      const steps = pace.framesFor(now - this.last);
+      if (steps !== 0) {
+        this.frame(steps);
+      }
+      this.last = now;
+    } else if (!isRunning) {
+      this.last = now;
+    }
+    this.measure(now, isRunning ? Math.abs(pace.speed) : 0);
+    requestAnimationFrame(next => this.tick(next));
+  }
+
+  /** Counts the frames and the steps of the last second, of so many steps that are wanted. */
+  measure(now, wanted) {
+    this.shown = this.shown.filter(({ when }) => when > now - 1000);
+    if (Math.floor(now / 500) === this.measured) {
+      return;
+    }
+    this.measured = Math.floor(now / 500);
+    const steps = this.shown.reduce((sum, frame) => sum + frame.steps, 0);
+    this.slowFor = wanted > MEASURED && steps < SLOW * wanted ? (this.slowFor ?? 0) + 1 : 0;
+    /** The steps of the last second, if the machine can't keep up. @type {number|null} */
+    this.reached = this.slowFor > 3 ? steps : null;
+    setText(at('frames'), this.shown.length);
+    at('frames').classList.toggle('is-slow', this.reached !== null);
+    this.tellWay();
+  }
+
+  /** Shows where time stands and which way it goes. */
+  tell() {
+    const { count, position, entries } = this.machine;
+    const { bounds } = this;
+    bounds.low = Math.min(bounds.low, count);
+    bounds.high = Math.max(bounds.high, count);
+    setText(at('count'), grouped(count));
+    setText(at('position'), entries.length > 0 ? `${position} of ${entries.length}` : '-');
+    const scrubber = at('scrubber');
+    Object.assign(scrubber, { min: bounds.low, max: bounds.high });
+    if (this.target === null) {
+      scrubber.value = String(count);
+    }
+    setText(at('scrubber-first'), grouped(bounds.low));
+    setText(at('scrubber-last'), grouped(bounds.high));
+    this.tellWay();
+  }
+
+  /** Shows on the buttons and at the dial which way time goes, and how fast. */
+  tellWay() {
+    const { way, pace } = this;
+    pace.each = this.each;
+    pace.speed = (way || Math.sign(this.dial)) * Math.abs(stepsASecond(this.dial));
+    const run = at('run');
+    const isRunning = way !== 0 && (way > 0 || this.dial < 0);
+    setPressed(run, isRunning);
+    setPressed(at('run-back'), way < 0);
+    setText(run.querySelector('span'), isRunning ? 'Pause' : 'Run');
+    run.querySelector('use').setAttribute('href', isRunning ? '#i-pause' : '#i-run');
+    const steps = Math.abs(pace.speed);
+    const rounded = steps < 10 ? Number(steps.toFixed(1)) : Math.round(steps);
+    const speed = steps === 0 ? 'stands still' : `${grouped(rounded)} steps/s`;
+    const isSlow = typeof this.reached === 'number';
+    const said = this.dial < 0 ? `back, ${speed}` : speed;
+    setText(at('dial-says'), isSlow ? `${grouped(this.reached)} of ${speed}` : said);
+    at('dial-says').title = isSlow ? "The machine can't keep up with the speed." : '';
+    at('dial').setAttribute('aria-valuetext', at('dial-says').textContent);
+  }
+}

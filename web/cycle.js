@@ -1,0 +1,157 @@
+// The cycle: up to sixteen entries as a list that can be dragged, and moved by keys.
+
+import { announce, at, make, makeButton, makeSelect, spelled } from './dom.js';
+import { sentenceOf } from './explain.js';
+import { FAULTS } from './faults.js';
+import { Fault, IDLE } from './lines.js';
+
+const MOST = 16;
+const GRIP = 'Drag, or press the up and down arrows';
+
+/** @typedef {import('./lines.js').Entry} Entry */
+
+/** The panel of the cycle. */
+export class Cycle {
+  /**
+   * @param {import('./machine.js').Machine} machine
+   * @param {{hold(): Promise<void>, release(): void}} time
+   */
+  constructor(machine, time) {
+    Object.assign(this, { machine, time });
+    /** The entry that is dragged. @type {number|null} */
+    this.dragged = null;
+    at('cycle-add').addEventListener('click', () => {
+      const { entries } = this.machine;
+      this.set([...entries, { ...entries[entries.length - 1] ?? IDLE[0] }]);
+    });
+  }
+
+  /** Lists the entries anew. */
+  update() {
+    const { entries } = this.machine;
+    at('cycle').replaceChildren(...entries.map((entry, index) => this.makeEntry(entry, index)));
+    at('cycle-add').disabled = entries.length >= MOST;
+    this.tellPosition();
+  }
+
+  /** Shows which entry does the next step. */
+  tellPosition() {
+    [...at('cycle').children].forEach((element, index) => {
+      const isNext = index === this.machine.position;
+      element.classList.toggle('is-next', isNext);
+      isNext ? element.setAttribute('aria-current', 'step') : element.removeAttribute('aria-current');
+    });
+  }
+
+  /** An entry of the list. */
+  makeEntry(entry, index) {
+    const names = half => ['-', ...this.machine.rules.filter(rule => rule.half === half).map(rule => rule.name)];
+    const part = (key, title, choices) => {
+      const select = makeSelect(choices, String(entry[key]), { data: { part: key } });
+      select.addEventListener('change', () => {
+        this.change(index, key, key === 'phase' ? Number(select.value) : select.value);
+      });
+      return make('label', {}, title, select);
+    };
+    const grip = make('button', {
+      className: 'grip', textContent: index, title: GRIP, ariaLabel: `Entry ${index}. Arrows move it.`,
+    });
+    this.listen(grip, index);
+    const remove = makeButton({
+      textContent: '✕', title: 'Take this entry out', ariaLabel: `Take entry ${index} out`, data: { part: 'remove' },
+    }, () => this.set(this.machine.entries.filter((_, other) => other !== index)));
+    return make('li', { data: { index } }, grip,
+      part('a', 'A', names('A')), part('b', 'B', names('B')), remove,
+      part('grid', 'Grid', ['EVEN', 'ODD']), part('phase', 'Phase', ['0', '1', '2', '3']));
+  }
+
+  /** Joins the number of an entry, by which it is moved. */
+  listen(grip, index) {
+    grip.addEventListener('keydown', event => {
+      const by = { ArrowUp: -1, ArrowDown: 1 }[event.key];
+      if (by) {
+        event.preventDefault();
+        event.stopPropagation();
+        this.move(index, index + by);
+      }
+    });
+    grip.addEventListener('pointerdown', event => {
+      grip.setPointerCapture(event.pointerId);
+      this.dragged = index;
+      grip.parentElement.classList.add('is-dragged');
+    });
+    grip.addEventListener('pointermove', event => this.dragOver(event));
+    grip.addEventListener('pointerup', () => this.drop(index));
+    grip.addEventListener('pointercancel', () => this.update());
+  }
+
+  /** The dragged entry goes to the place under the pointer. */
+  dragOver(event) {
+    if (this.dragged === null) {
+      return;
+    }
+    const list = at('cycle');
+    const moved = list.querySelector('.is-dragged');
+    const below = [...list.children].find(element => {
+      const box = element.getBoundingClientRect();
+      return element !== moved && event.clientY < box.top + box.height / 2;
+    });
+    if (moved && moved.nextElementSibling !== (below ?? null)) {
+      list.insertBefore(moved, below ?? null);
+    }
+  }
+
+  /** The drag ends: the cycle takes the order of the list. */
+  drop(index) {
+    if (this.dragged === null) {
+      return;
+    }
+    this.dragged = null;
+    const order = [...at('cycle').children].map(element => Number(element.dataset.index));
+    if (order.every((old, i) => old === i)) {
+      at('cycle').children[index]?.classList.remove('is-dragged');
+    } else {
+      this.set(order.map(old => this.machine.entries[old]));
+    }
+  }
+
+  /** Moves an entry to another place. */
+  async move(from, to) {
+    const entries = [...this.machine.entries];
+    if (to < 0 || to >= entries.length) {
+      return;
+    }
+    entries.splice(to, 0, ...entries.splice(from, 1));
+    await this.set(entries);
+    at('cycle').children[to]?.querySelector('.grip').focus();
+    announce(`Entry ${from} is entry ${to} now.`);
+  }
+
+  /** Changes a part of an entry. */
+  change(index, key, value) {
+    return this.set(this.machine.entries.map((entry, other) => other === index ? { ...entry, [key]: value } : entry));
+  }
+
+  /**
+   * Gives the machine a cycle. Its position becomes 0.
+   * @param {Entry[]} entries
+   */
+  async set(entries) {
+    const place = at('cycle-fault');
+    place.hidden = true;
+    await this.time.hold();
+    try {
+      await this.machine.setCycle(entries.length > 0 ? entries : [...IDLE]);
+    } catch (error) {
+      if (!(error instanceof Fault)) {
+        throw error;
+      }
+      const { happened, todo } = sentenceOf(error.answer, FAULTS);
+      place.replaceChildren(...spelled(`${happened} ${todo}`));
+      place.hidden = false;
+    } finally {
+      this.time.release();
+      this.update();
+    }
+  }
+}

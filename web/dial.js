@@ -1,0 +1,138 @@
+// The dial of speed, the pace of frames, and whether a picture flashes.
+
+import { brightness } from './palette.js';
+import { evaluate, namesOf } from './forth.js';
+
+const STILL = 0.04;
+const OCTAVES = 12;
+const MOST_FRAMES = 60;
+
+/**
+ * The speed of the dial: its left half goes back, its middle stands still, and each twelfth of a half doubles.
+ * @param {number} position -1 to 1
+ * @returns {number} steps a second, below 0 if they are undone: 1 to 4,096
+ */
+export function stepsASecond(position) {
+  const turn = Math.min(Math.abs(position), 1);
+  if (turn < STILL) {
+    return 0;
+  }
+  return Math.sign(position) * 2 ** (OCTAVES * (turn - STILL) / (1 - STILL));
+}
+
+/**
+ * Where the dial stands for a speed.
+ * @param {number} speed steps a second
+ * @returns {number} -1 to 1
+ */
+export function positionOf(speed) {
+  if (speed === 0) {
+    return 0;
+  }
+  const turn = STILL + (1 - STILL) * Math.log2(Math.max(Math.abs(speed), 1)) / OCTAVES;
+  return Math.sign(speed) * Math.min(turn, 1);
+}
+
+/** How many steps are due as time goes on. */
+export class Pace {
+  #owed = 0;
+
+  /** @param {number} [each] the fewest steps of a frame: 2 for rules that flash */
+  constructor(each = 1) {
+    /** @type {number} steps a second, below 0 if they are undone */
+    this.speed = 0;
+    /** @type {number} */
+    this.each = each;
+  }
+
+  /** @returns {number} the steps of a frame at this speed */
+  get stepsAFrame() {
+    return Math.max(this.each, this.each * Math.round(Math.abs(this.speed) / MOST_FRAMES / this.each));
+  }
+
+  /**
+   * The steps of the frame that is due. Call it for each frame that can be begun.
+   * @param {number} elapsed milliseconds since the last call
+   * @returns {number} 0 if none is due; below 0 if they are to be undone
+   */
+  framesFor(elapsed) {
+    const steps = this.stepsAFrame;
+    this.#owed = Math.min(this.#owed + Math.abs(this.speed) * elapsed / 1000, 2 * steps);
+    if (this.speed === 0 || this.#owed < steps) {
+      return 0;
+    }
+    this.#owed -= steps;
+    return Math.sign(this.speed) * steps;
+  }
+
+  /** Forgets what is owed, as after a pause. */
+  rest() {
+    this.#owed = 0;
+  }
+}
+
+// The bit that a rule writes to a plane of its half if all cells are blank or all are set, wherever the cell lies.
+function inverts(rule, plane, phase) {
+  const names = namesOf(rule.hood, rule.minor, rule.half);
+  const places = [0, 1, 2, 3].map(place => ({ HORZ: place & 1, VERT: place >> 1 }));
+  return places.every(place => [0, 1].every(cell => {
+    const address = names.reduce((sum, { name, bit }) => {
+      const plain = name.replace('&', '').replace("'", '');
+      const isPrimed = name.endsWith("'");
+      const isOwn = !name.startsWith('&') || plain === 'CENTER';
+      const value = plain in place ? place[plain] : plain === 'PHASE' ? phase >> Number(isPrimed) & 1
+        : isOwn && isPrimed === (plane % 2 === 1) && !name.startsWith('&') ? cell : 0;
+      return sum | value << bit;
+    }, 0);
+    return evaluate(rule, address).get(plane) === 1 - cell;
+  }));
+}
+
+/**
+ * Whether each step inverts a plane: a blank one is full after it, and a full one is blank.
+ * @param {import('./lines.js').Rule[]} rules
+ * @param {import('./lines.js').Entry[]} entries
+ * @returns {boolean}
+ */
+export function flashes(rules, entries) {
+  return [['a', 0], ['a', 1], ['b', 2], ['b', 3]].some(([half, plane]) => entries.length > 0 && entries.every(entry => {
+    const rule = rules.find(({ name }) => name === entry[half]);
+    return rule !== undefined && inverts(rule, plane, entry.phase);
+  }));
+}
+
+const FLASH = 0.1;
+const MOST_FLASHES = 3;
+
+/** Measures whether what is shown flashes more than three times a second, whatever the rule. */
+export class FlashMeter {
+  #last = null;
+  #direction = 0;
+  #turns = [];
+
+  /**
+   * Looks at a frame.
+   * @param {Uint8Array} cells states
+   * @param {number[]} colours the colour of each state, as shown
+   * @param {number} time in milliseconds
+   * @returns {boolean} whether the brightness has gone up and down by a tenth more than three times in a second
+   */
+  see(cells, colours, time) {
+    const counts = new Uint32Array(16);
+    for (let i = 0; i < cells.length; i++) {
+      counts[cells[i]]++;
+    }
+    const light = counts.reduce((sum, count, state) => sum + count * brightness(colours[state]), 0) / cells.length;
+    const change = light - (this.#last ?? light);
+    if (this.#last === null || Math.abs(change) >= FLASH) {
+      const direction = Math.sign(change);
+      if (direction !== 0 && direction !== this.#direction) {
+        this.#turns.push(time);
+      }
+      this.#direction = direction;
+      this.#last = light;
+    }
+    this.#turns = this.#turns.filter(turn => time - turn < 1000);
+    return this.#turns.length > 2 * MOST_FLASHES;
+  }
+}

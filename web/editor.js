@@ -1,0 +1,261 @@
+// The editor of rules: the text with its words in colours, what may be written beside it, and a fault at its token.
+
+import { at, capital, fillSelect, joinClicks, make, makeButton, note, say, setText, spelled } from './dom.js';
+import { HOODS, MINORS, WORDS, namesOf, tokens } from './forth.js';
+import { sentenceOf } from './explain.js';
+import { FAULTS } from './faults.js';
+import { Fault } from './lines.js';
+
+const CONTROL = new Set([':', ';', 'IF', 'ELSE', 'THEN', '{', '}']);
+const PARTS = ['name', 'half', 'hood', 'minor', 'text'];
+const FIRST_TEXT = ': R CENTER NORTH XOR SOUTH XOR WEST XOR EAST XOR >PLN0 ;';
+
+/**
+ * @typedef {import('./lines.js').Rule} Rule
+ * @typedef {import('./machine.js').Machine} Machine
+ */
+
+/** Whether a rule sees blocks of two by two cells. @param {Rule} rule */
+export const seesBlocks = rule => rule.hood.startsWith('N/MARG');
+
+/**
+ * The cycle of one rule alone: on both grids in turn if it sees blocks.
+ * @param {Rule} rule
+ * @returns {import('./lines.js').Entry[]}
+ */
+export function cycleOf(rule) {
+  const grids = seesBlocks(rule) ? ['EVEN', 'ODD'] : ['EVEN'];
+  const halves = rule.half === 'A' ? { a: rule.name, b: '-' } : { a: '-', b: rule.name };
+  return grids.map(grid => ({ ...halves, grid, phase: 0 }));
+}
+
+/** The panel of rules. */
+export class Editor {
+  /**
+   * @param {Machine} machine
+   * @param {{hold(): Promise<void>, release(): void}} time
+   */
+  constructor(machine, time) {
+    Object.assign(this, { machine, time });
+    /** The rule as the machine has it, or as the panel began with it. @type {Rule|null} */
+    this.shown = null;
+    /** @type {{fault: number, token?: number, address?: number}|null} */
+    this.fault = null;
+    fillSelect(at('rule-hood'), Object.keys(HOODS), 'N/VONN');
+    fillSelect(at('rule-minor'), Object.keys(MINORS), '&/CENTERS');
+    this.listen();
+  }
+
+  /** Joins the fields and the buttons. */
+  listen() {
+    const text = at('rule-text');
+    text.addEventListener('input', () => this.edited());
+    text.addEventListener('keydown', event => {
+      if (event.key === 'Enter' && (event.ctrlKey || event.metaKey)) {
+        event.preventDefault();
+        this.define();
+      }
+    });
+    for (const id of ['rule-half', 'rule-hood', 'rule-minor']) {
+      at(id).addEventListener('change', () => this.edited());
+    }
+    at('rule-pick').addEventListener('change', event => {
+      this.open(this.machine.rules.find(rule => rule.name === event.target.value));
+    });
+    joinClicks({
+      'rule-new': () => this.begin(),
+      'rule-drop': () => this.act(() => this.machine.drop(this.shown.name)),
+      define: () => this.define(),
+      'use-rule': () => this.define(true),
+    });
+  }
+
+  /** The rule in the fields. @returns {Rule} */
+  read() {
+    const [name, half, hood, minor, text] = PARTS.map(part => at(`rule-${part}`).value);
+    return { name: name.trim(), half, hood, minor, text };
+  }
+
+  /** Whether the fields differ from the rule that was opened. */
+  get isChanged() {
+    const now = this.read();
+    return this.shown !== null && Object.keys(now).some(part => now[part] !== this.shown[part]);
+  }
+
+  /**
+   * Shows a rule. Each definition begins on a line of its own.
+   * @param {Rule} rule
+   */
+  open(rule) {
+    const text = rule.text.replace(/ ; : /g, ' ;\n: ');
+    this.shown = { ...rule, text };
+    for (const part of PARTS) {
+      at(`rule-${part}`).value = this.shown[part];
+    }
+    this.edited();
+    this.tell();
+  }
+
+  /** Begins a new rule. */
+  begin() {
+    const names = new Set(this.machine.rules.map(rule => rule.name));
+    let name = 'R';
+    for (let i = 2; names.has(name); i++) {
+      name = `R${i}`;
+    }
+    this.open({ name, half: 'A', hood: 'N/VONN', minor: '&/CENTERS', text: FIRST_TEXT });
+  }
+
+  /**
+   * The machine's rules changed: lists them. A text that somebody is changing stays.
+   * @param {boolean} isNew whether another machine came, so that the text is not kept
+   */
+  update(isNew) {
+    const { rules, entries } = this.machine;
+    const used = entries.flatMap(({ a, b }) => [a, b]);
+    const known = rules.some(rule => rule.name === this.shown?.name);
+    if (isNew || this.shown === null || !known && !this.isChanged) {
+      const rule = rules.find(({ name }) => name === used.find(name => name !== '-')) ?? rules[0];
+      rule ? this.open(rule) : this.begin();
+    }
+    this.tell();
+  }
+
+  /** Shows the list of rules, and which buttons do something. */
+  tell() {
+    const { rules } = this.machine;
+    const name = this.shown?.name ?? '';
+    const isKnown = rules.some(rule => rule.name === name);
+    fillSelect(at('rule-pick'), [...rules.map(rule => rule.name), ...isKnown ? [] : [[name, `${name} (new)`]]], name);
+    at('rule-drop').disabled = !isKnown;
+  }
+
+  /** The text or what it sees was changed: the marks, the words and the old fault go with it. */
+  edited() {
+    this.fault = null;
+    at('rule-fault').hidden = true;
+    this.mark();
+    this.listWords();
+  }
+
+  /** Shows the text's words in colours, and the token of a fault. */
+  mark() {
+    const { text, hood, minor, half } = this.read();
+    const names = new Set(namesOf(hood, minor, half).map(({ name }) => name));
+    const wrong = this.fault?.token;
+    const pieces = [];
+    let end = 0;
+    tokens(text).forEach((token, i) => {
+      pieces.push(text.slice(end, token.start), this.markOf(token, names, wrong === i + 1 ? i + 1 : 0));
+      end = token.end;
+    });
+    pieces.push(text.slice(end));
+    if (wrong > tokens(text).length) {
+      pieces.push(make('mark', { textContent: ' ⏎ ', data: { token: String(wrong) } }));
+    }
+    at('rule-marks').replaceChildren(...pieces, '\n');
+  }
+
+  /** A token as it is shown. */
+  markOf({ text, isComment }, names, wrong) {
+    if (wrong) {
+      return make('mark', { textContent: text, data: { token: String(wrong) } });
+    }
+    const kind = isComment ? 'comment'
+      : text.startsWith('>PLN') ? 'output'
+        : names.has(text) ? 'neighbour'
+          : CONTROL.has(text) ? 'control' : '';
+    return kind ? make('span', { textContent: text, className: kind }) : text;
+  }
+
+  /** Lists what may be written: what the rule sees, where it writes, and the words of the language. */
+  listWords() {
+    const { hood, minor, half, text } = this.read();
+    const other = half === 'A' ? /^>PLN[23B]/ : /^>PLN[01A]/;
+    const words = WORDS.filter(({ word }) => !other.test(word));
+    const names = [...text.matchAll(/(?:^|\s):\s+(\S+)/g)].map(([, word]) => word);
+    const defined = names.map(word => ({ word, sentence: 'A word that this text defines.' }));
+    const groups = {
+      'It sees': namesOf(hood, minor, half).map(({ name, sentence }) => ({ word: name, sentence })),
+      'It writes': words.filter(({ word }) => word.startsWith('>PLN')),
+      'Words': words.filter(({ word }) => !word.startsWith('>PLN')),
+      'Defined here': defined.slice(0, -1),
+    };
+    at('words').replaceChildren(...Object.entries(groups).flatMap(([title, list]) => list.length === 0 ? [] : [
+      say('h3', title),
+      make('div', {}, ...list.map(entry => this.wordButton(entry))),
+    ]));
+  }
+
+  /** A button that puts a word into the text. */
+  wordButton({ word, before, after, sentence }) {
+    const stack = before || after ? ` Stack: ${before || 'nothing'} → ${after || 'nothing'}.` : '';
+    const inserted = word === '0 .. 65535' ? '1' : word;
+    const button = makeButton({ textContent: word, title: sentence + stack }, () => this.insert(inserted));
+    const say = () => setText(at('word-says'), `${word}: ${sentence}${stack}`);
+    button.addEventListener('pointerenter', say);
+    button.addEventListener('focus', say);
+    return button;
+  }
+
+  /**
+   * Puts a word at the cursor, with blanks round it.
+   * @param {string} word
+   */
+  insert(word) {
+    const field = at('rule-text');
+    const { selectionStart: start, selectionEnd: end, value } = field;
+    const left = start === 0 || /\s/.test(value[start - 1]) ? '' : ' ';
+    const right = end < value.length && /\s/.test(value[end]) ? '' : ' ';
+    field.setRangeText(left + word + right, start, end, 'end');
+    field.focus();
+    this.edited();
+  }
+
+  /**
+   * Gives the machine the rule.
+   * @param {boolean} [isAlone] whether the cycle becomes this rule alone
+   */
+  async define(isAlone = false) {
+    const rule = this.read();
+    await this.act(async () => {
+      await this.machine.define(rule);
+      this.shown = rule;
+      const isIdle = this.machine.entries.every(({ a, b }) => a === '-' && b === '-');
+      if (isAlone || isIdle) {
+        await this.machine.setCycle(cycleOf(rule));
+      }
+      note(isAlone || isIdle ? `Each step goes by ${rule.name} now.` : `${rule.name} is defined.`);
+      this.tell();
+    });
+  }
+
+  /** Does something while no step is under way, and shows its fault. */
+  async act(doing) {
+    await this.time.hold();
+    try {
+      await doing();
+      this.edited();
+    } catch (error) {
+      if (!(error instanceof Fault)) {
+        throw error;
+      }
+      this.showFault(error.answer);
+    } finally {
+      this.time.release();
+    }
+  }
+
+  /** Shows a fault at its token, with its sentence. */
+  showFault(answer) {
+    this.fault = answer;
+    this.mark();
+    const { title, happened, todo, token } = sentenceOf(answer, FAULTS, { rule: this.read() });
+    const place = at('rule-fault');
+    const head = token?.text ? `${token.text}: ${title}. ` : `${capital(title)}. `;
+    place.replaceChildren(say('strong', head), ...spelled(`${happened} ${todo}`));
+    Object.assign(place.dataset, { fault: answer.fault, token: answer.token ?? '' });
+    place.hidden = false;
+    place.scrollIntoView({ block: 'nearest' });
+  }
+}

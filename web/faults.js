@@ -1,0 +1,33 @@
+// Made by tools/embed from docs/errors.json: what happened at each fault, and what to do.
+
+/** @type {Record<number, {title: string, happened: string, todo: string}>} */
+export const FAULTS = {
+1: {title: 'line too long', happened: 'The line has more than 16,384 bytes, or, as a load, more than 2,097,152.', todo: "Send shorter lines: set a plane row by row, and keep a rule's text under 8,192 bytes."},
+2: {title: 'not JSON', happened: 'The line is not a JSON value in UTF-8.', todo: 'Check quotes, commas and brackets. Numbers have no leading zeros, and no byte order mark comes first.'},
+3: {title: 'not a command', happened: 'The line is JSON, but not a command, or its keys or their values have another shape.', todo: 'Compare the line with the table of commands. Every key is needed and no other is taken. Numbers are whole.'},
+4: {title: 'another spelling of a load', happened: 'The line loads a machine, but it is not spelled as `save` spells machines.', todo: 'Make the line from a reply to `save` as the manual shows, and change nothing in it.'},
+20: {title: 'unknown word', happened: "A body has a word that the language, the neighbourhood and the text don't have.", todo: 'Look at the token. Names of neighbours depend on the neighbourhood and the minor assignment.'},
+21: {title: "name can't be defined", happened: 'The name after `:` is a word of the language, or it is defined already.', todo: 'Choose another name.'},
+22: {title: 'token out of place', happened: 'A token stands where it may not, or the text ends too early.', todo: 'Close each definition with `;`, each `IF` with `THEN`, each `{` with `}` and each comment with `)`.'},
+23: {title: 'definition too large', happened: "The definition's size is above 4,096.", todo: 'Split the rule, or use a case in place of repeated words. A defined name counts with its own size.'},
+24: {title: 'too many open IFs', happened: 'More than 16 `IF`s are open at once.', todo: 'Close inner `IF`s earlier, or use a case.'},
+25: {title: 'output of the other half', happened: 'The text writes to a plane of the other half.', todo: 'Half A writes `>PLN0`, `>PLN1` or `>PLNA`. Half B writes `>PLN2`, `>PLN3` or `>PLNB`.'},
+26: {title: 'number too large', happened: 'A number in the text is above 65,535.', todo: 'Use numbers from 0 to 65,535.'},
+27: {title: 'no definition', happened: 'The text has no definition.', todo: 'Write the rule as `: NAME words ;`.'},
+28: {title: 'text too long', happened: 'The text has more than 64 definitions or more than 8,192 bytes.', todo: 'Shorten the text. If it has too many bytes the reply names token 0.'},
+40: {title: 'value missing', happened: 'A word needs more values than the stack has.', todo: 'Run the rule by hand at the address in the reply. Output words take their value off the stack.'},
+41: {title: 'stack full', happened: 'The stack has more than 32 values.', todo: 'Use values before you put more on the stack.'},
+42: {title: 'no such word in the case', happened: 'The index of a case is not below the number of its words.', todo: 'Give the case a word for each index, or take the index modulo a number first.'},
+43: {title: 'result out of range', happened: 'The result of `+`, `-` or `*` is below 0 or above 65,535.', todo: 'Change the order of a subtraction, or use `XOR` for bits.'},
+60: {title: 'no such rule', happened: 'The cycle names a rule that is not there, or the rule to drop is not there.', todo: 'List the rules with `rules`. Define the rule first.'},
+61: {title: 'rule in use', happened: "The cycle uses the rule, so it can't be redefined or dropped.", todo: 'Set a cycle without it first: an entry with `-` for both halves frees all rules.'},
+62: {title: 'too many rules', happened: 'The machine has 16 rules already.', todo: "Drop a rule that you don't need."},
+63: {title: 'no cycle', happened: 'There is no cycle to run or to undo.', todo: 'Set a cycle first.'},
+64: {title: "can't be undone", happened: "A rule of the cycle can't be undone.", todo: "Read the cause in the reply: no blocks, the other half's centres, or two blocks that become one."},
+65: {title: 'number out of range', happened: "A number is out of its range, or a rule's name is not a valid one.", todo: 'Look up the range of the command. A row has as many digits as its side asks for.'},
+66: {title: 'rule of the other half', happened: 'The cycle gives a half a rule of the other half.', todo: 'Name rules of half A under `a` and rules of half B under `b`.'},
+67: {title: 'side above the limit', happened: "The side is above the machine's limit.", todo: 'Start `cam6` with a larger `--side`.'},
+68: {title: 'not a saved machine', happened: 'No machine can have been saved as this one.', todo: 'Load only what `save` wrote. The manual lists what is looked at.'},
+80: {title: 'seat taken', happened: 'The user already has a connection.', todo: 'Ask for another seat, or wait until the session ends.'},
+81: {title: 'no such seat', happened: 'There is no user with this number.', todo: 'Users are numbered from 1. `--users` says how many there are.'},
+};

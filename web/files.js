@@ -1,0 +1,186 @@
+// Files and texts: machines, patterns, pictures and films.
+
+import { at, download, joinClicks, note, numberOf, setText, takesText } from './dom.js';
+import { coloursShown } from './palette.js';
+import { Film, picture } from './film.js';
+
+/** Whether a text is a machine or a list of commands, and no pattern. @param {string} text */
+const isMachine = text => text.trimStart().startsWith('{');
+
+/** Everything that comes into the page, or leaves it, as a file or a text. */
+export class Files {
+  /**
+   * @param {import('./machine.js').Machine} machine
+   * @param {import('./screen.js').Screen} screen
+   * @param {import('./piece.js').Piece} piece
+   * @param {import('./controls.js').Controls} time
+   * @param {(name: string) => void} loaded called after another machine was loaded
+   */
+  constructor(machine, screen, piece, time, loaded) {
+    Object.assign(this, { machine, screen, piece, time, loaded });
+    this.isFilming = false;
+    this.listen();
+    this.listenToTexts();
+  }
+
+  /** Joins the buttons. */
+  listen() {
+    joinClicks({
+      'save-file': () => this.save(),
+      'load-button': () => at('load-file').click(),
+      pattern: () => at('pattern-dialog').showModal(),
+      paste: () => this.paste(),
+      'take-text': () => {
+        at('paste-text').value = this.piece.asText();
+      },
+      'keep-picture': () => at('picture-dialog').showModal(),
+      picture: () => this.keepPicture(),
+      film: () => this.keepFilm(),
+    });
+    at('load-file').addEventListener('change', async event => {
+      const [file] = event.target.files;
+      if (file) {
+        await this.take(await file.text(), file.name);
+      }
+      event.target.value = '';
+    });
+  }
+
+  /** Joins the clipboard, and files that are dropped on the page. */
+  listenToTexts() {
+    const isBusy = event => document.querySelector('dialog[open]') || takesText(event.target);
+    document.addEventListener('paste', event => {
+      if (!isBusy(event)) {
+        event.preventDefault();
+        this.take(event.clipboardData.getData('text/plain'), 'the clipboard');
+      }
+    });
+    for (const type of ['copy', 'cut']) {
+      document.addEventListener(type, event => {
+        if (!isBusy(event) && this.piece.frame) {
+          event.preventDefault();
+          event.clipboardData.setData('text/plain', this.piece.copy());
+          type === 'cut' && this.piece.erase();
+        }
+      });
+    }
+    document.addEventListener('dragover', event => event.preventDefault());
+    document.addEventListener('drop', async event => {
+      event.preventDefault();
+      const [file] = event.dataTransfer.files;
+      const text = file ? await file.text() : event.dataTransfer.getData('text/plain');
+      await this.take(text, file?.name ?? 'the text');
+    });
+  }
+
+  /**
+   * Takes a text that may be a machine or a pattern.
+   * @param {string} text
+   * @param {string} name where it comes from
+   */
+  async take(text, name) {
+    try {
+      if (isMachine(text)) {
+        this.time.pause();
+        await this.time.hold();
+        await this.machine.load(text).finally(() => this.time.release());
+        this.loaded(name.replace(/\.[a-z0-9]+$/i, ''));
+      } else if (text.trim() !== '') {
+        await this.piece.pasteText(text);
+      }
+    } catch (error) {
+      this.time.fail(error);
+    }
+  }
+
+  /** Pastes the text of the dialog. */
+  async paste() {
+    const place = at('paste-fault');
+    place.hidden = true;
+    try {
+      await this.piece.pasteText(at('paste-text').value);
+      at('pattern-dialog').close();
+      this.screen.torus.canvas.focus({ preventScroll: true });
+      note('Drag the piece to its place. Enter puts it there.');
+    } catch (error) {
+      place.textContent = error.message;
+      place.hidden = false;
+    }
+  }
+
+  /** A name for a file of what is on the torus. */
+  nameOf(ending) {
+    const title = at('title').textContent.toLowerCase().replace(/[^a-z0-9]+/g, '-').replace(/^-|-$/g, '');
+    return `${title || 'cam6'}-${this.machine.count}.${ending}`;
+  }
+
+  /** Keeps the machine as a file. */
+  async save() {
+    const line = await this.machine.save();
+    download(this.nameOf('cam6'), new Blob([line, '\n'], { type: 'application/json' }));
+    note('The file has the whole machine. Load brings it back.');
+  }
+
+  /** The colours of cells, as they are shown. @param {Uint8Array} cells */
+  coloursOf(cells) {
+    const colours = coloursShown(this.machine.colours, this.screen.shown);
+    return cells.map(state => colours[state]);
+  }
+
+  /** The pixels of a file for each cell. @returns {number} */
+  get scale() {
+    return Number(at('picture-scale').value);
+  }
+
+  /** Keeps a picture of the torus. */
+  async keepPicture() {
+    const { side, cells } = this.screen.cells;
+    const bytes = await picture(this.coloursOf(cells), side, side, { scale: this.scale });
+    download(this.nameOf('png'), new Blob([bytes], { type: 'image/png' }));
+    at('picture-dialog').close();
+  }
+
+  /** Makes a film from here on, and perhaps back again. A second press ends it early. */
+  async keepFilm() {
+    if (this.isFilming) {
+      this.isFilming = false;
+      return;
+    }
+    this.isFilming = true;
+    this.time.pause();
+    await this.time.hold();
+    setText(at('film').lastChild, 'Stop');
+    try {
+      const { side } = this.machine;
+      const film = new Film(side, side, { scale: this.scale, rate: numberOf(at('film-rate')) });
+      await this.shoot(film, numberOf(at('film-frames')), at('film-back').checked);
+      download(this.nameOf('png'), new Blob([await film.bytes()], { type: 'image/png' }));
+      setText(at('film-says'), `The film has ${film.length} frames.`);
+    } catch (error) {
+      at('picture-dialog').close();
+      this.time.fail(error);
+    } finally {
+      this.isFilming = false;
+      this.time.release();
+      setText(at('film').lastChild, 'Film');
+    }
+  }
+
+  /** Adds the frames of a film. */
+  async shoot(film, count, goesBack) {
+    const { each } = this.time;
+    const add = () => {
+      film.add(this.coloursOf(this.machine.planes.cells));
+      setText(at('film-says'), `Frame ${film.length} of ${goesBack ? 2 * count - 1 : count}`);
+    };
+    add();
+    while (this.isFilming && film.length < count) {
+      await this.machine.run(each);
+      add();
+    }
+    for (let left = film.length - 1; goesBack && this.isFilming && left > 0; left--) {
+      await this.machine.back(each);
+      add();
+    }
+  }
+}

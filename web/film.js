@@ -1,0 +1,190 @@
+// Pictures and films as PNG files: each pixel is one of sixteen colours.
+
+import { PALETTE } from './palette.js';
+
+const SIGNATURE = [0x89, 0x50, 0x4e, 0x47, 0x0d, 0x0a, 0x1a, 0x0a];
+const DEPTH = 4;
+const INDEXED = 3;
+const STORED_BYTES = 65535;
+
+function crcTable() {
+  return Uint32Array.from({ length: 256 }, (_, n) => {
+    for (let bit = 0; bit < 8; bit++) {
+      n = n & 1 ? 0xedb88320 ^ n >>> 1 : n >>> 1;
+    }
+    return n;
+  });
+}
+
+let crcs;
+
+function crcOf(bytes) {
+  crcs ??= crcTable();
+  let crc = 0xffffffff;
+  for (const byte of bytes) {
+    crc = crcs[(crc ^ byte) & 255] ^ crc >>> 8;
+  }
+  return ~crc >>> 0;
+}
+
+function adlerOf(bytes) {
+  let low = 1;
+  let high = 0;
+  for (const byte of bytes) {
+    low = (low + byte) % 65521;
+    high = (high + low) % 65521;
+  }
+  return (high << 16 | low) >>> 0;
+}
+
+const number32 = n => [n >>> 24, n >>> 16 & 255, n >>> 8 & 255, n & 255];
+const number16 = n => [n >>> 8 & 255, n & 255];
+
+function joined(parts) {
+  const bytes = new Uint8Array(parts.reduce((sum, part) => sum + part.length, 0));
+  let at = 0;
+  for (const part of parts) {
+    bytes.set(part, at);
+    at += part.length;
+  }
+  return bytes;
+}
+
+function chunk(type, data) {
+  const body = joined([[...type].map(letter => letter.charCodeAt(0)), data]);
+  return joined([number32(data.length), body, number32(crcOf(body))]);
+}
+
+/**
+ * Packs bytes as zlib data without making them fewer, for browsers that can't deflate.
+ * @param {Uint8Array} bytes
+ * @returns {Uint8Array}
+ */
+export function stored(bytes) {
+  const parts = [[0x78, 0x01]];
+  for (let at = 0; at === 0 || at < bytes.length; at += STORED_BYTES) {
+    const block = bytes.subarray(at, at + STORED_BYTES);
+    const isLast = at + STORED_BYTES >= bytes.length;
+    const size = block.length;
+    parts.push([isLast ? 1 : 0, size & 255, size >> 8, ~size & 255, ~size >> 8 & 255], block);
+  }
+  return joined([...parts, number32(adlerOf(bytes))]);
+}
+
+/**
+ * Packs bytes as zlib data.
+ * @param {Uint8Array} bytes
+ * @param {typeof CompressionStream|null} [Stream] null to do without, as if the browser has none
+ * @returns {Promise<Uint8Array>}
+ */
+export async function deflated(bytes, Stream = globalThis.CompressionStream) {
+  if (!Stream) {
+    return stored(bytes);
+  }
+  const stream = new Blob([bytes]).stream().pipeThrough(new Stream('deflate'));
+  return new Uint8Array(await new Response(stream).arrayBuffer());
+}
+
+// The rows of a box of pixels, two pixels a byte, each row after its filter 0; each pixel `scale` wide and high.
+function packed(pixels, width, { x, y, wide, high }, scale) {
+  const stride = 1 + Math.ceil(wide * scale / 2);
+  const bytes = new Uint8Array(stride * high * scale);
+  for (let row = 0; row < high; row++) {
+    const start = row * scale * stride;
+    for (let column = 0; column < wide * scale; column++) {
+      const colour = pixels[(y + row) * width + x + Math.floor(column / scale)];
+      bytes[start + 1 + (column >> 1)] |= column & 1 ? colour : colour << 4;
+    }
+    for (let again = 1; again < scale; again++) {
+      bytes.copyWithin(start + again * stride, start, start + stride);
+    }
+  }
+  return bytes;
+}
+
+function heading(width, height) {
+  const lights = PALETTE.flat();
+  return [SIGNATURE, chunk('IHDR', [...number32(width), ...number32(height), DEPTH, INDEXED, 0, 0, 0]), chunk('PLTE', lights)];
+}
+
+/**
+ * A picture as a PNG file.
+ * @param {Uint8Array} pixels colours 0 to 15, row by row
+ * @param {number} width
+ * @param {number} height
+ * @param {{scale?: number, Stream?: typeof CompressionStream|null}} [how] pixels of the file for each pixel, 1 to 16
+ * @returns {Promise<Uint8Array>}
+ */
+export async function picture(pixels, width, height, { scale = 1, Stream = globalThis.CompressionStream } = {}) {
+  const data = await deflated(packed(pixels, width, { x: 0, y: 0, wide: width, high: height }, scale), Stream);
+  return joined([...heading(width * scale, height * scale), chunk('IDAT', data), chunk('IEND', [])]);
+}
+
+// The smallest box with all pixels that changed, or one pixel if none did.
+function changedBox(last, pixels, width, height) {
+  let [left, top, right, bottom] = [width, height, -1, -1];
+  for (let i = 0; i < pixels.length; i++) {
+    if (last[i] !== pixels[i]) {
+      const x = i % width;
+      const y = (i - x) / width;
+      left = Math.min(left, x);
+      right = Math.max(right, x);
+      top = Math.min(top, y);
+      bottom = y;
+    }
+  }
+  return right < 0 ? { x: 0, y: 0, wide: 1, high: 1 }
+    : { x: left, y: top, wide: right - left + 1, high: bottom - top + 1 };
+}
+
+/** A film as an animated PNG file. */
+export class Film {
+  #last = null;
+  #frames = [];
+
+  /**
+   * @param {number} width
+   * @param {number} height
+   * @param {{scale?: number, rate?: number, Stream?: typeof CompressionStream|null}} [how] rate: frames a second, 1 to 1,000
+   */
+  constructor(width, height, { scale = 1, rate = 12, Stream = globalThis.CompressionStream } = {}) {
+    Object.assign(this, { width, height, scale, rate, Stream });
+  }
+
+  /** @returns {number} the frames that were added */
+  get length() {
+    return this.#frames.length;
+  }
+
+  /**
+   * Adds a frame.
+   * @param {Uint8Array} pixels colours 0 to 15, row by row
+   * @param {number} [pause] hundredths of a second for which it stays longer
+   */
+  add(pixels, pause = 0) {
+    const { width, height, scale } = this;
+    const box = this.#last === null ? { x: 0, y: 0, wide: width, high: height }
+      : changedBox(this.#last, pixels, width, height);
+    this.#last = pixels.slice();
+    const delay = pause === 0 ? [1, this.rate] : [Math.round(100 / this.rate) + pause, 100];
+    this.#frames.push({ box, delay, data: deflated(packed(pixels, width, box, scale), this.Stream) });
+  }
+
+  /**
+   * The file of all frames.
+   * @returns {Promise<Uint8Array>}
+   */
+  async bytes() {
+    const { width, height, scale } = this;
+    const chunks = heading(width * scale, height * scale);
+    chunks.push(chunk('acTL', [...number32(this.#frames.length), ...number32(0)]));
+    let sequence = 0;
+    for (const [i, { box, delay, data }] of this.#frames.entries()) {
+      const sizes = [box.wide, box.high, box.x, box.y].flatMap(n => number32(n * scale));
+      chunks.push(chunk('fcTL', [...number32(sequence++), ...sizes, ...delay.flatMap(number16), 0, 0]));
+      const bytes = await data;
+      chunks.push(i === 0 ? chunk('IDAT', bytes) : chunk('fdAT', joined([number32(sequence++), bytes])));
+    }
+    return joined([...chunks, chunk('IEND', [])]);
+  }
+}

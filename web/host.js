@@ -1,0 +1,207 @@
+// One connection to whatever answers lines, and how the page takes a seat.
+
+import { answerOf, seat as seatLine } from './lines.js';
+
+/** A connection that is over, or that never was. */
+export class Lost extends Error {
+  /**
+   * @param {number} code the close code of the socket
+   * @param {string} reason
+   */
+  constructor(code, reason) {
+    super(reason || `the connection is over (${code})`);
+    this.name = 'Lost';
+    /** @type {number} */
+    this.code = code;
+    /** @type {string} */
+    this.reason = reason;
+  }
+}
+
+/** Lines and their replies over one WebSocket: a text message is a line, and each has one reply, in order. */
+export class Host {
+  #socket;
+  #waiting = [];
+  #whenLost = [];
+  #lost = null;
+
+  /** @param {WebSocket} socket one that is open */
+  constructor(socket) {
+    this.#socket = socket;
+    socket.onmessage = message => this.#answered(message.data);
+    socket.onclose = close => this.#end(new Lost(close.code, close.reason));
+  }
+
+  /**
+   * Opens a connection.
+   * @param {string} url
+   * @param {typeof WebSocket} WebSocketClass
+   * @returns {Promise<Host>} rejects with `Lost`
+   */
+  static open(url, WebSocketClass) {
+    return new Promise((resolve, reject) => {
+      const socket = new WebSocketClass(url);
+      socket.onopen = () => resolve(new Host(socket));
+      socket.onclose = close => reject(new Lost(close.code, close.reason));
+    });
+  }
+
+  #answered(text) {
+    const waiting = this.#waiting.shift();
+    if (waiting === undefined || typeof text !== 'string') {
+      this.close();
+    } else {
+      waiting.answered(text);
+    }
+  }
+
+  #end(lost) {
+    if (this.#lost !== null) {
+      return;
+    }
+    this.#lost = lost;
+    const waiting = this.#waiting;
+    this.#waiting = [];
+    waiting.forEach(({ failed }) => failed(lost));
+    this.#whenLost.forEach(tell => tell(lost));
+  }
+
+  /**
+   * Sends a line.
+   * @param {string} line
+   * @param {(text: string) => void} answered called with the reply as soon as it is there
+   * @param {(lost: Lost) => void} [failed] called if the connection ends before
+   */
+  send(line, answered, failed = () => {}) {
+    if (this.#lost !== null) {
+      failed(this.#lost);
+      return;
+    }
+    this.#waiting.push({ answered, failed });
+    this.#socket.send(line);
+  }
+
+  /**
+   * Sends a line and waits for its reply.
+   * @param {string} line
+   * @returns {Promise<string>} rejects with `Lost`
+   */
+  ask(line) {
+    return new Promise((resolve, reject) => this.send(line, resolve, reject));
+  }
+
+  /** Ends the connection. Lines that are not answered are lost. */
+  close() {
+    this.#socket.close();
+    this.#end(new Lost(1000, 'the page closed the connection'));
+  }
+
+  /**
+   * Calls a function once after the connection is over.
+   * @param {(lost: Lost) => void} tell
+   */
+  onLost(tell) {
+    if (this.#lost !== null) {
+      tell(this.#lost);
+    } else {
+      this.#whenLost.push(tell);
+    }
+  }
+}
+
+/** No seat could be taken. */
+export class NoSeat extends Error {
+  /**
+   * @param {'lost'|'full'|'refused'} why no host was reached, or all seats are taken, or no host takes the machine
+   * @param {string} reason
+   */
+  constructor(why, reason) {
+    super(reason);
+    this.name = 'NoSeat';
+    /** @type {'lost'|'full'|'refused'} */
+    this.why = why;
+  }
+}
+
+/**
+ * @typedef {{host: Host, number: number, seat: number, missed: number}} Seat
+ * The host's number from 1 on, the seat's number from 1 on, and the fault with which the seat that was asked
+ * for first was refused. Each is 0 if there is none. A machine of the page's own has host 0 and seat 0.
+ */
+
+class Search {
+  constructor({ urlOf, hosts, WebSocketClass, preferred, accepts }) {
+    Object.assign(this, { urlOf, hosts, WebSocketClass, preferred, accepts });
+    this.missed = 0;
+    this.why = 'lost';
+    this.reason = '';
+  }
+
+  async ask(number, seat) {
+    const host = await Host.open(this.urlOf(number), this.WebSocketClass);
+    if (number === 0) {
+      return { host, fault: 0 };
+    }
+    const { fault = 0 } = answerOf(await host.ask(seatLine(seat)));
+    if (fault !== 0) {
+      host.close();
+    }
+    return { host, fault };
+  }
+
+  async settle(host, number, seat) {
+    if (await this.accepts(host)) {
+      return { host, number, seat, missed: this.missed };
+    }
+    host.close();
+    this.why = this.why === 'full' ? 'full' : 'refused';
+    return null;
+  }
+
+  async at(number) {
+    const wanted = this.preferred.filter(at => at.host === number).map(at => at.seat);
+    let fault = 0;
+    for (let seat = 1; fault !== 81;) {
+      const isWanted = wanted.length > 0;
+      const asked = isWanted ? wanted.shift() : seat++;
+      const reply = await this.ask(number, asked);
+      if (reply.fault === 0) {
+        return this.settle(reply.host, number, asked);
+      }
+      this.why = 'full';
+      this.missed = isWanted ? reply.fault : this.missed;
+      fault = isWanted ? 0 : reply.fault === 80 ? 0 : 81;
+    }
+    return null;
+  }
+}
+
+/**
+ * Sits down at a free seat: at a preferred one if it can be had, else at the first one of the first host that has one.
+ * @param {object} how
+ * @param {(host: number) => string} how.urlOf the address of a host's socket; of host 0 for a machine of the page's own
+ * @param {number} how.hosts how many hosts there are; 0 for a machine of the page's own
+ * @param {typeof WebSocket} how.WebSocketClass
+ * @param {{host: number, seat: number}[]} how.preferred
+ * @param {(host: Host) => Promise<boolean>} how.accepts whether the host takes the page's machine
+ * @returns {Promise<Seat>} rejects with `NoSeat`
+ */
+export async function sitDown(how) {
+  const search = new Search(how);
+  const all = how.hosts === 0 ? [0] : Array.from({ length: how.hosts }, (_, i) => i + 1);
+  const numbers = new Set([...how.preferred.map(at => at.host).filter(host => all.includes(host)), ...all]);
+  for (const number of numbers) {
+    try {
+      const seat = await search.at(number);
+      if (seat !== null) {
+        return seat;
+      }
+    } catch (error) {
+      if (!(error instanceof Lost)) {
+        throw error;
+      }
+      search.reason = error.message;
+    }
+  }
+  throw new NoSeat(search.why, search.reason);
+}

@@ -1,0 +1,248 @@
+// What a page keeps of its machine: the last save, and the commands since that change it.
+
+import { back, commandOf, run } from './lines.js';
+import { Shelf } from './shelf.js';
+
+export { kept, nameOfTab } from './shelf.js';
+
+const SLOT_LETTERS = 4096;
+const MOST_STEPS = 65535;
+const ZEROING = ['set', 'clear', 'side', 'cycle', 'load'];
+
+/**
+ * @typedef {object} Noted a command
+ * @property {number} number counted from 1 on
+ * @property {string} line
+ * @property {string|null} reply null before there is one
+ * @property {boolean} isZero whether the count is 0 after it, whatever it does
+ * @property {number} slot
+ */
+
+/** The journal of one page. It keeps on in memory if the storage is full or missing. */
+export class Journal {
+  #shelf;
+  #slots = [];
+  #letters = [];
+  #dirty = new Set();
+  #base = 0;
+  #noted = 0;
+
+  /**
+   * Reads what the storage has under this name.
+   * @param {Storage|null} storage null if there is none
+   * @param {string} name
+   * @param {{random?: () => number, now?: () => number, onRenamed?: (name: string) => void}} [by]
+   */
+  constructor(storage, name, { random, now, onRenamed = () => {} } = {}) {
+    this.#shelf = new Shelf(storage, name, { random, now });
+    this.onRenamed = onRenamed;
+    this.#blank();
+    const content = this.#shelf.read();
+    /** @type {boolean} whether the storage has all of the journal, but for replies */
+    this.isKept = content !== null;
+    if (content !== null) {
+      this.loadLine = content.loadLine;
+      this.first = content.first;
+      this.#base = this.count = content.count;
+      content.slots.flat().forEach(([line, reply, isZero]) => this.#read(line, reply, isZero === 1));
+      this.#slots.forEach((_, slot) => this.#dirty.add(slot));
+    }
+  }
+
+  #blank() {
+    /** @type {string|null} the last save as a load line */
+    this.loadLine = null;
+    /** @type {string|null} the load line of the state at count 0, if it is known */
+    this.first = null;
+    /** @type {Noted[]} the commands since the last save */
+    this.entries = [];
+    /** @type {number} steps since the first state, by all commands that have a reply */
+    this.count = 0;
+    /** @type {number} letters of the commands since the last save */
+    this.size = 0;
+    /** @type {number} steps of the commands since the last save */
+    this.steps = 0;
+    this.#base = 0;
+    this.#slots = [];
+    this.#letters = [];
+    this.#dirty.clear();
+  }
+
+  /** @returns {string} the name under which the journal is kept */
+  get name() {
+    return this.#shelf.name;
+  }
+
+  #read(line, reply, isZero) {
+    const entry = this.#add(line, isZero);
+    if (reply !== null) {
+      entry.reply = reply;
+      this.#counted(entry);
+    }
+  }
+
+  #add(line, isZero) {
+    return this.#put({ number: ++this.#noted, line, reply: null, isZero, slot: 0 });
+  }
+
+  #put(entry) {
+    const { line } = entry;
+    if (this.#slots.length === 0 || this.#letters.at(-1) + line.length > SLOT_LETTERS) {
+      this.#slots.push([]);
+      this.#letters.push(0);
+    }
+    entry.slot = this.#slots.length - 1;
+    this.entries.push(entry);
+    this.#slots[entry.slot].push(entry);
+    this.#letters[entry.slot] += line.length;
+    this.#dirty.add(entry.slot);
+    this.size += line.length;
+    this.steps += commandOf(line).n ?? 0;
+    return entry;
+  }
+
+  /**
+   * Notes commands before they are sent.
+   * @param {string[]} lines
+   * @param {{isZero?: boolean}} [how]
+   * @returns {Noted[]}
+   */
+  noteAll(lines, { isZero = false } = {}) {
+    const entries = lines.map(line => this.#add(line, isZero));
+    this.#flush();
+    return entries;
+  }
+
+  /**
+   * Notes a command, before it is sent or with its reply.
+   * @param {string} line
+   * @param {string|null} [reply]
+   * @returns {Noted}
+   */
+  note(line, reply = null) {
+    const [entry] = this.noteAll([line]);
+    if (reply !== null) {
+      this.answer(entry, reply);
+    }
+    return entry;
+  }
+
+  /**
+   * Notes a reply. A command that was refused has changed nothing, and is forgotten.
+   * @param {Noted} entry the first one that has no reply
+   * @param {string} reply
+   */
+  answer(entry, reply) {
+    entry.reply = reply;
+    this.#dirty.add(entry.slot);
+    if (reply.startsWith('{"ok":')) {
+      this.#counted(entry);
+      this.#join(entry);
+    } else {
+      this.#remove(entry);
+    }
+  }
+
+  #counted({ line, isZero }) {
+    const { do: name, n } = commandOf(line);
+    if (isZero || ZEROING.includes(name)) {
+      this.count = 0;
+      this.first = null;
+    } else {
+      this.count += name === 'run' ? n : name === 'back' ? -n : 0;
+    }
+  }
+
+  #remove(entry) {
+    this.entries.splice(this.entries.indexOf(entry), 1);
+    const slot = this.#slots[entry.slot];
+    slot.splice(slot.indexOf(entry), 1);
+    this.size -= entry.line.length;
+    this.steps -= commandOf(entry.line).n ?? 0;
+  }
+
+  // Steps after steps of the same kind are one command.
+  #join(entry) {
+    const slot = this.#slots[entry.slot];
+    const before = slot[slot.indexOf(entry) - 1];
+    if (before === undefined || before.isZero || entry.isZero) {
+      return;
+    }
+    const one = commandOf(before.line);
+    const other = commandOf(entry.line);
+    const line = { run, back }[other.do];
+    if (line !== undefined && one.do === other.do && one.n + other.n <= MOST_STEPS) {
+      this.#remove(before);
+      this.size -= entry.line.length;
+      entry.line = line(one.n + other.n);
+      this.size += entry.line.length;
+      this.steps += one.n;
+    }
+  }
+
+  #rows(slot) {
+    return this.#slots[slot].map(({ line, reply, isZero }) => [line, reply, isZero ? 1 : 0]);
+  }
+
+  #flush() {
+    if (!this.isKept) {
+      return;
+    }
+    if (!this.#shelf.isOurs()) {
+      this.#shelf.moveOn();
+      this.#replace();
+      this.onRenamed(this.name);
+      return;
+    }
+    this.isKept = [...this.#dirty].sort((one, other) => one - other)
+      .every(slot => this.#shelf.write(slot, this.#rows(slot)));
+    this.#dirty.clear();
+  }
+
+  #replace() {
+    const { loadLine, first } = this;
+    const slots = this.#slots.map((_, slot) => this.#rows(slot));
+    this.isKept = this.#shelf.replace({ loadLine, first, count: this.#base, slots });
+    this.#dirty.clear();
+  }
+
+  /**
+   * Begins anew from a machine that was saved.
+   * @param {string} loadLine the machine after the commands up to `through`, which all have replies
+   * @param {number} [through] the number of the last command that the machine has in it
+   */
+  checkpoint(loadLine, through = this.#noted) {
+    const later = this.entries.filter(({ number }) => number > through);
+    const { count, first } = this;
+    this.#blank();
+    this.loadLine = loadLine;
+    this.#base = this.count = count;
+    this.first = count === 0 ? loadLine : first;
+    later.forEach(entry => this.#put(entry));
+    if (!this.#shelf.isOurs()) {
+      this.#shelf.moveOn();
+      this.onRenamed(this.name);
+    }
+    this.#replace();
+  }
+
+  /** @returns {number} the number of the last command that was noted */
+  get noted() {
+    return this.#noted;
+  }
+
+  /**
+   * All that makes the machine: the load line, and the commands since.
+   * @returns {string[]}
+   */
+  lines() {
+    return [...this.loadLine === null ? [] : [this.loadLine], ...this.entries.map(({ line }) => line)];
+  }
+
+  /** Forgets all, in the storage too. */
+  clear() {
+    this.#blank();
+    this.#shelf.clear();
+    this.isKept = false;
+  }
+}

@@ -1,0 +1,228 @@
+// Lines to a machine that stays the same whatever becomes of connections: each command is done once in it.
+
+import { commandOf, changes, answerOf, loadLineOf, save } from './lines.js';
+import { NoSeat, sitDown } from './host.js';
+
+const FIRST_PAUSE = 200;
+const LONGEST_PAUSE = 5000;
+const SIDE_TOO_LARGE = 67;
+const MOST_LOSSES = 12;
+const LEFT_OUT = '{"fault":0}';
+
+/**
+ * @typedef {object} Told what a link tells its owner
+ * @property {(state: 'connecting'|'playing back'|'ready'|'lost'|'full', text: string) => void} state
+ * @property {(reply: string) => void} restored with the reply to `save` of the machine that is there
+ * @property {(line: string, wanted: string, got: string) => void} diverged
+ * @property {() => void} answered after each command that has its reply
+ */
+
+function sentenceOfSeat({ number, seat, missed }, hosts, preferred) {
+  if (number === 0) {
+    return 'This page has a machine of its own.';
+  }
+  const here = hosts > 1 ? `You have seat ${seat} of host ${number}.` : `You have seat ${seat}.`;
+  const other = preferred[0]?.seat;
+  return missed === 80 ? `Seat ${other} is taken. ${here}`
+    : missed === 81 ? `There is no seat ${other}. ${here}` : here;
+}
+
+const UNSEATED = Object.freeze({
+  lost: 'The page tries again. Nothing of your machine is lost.',
+  full: 'All seats are taken. The page tries again.',
+  refused: 'No host takes your machine. The page keeps it and tries again.',
+  tooLarge: 'Your machine is larger than the hosts allow. The page keeps it and tries again.',
+});
+
+const sentenceOfLoss = reason =>
+  `The connection is lost${reason === '' ? '' : `: ${reason}`}. ${UNSEATED.lost}`;
+
+/** The line to one machine. */
+export class Link {
+  #how;
+  #journal;
+  #told;
+  #pending = [];
+  #host = null;
+  #isStopped = false;
+  #isSaving = false;
+  #refusal = 0;
+
+  /**
+   * @param {object} how
+   * @param {(host: number) => string} how.urlOf
+   * @param {number} how.hosts
+   * @param {typeof WebSocket} how.WebSocketClass
+   * @param {(milliseconds: number) => Promise<void>} how.wait
+   * @param {number|null} how.seat the seat that is asked for first
+   * @param {import('./journal.js').Journal} journal
+   * @param {Told} told
+   */
+  constructor(how, journal, told) {
+    this.#how = how;
+    this.#journal = journal;
+    this.#told = told;
+    /** @type {{host: number, seat: number}|null} */
+    this.at = null;
+  }
+
+  /**
+   * Asks for lines in order, with nothing between them. They are noted, then sent; if the connection ends they are
+   * sent again over the next one, to the machine that has all commands before them.
+   * @param {string[]} lines
+   * @param {{isZero?: boolean}} [how] whether the machine after them is a first state
+   * @returns {Promise<string>[]} the replies
+   */
+  askAll(lines, { isZero = false } = {}) {
+    const changing = lines.filter(changes);
+    const entries = changing.length > 0 ? this.#journal.noteAll(changing, { isZero }) : [];
+    return lines.map(line => new Promise(answered => {
+      const entry = changes(line) ? entries.shift() : null;
+      this.#push({ line, entry, through: this.#journal.noted, answered });
+    }));
+  }
+
+  /**
+   * Asks for a save, and begins the journal anew with it.
+   * @returns {Promise<string>} the reply
+   */
+  checkpoint() {
+    this.#isSaving = true;
+    return new Promise(answered => {
+      this.#push({ line: save(), entry: null, isCheckpoint: true, through: this.#journal.noted, answered });
+    });
+  }
+
+  /** @returns {boolean} whether a checkpoint is under way */
+  get isSaving() {
+    return this.#isSaving;
+  }
+
+  #push(asked) {
+    this.#pending.push(asked);
+    if (this.#host !== null) {
+      this.#send(asked);
+    }
+  }
+
+  #send(asked) {
+    this.#host?.send(asked.line, text => this.#answered(asked, text));
+  }
+
+  #answered(asked, text) {
+    this.#pending.shift();
+    if (asked.entry !== null) {
+      this.#journal.answer(asked.entry, text);
+      if (commandOf(asked.line).do === 'load' && text.startsWith('{"ok":')) {
+        this.#journal.checkpoint(asked.line, asked.entry.number);
+      }
+    } else if (asked.isCheckpoint) {
+      this.#isSaving = false;
+      if (text !== LEFT_OUT) {
+        this.#journal.checkpoint(loadLineOf(text), asked.through);
+      }
+    }
+    asked.answered(text);
+    this.#told.answered();
+  }
+
+  /** Connects, and connects again whenever the connection is lost, until `stop`. */
+  async start() {
+    for (let pause = FIRST_PAUSE; !this.#isStopped;) {
+      try {
+        const { lost } = await this.#connect();
+        pause = FIRST_PAUSE;
+        this.#tell('lost', sentenceOfLoss((await lost).reason));
+      } catch (error) {
+        if (!(error instanceof NoSeat)) {
+          throw error;
+        }
+        const why = error.why === 'refused' && this.#refusal === SIDE_TOO_LARGE ? 'tooLarge' : error.why;
+        this.#tell(error.why === 'full' ? 'full' : 'lost', why === 'lost' ? sentenceOfLoss(error.message) : UNSEATED[why]);
+      }
+      if (!this.#isStopped) {
+        await this.#how.wait(pause);
+        pause = Math.min(2 * pause, LONGEST_PAUSE);
+      }
+    }
+  }
+
+  /** Ends the connection and makes no other one. */
+  stop() {
+    this.#isStopped = true;
+    this.#host?.close();
+  }
+
+  #tell(state, text) {
+    if (!this.#isStopped) {
+      this.#told.state(state, text);
+    }
+  }
+
+  #preferred() {
+    const { seat } = this.#how;
+    const wanted = seat === null ? [] : [{ host: 1, seat }];
+    return this.at === null ? wanted : [this.at, ...wanted];
+  }
+
+  // Resolves with a promise of the loss of the connection.
+  async #connect() {
+    this.#tell('connecting', this.#how.hosts === 0 ? 'The page connects to its machine.' : 'The page looks for a seat.');
+    const preferred = this.#preferred();
+    const { urlOf, hosts, WebSocketClass } = this.#how;
+    const seat = await sitDown({ urlOf, hosts, WebSocketClass, preferred, accepts: host => this.#restore(host) });
+    this.at = { host: seat.number, seat: seat.seat };
+    this.#host = seat.host;
+    const lost = new Promise(ended => seat.host.onLost(loss => {
+      this.#host = null;
+      this.#countLoss();
+      ended(loss);
+    }));
+    this.#tell('ready', sentenceOfSeat(seat, hosts, preferred));
+    [...this.#pending].forEach(asked => this.#send(asked));
+    if (this.#isStopped) {
+      seat.host.close();
+    }
+    return { lost };
+  }
+
+  // A command that ends each connection is left out, so that the page goes on.
+  #countLoss() {
+    const asked = this.#pending[0];
+    if (asked !== undefined) {
+      asked.losses = (asked.losses ?? 0) + 1;
+      if (asked.losses === MOST_LOSSES) {
+        this.#answered(asked, LEFT_OUT);
+      }
+    }
+  }
+
+  // Makes the machine at the host the page's, and returns whether the host takes it.
+  async #restore(host) {
+    const journal = this.#journal;
+    const pending = new Set(this.#pending.map(({ entry }) => entry));
+    const played = journal.entries.filter(entry => !pending.has(entry));
+    if (journal.loadLine !== null) {
+      this.#tell('playing back', 'The page loads its machine and plays the commands since again.');
+      const { fault = 0 } = answerOf(await host.ask(journal.loadLine));
+      this.#refusal = fault;
+      if (fault !== 0) {
+        return false;
+      }
+    }
+    const replies = await Promise.all(played.map(({ line }) => host.ask(line)));
+    const saved = await host.ask(save());
+    played.forEach((entry, i) => this.#compare(entry, replies[i]));
+    journal.checkpoint(loadLineOf(saved), played.at(-1)?.number ?? 0);
+    this.#told.restored(saved);
+    return true;
+  }
+
+  #compare(entry, reply) {
+    if (entry.reply === null) {
+      this.#journal.answer(entry, reply);
+    } else if (entry.reply !== reply) {
+      this.#told.diverged(entry.line, entry.reply, reply);
+    }
+  }
+}

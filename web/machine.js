@@ -1,0 +1,514 @@
+// The page's machine: what the page knows of it, and what can be asked of it.
+
+import { writes } from './forth.js';
+import { Journal } from './journal.js';
+import * as lines from './lines.js';
+import { Link } from './link.js';
+import { Planes } from './planes.js';
+import { Queue } from './queue.js';
+
+const MOST_BYTES = 2097152;
+const MOST_RULES = 16;
+const MOST_ENTRIES = 1024;
+const MOST_LETTERS = 262144;
+
+// Cells that all steps since a save may have together, so that playing them again takes seconds.
+const MOST_WORK = 2 ** 30;
+
+const pause = milliseconds => new Promise(resolve => setTimeout(resolve, milliseconds));
+
+/** A text that is no machine and no list of commands. */
+export class NotAMachine extends Error {
+  /** @param {string} message what is wrong and what to do */
+  constructor(message) {
+    super(message);
+    this.name = 'NotAMachine';
+  }
+}
+
+/**
+ * The planes that the rules of a cycle may write.
+ * @param {lines.Rule[]} rules
+ * @param {lines.Entry[]} entries
+ * @returns {number[]} in order
+ */
+export function planesOf(rules, entries) {
+  const used = new Set(entries.flatMap(({ a, b }) => [a, b]));
+  return [...new Set(rules.filter(({ name }) => used.has(name)).flatMap(({ text }) => writes(text)))].sort();
+}
+
+/**
+ * The page's machine. Its events: `state` {state, text}, `planes`, `position`, `rules`, `diverged` {line, wanted, got},
+ * `kept` {isKept}.
+ */
+export class Machine extends EventTarget {
+  #link;
+  #journal;
+  #queue = new Queue();
+  #isHalted = false;
+  #wasKept = true;
+
+  /**
+   * @param {object} how
+   * @param {(host: number) => string} how.urlOf the address of a host's socket; of 0 for a machine of the page's own
+   * @param {number} [how.hosts] how many hosts there are; 0 for a machine of the page's own
+   * @param {typeof WebSocket} how.WebSocketClass
+   * @param {Storage|null} [how.storage] where the journal is kept
+   * @param {string} [how.name] the journal's name
+   * @param {(name: string) => void} [how.onRenamed] called with another name if another page has the journal
+   * @param {number|null} [how.seat] the seat that is asked for first
+   * @param {() => number} [how.now]
+   * @param {(milliseconds: number) => Promise<void>} [how.wait]
+   */
+  constructor({
+    urlOf, hosts = 0, WebSocketClass, storage = null, name = 'page', onRenamed, seat = null, now, wait = pause,
+  }) {
+    super();
+    this.#journal = new Journal(storage, name, { now, onRenamed });
+    this.#link = new Link({ urlOf, hosts, WebSocketClass, wait, seat }, this.#journal, {
+      state: (state, text) => this.#stateIs(state, text),
+      restored: reply => this.#learn(reply),
+      diverged: (line, wanted, got) => this.#emit('diverged', { line, wanted, got }),
+      answered: () => this.#answered(),
+    });
+    /** @type {'connecting'|'playing back'|'ready'|'lost'|'full'} */
+    this.state = 'connecting';
+    /** @type {string} the state in words */
+    this.text = '';
+    /** @type {Planes} */
+    this.planes = new Planes(128);
+    /** @type {number[]} the colour of each state */
+    this.colours = Array.from({ length: 16 }, (_, state) => state);
+    /** @type {lines.Rule[]} */
+    this.rules = [];
+    /** @type {lines.Entry[]} */
+    this.entries = [];
+    /** @type {number} the entry that the next step is done by */
+    this.position = 0;
+    /** @type {number[]} the planes that the cycle's rules write */
+    this.moves = [];
+  }
+
+  /** @returns {number} cells a side */
+  get side() {
+    return this.planes.side;
+  }
+
+  /** @returns {number} steps since the first state; below 0 before it */
+  get count() {
+    return this.#journal.count;
+  }
+
+  /** @returns {number} the seat's number; 0 for a machine of the page's own, or before there is one */
+  get seat() {
+    return this.#link.at?.seat ?? 0;
+  }
+
+  /** @returns {number} the host's number; 0 for a machine of the page's own, or before there is one */
+  get host() {
+    return this.#link.at?.host ?? 0;
+  }
+
+  /** @returns {number} frames that are under way */
+  get framesUnderWay() {
+    return this.#queue.framesUnderWay;
+  }
+
+  /** @returns {boolean} whether the browser's storage has what a reload needs */
+  get isKept() {
+    return this.#journal.isKept;
+  }
+
+  /** @returns {string|null} the load line of the first state, if it is known */
+  get firstLine() {
+    return this.#journal.first;
+  }
+
+  /** @returns {Promise<void>} resolves after nothing is under way */
+  idle() {
+    return this.#queue.idle();
+  }
+
+  /**
+   * Connects, and goes on with what the journal has.
+   * @returns {Promise<void>} resolves after the machine is ready for the first time
+   */
+  start() {
+    return new Promise((resolve, reject) => {
+      const whenReady = () => {
+        if (this.state === 'ready') {
+          this.removeEventListener('state', whenReady);
+          resolve();
+        }
+      };
+      this.addEventListener('state', whenReady);
+      this.#link.start().catch(error => {
+        this.#stateIs('lost', `The page has a fault of its own: ${error.message}`);
+        reject(error);
+      });
+    });
+  }
+
+  /** Ends the connection. The journal stays. */
+  stop() {
+    this.#link.stop();
+  }
+
+  // What the page is told.
+
+  #emit(type, detail) {
+    this.dispatchEvent(new CustomEvent(type, { detail }));
+  }
+
+  #stateIs(state, text) {
+    Object.assign(this, { state, text });
+    this.#emit('state', { state, text });
+  }
+
+  #answered() {
+    if (this.#journal.isKept !== this.#wasKept) {
+      this.#wasKept = this.#journal.isKept;
+      this.#emit('kept', { isKept: this.#wasKept });
+    }
+  }
+
+  #learn(reply) {
+    const { machine } = lines.answerOf(reply);
+    this.planes = new Planes(machine.side);
+    machine.planes.forEach((rows, plane) => this.planes.setPlane(plane, rows));
+    this.colours = machine.colours;
+    this.rules = machine.rules;
+    this.entries = machine.cycle;
+    this.position = machine.position;
+    this.moves = planesOf(this.rules, this.entries);
+    this.#answered();
+    this.#emit('planes');
+    this.#emit('rules');
+    this.#emit('position');
+  }
+
+  // Asking.
+
+  async #ask(line, how) {
+    return lines.doneOf(await this.#link.askAll([line], how)[0]);
+  }
+
+  async #askAll(all, how) {
+    const replies = await Promise.all(this.#link.askAll(all, how));
+    return replies.map(lines.answerOf);
+  }
+
+  async #refresh() {
+    this.#learn(await this.#link.checkpoint());
+  }
+
+  #keepShort() {
+    const { entries, size, steps } = this.#journal;
+    const isLong = entries.length > MOST_ENTRIES || size > MOST_LETTERS || steps > this.#piece();
+    if (isLong && !this.#link.isSaving) {
+      this.#link.checkpoint();
+    }
+  }
+
+  #keepFirst() {
+    if (this.count === 0 && this.firstLine === null && !this.#link.isSaving) {
+      this.#link.checkpoint();
+    }
+  }
+
+  // The most steps of one command.
+  #piece() {
+    return Math.min(65535, MOST_WORK / this.side ** 2);
+  }
+
+  #pieces(n) {
+    const most = this.#piece();
+    const line = n < 0 ? lines.back : lines.run;
+    const pieces = [];
+    for (let left = Math.abs(n); left > 0; left -= most) {
+      pieces.push(line(Math.min(left, most)));
+    }
+    return pieces.length > 0 ? pieces : [line(0)];
+  }
+
+  // Commands of steps, and then the planes that they may change, in one go.
+  async #stepsAndPlanes(commands) {
+    const moves = this.moves;
+    this.#keepFirst();
+    const answers = await this.#askAll([...commands, ...moves.map(lines.plane)]);
+    this.#keepShort();
+    const done = answers.slice(0, commands.length);
+    answers.slice(commands.length).forEach(({ rows }, i) => rows && this.planes.setPlane(moves[i], rows));
+    this.#emit('planes');
+    const last = done.findLast(answer => 'ok' in answer);
+    this.position = last?.position ?? this.position;
+    this.#emit('position');
+    const fault = done.find(answer => 'fault' in answer);
+    if (fault !== undefined) {
+      throw new lines.Fault(fault);
+    }
+  }
+
+  async #steps(n) {
+    this.#isHalted = false;
+    const pieces = this.#pieces(n);
+    for (const [i, piece] of pieces.entries()) {
+      if (!this.#isHalted || i === 0) {
+        await this.#stepsAndPlanes([piece]);
+      }
+    }
+  }
+
+  // Steps.
+
+  /**
+   * Does steps.
+   * @param {number} n 0 or more
+   * @returns {Promise<void>} rejects with `Fault`
+   */
+  run(n) {
+    return this.#queue.command(() => this.#steps(n));
+  }
+
+  /**
+   * Undoes steps.
+   * @param {number} n 0 or more
+   * @returns {Promise<void>} rejects with `Fault`
+   */
+  back(n) {
+    return this.#queue.command(() => n === 0 ? this.#stepsAndPlanes([lines.back(0)]) : this.#steps(-n));
+  }
+
+  /**
+   * A frame of a film: some steps, and the planes that they may change.
+   * @param {number} n steps; below 0 they are undone
+   * @returns {Promise<boolean>} false if two frames are under way or a command is; rejects with `Fault`
+   */
+  async frame(n) {
+    const done = this.#queue.frame(() => this.#stepsAndPlanes(this.#pieces(n)));
+    await done;
+    return done !== null;
+  }
+
+  /** Ends a long run after the piece that is under way. */
+  halt() {
+    this.#isHalted = true;
+  }
+
+  /**
+   * Goes to a count: by steps undone if the rules can be undone, else from the first state on.
+   * @param {number} count
+   * @returns {Promise<void>} rejects with `Fault` if there is no way
+   */
+  goTo(count) {
+    return this.#queue.command(async () => {
+      const fault = count < this.count ? await this.#faultOfBack() : null;
+      if (fault === null) {
+        await this.#steps(count - this.count);
+      } else if (count < 0 || this.firstLine === null) {
+        throw new lines.Fault(fault);
+      } else {
+        await this.#rewind();
+        await this.#steps(count);
+      }
+    });
+  }
+
+  // The cells and the position of the first state, with all else as it is now.
+  async #rewind() {
+    const { planes, position } = JSON.parse(this.firstLine).machine;
+    const { machine } = lines.answerOf(await this.#link.checkpoint());
+    await this.#ask(lines.load({ ...machine, planes, position }));
+    await this.#refresh();
+  }
+
+  async #faultOfBack() {
+    const [answer] = await this.#askAll([lines.back(0)]);
+    return 'fault' in answer ? answer : null;
+  }
+
+  /**
+   * Whether each step can be undone.
+   * @returns {Promise<{yes: true} | {no: true, fault: object}>} with the answer that refuses it
+   */
+  async canGoBack() {
+    const fault = await this.#faultOfBack();
+    return fault === null ? { yes: true } : { no: true, fault };
+  }
+
+  // Cells.
+
+  /**
+   * Puts cells that were edited into the machine.
+   * @param {Planes} edited
+   * @param {Planes} [base] what the edit began with; only cells that differ from it are put
+   * @returns {Promise<void>}
+   */
+  paint(edited, base) {
+    return this.#queue.command(async () => {
+      const wanted = base === undefined ? edited : this.planes.clone();
+      if (wanted.side !== this.side || base !== undefined && base.side !== this.side) {
+        return;
+      }
+      if (base !== undefined) {
+        wanted.takeChanges(base, edited);
+      }
+      const rows = wanted.rowsThatDiffer(this.planes);
+      const cleared = [0, 1, 2, 3].filter(plane => rows.some(row => row.plane === plane) && wanted.isBlank(plane));
+      const set = rows.filter(({ plane }) => !cleared.includes(plane));
+      const all = [...cleared.map(lines.clear), ...set.map(({ plane, row, bits }) => lines.set(plane, row, bits))];
+      if (all.length > 0) {
+        this.#showPlanes(wanted);
+        await this.#askAll(all);
+        this.#showPlanes(wanted);
+        this.#keepShort();
+        this.#emit('position');
+      }
+    });
+  }
+
+  // A copy, as the page may go on with its planes.
+  #showPlanes(planes) {
+    this.planes = planes.clone();
+    this.#emit('planes');
+  }
+
+  /**
+   * Changes the side. All planes are blank then.
+   * @param {number} side 128, 256 or 512
+   * @returns {Promise<void>} rejects with `Fault`
+   */
+  setSide(side) {
+    return this.#change([lines.side(side)]);
+  }
+
+  /**
+   * Gives each state a colour.
+   * @param {number[]} colours sixteen colours of 0 to 15
+   * @returns {Promise<void>} rejects with `Fault`
+   */
+  setColours(colours) {
+    return this.#change([lines.map(colours)]);
+  }
+
+  // Rules and the cycle.
+
+  // Commands in one go, and what the machine is after them. The first fault is thrown.
+  #change(all, how) {
+    return this.#queue.command(() => this.#changed(all, how));
+  }
+
+  async #changed(all, how) {
+    const asked = this.#askAll(all, how);
+    const refreshed = this.#refresh();
+    const answers = await asked;
+    await refreshed;
+    const index = answers.findIndex(answer => 'fault' in answer);
+    if (index >= 0) {
+      throw Object.assign(new lines.Fault(answers[index]), { line: index });
+    }
+  }
+
+  /**
+   * Defines a rule, or redefines it, also if the cycle uses it.
+   * @param {lines.Rule} rule
+   * @returns {Promise<void>} rejects with `Fault`; all is as it was then
+   */
+  define(rule) {
+    return this.#queue.command(async () => {
+      const { name, half } = rule;
+      if (!this.entries.some(({ a, b }) => a === name || b === name)) {
+        return this.#changed([lines.rule(rule)]);
+      }
+      if (this.rules.length < MOST_RULES) {
+        await this.#tryOut(rule);
+      }
+      const entries = this.entries.map(({ a, b, grid, phase }) => ({
+        a: a === name && half !== 'A' ? '-' : a, b: b === name && half !== 'B' ? '-' : b, grid, phase,
+      }));
+      return this.#changed([lines.cycle(lines.IDLE), lines.rule(rule), lines.cycle(entries)]);
+    });
+  }
+
+  // Defines and drops the rule under a name that is free, so that a fault of its text comes before anything changes.
+  async #tryOut(rule) {
+    let name = '?';
+    while (this.rules.some(other => other.name === name)) {
+      name += '?';
+    }
+    await this.#ask(lines.rule({ ...rule, name }));
+    await this.#ask(lines.drop(name));
+  }
+
+  /**
+   * Forgets a rule.
+   * @param {string} name
+   * @returns {Promise<void>} rejects with `Fault`
+   */
+  drop(name) {
+    return this.#change([lines.drop(name)]);
+  }
+
+  /**
+   * Sets the cycle, and the position to 0.
+   * @param {lines.Entry[]} entries
+   * @returns {Promise<void>} rejects with `Fault`
+   */
+  setCycle(entries) {
+    return this.#change([lines.cycle(entries)]);
+  }
+
+  // The whole machine.
+
+  /**
+   * Sets a new machine up by a list of commands.
+   * @param {string[]} commands of the gallery, or of a file
+   * @returns {Promise<void>} rejects with `Fault`, whose `line` is the number of the first command that was refused
+   */
+  setUp(commands) {
+    const [first] = commands;
+    const begin = first?.startsWith('{"do":"load",') ? [] : [lines.blankLine(128)];
+    if (begin.length > 0 && lines.commandOf(first ?? '').do !== 'side') {
+      begin.push(lines.side(256));
+    }
+    return this.#change([...begin, ...commands], { isZero: true }).catch(error => {
+      throw 'line' in error ? Object.assign(error, { line: error.line - begin.length + 1 }) : error;
+    });
+  }
+
+  /**
+   * The machine as a load line.
+   * @returns {Promise<string>}
+   */
+  save() {
+    return this.#queue.command(async () => lines.loadLineOf(await this.#link.checkpoint()));
+  }
+
+  /**
+   * Loads a machine that was saved, a reply to `save`, or a list of commands.
+   * @param {string} text
+   * @returns {Promise<void>} rejects with `Fault` or `NotAMachine`
+   */
+  async load(text) {
+    const all = text.split('\n').map(line => line.replace(/\r$/, '')).filter(line => line !== '');
+    if (all.length === 0 || all.some(line => !line.startsWith('{'))) {
+      throw new NotAMachine('This text is no machine. A machine is a line that begins with {"do":"load".');
+    }
+    if (all.some(line => new TextEncoder().encode(line).length > MOST_BYTES)) {
+      throw new NotAMachine('This line is longer than any machine. A machine has at most 2,097,152 bytes.');
+    }
+    const commands = all.map(line => line.startsWith('{"machine":') ? lines.loadLineOf(line) : line);
+    if (commands.length === 1 && commands[0].startsWith('{"do":"load",')) {
+      return this.#change(commands);
+    }
+    return this.setUp(commands);
+  }
+
+  /**
+   * Forgets what is kept, and begins with a blank machine.
+   * @returns {Promise<void>} rejects with `Fault`
+   */
+  startOver() {
+    return this.setUp([]);
+  }
+}

@@ -1,0 +1,110 @@
+// The panels at the right: their tabs, and what is said about the machine that is shown.
+
+import { at, grouped, make, say, setText } from './dom.js';
+import { cssOf, planesOf } from './screen.js';
+import { reasonOf } from './trouble.js';
+
+const EVERY = 250;      // milliseconds between two counts of the cells
+
+/**
+ * Joins the tabs: a click or an arrow shows another panel.
+ * @param {() => void} shown called after another panel is shown
+ */
+export function joinTabs(shown) {
+  const tabs = [...document.querySelectorAll('[role="tab"]')];
+  const show = chosen => {
+    for (const tab of tabs) {
+      tab.setAttribute('aria-selected', String(tab === chosen));
+      tab.tabIndex = tab === chosen ? 0 : -1;
+      at(tab.getAttribute('aria-controls')).hidden = tab !== chosen;
+    }
+    shown();
+  };
+  tabs.forEach((tab, index) => {
+    tab.addEventListener('click', () => show(tab));
+    tab.addEventListener('keydown', event => {
+      const by = { ArrowLeft: -1, ArrowRight: 1 }[event.key];
+      if (by) {
+        const next = tabs[(index + by + tabs.length) % tabs.length];
+        event.stopPropagation();
+        show(next);
+        next.focus();
+      }
+    });
+  });
+}
+
+/** The panel that says what the machine is. */
+export class About {
+  /** @param {import('./machine.js').Machine} machine */
+  constructor(machine) {
+    this.machine = machine;
+    this.counted = 0;
+  }
+
+  /**
+   * Says what is on the torus.
+   * @param {string} title
+   * @param {string} look what to look for
+   */
+  setTitle(title, look) {
+    setText(at('title'), title);
+    setText(at('about-title'), title);
+    setText(at('about-look'), look);
+    document.title = title ? `${title} - CAM-6` : 'CAM-6';
+  }
+
+  /** Says whether steps can be undone, and why not. */
+  async update() {
+    const { machine } = this;
+    at('side').value = String(machine.side);
+    this.count();
+    const asked = this.asked = {};
+    const back = await machine.canGoBack();
+    if (asked === this.asked) {
+      at('about-back').replaceChildren(back.yes ? this.undoes() : this.forgets(back.fault));
+    }
+  }
+
+  /** What is said of a cycle that can be undone. */
+  undoes() {
+    return make('div', { className: 'card' }, say('strong', 'Time can run back.'), ' Back undoes each step exactly.');
+  }
+
+  /** What is said of a cycle that can't be undone. */
+  forgets(answer) {
+    if (answer.fault === 63) {
+      return say('p', 'There is no cycle yet. Define a rule, and it becomes the cycle.');
+    }
+    const reason = reasonOf(answer, this.machine);
+    return make('div', { className: 'card bad' }, say('strong', "Time can't run back."), ...reason);
+  }
+
+  /** Counts the cells of each state, but not too often. */
+  changed() {
+    if (!this.waits && !at('about').hidden) {
+      this.waits = setTimeout(() => {
+        this.waits = 0;
+        this.count();
+      }, EVERY);
+    }
+  }
+
+  /** Counts the cells of each state. */
+  count() {
+    const { planes, colours } = this.machine;
+    const counts = new Array(16).fill(0);
+    for (const state of planes.cells) {
+      counts[state]++;
+    }
+    const rows = counts.flatMap((count, state) => count === 0 ? [] : [this.makeRow(state, count, colours[state])]);
+    at('about-cells').tBodies[0].replaceChildren(...rows);
+  }
+
+  /** A line of the table of states. */
+  makeRow(state, count, colour) {
+    const dot = make('span', { className: 'dot' });
+    dot.style.background = cssOf(colour);
+    return make('tr', {}, make('td', {}, dot, String(state)), say('td', planesOf(state)), say('td', grouped(count)));
+  }
+}

@@ -1,0 +1,43 @@
+// A browser's storage for tests, with as much room as is said.
+
+/** Keys and texts, as localStorage has them. */
+export class FakeStorage {
+  constructor(room = 5000000) {
+    this.room = room;
+    this.texts = new Map();
+    this.writes = 0;
+  }
+
+  get length() {
+    return this.texts.size;
+  }
+
+  key(i) {
+    return [...this.texts.keys()][i] ?? null;
+  }
+
+  getItem(key) {
+    return this.texts.get(String(key)) ?? null;
+  }
+
+  setItem(key, value) {
+    const text = String(value);
+    const used = [...this.texts].reduce((sum, [name, other]) => name === key ? sum : sum + name.length + other.length, 0);
+    if (used + String(key).length + text.length > this.room) {
+      throw new Error('QuotaExceededError');
+    }
+    this.writes++;
+    this.texts.set(String(key), text);
+  }
+
+  removeItem(key) {
+    this.texts.delete(String(key));
+  }
+
+  /** The storage as it is now, for a page that is loaded again. */
+  copy() {
+    const other = new FakeStorage(this.room);
+    other.texts = new Map(this.texts);
+    return other;
+  }
+}

@@ -1,0 +1,227 @@
+// What is kept of a machine, whatever becomes of the storage and whenever the page ends.
+
+import assert from 'node:assert/strict';
+import { test } from 'node:test';
+import { Journal, kept, nameOfTab } from '../journal.js';
+import { run } from '../lines.js';
+import { FakeStorage } from './fake_storage.mjs';
+
+const OK = '{"ok":"run","position":0}';
+const SET = '{"do":"set","plane":0,"row":1,"bits":"00"}';
+const saved = sum => `{"do":"load","machine":{"sum":${sum}}}`;
+const counting = () => {
+  let next = 0;
+  return () => (next += 0.001);
+};
+const journalIn = (storage, name = 'page', more = {}) => new Journal(storage, name, { random: counting(), now: () => 5, ...more });
+
+// The steps that a journal stands for.
+const sumOf = journal => journal.lines().reduce((sum, line) => {
+  const command = JSON.parse(line);
+  return sum + (command.machine?.sum ?? command.n ?? 0);
+}, 0);
+
+test('a journal is the last save and the commands since, each with its reply', () => {
+  const storage = new FakeStorage();
+  const journal = journalIn(storage);
+  assert.deepEqual(journal.lines(), []);
+  journal.checkpoint(saved(0));
+  journal.note(SET, '{"ok":"set"}');
+  journal.note(run(2), OK);
+  const open = journal.note(run(3));
+  assert.deepEqual(journal.lines(), [saved(0), SET, run(2), run(3)]);
+  const read = journalIn(storage);
+  assert.deepEqual(read.entries.map(({ line, reply }) => [line, reply]),
+    [[SET, '{"ok":"set"}'], [run(2), OK], [run(3), null]]);
+  assert.equal(read.count, 2);
+  journal.answer(open, OK);
+  assert.equal(journal.count, 5);
+  journal.clear();
+  assert.deepEqual(journalIn(storage).lines(), []);
+});
+
+test('steps of one kind are one command, refused commands are none', () => {
+  const journal = journalIn(new FakeStorage());
+  journal.checkpoint(saved(0));
+  for (let i = 0; i < 100; i++) {
+    journal.note(run(1), OK);
+  }
+  journal.note('{"do":"back","n":4}', '{"ok":"back","position":0}');
+  journal.note('{"do":"back","n":5}', '{"ok":"back","position":0}');
+  journal.note('{"do":"back","n":5}', '{"fault":64}');
+  journal.note(run(65535), OK);
+  journal.note(run(1), OK);
+  assert.deepEqual(journal.lines(), [saved(0), run(100), '{"do":"back","n":9}', run(65535), run(1)]);
+  assert.equal(journal.steps, 100 + 9 + 65535 + 1);
+  assert.equal(journal.size, journal.lines().slice(1).join('').length);
+  assert.equal(journal.count, 100 - 9 + 65536);
+});
+
+test('a save drops the commands that it has in it, and keeps those that were noted later', () => {
+  const storage = new FakeStorage();
+  const journal = journalIn(storage);
+  journal.checkpoint(saved(0));
+  journal.note(run(4), OK);
+  const through = journal.noted;
+  const later = journal.note(run(7));
+  journal.checkpoint(saved(4), through);
+  assert.deepEqual(journal.lines(), [saved(4), run(7)]);
+  journal.answer(later, OK);
+  assert.equal(journal.count, 11);
+  const read = journalIn(storage);
+  assert.deepEqual(read.lines(), [saved(4), run(7)]);
+  assert.equal(read.count, 4);
+});
+
+test('the first state is the load line at count 0, until the cells or the cycle change', () => {
+  const storage = new FakeStorage();
+  const journal = journalIn(storage);
+  journal.checkpoint(saved(1));
+  journal.note(run(4), OK);
+  journal.checkpoint(saved(5));
+  journal.note(run(4), OK);
+  journal.checkpoint(saved(9));
+  assert.equal(journal.first, saved(1));
+  assert.equal(journalIn(storage).first, saved(1));
+  const again = journalIn(storage);
+  again.note(run(1), OK);
+  again.checkpoint(saved(10));
+  assert.equal(journalIn(storage).first, saved(1));
+  again.note(SET, '{"ok":"set"}');
+  assert.equal(again.first, null);
+  assert.equal(again.count, 0);
+  again.note(run(1), OK);
+  again.checkpoint(saved(11));
+  assert.equal(again.first, null);
+  assert.equal(journalIn(storage).first, null);
+  const saves = [...storage.texts.keys()].filter(key => key.endsWith('/save'));
+  assert.equal(saves.length, 1, 'saves that nobody needs are gone');
+});
+
+test('whenever the page ends, what is in the storage is a machine that it had', () => {
+  class Watched extends FakeStorage {
+    setItem(key, value) {
+      super.setItem(key, value);
+      this.onChange?.(this.copy());
+    }
+
+    removeItem(key) {
+      super.removeItem(key);
+      this.onChange?.(this.copy());
+    }
+  }
+  const storage = new Watched();
+  const journal = journalIn(storage);
+  journal.checkpoint(saved(0));
+  let sum = 0;
+  let snapshots = 0;
+  const noted = new Set([0]);
+  storage.onChange = copy => {
+    snapshots++;
+    const read = journalIn(copy);
+    assert.ok(noted.has(sumOf(read)), `${read.lines()} at ${sum}`);
+    assert.ok(sumOf(read) >= sum, `${sumOf(read)} is older than ${sum}`);
+  };
+  for (let i = 1; i < 400; i++) {
+    const n = 1000 + i;
+    noted.add(sum + n);
+    const entry = journal.note(i % 3 ? run(n) : run(n).padEnd(300));
+    sum += n;
+    journal.answer(entry, OK);
+    if (i % 37 === 0) {
+      journal.checkpoint(saved(sum));
+    }
+  }
+  assert.ok(snapshots > 400);
+});
+
+test('a full storage is said; what it has is a front of the journal, and later saves are tried again', () => {
+  const storage = new FakeStorage(1200);
+  const journal = journalIn(storage);
+  journal.checkpoint(saved(0));
+  assert.equal(journal.isKept, true);
+  let sum = 0;
+  let kept = 0;
+  for (let i = 0; i < 40; i++) {
+    journal.note(run(1000 + i).padEnd(90), i % 2 ? OK : '{"ok":"run","position":1}');
+    sum += 1000 + i;
+    kept = journal.isKept ? sum : kept;
+    journal.note(SET, '{"ok":"set"}');
+  }
+  assert.equal(journal.isKept, false);
+  assert.equal(sumOf(journal), sum);
+  const read = journalIn(storage.copy());
+  assert.ok(kept > 0 && sumOf(read) >= kept && sumOf(read) < sum);
+  journal.checkpoint(saved(sum));
+  assert.equal(journal.isKept, true);
+  assert.deepEqual(journalIn(storage).lines(), [saved(sum)]);
+  journal.checkpoint(saved('1'.repeat(2000)));
+  assert.equal(journal.isKept, false);
+  assert.deepEqual(journalIn(storage).lines(), [saved(sum)], 'what was there is there still');
+});
+
+test('after a command that had no room, later ones are not kept either', () => {
+  const storage = new FakeStorage(800);
+  const journal = journalIn(storage);
+  journal.checkpoint(saved(0));
+  journal.note(run(1), OK);
+  journal.note(run(2).padEnd(4000));
+  assert.equal(journal.isKept, false);
+  journal.note(SET);
+  assert.equal(journal.isKept, false);
+  assert.deepEqual(journalIn(storage).lines(), [saved(0), run(1)]);
+});
+
+test('without a storage, or with one that throws, a journal keeps on in memory', () => {
+  const broken = { get length() { throw new Error('denied'); }, getItem() { throw new Error('denied'); } };
+  for (const storage of [null, broken]) {
+    const journal = journalIn(storage);
+    journal.checkpoint(saved(3));
+    journal.note(run(1), OK);
+    assert.deepEqual(journal.lines(), [saved(3), run(1)]);
+    assert.equal(journal.isKept, false);
+  }
+});
+
+test('journals of other pages make room, the oldest first', () => {
+  const storage = new FakeStorage(3000);
+  for (const [name, when] of [['old', 1], ['new', 2]]) {
+    journalIn(storage, name, { now: () => when }).checkpoint(saved('1'.repeat(900)));
+  }
+  const journal = journalIn(storage, 'page', { now: () => 3 });
+  journal.checkpoint(saved('2'.repeat(1200)));
+  assert.equal(journal.isKept, true);
+  assert.deepEqual(kept(storage).map(({ name }) => name), ['page', 'new']);
+  for (let i = 0; i < 12; i++) {
+    const many = journalIn(storage, `tab${i}`, { now: () => 10 + i });
+    many.checkpoint(saved(i));
+  }
+  assert.ok(kept(storage).length <= 9);
+});
+
+test('two pages with one name: each has its own machine, the one that was there first under a new name', () => {
+  const storage = new FakeStorage();
+  const renamed = [];
+  const one = journalIn(storage, 'page', { onRenamed: name => renamed.push(name) });
+  one.checkpoint(saved(1));
+  one.note(run(2), OK);
+  const other = journalIn(storage, 'page', { random: () => 0.7 });
+  assert.deepEqual(other.lines(), one.lines());
+  other.note(run(10), OK);
+  one.note(run(100), OK);
+  one.note(SET, '{"ok":"set"}');
+  other.checkpoint(saved(13));
+  one.checkpoint(saved(103));
+  assert.equal(renamed.length, 1);
+  assert.equal(one.name, renamed[0]);
+  assert.deepEqual(journalIn(storage, 'page').lines(), [saved(13)]);
+  assert.deepEqual(journalIn(storage, one.name).lines(), [saved(103)]);
+});
+
+test('the name of a tab stays as long as the tab', () => {
+  const session = new FakeStorage();
+  const name = nameOfTab(session, () => 0.5);
+  assert.equal(nameOfTab(session, () => 0.9), name);
+  assert.notEqual(nameOfTab(new FakeStorage(), () => 0.9), name);
+  assert.equal(nameOfTab(null), 'page');
+});
