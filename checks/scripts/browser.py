@@ -578,6 +578,47 @@ def a_host_goes(here: Here, teacher: Teacher) -> None:
         teacher.is_still("a host goes and comes back")
 
 
+# What the state of the page was, one after another, with the milliseconds until then, from now on.
+WATCH_STATE = """(() => {
+  const torus = document.getElementById('torus');
+  const begun = performance.now();
+  window.states = [];
+  new MutationObserver(() => {
+    if (window.states.at(-1)?.[0] !== torus.dataset.state) window.states.push([torus.dataset.state, performance.now() - begun]);
+  }).observe(torus, { attributes: true, attributeFilter: ['data-state'] });
+})()"""
+# Seconds in which the page has to go on at another host.
+ELSEWHERE = 5
+
+
+def another_host(here: Here, teacher: Teacher) -> None:
+    """The program has two hosts. The page's one ends while it runs, and isn't started again: the page goes on at the other."""
+    with Host(here.cam6) as host, Host(here.cam6) as other, Page(here.web, host.port, other.port) as page:
+        teacher.open(page.address)
+        lines = teacher.chooses(LETTERS)
+        before = teacher.settles()
+        teacher.click("#run")
+        teacher.until(f"Number({TORUS}.count) > {before + 30}")
+        teacher.value(WATCH_STATE)
+        host.kill()
+        teacher.until("window.states.some(([state]) => state === 'lost')")
+        teacher.until(f"{TORUS}.state === 'ready'")
+        lost, *later = [(state, at) for state, at in teacher.value("window.states") if state in ("lost", "ready")]
+        seconds = (later[-1][1] - lost[1]) / 1000
+        here.tally.same("the page is lost once, and then ready", [lost[0], *[state for state, _ in later]], ["lost", "ready"])
+        here.tally.note("the notice is short", seconds < ELSEWHERE, f"{seconds:.1f} seconds")
+        said = teacher.value("document.getElementById('state-says').textContent")
+        here.tally.note("the page says that it has a seat of the other host", "of host 2" in said, said)
+        count = int(teacher.told("count"))
+        teacher.until(f"Number({TORUS}.count) > {count + 30}")
+        count = teacher.pauses()
+        teacher.shows("the other host goes on with the cells of a private machine", [*lines, text_of(do="run", n=count)])
+        for _ in range(3):
+            teacher.click("#back")
+        teacher.shows("and takes steps back", [*lines, text_of(do="run", n=count - 3)])
+        teacher.is_still("another host")
+
+
 def seats(here: Here, teacher: Teacher) -> None:
     """Each page takes the first free seat, or the one in its address. One too many says so, and takes one as it is free."""
     with Host(here.cam6, users=2) as host, Page(here.web, host.port) as page:
@@ -637,7 +678,7 @@ def browse(here: Here, path: str) -> None:
         print(f"browser: {browser.asked('/json/version')['Browser']}")
         teacher = Teacher(here.tally, here.cam6, browser.first_tab())
         own_machine(here, teacher)
-        for part in (a_host_goes, seats, another_page):
+        for part in (a_host_goes, another_host, seats, another_page):
             if here.wants(part.__name__):
                 begun = time.monotonic()
                 teacher.leaves()

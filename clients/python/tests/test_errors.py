@@ -5,6 +5,8 @@ from __future__ import annotations
 import json
 import os
 import pickle
+import signal
+import threading
 import unittest
 from typing import Any
 
@@ -189,6 +191,20 @@ class TestNotThere(unittest.TestCase):
             with self.assertRaisesRegex(cam6.Lost, "status -9 .signal 9"):
                 machine.rules()
         machine.close()
+
+    def test_a_program_that_does_not_answer(self) -> None:
+        """A program that is stopped is killed after the deadline."""
+        machine = cam6.local(support.program(), deadline=3)
+        channel: Any = machine._transport
+        process = channel._process
+        process.send_signal(signal.SIGSTOP)
+        awake = threading.Timer(30, process.send_signal, [signal.SIGCONT])
+        awake.start()
+        for _ in range(2):
+            with self.assertRaisesRegex(cam6.Lost, "No reply came in time"):
+                machine.rules()
+        awake.cancel()
+        self.assertEqual(process.returncode, -signal.SIGKILL)
 
     def test_closed(self) -> None:
         machine = cam6.local(support.program())

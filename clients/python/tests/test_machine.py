@@ -461,6 +461,8 @@ class TestBadInput(unittest.TestCase):
             ({"side_limit": True}, TypeError),
             ({"program": ""}, TypeError),
             ({"program": 7}, TypeError),
+            ({"deadline": 0}, ValueError),
+            ({"deadline": True}, TypeError),
         ]:
             with self.subTest(keywords=keywords), self.assertRaises(kind):
                 cam6.local(**keywords)  # type: ignore[arg-type]

@@ -469,7 +469,8 @@ class TestKilled(unittest.TestCase):
             assert machine.session
             self.assertTrue(got == want)
             self.assertEqual(host.kills, len(sent) // 10)
-            self.assertGreater(machine.session.recoveries, len(sent) // 10 // 2)
+            # Each kill costs a recovery in its own call or in the next one. One call may recover from two kills at once.
+            self.assertGreaterEqual(2 * machine.session.recoveries, host.kills)
 
     def part_of(self, text: str, sent: list[bytes], count: int) -> int:
         """Starts a program, and kills it after so many answers. Returns how many commands were answered then."""

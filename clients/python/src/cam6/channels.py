@@ -41,11 +41,14 @@ class Channel:
         self._owed = 0
         self._half: list[bytes] = []
         self._ended: Optional[str] = None
+        # How many seconds `talk` may take, or None.
+        self._deadline: Optional[float] = None
 
     def talk(self, lines: Sequence[bytes]) -> list[bytes]:
-        """The replies to lines. Raises `Lost` if the other side ends before."""
+        """The replies to lines. Raises `Lost` if the other side ends before, or the deadline passes."""
         replies: list[bytes] = []
-        self.exchange(lines, replies.extend)
+        until = None if self._deadline is None else time.monotonic() + self._deadline
+        self.exchange(lines, replies.extend, until)
         return replies
 
     def exchange(self, lines: Sequence[bytes], heard: Heard, until: Optional[float] = None) -> None:
@@ -169,8 +172,9 @@ def can_go_on(reads: int, writes: int, is_writing: bool, seconds: Optional[float
 class Process(Channel):
     """A program that reads lines from its standard input, and writes replies to its standard output."""
 
-    def __init__(self, words: Sequence[str]) -> None:
+    def __init__(self, words: Sequence[str], deadline: Optional[float] = None) -> None:
         super().__init__()
+        self._deadline = deadline
         self._ended = "This program was not started."
         self._told: IO[bytes] = tempfile.TemporaryFile()
         try:

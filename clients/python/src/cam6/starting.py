@@ -20,19 +20,25 @@ MOST_SEATS = 32
 Host = Union[str, Sequence[Union[str, tuple[str, int]]]]
 
 
-def local(program: Union[str, os.PathLike[str]] = "cam6", side_limit: int = 256) -> Machine:
+def local(
+    program: Union[str, os.PathLike[str]] = "cam6", side_limit: int = 256, *, deadline: Optional[float] = None
+) -> Machine:
     """Starts `cam6 alone`, and returns its machine.
 
     `program` is its path, or a name on the PATH. `side_limit` is the largest side that the machine may have: 128, 256
     or 512. The machine begins with 256 columns and rows, or with 128 if that is the limit.
 
+    `deadline` is how many seconds a call may take, above 0. After them the program is stopped, and the call raises
+    `Lost`. None stands for no end. A pipeline is one call, and a long `run` is one for each 65,535 steps.
+
     Raises `Lost` if there is no such program, or if it ends at once.
     """
     limit = checked_limit(side_limit, "side_limit")
+    until = None if deadline is None else checked_seconds(deadline, "deadline", False)
     path = os.fspath(program)
     if not isinstance(path, str) or not path:
         raise TypeError(f"program is a path, not {program!r:.60}")
-    return opened(Process([path, "alone", "--side", str(limit)]))
+    return opened(Process([path, "alone", "--side", str(limit)], until))
 
 
 def connect(
