@@ -81,7 +81,8 @@ fn bit_at(state: u8, level: Level, corner: u8) -> u8
     state >> (corner % CORNERS + first) & 1
 }
 
-/// Lines 8 and 9.
+/// What a corner sees on lines 8 and 9, as a number from 0 to 3: the phase, or its own column and
+/// row. It is 0 for hoods with neither of them there.
 fn hood_lines(hood: Hood, phase: Phase, corner: u8) -> u8
     ensures lines { result ≡ number_of (map (line_shows (corner_sees phase 0 corner))
         (drop 8 (hood_names hood))) }
@@ -94,7 +95,8 @@ fn hood_lines(hood: Hood, phase: Phase, corner: u8) -> u8
     }
 }
 
-/// Lines 10 and 11. A block sees nothing of the other half's centres.
+/// What a corner sees on lines 10 and 11, as a number from 0 to 3. A block sees nothing of the
+/// other half's centres, so it is 0 for them.
 fn minor_lines(minor: Minor, phase: Phase, corner: u8) -> u8
     ensures lines { result ≡ number_of (map (line_shows (corner_sees phase 0 corner))
         (minor_names minor)) }

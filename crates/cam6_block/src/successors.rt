@@ -43,6 +43,7 @@ fn new_bits(table: &Table, hood: Hood, minor: Minor, phase: Phase, state: u8, co
     table.at(corner_address(hood, minor, phase, state, corner))
 }
 
+/// The lower plane's bit of an entry, which is its bit 0.
 fn lower_bit(bits: u8) -> u8
     ensures bit { result ≡ number_of (bit_for Lower bits ∷ []) }
     ensures within { result < 2 }
@@ -50,6 +51,7 @@ fn lower_bit(bits: u8) -> u8
     bits % 2
 }
 
+/// The upper plane's bit of an entry, which is its bit 1.
 fn upper_bit(bits: u8) -> u8
     ensures bit { result ≡ number_of (bit_for Upper bits ∷ []) }
     ensures within { result < 2 }

@@ -69,7 +69,7 @@ impl FlakyBoard {
     }
 }
 
-/// Whether the next call is one of these.
+/// Whether a list has the next call. Calls are counted from the next one, which is 1.
 fn is_due(due: &[u64]) -> bool
     ensures { result ≡ is_due due.now }
 {

@@ -93,7 +93,8 @@ impl Job {
         self.steps
     }
 
-    /// Does one band, by tables that lie as the cycle needs them.
+    /// Does one band, by tables that lie as the cycle needs them. If a step ends with it, moves the
+    /// position on and counts the step.
     pub fn band(&mut self, tables: &[Table]) -> BandEnd
         requires work { 0 < self.old.steps }
         requires room { max_tables ≤ length tables.now }

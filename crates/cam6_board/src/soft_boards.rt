@@ -61,6 +61,7 @@ impl Board for SoftBoard {
         Ok(())
     }
 
+    /// Does one band of the job, by `Job::band`.
     fn band(&mut self) -> Result<BandEnd, BoardFault>
         requires { HasWork (load_in self.old) }
         ensures never { IsOk result }

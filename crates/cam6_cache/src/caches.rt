@@ -118,8 +118,8 @@ impl TableCache {
     }
 }
 
-/// Makes a table the key's true one, by way of the table that it undoes, if it undoes one. It isn't
-/// refused: what is to be undone can be.
+/// Fills `out` with the key's true table, by `fill_by`. That refuses nothing here, since what is to
+/// be undone can be.
 fn fill_true(key: &NamedKey, code: &Code, straight: &mut Table, out: &mut Table)
     requires code { IsCodeFor (key_of key.now).wiring (key_of key.now).text code.now }
     requires reversible { key.now.inverted ≡ true → IsReversibleKey (key_of key.now) }

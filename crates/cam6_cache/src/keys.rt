@@ -123,6 +123,7 @@ impl Key {
         named.inverted = inverted;
     }
 
+    /// The key as a cache looks it up.
     pub(crate) fn named(&self) -> &NamedKey
         ensures { key_of result.now ≡ self.now }
     {

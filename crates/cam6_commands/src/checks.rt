@@ -1,4 +1,7 @@
 //! Numbers of commands that were looked at: each is within its limits.
+//!
+//! Sides, colours and phases are checked where they are used: `refusals` of `cam6_machine` and of
+//! `cam6_rules`.
 ghost use Rattle.std.specs.Prelude.{◌≡◌, ◌<◌, IfOk};
 ghost use Rattle.std.specs.Result.{result_err};
 ghost use Rattle.cam6_planes.specs.Side.{side_number};
@@ -29,6 +32,7 @@ impl Model for PlaneNumber {
 }
 
 impl PlaneNumber {
+    /// The plane with this number, 0 to 3. Returns `OutOfRange` if there is none.
     pub fn of(number: u64) -> Result<PlaneNumber, Fault>
         ensures refusal { result_err result ≡ plane_refusal number }
         ensures value { IfOk result (λ plane. plane ≡ number) }
@@ -72,7 +76,7 @@ impl Model for RowNumber {
 }
 
 impl RowNumber {
-    /// A row of a torus of this side.
+    /// The row with this number of a torus of this side. Returns `OutOfRange` if there is none.
     pub fn of(side: Side, number: u64) -> Result<RowNumber, Fault>
         ensures refusal { result_err result ≡ row_refusal side number }
         ensures value { IfOk result (λ row. row ≡ record { side = side; number = number }) }
@@ -112,6 +116,7 @@ impl Model for Mask {
 }
 
 impl Mask {
+    /// The states of a mask from 0 to 65,535. Returns `OutOfRange` if the number is larger.
     pub fn of(number: u64) -> Result<Mask, Fault>
         ensures refusal { result_err result ≡ mask_refusal number }
         ensures value { IfOk result (λ mask. mask ≡ number) }
@@ -149,6 +154,7 @@ impl Model for StepCount {
 }
 
 impl StepCount {
+    /// So many steps, from 0 to 65,535. Returns `OutOfRange` if there are more.
     pub fn of(number: u64) -> Result<StepCount, Fault>
         ensures refusal { result_err result ≡ steps_refusal number }
         ensures value { IfOk result (λ steps. steps ≡ number) }
@@ -161,6 +167,7 @@ impl StepCount {
         })
     }
 
+    /// The number of steps, 0 to 65,535.
     pub fn number(self) -> u16
         ensures { result ≡ self }
     {

@@ -1,10 +1,10 @@
 //! What a user asks of their machine.
 
+use crate::items::Items;
 use crate::saved::SavedMachine;
 use crate::texts::Text;
 use cam6_planes::Bits;
 use cam6_wiring::{Grid, Wiring};
-use std::marker::Model;
 
 /// A command, with its numbers as the user gave them.
 #[derive(Debug, Drop)]
@@ -85,33 +85,5 @@ pub struct NamedEntry {
     pub phase: u64,
 }
 
-/// The entries of a cycle, in order. Contracts see them as a list.
-#[derive(Debug, Drop)]
-pub struct NamedEntries {
-    entries: Vec<NamedEntry>,
-}
-
-impl Model for NamedEntries {
-    ghost use Rattle.std.specs.Prelude.{List};
-    ghost use Rattle.cam6_commands.specs.declared.commands.NamedEntry.{NamedEntry};
-
-    ghost Value = { List NamedEntry };
-
-    ghost view = { λ e. e.entries.items };
-}
-
-impl NamedEntries {
-    ghost use Rattle.std.specs.Prelude.{◌≡◌};
-
-    pub fn new(entries: Vec<NamedEntry>) -> NamedEntries
-        ensures { result ≡ entries.items }
-    {
-        NamedEntries { entries }
-    }
-
-    pub fn as_slice(&self) -> &[NamedEntry]
-        ensures { result.now ≡ self.now }
-    {
-        self.entries.as_slice()
-    }
-}
+/// The entries of a cycle, in order.
+pub type NamedEntries = Items<NamedEntry>;

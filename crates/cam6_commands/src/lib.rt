@@ -14,14 +14,15 @@
 //!
 //! Stands on: `cam6_planes`, `cam6_wiring`, `cam6_forth`, `cam6_table` and `cam6_block`.
 //!
-//! Read next: `commands`, with `texts`, `saved` and `limits`; `faults` and `refusals`; `checks`; then
-//! `replies` with `rows`; and `events` with `outcomes` and `refused`.
+//! Read next: `commands`, with `texts`, `items`, `saved` and `limits`; `faults` and `refusals`;
+//! `checks`; then `replies` with `rows`; and `events` with `outcomes` and `refused`.
 #![tactic(auto)]
 
 mod checks;
 mod commands;
 mod events;
 mod faults;
+mod items;
 mod limits;
 mod outcomes;
 mod refusals;
@@ -35,6 +36,7 @@ pub use checks::{Mask, PlaneNumber, RowNumber, StepCount};
 pub use commands::{Command, NamedEntries, NamedEntry};
 pub use events::Event;
 pub use faults::Fault;
+pub use items::Items;
 pub use limits::{MAX_BOARDS, MAX_COLOUR, MAX_MASK, MAX_NAME, MAX_RULES, MAX_STEPS, MAX_USERS};
 pub use outcomes::Outcome;
 pub use refusals::Refusal;

@@ -7,6 +7,7 @@ ghost use Rattle.cam6_planes.specs.Cells.{cells};
 ghost use Rattle.cam6_planes.specs.Digits.{row_text};
 ghost use Rattle.cam6_commands.specs.Limits.{max_colour};
 
+use crate::items::Items;
 use cam6_planes::{COLUMNS, DIGITS, Planes};
 use std::marker::Model;
 
@@ -94,30 +95,5 @@ impl RowColours {
     }
 }
 
-/// The texts of a plane's rows, in order. Contracts see them as a list.
-#[derive(Debug, Drop)]
-pub struct PlaneRows {
-    rows: Vec<RowText>,
-}
-
-impl Model for PlaneRows {
-    ghost use Rattle.std.specs.Prelude.{List, ℕ};
-
-    ghost Value = { List (List ℕ) };
-
-    ghost view = { λ r. r.rows.items };
-}
-
-impl PlaneRows {
-    pub fn new(rows: Vec<RowText>) -> PlaneRows
-        ensures { result ≡ rows.items }
-    {
-        PlaneRows { rows }
-    }
-
-    pub fn as_slice(&self) -> &[RowText]
-        ensures { result.now ≡ self.now }
-    {
-        self.rows.as_slice()
-    }
-}
+/// The texts of a plane's rows, in order.
+pub type PlaneRows = Items<RowText>;

@@ -3,6 +3,7 @@ ghost use Rattle.std.specs.Prelude.{◌≡◌};
 ghost use Rattle.std.specs.List.{list_all};
 ghost use Rattle.cam6_commands.specs.Names.{is_name_byte};
 
+use crate::items::Items;
 use crate::limits::MAX_NAME;
 use std::marker::Model;
 
@@ -68,32 +69,5 @@ fn is_name_byte(byte: u8) -> bool
     matches!(byte, 0x21..=0x7E) && byte != b'"' && byte != b'\\'
 }
 
-/// Names of rules, in order. Contracts see them as a list of their bytes.
-#[derive(Debug, Drop)]
-pub struct Names {
-    names: Vec<Text>,
-}
-
-impl Model for Names {
-    ghost use Rattle.std.specs.Prelude.{List, ℕ};
-
-    ghost Value = { List (List ℕ) };
-
-    ghost view = { λ n. n.names.items };
-}
-
-impl Names {
-    ghost use Rattle.std.specs.Prelude.{◌≡◌};
-
-    pub fn new(names: Vec<Text>) -> Names
-        ensures { result ≡ names.items }
-    {
-        Names { names }
-    }
-
-    pub fn as_slice(&self) -> &[Text]
-        ensures { result.now ≡ self.now }
-    {
-        self.names.as_slice()
-    }
-}
+/// Names of rules, in order.
+pub type Names = Items<Text>;

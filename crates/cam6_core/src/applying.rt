@@ -33,6 +33,8 @@ impl Core {
         }
     }
 
+    /// Gives a user's machine a command. Returns how many bands it needs, which is 0 if its reply
+    /// is already there. If an allocation fails, the machine is as it was.
     fn ask(&mut self, user: u64, command: Command) -> Outcome
         requires { is_waiting ((standing self.old).user user) ≡ false }
         ensures takes { Takes self.old (event.Ask user command) result self.new }
@@ -59,6 +61,8 @@ impl Core {
         }
     }
 
+    /// Puts a user's command on an idle board, with its tables filled. Returns how many bands are
+    /// left.
     fn lease(&mut self, user: u64, board: u64) -> Outcome
         requires board { is_idle ((standing self.old).board board) ≡ true }
         requires user { is_queued ((standing self.old).user user) ≡ true }
@@ -76,6 +80,8 @@ impl Core {
         Outcome::Leased(left)
     }
 
+    /// Does one band on a board, and returns how many are left. After the last one the reply waits
+    /// to be collected, and the board is idle.
     fn band(&mut self, board: u64) -> Outcome
         requires { is_loaded ((standing self.old).board board) ≡ true }
         ensures takes { Takes self.old (event.Band board) result self.new }
@@ -91,6 +97,8 @@ impl Core {
         }
     }
 
+    /// Takes the command off a board, which is idle then. The command waits again. Returns how many
+    /// bands are left.
     fn preempt(&mut self, board: u64) -> Outcome
         requires { is_loaded ((standing self.old).board board) ≡ true }
         ensures takes { Takes self.old (event.Preempt board) result self.new }
@@ -103,6 +111,8 @@ impl Core {
         Outcome::Preempted(left)
     }
 
+    /// Fails a board. The command that it held begins again from its home. Returns how many bands
+    /// are left then, or no number if the board held nothing.
     fn fail(&mut self, board: u64) -> Outcome
         requires there { is_missing ((standing self.old).board board) ≡ false }
         requires alive { is_dead ((standing self.old).board board) ≡ false }
@@ -126,6 +136,7 @@ impl Core {
         Outcome::Repaired
     }
 
+    /// Drops the table that was used longest ago.
     fn evict(&mut self) -> Outcome
         ensures takes { Takes self.old event.Evict result self.new }
         ensures others { Spares event.Evict self.old self.new }
@@ -136,6 +147,7 @@ impl Core {
         Outcome::Evicted
     }
 
+    /// Returns a user's reply. Their machine has no command then.
     fn collect(&mut self, user: u64) -> Outcome
         requires { is_finished ((standing self.old).user user) ≡ true }
         ensures takes { Takes self.old (event.Collect user) result self.new }

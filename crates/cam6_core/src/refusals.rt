@@ -29,6 +29,7 @@ impl Core {
 }
 
 impl Core {
+    /// Why an ask is refused, whatever it asks.
     fn ask_refusal(&self, user: u64) -> Option<Refused>
         // Whatever is asked.
         ensures { (c : Command) → result ≡ refusal (standing self.now) (event.Ask user c) }
@@ -133,36 +134,43 @@ impl Core {
         self.users.get((user - 1) as usize)
     }
 
+    /// Whether no user has the number. Users are counted from 1.
     fn no_user(&self, user: u64) -> bool
         ensures { result ≡ is_missing ((standing self.now).user user) }
     {
         self.user(user).is_none()
     }
 
+    /// Whether a user has a command whose reply isn't collected. It is also true if there is no
+    /// such user.
     fn is_waiting(&self, user: u64) -> bool
         ensures { result ≡ is_waiting ((standing self.now).user user) }
     {
         !matches!(self.user(user), Some(Whereabouts::Resting(_)))
     }
 
+    /// Whether there is such a user, and their command waits for a board.
     fn is_queued(&self, user: u64) -> bool
         ensures { result ≡ is_queued ((standing self.now).user user) }
     {
         matches!(self.user(user), Some(Whereabouts::Queued(_)))
     }
 
+    /// Whether there is such a user, and their reply waits to be collected.
     fn is_finished(&self, user: u64) -> bool
         ensures { result ≡ is_finished ((standing self.now).user user) }
     {
         matches!(self.user(user), Some(Whereabouts::Finished(_)))
     }
 
+    /// Whether no board has the number. Boards are counted from 0.
     fn no_board(&self, board: u64) -> bool
         ensures { result ≡ is_missing ((standing self.now).board board) }
     {
         self.boards.get(board as usize).is_none()
     }
 
+    /// Whether there is such a board, and it is idle.
     fn is_idle(&self, board: u64) -> bool
         ensures { result ≡ is_idle ((standing self.now).board board) }
     {
@@ -172,6 +180,7 @@ impl Core {
         }
     }
 
+    /// Whether there is such a board, and it holds a command.
     fn is_loaded(&self, board: u64) -> bool
         ensures { result ≡ is_loaded ((standing self.now).board board) }
     {
@@ -181,6 +190,7 @@ impl Core {
         }
     }
 
+    /// Whether there is such a board, and it has failed.
     fn is_dead(&self, board: u64) -> bool
         ensures { result ≡ is_dead ((standing self.now).board board) }
     {

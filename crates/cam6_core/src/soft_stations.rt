@@ -75,7 +75,8 @@ impl SoftStation {
         }
     }
 
-    /// One band. The last one frees the board.
+    /// Does one band on the board, and counts it in the lease. After the last one the command is
+    /// finished, and the board is idle.
     pub(crate) fn band(&mut self) -> Banded
         requires { IsLoaded self.old }
         ensures gives { BandGives self.old result self.new }
@@ -87,7 +88,7 @@ impl SoftStation {
         banded
     }
 
-    /// The user's command is taken off the board, which is free.
+    /// Takes the command off the board, which is idle after that. Returns its user and the command.
     pub(crate) fn preempt(&mut self) -> (usize, Queued)
         requires { IsLoaded self.old }
         ensures back { PreemptGives self.old (Preempted.Back result.0 result.1) idle }
@@ -112,7 +113,7 @@ impl SoftStation {
         self.station.fail()
     }
 
-    /// A station that was dead is idle.
+    /// Makes a station idle whose board has failed.
     pub(crate) fn repair(&mut self)
         requires { self.old ≡ dead }
         ensures { self.new ≡ idle }

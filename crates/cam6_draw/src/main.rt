@@ -1,18 +1,17 @@
 //! The program `cam6_draw`: lines of replies on standard input, pictures on standard output.
 //!
-//! Contract: what the arguments ask for, and each end's exit status, are those of `cam6_show_words`. The
-//! bytes of a picture are those of `Netpbm` and of `Terminal` in `cam6_show_pictures`. Which frames are
-//! shown, and how they end, is the contract of `show_frames` in `cam6_show_frames`.
+//! Contract: what the arguments ask for, and each end's exit status, are those of `cam6_show_words`.
+//! `refuse` of `cam6_arguments` ends for arguments that ask for nothing. The bytes of a picture are
+//! those of `Netpbm` and of `Terminal` in `cam6_show_pictures`. Which frames are shown, and how they
+//! end, is the contract of `show_frames` in `cam6_show_frames`.
 //!
-//! Stands on: `cam6_show_words`, `cam6_show_pictures`, `cam6_show_frames`.
+//! Stands on: `cam6_arguments`, `cam6_show_words`, `cam6_show_pictures`, `cam6_show_frames`.
 #![tactic(auto)]
 
+use cam6_arguments::{NO_MEMORY, Program, Refused, failed, refuse, words_given};
 use cam6_show_frames::show_frames;
 use cam6_show_pictures::{Netpbm, Terminal};
-use cam6_show_words::{
-    DrawOptions, NO_MEMORY, Program, Refused, Way, ended, failed, options_of_draw, refusal_of_read,
-    refuse,
-};
+use cam6_show_words::{DrawOptions, Way, ended, options_of_draw};
 use std::env::Env;
 use std::io;
 use std::io::BufReader;
@@ -32,15 +31,8 @@ fn run<R: Env + Input + Print + Eprint + AllocGlobal + Clock>(rt: &R) -> ExitCod
 }
 
 fn options_given<R: Env + AllocGlobal>(rt: &R) -> Result<DrawOptions, Refused> {
-    let alloc = rt.alloc();
-    let args = match std::env::args(rt) {
-        Ok(args) => args,
-        Err(e) => return Err(refusal_of_read(alloc, Program::Draw, e.kind())),
-    };
-    let Ok(words) = args.collect::<Vec<String>>(alloc) else {
-        return Err(Refused::NoMemory);
-    };
-    options_of_draw(alloc, words.as_slice())
+    let words = words_given(rt, Program::Draw)?;
+    options_of_draw(rt.alloc(), words.as_slice())
 }
 
 /// Draws the frames of the lines on standard input.

@@ -36,6 +36,7 @@ pub(crate) enum Kind {
     Other,
 }
 
+/// The kind of a token. Empty or unknown tokens are `Other`, and so are digits with a sign.
 #[tactic(auto, unfolding(crate::specs::Kinds::kind_of))]
 pub(crate) fn kind_of(token: &[u8]) -> Kind
     ensures { result ≡ kind_of token.now }
@@ -62,6 +63,7 @@ pub(crate) fn ends_comment(token: &[u8]) -> bool
     !token.is_empty() && token[token.len() - 1] == b')'
 }
 
+/// The kind of a token that is a mark, IF, ELSE or THEN. Returns `None` for any other token.
 #[tactic(auto, unfolding(crate::specs::Kinds::mark))]
 fn mark(token: &[u8]) -> Option<Kind>
     ensures { result ≡ mark token.now }
@@ -80,6 +82,7 @@ fn mark(token: &[u8]) -> Option<Kind>
     }
 }
 
+/// Whether a token is decimal digits alone. An empty token isn't.
 fn is_digits(token: &[u8]) -> bool
     ensures { result ≡ is_digits token.now }
 {
@@ -91,7 +94,7 @@ fn is_digits(token: &[u8]) -> bool
     !token.is_empty()
 }
 
-// The value of digits, unless it is above the largest literal.
+/// The value of digits, or `None` if it is above the largest literal.
 #[tactic(auto, using(crate::proofs::Values::digit_steps), unfolding(crate::specs::Kinds::literal))]
 fn literal(digits: &[u8]) -> Option<u16>
     requires digits { is_digits digits.now ≡ true }

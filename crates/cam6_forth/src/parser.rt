@@ -18,8 +18,8 @@ use crate::tokens::first_token;
 use cam6_wiring::{Half, Hood, Minor, Wiring};
 use std::alloc::Global;
 
-/// Reads a text as a rule for this half, hood and minor. Returns the rule, or the text's first
-/// fault.
+/// Reads a text as a rule for this half, hood and minor. Returns the rule, the text's first fault,
+/// or `NoMemory` if an allocation fails.
 pub fn parse(
     alloc: Global,
     text: &str,
@@ -65,6 +65,8 @@ pub fn parse_under(alloc: Global, text: &str, wiring: Wiring) -> Result<Rule, Pa
     read_text(alloc, text, wiring)
 }
 
+/// Reads a text as a rule, or returns its first fault. A text that is too long has it at token 0.
+/// Nothing of such a text is read.
 #[tactic(auto, unfolding(crate::specs::Reading::read_text))]
 fn read_text(alloc: Global, text: &str, wiring: Wiring) -> Result<Rule, ParseFault>
     ensures exact { IsReadAs (read_text wiring text.now) wiring result }

@@ -113,6 +113,8 @@ impl Reader {
         }
     }
 
+    /// Reads a token outside definitions, which is `:` or `(`. Any other is out of place. After
+    /// `MAX_DEFINITIONS` definitions a `:` is `TooLong`.
     fn outside(&mut self, kind: Kind) -> Result<(), AdvanceFault>
         ensures state { Steps (outside self.old kind) self.new result }
         ensures memory { result ≢ Err NoMemory }
@@ -133,6 +135,8 @@ impl Reader {
         }
     }
 
+    /// Reads the name of a definition, and begins its body. A reserved token or a name that is
+    /// already defined is `NotDefinable`.
     fn naming(&mut self, kind: Kind, token: &[u8]) -> Result<(), AdvanceFault>
         ensures state { Steps (naming self.old kind token.now) self.new result }
         ensures memory { result ≡ Err NoMemory →
@@ -149,6 +153,7 @@ impl Reader {
         Ok(())
     }
 
+    /// Reads a token of a body outside of braces.
     fn inside(&mut self, wiring: Wiring, kind: Kind, token: &[u8]) -> Result<(), AdvanceFault>
         ensures { Steps (inside wiring self.old kind token.now) self.new result }
     {
@@ -172,6 +177,8 @@ impl Reader {
         }
     }
 
+    /// Reads a token between a body's braces, which is a single word, `(` or `}`. A word's size is
+    /// one more there.
     fn between_braces(
         &mut self,
         wiring: Wiring,
@@ -197,6 +204,7 @@ impl Reader {
         }
     }
 
+    /// Opens an IF inside those that are open. Returns `TooManyIfs` if `MAX_OPEN_IFS` are open.
     fn with_if(&mut self) -> Result<(), AdvanceFault>
         ensures { Steps (with_if self.old) self.new result }
     {
@@ -207,6 +215,8 @@ impl Reader {
         self.grow(1, Word::If)
     }
 
+    /// Reads the ELSE of the innermost open IF. It is out of place if no IF is open, or if this one
+    /// has an ELSE already.
     fn with_else(&mut self) -> Result<(), AdvanceFault>
         ensures { Steps (with_else self.old.open_ifs self.old) self.new result }
     {
@@ -217,6 +227,7 @@ impl Reader {
         self.grow(1, Word::Else)
     }
 
+    /// Closes the innermost open IF. A THEN is out of place if none is open.
     fn with_then(&mut self) -> Result<(), AdvanceFault>
         ensures { Steps (with_then self.old.open_ifs self.old) self.new result }
     {
@@ -228,6 +239,7 @@ impl Reader {
         Ok(())
     }
 
+    /// Ends the definition. The `;` is out of place if an IF is open.
     fn with_definition(&mut self) -> Result<(), AdvanceFault>
         ensures { Steps (with_definition self.old.open_ifs self.old) self.new result }
     {
@@ -242,7 +254,8 @@ impl Reader {
         Ok(())
     }
 
-    // One more word, of this size.
+    /// Adds a word of this size. If the definition gets too large, returns `TooLarge` and adds
+    /// nothing.
     fn grow(&mut self, size: u32, word: Word) -> Result<(), AdvanceFault>
         ensures { Steps (grown size word self.old) self.new result }
     {
@@ -255,7 +268,7 @@ impl Reader {
         Ok(())
     }
 
-    // The word that a token says by itself, with its size, or the token's fault.
+    /// The word that a token says by itself, with its size, or the token's fault.
     fn word_of(
         &self,
         wiring: Wiring,
@@ -293,7 +306,7 @@ impl Reader {
     }
 }
 
-// The position of a name among the definitions, and that definition's size.
+/// Returns the position of the first definition with this name, and its size.
 fn definition_at(token: &[u8], definitions: &[Definition]) -> Option<(usize, u16)>
     ensures { result ≡ definition_at token.now definitions.now }
 {

@@ -30,6 +30,7 @@ pub(crate) fn stack_word(token: &[u8]) -> Option<StackWord>
     }
 }
 
+/// An output word of either half, or `None` for any other token.
 #[tactic(auto, unfolding(crate::specs::Spellings::output_word))]
 pub(crate) fn output_word(token: &[u8]) -> Option<Output>
     ensures { result ≡ output_word token.now }
@@ -64,6 +65,7 @@ pub(crate) fn neighbour_name(token: &[u8]) -> Option<Name>
         .or(minor_name(token))
 }
 
+/// The name of a cell's lower bit by where the cell lies, such as `N.WEST`.
 #[tactic(auto, unfolding(crate::specs::Spellings::plain_name))]
 fn plain_name(token: &[u8]) -> Option<Name>
     ensures { result ≡ plain_name token.now }
@@ -92,6 +94,8 @@ fn plain_name(token: &[u8]) -> Option<Name>
     Some(Name::Beside(compass, Level::Lower))
 }
 
+/// The name of a cell's upper bit by where the cell lies, such as `NORTH'`. The diagonal cells have
+/// none.
 #[tactic(auto, unfolding(crate::specs::Spellings::primed_name))]
 fn primed_name(token: &[u8]) -> Option<Name>
     ensures { result ≡ primed_name token.now }
@@ -112,6 +116,7 @@ fn primed_name(token: &[u8]) -> Option<Name>
     Some(Name::Beside(compass, Level::Upper))
 }
 
+/// The name of a bit of another cell of the block, such as `CW` or `OPP'`.
 #[tactic(auto, unfolding(crate::specs::Spellings::block_name))]
 fn block_name(token: &[u8]) -> Option<Name>
     ensures { result ≡ block_name token.now }
@@ -128,6 +133,8 @@ fn block_name(token: &[u8]) -> Option<Name>
     Some(Name::InBlock(rotation, level))
 }
 
+/// A name that only one of the Margolus hoods has. It shows the phase, or where the cell lies in
+/// its block.
 #[tactic(auto, unfolding(crate::specs::Spellings::added_name))]
 fn added_name(token: &[u8]) -> Option<Name>
     ensures { result ≡ added_name token.now }
@@ -145,6 +152,7 @@ fn added_name(token: &[u8]) -> Option<Name>
     }
 }
 
+/// A name of a minor. Each begins with `&`.
 #[tactic(auto, unfolding(crate::specs::Spellings::minor_name))]
 fn minor_name(token: &[u8]) -> Option<Name>
     ensures { result ≡ minor_name token.now }

@@ -18,7 +18,7 @@ pub(crate) fn first_token(text: &[u8]) -> Option<(&[u8], &[u8])>
     Some(rest.split_at(run_len(rest)))
 }
 
-// How many spaces stand at the front.
+/// Returns how many spaces the text begins with. In a text of spaces alone it is their number.
 fn space_len(text: &[u8]) -> usize
     ensures within { result ≤ length text.now }
     ensures same { tokens (drop result text.now) ≡ tokens text.now }
@@ -31,7 +31,7 @@ fn space_len(text: &[u8]) -> usize
     start
 }
 
-// How many bytes stand before the first space.
+/// Returns how many bytes stand before the first space. Without a space it is all of them.
 fn run_len(text: &[u8]) -> usize
     ensures within { result ≤ length text.now }
     ensures parts { slice_split is_space text.now
@@ -45,6 +45,7 @@ fn run_len(text: &[u8]) -> usize
     end
 }
 
+/// Whether a byte is a space, a tab, CR or LF. No other byte parts tokens.
 fn is_space(byte: u8) -> bool
     ensures { result ≡ is_space byte }
 {

@@ -1,5 +1,7 @@
 -- The rule of the hand-off table: what holds of a user's word and slot, and of all seats' views.
 --
+-- Users are counted from 1, and their words, slots and rows from 0: the row u is that of user u + 1.
+--
 -- A user's word is 0 if the user's desk has the machine, 1 if the command waits for a board, 2 if
 -- it is finished, and 3 + b if board b has it.
 use Rattle.std.specs.Prelude.{◌≡◌, ℕ, ◌+◌, ◌<◌, ◌≤◌, Bool, true, false, eqb, List, length}

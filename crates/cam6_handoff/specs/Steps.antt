@@ -62,7 +62,7 @@ CollectTells step before found after =
 abbrev pub SitTells : Step Slot → Seated → ℕ → Seated → Type 0
 SitTells step before found after = after ≡ (Rests step.word, (step.word, None) ∷ [])
 
--- a seat is of the table, which has a word and a slot for each user, and the user is one of them
+-- a seat is of the table, which has a word and a slot for each user, and the row is that of one
 abbrev pub IsAt : TableId → ℕ → TableId → ℕ → Type 0
-IsAt table users own user =
-    (own ≡ table) × (user < users) × (table.words ≡ users) × (table.slots ≡ users)
+IsAt table users own row =
+    (own ≡ table) × (row < users) × (table.words ≡ users) × (table.slots ≡ users)

@@ -23,7 +23,8 @@ pub(crate) type HandTable = Table<Option<Place>, View, Counts, Handing, Global>;
 pub struct Desk {
     table: Arc<HandTable>,
     seat: Chair,
-    user: usize,
+    /// The user's row in the table.
+    row: usize,
     resting: Option<Resting>,
 }
 
@@ -35,11 +36,11 @@ impl Model for Desk {
 
     ghost Value = { Stance };
 
-    ghost view = { λ d. stance_of d.user d.resting d.seat.me.0 };
+    ghost view = { λ d. stance_of d.row d.resting d.seat.me.0 };
 
     ghost invariant = { λ d.
         IsAt (arc_value d.table).shared.table_id (arc_value d.table).shared.key.users
-        d.seat.table_id d.user × DeskChair d.user d.resting d.seat.me };
+        d.seat.table_id d.row × DeskChair d.row d.resting d.seat.me };
 }
 
 /// What comes of a command that is put at a desk.
@@ -87,7 +88,7 @@ impl Desk {
                 Ok(Put::Answered(reply))
             }
             Asked::Queued(queued) => {
-                steps::put(&self.table.shared, &mut self.seat, self.user, queued);
+                steps::put(&self.table.shared, &mut self.seat, self.row, queued);
                 Ok(Put::Waiting)
             }
         }
@@ -100,7 +101,7 @@ impl Desk {
         if self.resting.is_some() {
             return None;
         }
-        let finished = steps::collect(&self.table.shared, &mut self.seat, self.user)?;
+        let finished = steps::collect(&self.table.shared, &mut self.seat, self.row)?;
         let (resting, reply) = finished.collect();
         self.resting.insert(resting);
         Some(reply)
@@ -135,26 +136,26 @@ impl Desk {
 
     /// Sleeps while the word is as it was, unless what was asked is finished.
     fn sleep<R: Wait>(&self, rt: &R) {
-        let seen = self.table.shared.peek(self.user);
+        let seen = self.table.shared.peek(self.row);
         if seen != steps::DONE {
             self.table
                 .shared
-                .park(rt, self.user, (seen & 0xffff_ffff) as u32);
+                .park(rt, self.row, (seen & 0xffff_ffff) as u32);
         }
     }
 }
 
 /// Makes a desk with a machine, from a seat that has taken its slot.
-pub(crate) fn desk_of(table: Arc<HandTable>, seat: Chair, user: usize, resting: Resting) -> Desk
+pub(crate) fn desk_of(table: Arc<HandTable>, seat: Chair, row: usize, resting: Resting) -> Desk
     requires at { IsAt (arc_value table).shared.table_id (arc_value table).shared.key.users
-        seat.table_id user }
-    requires rests { seat.me ≡ (Rests user, (user, None) ∷ []) }
-    ensures { result ≡ standing (user + 1) resting }
+        seat.table_id row }
+    requires rests { seat.me ≡ (Rests row, (row, None) ∷ []) }
+    ensures { result ≡ standing (row + 1) resting }
 {
     Desk {
         table,
         seat,
-        user,
+        row,
         resting: Some(resting),
     }
 }

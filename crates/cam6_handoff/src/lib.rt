@@ -8,9 +8,10 @@
 //! (`specs/Desks.antt`). A board's seat holds nothing, or the place that it took
 //! (`specs/Seats.antt`). What it puts back stands for whatever that place stood for. What it puts
 //! as done is that machine after that command. Between any two steps the table keeps its rule
-//! (`specs/Rule.antt`), one row for each word. The type of a step says which words it finds and
-//! leaves (`specs/Steps.antt`). Only `Desk::ask`, `Desk::wait` and `BoardSeat::fill_each` may wait.
-//! `boot` allocates all memory but that of commands.
+//! (`specs/Rule.antt`), one row for each user. Users are counted from 1, and rows from 0. The type
+//! of a step says which words it finds and leaves (`specs/Steps.antt`). Only `Desk::ask`,
+//! `Desk::wait` and `BoardSeat::fill_each` may wait. `boot` allocates all memory but that of
+//! commands.
 //!
 //! By reading, since no clause counts exchanges: each step is one exchange on one word, in one
 //! function of `steps`. The first take of a slot is one load. Only `Desk::ask` and `Desk::wait` try

@@ -18,11 +18,12 @@ pub struct Queue {
 
 impl Queue {
     /// Whether the command of another user than `user`, counted from 1, waits for a board and may
-    /// have one. It may not while a seat makes many tables, if that user's last command made many.
-    pub fn has_other(&self, user: usize) -> bool {
-        for word in 0..self.users {
-            let is_ready = self.table.shared.peek(word) == steps::READY;
-            if word + 1 != user && is_ready && !self.turns.holds_back(word) {
+    /// have one. `None` is for the command of any user. A command may not have a board while a seat
+    /// makes many tables, if its user's last command made many.
+    pub fn has_other(&self, user: Option<usize>) -> bool {
+        for row in 0..self.users {
+            let is_ready = self.table.shared.peek(row) == steps::READY;
+            if user != Some(row + 1) && is_ready && !self.turns.holds_back(row) {
                 return true;
             }
         }

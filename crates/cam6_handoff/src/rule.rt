@@ -9,7 +9,8 @@ pub struct Counts {
     pub users: u64,
 }
 
-/// What a seat knows. No value of it is made. Users are counted from 0 here, as their words are.
+/// What a seat knows. No value of it is made. A row is the word and the slot of a user. Rows are
+/// counted from 0, so a user's row is the user's number less one.
 pub enum View {
     /// The first seat, from which so many desks and boards were cut.
     First {
@@ -18,15 +19,15 @@ pub enum View {
     },
     /// A desk that hasn't taken its slot yet.
     Unseated {
-        user: u64,
+        row: u64,
     },
     /// A desk that has its machine.
     Rests {
-        user: u64,
+        row: u64,
     },
     /// A desk that waits for what was asked, as it was put.
     Waits {
-        user: u64,
+        row: u64,
         asked: Queued,
     },
     /// A board that has nothing of a user.
@@ -36,7 +37,7 @@ pub enum View {
     /// A board that has taken the place of a user.
     Holds {
         board: u64,
-        user: u64,
+        row: u64,
         queued: Queued,
     },
 }

@@ -1,9 +1,9 @@
 //! A board's seat.
-ghost use Rattle.std.specs.Prelude.{◌≡◌, ◌<◌, ◌≤◌, [], None, IsTrue};
+ghost use Rattle.std.specs.Prelude.{◌≡◌, ◌<◌, ◌≤◌, ◌+◌, [], None, IsTrue};
 ghost use Rattle.std.specs.Arc.{arc_value};
 ghost use Rattle.cam6_slot.specs.Leases.{TablesFit};
 ghost use Rattle.cam6_slot.specs.Needs.{needs_of};
-ghost use Rattle.cam6_station.specs.Loading.{FillsOne, FitUpTo};
+ghost use Rattle.cam6_station.specs.Loading.{FitUpTo};
 ghost use Rattle.cam6_handoff.specs.declared.rule.View.TheVariants.{Idle};
 ghost use Rattle.cam6_handoff.specs.Holding.{nothing};
 ghost use Rattle.cam6_handoff.specs.Internal.Chairs.{BoardChair};
@@ -28,7 +28,7 @@ pub struct BoardSeat {
     seat: Chair,
     board: u8,
     users: usize,
-    /// The word of the user whose place was taken.
+    /// The row of the user whose place was taken.
     taken: Option<usize>,
     filling: Filling,
     turns: Arc<Turns>,
@@ -58,7 +58,7 @@ impl BoardSeat {
     ghost use Rattle.cam6_commands.specs.Limits.{max_users};
     ghost use Rattle.cam6_handoff.specs.Seats.{TakeGives, Accepts, AcceptsDone};
 
-    /// The board's number.
+    /// The board's number, counted from 0.
     pub fn number(&self) -> u8
         ensures { result ≡ self.now.number }
     {
@@ -87,9 +87,9 @@ impl BoardSeat {
         requires user { user ≤ self.old.users }
         ensures { TakeGives self.old user result self.new }
     {
-        let word = user - 1;
-        let queued = steps::take(&self.table.shared, &mut self.seat, word, self.board)?;
-        self.taken = Some(word);
+        let row = user - 1;
+        let queued = steps::take(&self.table.shared, &mut self.seat, row, self.board)?;
+        self.taken = Some(row);
         Some(queued.lease(self.board))
     }
 
@@ -98,10 +98,10 @@ impl BoardSeat {
         requires { Accepts self.old.holds queued }
         ensures { self.new ≡ emptied self.old }
     {
-        let Some(word) = self.taken.take() else {
+        let Some(row) = self.taken.take() else {
             unreachable!()
         };
-        steps::back(&self.table.shared, &mut self.seat, word, queued);
+        steps::back(&self.table.shared, &mut self.seat, row, queued);
     }
 
     /// Gives what is finished to the user's desk, and wakes the desk.
@@ -109,10 +109,10 @@ impl BoardSeat {
         requires { AcceptsDone self.old.holds finished }
         ensures { self.new ≡ emptied self.old }
     {
-        let Some(word) = self.taken.take() else {
+        let Some(row) = self.taken.take() else {
             unreachable!()
         };
-        steps::done(&self.table.shared, &mut self.seat, word, finished);
+        steps::done(&self.table.shared, &mut self.seat, row, finished);
     }
 
     /// Fills the tables that a lease needs, in the order of their uses, each through the cache.
@@ -132,23 +132,29 @@ impl BoardSeat {
         ensures tables { IsTrue result → TablesFit lease.now.work self.new.tables }
         ensures others { self.new ≡ record self.old { tables = self.new.tables } }
     {
-        let word = self.taken.unwrap_or(0);
-        let is_dear = self.turns.is_dear(word);
-        let next = if is_dear {
-            0
-        } else {
-            fill_few(rt, &self.turns, &mut self.filling, lease, cache)
+        let Some(row) = self.taken else {
+            return false;
         };
+        let most = if self.turns.is_dear(row) { 0 } else { FEW };
+        let (next, few) = fill_until(rt, &self.turns, &mut self.filling, lease, 0, most, cache);
         if next == lease.needs() {
             return true;
         }
         if !self.turns.try_take() {
-            self.turns.note(word, true);
+            self.turns.note(row, true);
             return false;
         }
-        let made = fill_rest(rt, &self.turns, &mut self.filling, lease, next, cache);
+        let (_, rest) = fill_until(
+            rt,
+            &self.turns,
+            &mut self.filling,
+            lease,
+            next,
+            u8::MAX,
+            cache,
+        );
         self.turns.give_back();
-        self.turns.note(word, made > if is_dear { FEW } else { 0 });
+        self.turns.note(row, few + rest > FEW);
         true
     }
 
@@ -168,67 +174,38 @@ impl BoardSeat {
     }
 }
 
-/// Fills one table under the cache's lock, and returns whether it was there. A seat that waits for
+/// Fills the tables of a lease from an index on, each under the cache's lock, until the cache lacked
+/// `most` of them. Returns the index after them, and how many the cache lacked. A seat that waits for
 /// the lock has it before one that has already had it.
-fn fill_next<R: Wait>(
-    rt: &R,
-    turns: &Turns,
-    filling: &mut Filling,
-    lease: &Lease,
-    index: u8,
-    cache: &Mutex<TableCache>,
-) -> bool
-    requires { index < needs_of lease.now.work }
-    ensures { FillsOne lease.now.work index filling.old filling.new }
-{
-    let next = turns.next.lock(rt);
-    let mut cache = cache.lock(rt);
-    drop(next);
-    filling.fill_one(&mut cache, lease, index)
-}
-
-/// Fills the first tables of a lease, until `FEW` weren't there. Returns how many it filled.
-fn fill_few<R: Wait>(
-    rt: &R,
-    turns: &Turns,
-    filling: &mut Filling,
-    lease: &Lease,
-    cache: &Mutex<TableCache>,
-) -> u8
-    ensures within { result ≤ needs_of lease.now.work }
-    ensures filled { FitUpTo lease.now.work result filling.new }
-{
-    let mut made = 0;
-    for index in 0..lease.needs() {
-        if made == FEW {
-            return index;
-        }
-        if !fill_next(rt, turns, filling, lease, index, cache) {
-            made += 1;
-        }
-    }
-    lease.needs()
-}
-
-/// Fills the tables of a lease from an index on. Returns how many weren't there, at most 255.
-fn fill_rest<R: Wait>(
+fn fill_until<R: Wait>(
     rt: &R,
     turns: &Turns,
     filling: &mut Filling,
     lease: &Lease,
     from: u8,
+    most: u8,
     cache: &Mutex<TableCache>,
-) -> u8
-    requires { FitUpTo lease.now.work from filling.old }
-    ensures { TablesFit lease.now.work filling.new }
+) -> (u8, u8)
+    requires from { from ≤ needs_of lease.now.work }
+    requires fit { FitUpTo lease.now.work from filling.old }
+    ensures within { result.0 ≤ needs_of lease.now.work }
+    ensures filled { FitUpTo lease.now.work result.0 filling.new }
+    ensures whole { result.1 < most → result.0 ≡ needs_of lease.now.work }
+    ensures lacked { from + result.1 ≤ result.0 }
 {
-    let mut made: u8 = 0;
+    let mut lacked = 0;
     for index in from..lease.needs() {
-        if !fill_next(rt, turns, filling, lease, index, cache) {
-            made = made.saturating_add(1);
+        if lacked == most {
+            return (index, lacked);
+        }
+        let next = turns.next.lock(rt);
+        let mut cache = cache.lock(rt);
+        drop(next);
+        if !filling.fill_one(&mut cache, lease, index) {
+            lacked += 1;
         }
     }
-    made
+    (lease.needs(), lacked)
 }
 
 /// The seat of an idle board.

@@ -42,18 +42,18 @@ impl Split<View> for BoardCut {
 }
 
 /// Cuts the next desk's seat, which takes its slot.
-fn cut_desk(table: Arc<HandTable>, first: &mut Chair, user: usize, resting: Resting) -> Desk
+fn cut_desk(table: Arc<HandTable>, first: &mut Chair, row: usize, resting: Resting) -> Desk
     requires of { IsFirstOf (arc_value table).shared.table_id
         (arc_value table).shared.key.users first.old.table_id }
-    requires user { user < (arc_value table).shared.key.users }
-    requires next { first.old.me ≡ (First user 0, []) }
+    requires row { row < (arc_value table).shared.key.users }
+    requires next { first.old.me ≡ (First row 0, []) }
     ensures of { first.new.table_id ≡ first.old.table_id }
-    ensures next { first.new.me ≡ (First (user + 1) 0, []) }
-    ensures desk { result ≡ standing (user + 1) resting }
+    ensures next { first.new.me ≡ (First (row + 1) 0, []) }
+    ensures desk { result ≡ standing (row + 1) resting }
 {
     let mut seat = table.shared.split_seat::<DeskCut>(first);
-    steps::sit(&table.shared, &mut seat, user);
-    desk_of(table, seat, user, resting)
+    steps::sit(&table.shared, &mut seat, row);
+    desk_of(table, seat, row, resting)
 }
 
 /// Cuts the next board's seat.
@@ -115,8 +115,8 @@ fn add_desks(
     ensures next { OnOk result (first.new.me ≡ (First (length limits.now) 0, [])) }
     ensures desks { OnOk result (AreBlankDesks limits.now desks.new.items) }
 {
-    for user in 0..limits.len() {
-        let desk = new_desk(alloc, table, first, user, limits[user])?;
+    for row in 0..limits.len() {
+        let desk = new_desk(alloc, table, first, row, limits[row])?;
         desks.push(desk)?;
     }
     Ok(())
@@ -127,20 +127,20 @@ fn new_desk(
     alloc: Global,
     table: &Arc<HandTable>,
     first: &mut Chair,
-    user: usize,
+    row: usize,
     limit: Side,
 ) -> Result<Desk, NoMemory>
     requires of { IsFirstOf (arc_value table.now).shared.table_id
         (arc_value table.now).shared.key.users first.old.table_id }
-    requires user { user < (arc_value table.now).shared.key.users }
-    requires next { first.old.me ≡ (First user 0, []) }
+    requires row { row < (arc_value table.now).shared.key.users }
+    requires next { first.old.me ≡ (First row 0, []) }
     ensures of { OnOk result (first.new.table_id ≡ first.old.table_id) }
-    ensures next { OnOk result (first.new.me ≡ (First (user + 1) 0, [])) }
-    ensures desk { IfOk result (λ desk. IsBlankDesk (user + 1) limit desk) }
+    ensures next { OnOk result (first.new.me ≡ (First (row + 1) 0, [])) }
+    ensures desk { IfOk result (λ desk. IsBlankDesk (row + 1) limit desk) }
 {
     let table = Arc::clone(table)?;
     let resting = Resting::new(Machine::new(alloc, limit)?);
-    Ok(cut_desk(table, first, user, resting))
+    Ok(cut_desk(table, first, row, resting))
 }
 
 /// Cuts a seat for each board.

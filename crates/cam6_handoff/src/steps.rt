@@ -1,4 +1,5 @@
-//! The steps, each one exchange on one word, or one load.
+//! The steps, each one exchange on one word, or one load. A row is the word and the slot of a user.
+//! Rows are counted from 0.
 ghost use Rattle.std.specs.Prelude.{◌≡◌, ◌≢◌, ℕ, ◌<◌, [], ◌∷◌, MatchOption};
 ghost use Rattle.cam6_commands.specs.declared.commands.Command.{Command};
 ghost use Rattle.cam6_model.specs.Machine.{Machine};
@@ -67,41 +68,41 @@ impl Play<Option<Place>, View> for Sitting {
 }
 
 /// A desk takes its slot for the first time.
-pub(crate) fn sit(shelf: &Shelf, chair: &mut Chair, user: usize)
-    requires at { IsAt shelf.now.table_id shelf.now.key.users chair.old.table_id user }
-    requires unseated { chair.old.me ≡ (Unseated user, []) }
-    ensures at { IsAt shelf.now.table_id shelf.now.key.users chair.new.table_id user }
-    ensures rests { chair.new.me ≡ (Rests user, (user, None) ∷ []) }
+pub(crate) fn sit(shelf: &Shelf, chair: &mut Chair, row: usize)
+    requires at { IsAt shelf.now.table_id shelf.now.key.users chair.old.table_id row }
+    requires unseated { chair.old.me ≡ (Unseated row, []) }
+    ensures at { IsAt shelf.now.table_id shelf.now.key.users chair.new.table_id row }
+    ensures rests { chair.new.me ≡ (Rests row, (row, None) ∷ []) }
 {
-    shelf.load::<Sitting>(chair, user);
+    shelf.load::<Sitting>(chair, row);
 }
 
-/// A desk hands over what is asked.
-pub(crate) fn put(shelf: &Shelf, chair: &mut Chair, user: usize, queued: Queued)
-    requires at { IsAt shelf.now.table_id shelf.now.key.users chair.old.table_id user }
-    requires rests { chair.old.me ≡ (Rests user, (user, None) ∷ []) }
+/// A desk puts what is asked into its slot, to wait for a board.
+pub(crate) fn put(shelf: &Shelf, chair: &mut Chair, row: usize, queued: Queued)
+    requires at { IsAt shelf.now.table_id shelf.now.key.users chair.old.table_id row }
+    requires rests { chair.old.me ≡ (Rests row, (row, None) ∷ []) }
     requires asked { StandsForAsked queued queued }
-    ensures at { IsAt shelf.now.table_id shelf.now.key.users chair.new.table_id user }
-    ensures waits { chair.new.me ≡ (Waits user queued, []) }
+    ensures at { IsAt shelf.now.table_id shelf.now.key.users chair.new.table_id row }
+    ensures waits { chair.new.me ≡ (Waits row queued, []) }
 {
-    drop(shelf.exchange(chair, user, Some(Place::Queued(queued))));
-    let found = shelf.swap::<Putting>(chair, user, READY);
+    drop(shelf.exchange(chair, row, Some(Place::Queued(queued))));
+    let found = shelf.swap::<Putting>(chair, row, READY);
     prove!(found == MINE);
 }
 
 /// A desk takes what it asked for, if it is finished.
-pub(crate) fn collect(shelf: &Shelf, chair: &mut Chair, user: usize) -> Option<Finished>
-    requires at { IsAt shelf.now.table_id shelf.now.key.users chair.old.table_id user }
-    requires waits { (asked : StoredQueued) × (chair.old.me ≡ (Waits user asked, [])) }
-    ensures at { IsAt shelf.now.table_id shelf.now.key.users chair.new.table_id user }
+pub(crate) fn collect(shelf: &Shelf, chair: &mut Chair, row: usize) -> Option<Finished>
+    requires at { IsAt shelf.now.table_id shelf.now.key.users chair.old.table_id row }
+    requires waits { (asked : StoredQueued) × (chair.old.me ≡ (Waits row asked, [])) }
+    ensures at { IsAt shelf.now.table_id shelf.now.key.users chair.new.table_id row }
     ensures found { MatchOption result (chair.new.me ≡ chair.old.me)
-        (λ f. (chair.new.me ≡ (Rests user, (user, None) ∷ []))
-        × ((asked : StoredQueued) → chair.old.me ≡ (Waits user asked, []) → IsAskedDone asked f)) }
+        (λ f. (chair.new.me ≡ (Rests row, (row, None) ∷ []))
+        × ((asked : StoredQueued) → chair.old.me ≡ (Waits row asked, []) → IsAskedDone asked f)) }
 {
-    if shelf.compare_exchange::<Collecting>(chair, user, DONE, MINE) != DONE {
+    if shelf.compare_exchange::<Collecting>(chair, row, DONE, MINE) != DONE {
         return None;
     }
-    let place = match shelf.exchange(chair, user, None) {
+    let place = match shelf.exchange(chair, row, None) {
         Some(place) => place,
         None => unreachable!(),
     };
@@ -112,17 +113,17 @@ pub(crate) fn collect(shelf: &Shelf, chair: &mut Chair, user: usize) -> Option<F
 }
 
 /// A board takes the user's place, if it waits there.
-pub(crate) fn take(shelf: &Shelf, chair: &mut Chair, user: usize, board: u8) -> Option<Queued>
-    requires at { IsAt shelf.now.table_id shelf.now.key.users chair.old.table_id user }
+pub(crate) fn take(shelf: &Shelf, chair: &mut Chair, row: usize, board: u8) -> Option<Queued>
+    requires at { IsAt shelf.now.table_id shelf.now.key.users chair.old.table_id row }
     requires idle { chair.old.me ≡ (Idle board, []) }
-    ensures at { IsAt shelf.now.table_id shelf.now.key.users chair.new.table_id user }
+    ensures at { IsAt shelf.now.table_id shelf.now.key.users chair.new.table_id row }
     ensures found { MatchOption result (chair.new.me ≡ chair.old.me)
-        (λ q. chair.new.me ≡ (Holds board user q, (user, None) ∷ [])) }
+        (λ q. chair.new.me ≡ (Holds board row q, (row, None) ∷ [])) }
 {
-    if shelf.compare_exchange::<Taking>(chair, user, READY, OUT + board as u64) != READY {
+    if shelf.compare_exchange::<Taking>(chair, row, READY, OUT + board as u64) != READY {
         return None;
     }
-    let place = match shelf.exchange(chair, user, None) {
+    let place = match shelf.exchange(chair, row, None) {
         Some(place) => place,
         None => unreachable!(),
     };
@@ -133,34 +134,34 @@ pub(crate) fn take(shelf: &Shelf, chair: &mut Chair, user: usize, board: u8) -> 
 }
 
 /// A board gives a place back, to wait again.
-pub(crate) fn back(shelf: &Shelf, chair: &mut Chair, user: usize, queued: Queued)
-    requires at { IsAt shelf.now.table_id shelf.now.key.users chair.old.table_id user }
+pub(crate) fn back(shelf: &Shelf, chair: &mut Chair, row: usize, queued: Queued)
+    requires at { IsAt shelf.now.table_id shelf.now.key.users chair.old.table_id row }
     requires holds { (b : ℕ) × (q : StoredQueued)
-        × (chair.old.me ≡ (Holds b user q, (user, None) ∷ [])) }
+        × (chair.old.me ≡ (Holds b row q, (row, None) ∷ [])) }
     requires stands { (b : ℕ) (q : StoredQueued) →
-        chair.old.me ≡ (Holds b user q, (user, None) ∷ []) →
+        chair.old.me ≡ (Holds b row q, (row, None) ∷ []) →
         (m : Machine) (c : Command) → Stands q m c → Stands queued m c }
-    ensures at { IsAt shelf.now.table_id shelf.now.key.users chair.new.table_id user }
+    ensures at { IsAt shelf.now.table_id shelf.now.key.users chair.new.table_id row }
     ensures idle { (b : ℕ) (q : StoredQueued) →
-        chair.old.me ≡ (Holds b user q, (user, None) ∷ []) → chair.new.me ≡ (Idle b, []) }
+        chair.old.me ≡ (Holds b row q, (row, None) ∷ []) → chair.new.me ≡ (Idle b, []) }
 {
-    drop(shelf.exchange(chair, user, Some(Place::Queued(queued))));
-    shelf.swap::<GivingBack>(chair, user, READY);
+    drop(shelf.exchange(chair, row, Some(Place::Queued(queued))));
+    shelf.swap::<GivingBack>(chair, row, READY);
 }
 
 /// A board gives what is finished, and wakes the desk.
-pub(crate) fn done(shelf: &Shelf, chair: &mut Chair, user: usize, finished: Finished)
-    requires at { IsAt shelf.now.table_id shelf.now.key.users chair.old.table_id user }
+pub(crate) fn done(shelf: &Shelf, chair: &mut Chair, row: usize, finished: Finished)
+    requires at { IsAt shelf.now.table_id shelf.now.key.users chair.old.table_id row }
     requires holds { (b : ℕ) × (q : StoredQueued)
-        × (chair.old.me ≡ (Holds b user q, (user, None) ∷ [])) }
+        × (chair.old.me ≡ (Holds b row q, (row, None) ∷ [])) }
     requires is_done { (b : ℕ) (q : StoredQueued) →
-        chair.old.me ≡ (Holds b user q, (user, None) ∷ []) →
+        chair.old.me ≡ (Holds b row q, (row, None) ∷ []) →
         (m : Machine) (c : Command) → Stands q m c → IsDone finished m c }
-    ensures at { IsAt shelf.now.table_id shelf.now.key.users chair.new.table_id user }
+    ensures at { IsAt shelf.now.table_id shelf.now.key.users chair.new.table_id row }
     ensures idle { (b : ℕ) (q : StoredQueued) →
-        chair.old.me ≡ (Holds b user q, (user, None) ∷ []) → chair.new.me ≡ (Idle b, []) }
+        chair.old.me ≡ (Holds b row q, (row, None) ∷ []) → chair.new.me ≡ (Idle b, []) }
 {
-    drop(shelf.exchange(chair, user, Some(Place::Finished(finished))));
-    shelf.swap::<GivingDone>(chair, user, DONE);
-    shelf.wake_one(user);
+    drop(shelf.exchange(chair, row, Some(Place::Finished(finished))));
+    shelf.swap::<GivingDone>(chair, row, DONE);
+    shelf.wake_one(row);
 }

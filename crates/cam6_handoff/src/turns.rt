@@ -10,13 +10,13 @@ pub(crate) struct Turns {
     pub next: Mutex<()>,
     /// 1 while a seat has the turn, and else 0.
     taken: AtomicU32,
-    /// A bit for each word, 1 if the user's last command made many tables.
+    /// A bit for each row, 1 if the user's last command made many tables.
     dear: AtomicU32,
 }
 
-/// The bit of a user's word.
-fn bit_of(word: usize) -> u32 {
-    1u32.wrapping_shl((word % 32) as u32)
+/// The bit of a row. There is one for each user, since there are at most 32 (`MAX_USERS`).
+fn bit_of(row: usize) -> u32 {
+    1u32.wrapping_shl((row % 32) as u32)
 }
 
 impl Turns {
@@ -38,20 +38,20 @@ impl Turns {
         self.taken.store(0, Ordering::SeqCst);
     }
 
-    /// Whether the last command of the word's user made many tables.
-    pub fn is_dear(&self, word: usize) -> bool {
-        self.dear.load(Ordering::SeqCst) & bit_of(word) != 0
+    /// Whether the last command of the row's user made many tables.
+    pub fn is_dear(&self, row: usize) -> bool {
+        self.dear.load(Ordering::SeqCst) & bit_of(row) != 0
     }
 
-    /// Whether the command at a word must wait without a board: a seat has the turn, and the user's
+    /// Whether the command in a row must wait without a board: a seat has the turn, and the user's
     /// last command made many tables too.
-    pub fn holds_back(&self, word: usize) -> bool {
-        self.taken.load(Ordering::SeqCst) != 0 && self.is_dear(word)
+    pub fn holds_back(&self, row: usize) -> bool {
+        self.taken.load(Ordering::SeqCst) != 0 && self.is_dear(row)
     }
 
-    /// Notes whether a command of the word's user made many tables.
-    pub fn note(&self, word: usize, is_dear: bool) {
-        let bit = bit_of(word);
+    /// Notes whether a command of the row's user made many tables.
+    pub fn note(&self, row: usize, is_dear: bool) {
+        let bit = bit_of(row);
         if is_dear {
             self.dear.fetch_or(bit, Ordering::SeqCst);
         } else {

@@ -1,32 +1,29 @@
 //! The program `cam6`: command lines on standard input, or lines of events, one line of an answer
 //! for each on standard output; or command lines of many users over connections.
 //!
-//! Contract: `told`, `closed` and `ended` end with the exit statuses of `cam6_modes`: for arguments
-//! that ask for nothing, for a host that can't go on, and for each end of a session. `cam6_modes`
-//! says what the arguments ask for, and what is written for what is read. `cam6_server` says what
-//! `serve_net` writes to users over connections.
+//! Contract: `closed` and `ended` end with the exit statuses of `cam6_modes`, for a host that can't go
+//! on, and for each end of a session. `refuse` of `cam6_arguments` ends for arguments that ask for
+//! nothing. `cam6_modes` says what the arguments ask for, and what is written for what is read.
+//! `cam6_server` says what `serve_net` writes to users over connections.
 //!
-//! Stands on: `cam6_modes`; `cam6_session`, `cam6_server` and `cam6_planes` for what it hands on.
+//! Stands on: `cam6_modes` and `cam6_arguments`; `cam6_session`, `cam6_server` and `cam6_planes` for
+//! what it hands on.
 //!
 //! Read next: `cam6_modes`.
 #![tactic(auto)]
 
-ghost use Rattle.std.specs.Prelude.{◌≡◌, ◌≢◌, MatchOption};
+ghost use Rattle.std.specs.Prelude.{◌≡◌, MatchOption};
 ghost use Rattle.std.specs.Process.{exit_status};
-ghost use Rattle.cam6_modes.specs.Statuses.{failure, fault as fault_told, refusal};
-ghost use Rattle.cam6_host.specs.Unreadable.{IsUnreadable};
+ghost use Rattle.cam6_modes.specs.Statuses.{failure, fault as fault_told};
 
-use cam6_modes::{
-    NO_MEMORY, Options, Refused, Sharing, WRITE_FAILED, failure_of, fault_of, options, refusal_of,
-    replay_streams, serve_streams,
-};
+use cam6_arguments::{NO_MEMORY, Program, Refused, failed, refuse, words_given};
+use cam6_modes::{Options, Sharing, failure_of, fault_of, options, replay_streams, serve_streams};
 use cam6_planes::Side;
 use cam6_server::{Fault, Handle, Serving, serve_net};
 use cam6_session::End;
-use std::alloc::Global;
 use std::env::Env;
 use std::io;
-use std::io::{BufReader, ErrorKind, IsTerminal};
+use std::io::{BufReader, IsTerminal};
 use std::net::{Ipv4Addr, Net, TcpListener, TcpStream};
 use std::process::ExitCode;
 
@@ -56,53 +53,18 @@ where
 {
     let options = match options_given(rt) {
         Ok(options) => options,
-        Err(refused) => return told(rt, &refused),
+        Err(refused) => return refuse(rt, Program::Cam6, &refused),
     };
     match options {
         Options::Alone { limit } => alone(rt, limit),
-        Options::Replay { sharing, limit } => shared(rt, sharing, limit),
+        Options::Replay { sharing, limit } => replay_events(rt, sharing, limit),
         Options::Serve { serving, port } => served(serving, port),
     }
 }
 
-/// Reports why the words ask for nothing, and ends.
-fn told(rt: &(impl Print + Eprint), refused: &Refused) -> ExitCode
-    // Help may end otherwise, if it can't be written.
-    ensures { (refusal refused.now).0 ≢ 0 → exit_status result ≡ (refusal refused.now).0 }
-{
-    let (status, text) = refusal_of(refused);
-    if status != 0 {
-        return failed(rt, status, text);
-    }
-    match rt.print(text) {
-        Ok(()) => ExitCode::SUCCESS,
-        Err(_) => failed(rt, WRITE_FAILED, "cam6: write failed\n"),
-    }
-}
-
 fn options_given<R: Env + AllocGlobal>(rt: &R) -> Result<Options, Refused> {
-    let alloc = rt.alloc();
-    let args = match std::env::args(rt) {
-        Ok(args) => args,
-        Err(e) => return Err(refusal_of_read(alloc, e.kind())),
-    };
-    let Ok(words) = args.collect::<Vec<String>>(alloc) else {
-        return Err(Refused::NoMemory);
-    };
-    options(alloc, words.as_slice())
-}
-
-/// Returns why the words could not be read.
-fn refusal_of_read(alloc: Global, kind: ErrorKind) -> Refused
-    ensures { IsUnreadable result kind }
-{
-    match kind {
-        ErrorKind::OutOfMemory => Refused::NoMemory,
-        _ => match String::from_str(alloc, "cam6: a word is not UTF-8\n") {
-            Ok(text) => Refused::Words(text),
-            Err(_) => Refused::NoMemory,
-        },
-    }
+    let words = words_given(rt, Program::Cam6)?;
+    options(rt.alloc(), words.as_slice())
 }
 
 /// Writes a greeting on standard error if the input is typed at a terminal.
@@ -121,14 +83,14 @@ where
     let input = rt.reader();
     greet(rt, &input, COMMANDS_ARE_TYPED);
     let Ok(mut reader) = BufReader::new(rt.alloc(), input) else {
-        return failed(rt, NO_MEMORY, "cam6: no memory\n");
+        return failed(rt, NO_MEMORY, Program::Cam6.no_memory());
     };
     let end = serve_streams(rt.alloc(), limit, &mut reader, &mut io::writer(rt));
     ended(rt, end)
 }
 
-/// Does the events of users who share boards, over standard input and output.
-fn shared<R: Input + Print + Eprint + AllocGlobal>(
+/// Plays the events of standard input, and writes an outcome for each to standard output.
+fn replay_events<R: Input + Print + Eprint + AllocGlobal>(
     rt: &R,
     sharing: Sharing,
     limit: Side,
@@ -139,7 +101,7 @@ where
     let input = rt.reader();
     greet(rt, &input, EVENTS_ARE_TYPED);
     let Ok(mut reader) = BufReader::new(rt.alloc(), input) else {
-        return failed(rt, NO_MEMORY, "cam6: no memory\n");
+        return failed(rt, NO_MEMORY, Program::Cam6.no_memory());
     };
     let end = replay_streams(rt.alloc(), sharing, limit, &mut reader, &mut io::writer(rt));
     ended(rt, end)
@@ -177,13 +139,4 @@ fn ended(rt: &impl Eprint, end: End) -> ExitCode
         Some((status, text)) => failed(rt, status, text),
         None => ExitCode::SUCCESS,
     }
-}
-
-/// Ends with a status, and a text on standard error.
-fn failed(rt: &impl Eprint, status: u8, text: &str) -> ExitCode
-    ensures { exit_status result ≡ status }
-{
-    // Standard error is the last place for a report, so a failure to write there isn't reported.
-    let _ = rt.eprint(text);
-    ExitCode::from(status)
 }

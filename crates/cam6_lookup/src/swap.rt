@@ -105,6 +105,7 @@ fn sixteen(lines: &Lines, word: usize) -> Sixteen
     ]
 }
 
+/// Two words of a row, from this one on.
 fn pair(row: &Row, word: usize) -> Pair
     requires { word + 2 ≤ WORDS }
     ensures { (i : ℕ) → i < 2 → slice_index result i ≡ slice_index row.now (word + i) }

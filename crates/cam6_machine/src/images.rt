@@ -67,6 +67,7 @@ impl Held {
         self.at_rest().planes()
     }
 
+    /// Writes row `y` of plane `p` from bytes. The first byte has columns 0 to 7.
     pub(crate) fn put_row(&mut self, p: usize, y: usize, bits: &[u8])
         requires plane { p < 4 }
         requires row { y < side_number self.old.side }
@@ -93,6 +94,7 @@ impl Held {
         image.planes_mut().clear_plane(p);
     }
 
+    /// Changes the side, and sets every bit to 0.
     pub(crate) fn set_side(&mut self, side: Side)
         requires within { side_number side ≤ side_number self.old.limit }
         ensures cells { cells self.new ≡ no_cells }

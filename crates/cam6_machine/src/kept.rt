@@ -136,6 +136,8 @@ impl Kept {
         self.position = position;
     }
 
+    /// Defines a rule, in place of the one that has its name. If it is refused or an allocation
+    /// fails, all rules stay as they were.
     pub(crate) fn define(
         &mut self,
         name: Text,
@@ -165,6 +167,7 @@ impl Kept {
         Ok(Reply::Done(Done::Rule))
     }
 
+    /// Drops the rule that has the name, unless there is none or the cycle uses it.
     pub(crate) fn drop_rule(&mut self, name: &Text) -> Reply
         ensures reply { (planes : Stored) →
             result ≡ reply (machine_over planes self.old) (Command.Drop name.now) }
@@ -179,6 +182,7 @@ impl Kept {
         Reply::Done(Done::Drop)
     }
 
+    /// Replies with the names of all rules, in their order.
     pub(crate) fn list_rules(&self) -> Result<Reply, NoMemory>
         ensures reply { (planes : Stored) → IfOk result (λ r.
             r ≡ reply (machine_over planes self.now) Command.Rules) }
@@ -190,6 +194,7 @@ impl Kept {
         Ok(Reply::Done(Done::Rules { names }))
     }
 
+    /// Sets the colours of all states, unless one of them is above 15.
     pub(crate) fn set_colours(&mut self, colours: &[u64; 16]) -> Reply
         ensures reply { (planes : Stored) →
             result ≡ reply (machine_over planes self.old) (Command.Map colours.now) }
@@ -206,6 +211,7 @@ impl Kept {
         }
     }
 
+    /// Sets the cycle, and the position to 0. If the entries are refused, both stay as they were.
     pub(crate) fn set_cycle(&mut self, entries: &NamedEntries) -> Reply
         ensures reply { (planes : Stored) →
             result ≡ reply (machine_over planes self.old) (Command.Cycle entries.now) }
@@ -312,7 +318,9 @@ impl Kept {
         }
     }
 
-    /// Takes an image so many steps one way along the cycle, and sets the position after them.
+    /// Does `n` steps of an image one way along the cycle, and sets the position after them. First
+    /// fills the tables, unless they are filled for this way. There has to be a cycle, and backward
+    /// each of its rules can be undone.
     pub(crate) fn go(&mut self, image: AtRest, n: u16, direction: Direction) -> AtRest
         requires accepted { refusal (machine_over image.planes self.old) (command_of n direction)
             ≡ None }

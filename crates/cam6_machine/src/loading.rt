@@ -115,12 +115,14 @@ fn are_planes(side: Side, planes: &[BitRows; 4]) -> bool
     all_planes(side, planes)
 }
 
+/// Whether each of these is all rows of a plane of this side. Their number doesn't matter.
 fn all_planes(side: Side, planes: &[BitRows]) -> bool
     ensures { result ≡ list_all (are_rows (side_number side)) planes.now }
 {
     planes.iter().all(|rows| are_rows(side, rows))
 }
 
+/// Whether these are all rows of a plane of this side.
 fn are_rows(side: Side, rows: &BitRows) -> bool
     ensures { result ≡ are_rows (side_number side) rows.now }
 {
@@ -128,12 +130,14 @@ fn are_rows(side: Side, rows: &BitRows) -> bool
     rows.len() == side.number() && all_rows(side, rows)
 }
 
+/// Whether each row has a bit for each column of this side. The number of rows doesn't matter.
 fn all_rows(side: Side, rows: &[Bits]) -> bool
     ensures { result ≡ list_all (is_row (side_number side)) rows.now }
 {
     rows.iter().all(|row| is_row(side, row))
 }
 
+/// Whether a row has a bit for each column of this side.
 fn is_row(side: Side, row: &Bits) -> bool
     ensures { result ≡ is_row (side_number side) row.now }
 {

@@ -120,6 +120,7 @@ impl Machine {
         }
     }
 
+    /// Writes a row of a plane. If it is refused, nothing changes.
     fn set(&mut self, plane: u64, row: u64, bits: &Bits) -> Reply
         ensures reply { result ≡ reply (machine_of self.old) (Command.Set plane row bits.now) }
         ensures machine { machine_of self.new
@@ -134,6 +135,7 @@ impl Machine {
         Reply::Done(Done::Set)
     }
 
+    /// Sets every bit of a plane to 0. If there is no such plane, nothing changes.
     fn clear(&mut self, plane: u64) -> Reply
         ensures reply { result ≡ reply (machine_of self.old) (Command.Clear plane) }
         ensures machine { machine_of self.new
@@ -147,6 +149,8 @@ impl Machine {
         Reply::Done(Done::Clear)
     }
 
+    /// Changes the side, and sets every bit and the position to 0, even if the side is the same. If
+    /// it is refused, nothing changes.
     fn set_side(&mut self, number: u64) -> Reply
         ensures reply { result ≡ reply (machine_of self.old) (Command.Side number) }
         ensures machine { machine_of self.new
@@ -162,6 +166,7 @@ impl Machine {
         }
     }
 
+    /// Replies with the digits of a row of a plane.
     fn show_row(&self, plane: u64, row: u64) -> Reply
         ensures reply { result ≡ reply (machine_of self.now) (Command.Row plane row) }
         ensures machine { machine_of self.now
@@ -177,6 +182,7 @@ impl Machine {
         }
     }
 
+    /// Replies with the digits of all rows of a plane.
     fn show(&self, plane: u64) -> Result<Reply, NoMemory>
         ensures reply { IfOk result (λ r.
             r ≡ reply (machine_of self.now) (Command.Plane plane)) }
@@ -193,6 +199,7 @@ impl Machine {
         }
     }
 
+    /// Replies with the colour of each cell of a row.
     fn show_colours(&self, row: u64) -> Reply
         ensures reply { result ≡ reply (machine_of self.now) (Command.Colours row) }
         ensures machine { machine_of self.now ≡ after (machine_of self.now) (Command.Colours row) }
@@ -207,6 +214,7 @@ impl Machine {
         }
     }
 
+    /// Replies with the number of cells whose state is in the mask.
     fn count_cells(&self, mask: u64) -> Reply
         ensures reply { result ≡ reply (machine_of self.now) (Command.Count mask) }
         ensures machine { machine_of self.now ≡ after (machine_of self.now) (Command.Count mask) }
@@ -220,6 +228,7 @@ impl Machine {
         }
     }
 
+    /// Replies with all of the machine but its limit.
     fn save(&self) -> Result<Reply, NoMemory>
         ensures reply { IfOk result (λ r. r ≡ reply (machine_of self.now) Command.Save) }
         ensures machine { machine_of self.now ≡ after (machine_of self.now) Command.Save }
@@ -228,6 +237,8 @@ impl Machine {
         Ok(Reply::Done(Done::Save { machine }))
     }
 
+    /// Puts a saved machine in the place of this one, whose limit stays. If it is refused or an
+    /// allocation fails, nothing changes.
     fn load(&mut self, saved: SavedMachine) -> Result<Reply, NoMemory>
         ensures reply { IfOk result (λ r. r ≡ reply (machine_of self.old) (Command.Load saved)) }
         ensures machine { IfOk result (λ r.

@@ -65,7 +65,8 @@ pub(crate) fn accept_side(limit: Side, number: u64) -> Result<Side, Fault>
     Ok(side)
 }
 
-/// The cycle and the steps of a run: at most 65,535, and then there is a cycle.
+/// Returns the cycle and the steps of a run. Refuses more than 65,535 steps first, and then a run
+/// without a cycle.
 pub(crate) fn accept_run(cycle: &Option<Cycle>, n: u64) -> Result<(&Cycle, StepCount), Fault>
     // For whatever rules the numbers are of.
     ensures refusal { (rules : List Rule) →

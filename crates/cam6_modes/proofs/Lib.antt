@@ -15,7 +15,5 @@ pub mod OptionsGiven
 pub mod Subcommands
 -- So the matches name a mode.
 pub mod ModesGiven
--- What the code reads of an option's text is the side or the number there.
-pub mod ValuesRead
 -- The mode of matches that entered `serve`.
 pub mod ServeGiven

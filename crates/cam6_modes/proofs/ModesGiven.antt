@@ -11,8 +11,8 @@ use Rattle.clap.specs.Simple.{App, HasMatchesOf, Shape, argument_words, built, e
 use Rattle.clap.specs.Simple.{names_of, rows_at, subcommand_of, subcommand_rows_of}
 use Rattle.clap.specs.declared.parser.matches.ArgMatches.{ArgMatches}
 use Rattle.cam6_planes.specs.declared.sides.Side.TheVariants.{S256}
-use Rattle.cam6_modes.specs.CommandLine.{AreSides, IsProgram, Mode, TextsAt, mode_of, program}
-use Rattle.cam6_modes.specs.CommandLine.{single}
+use Rattle.cam6_arguments.specs.Options.{AreSides, TextsAt}
+use Rattle.cam6_modes.specs.CommandLine.{IsProgram, Mode, mode_of, program, single}
 use Rattle.cam6_modes.proofs.Refusals.{is_simple_program, matches_program}
 use Rattle.cam6_modes.proofs.Kept.{first_none, second_none}
 use Rattle.cam6_modes.proofs.SettingsGiven.{arguments}

@@ -17,10 +17,10 @@ use Rattle.cam6_planes.specs.Side.{side_text}
 use Rattle.cam6_planes.proofs.SideTexts.{NamesSide, one_of_texts}
 use Rattle.cam6_cache.specs.Limits.{max_capacity}
 use Rattle.cam6_commands.specs.Limits.{max_users, max_boards}
-use Rattle.cam6_modes.specs.CommandLine.{AreSides, Mode, TextsAt, max_connections, max_idle}
-use Rattle.cam6_modes.specs.CommandLine.{max_port}
-use Rattle.cam6_modes.specs.CommandLine.{number_at, number_said, served, served_at, shared}
-use Rattle.cam6_modes.specs.CommandLine.{shared_at, side_at}
+use Rattle.cam6_arguments.specs.Options.{AreSides, TextsAt, max_port}
+use Rattle.cam6_arguments.specs.Values.{number_at, number_said, side_at}
+use Rattle.cam6_modes.specs.CommandLine.{Mode, max_connections, max_idle, served, served_at}
+use Rattle.cam6_modes.specs.CommandLine.{shared, shared_at}
 use Rattle.cam6_modes.proofs.SettingsGiven.{HasValue, Passes, Setting, arguments, value_given}
 
 -- the options, by where the three sides are

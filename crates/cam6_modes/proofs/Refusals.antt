@@ -1,19 +1,16 @@
 -- What clap's error for the program's command line says of the refusal.
-use Rattle.std.proofs.Common.{◌≡◌, true, List, [], map, inl, inr, refl, ap, subst, ◌∙◌}
+use Rattle.std.proofs.Common.{◌≡◌, true, List, map, refl, ap, ◌∙◌}
 use Rattle.std.specs.Borrow.{Bor}
 use Rattle.clap.proofs.OnLiterals.{clap_on_literals}
 use Rattle.clap.specs.Simple.{is_simple}
-use Rattle.clap.specs.Words.{App, HasKind, IsAmong, Kinds, Text, fault_of, is_simple_and_free}
-use Rattle.clap.specs.Words.{kind_of}
+use Rattle.clap.specs.Words.{App, HasKind, Text, fault_of, is_simple_and_free, kind_of}
 use Rattle.clap.specs.declared.error.Error.{Error}
-use Rattle.clap.specs.declared.error.kind.ErrorKind.{ErrorKind}
-use Rattle.clap.specs.declared.error.kind.ErrorKind.TheVariants.{OutOfMemory, DisplayHelp}
-use Rattle.clap.specs.declared.error.kind.ErrorKind.TheVariants.{DisplayVersion}
 use Rattle.cam6_planes.specs.Side.{side_texts}
-use Rattle.cam6_modes.specs.CommandLine.{IsAsked, IsOfKind, IsProgram, Refuses, TextsAt}
-use Rattle.cam6_modes.specs.CommandLine.{program}
-use Rattle.cam6_modes.specs.declared.modes.Refused.{Refused}
-use Rattle.cam6_modes.specs.declared.modes.Refused.TheVariants.{Help, Words, NoMemory}
+use Rattle.cam6_arguments.specs.Options.{TextsAt}
+use Rattle.cam6_arguments.specs.Refusals.{IsOfKind, Refuses}
+use Rattle.cam6_arguments.specs.declared.refusals.Refused.{Refused}
+use Rattle.cam6_arguments.proofs.Refusing.{refused_by_kind}
+use Rattle.cam6_modes.specs.CommandLine.{IsProgram, program}
 
 pub program_is_simple : (of_alone of_replay of_serve : TextsAt)
     → is_simple_and_free (program of_alone of_replay of_serve) ≡ true
@@ -37,20 +34,8 @@ matches_program of_alone of_replay of_serve = refl
 pub is_simple_program : (app : App) → IsProgram app → is_simple_and_free app ≡ true
 is_simple_program app is = ap is_simple_and_free is.6 ∙ program_is_simple is.0 is.1 is.2
 
-not_asked : (kind : ErrorKind) → kind ≡ OutOfMemory → IsAsked kind → ⊥
-not_asked kind memory (inl help) = cc
-not_asked kind memory (inr version) = cc
-
-refused_as_kind : (kinds : Kinds) (refused : Refused) (e : Error) → HasKind kinds e
-    → IsOfKind refused (kind_of e) → Refuses kinds refused
-refused_as_kind kinds (Help text) e (inl memory) is = absurd (not_asked (kind_of e) memory is)
-refused_as_kind kinds (Help text) e (inr among) is = (kind_of e, among, is)
-refused_as_kind kinds (Words text) e (inl memory) is = absurd (is.1 memory)
-refused_as_kind kinds (Words text) e (inr among) is = (kind_of e, among, is.0, is.1)
-refused_as_kind kinds NoMemory e has is = tt
-
 pub refused_as_clap_does : (app : App) (words : List Text) (refused : Refused) (e : Error)
     → IsProgram app → (is_simple_and_free app ≡ true → HasKind (fault_of app words) e)
-    → IsOfKind refused (kind_of e) → Refuses (fault_of app words) refused
+    → IsOfKind refused (kind_of e) → Refuses (fault_of app words) ⊥ refused
 refused_as_clap_does app words refused e is has of_kind =
-    refused_as_kind (fault_of app words) refused e (has (is_simple_program app is)) of_kind
+    refused_by_kind ⊥ (fault_of app words) refused e (has (is_simple_program app is)) of_kind

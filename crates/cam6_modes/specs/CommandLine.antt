@@ -1,56 +1,19 @@
 -- The words that the program takes, and what they ask for.
-use Rattle.std.specs.Prelude.{◌≡◌, ◌≢◌, ◌⊎◌, true, ℕ, List, [], ◌∷◌, codes, Option, Some, None, ⊤}
-use Rattle.std.specs.Prelude.{if◌then◌else◌, option_and_then, option_map}
-use Rattle.std.specs.Borrow.{Bor}
+use Rattle.std.specs.Prelude.{◌≡◌, ℕ, List, codes, Option, Some, None, if◌then◌else◌, option_map}
 use Rattle.std.specs.Str.{bytes_eq}
-use Rattle.std.specs.Str.Parse.{digits_value, without_leading_plus}
-use Rattle.clap.specs.ValueTests.{is_unsigned_in}
-use Rattle.clap.specs.Walk.{texts}
-use Rattle.clap.specs.Words.{App, IsAmong, Kinds, Row, Rule, Text, first_of, new_app, new_rule}
-use Rattle.clap.specs.Words.{with_rule, with_subcommand}
-use Rattle.clap.specs.declared.builder.value_parser.ValueParser.TheVariants.{Names, Unsigned}
-use Rattle.clap.specs.declared.error.kind.ErrorKind.{ErrorKind}
-use Rattle.clap.specs.declared.error.kind.ErrorKind.TheVariants.{OutOfMemory, DisplayHelp}
-use Rattle.clap.specs.declared.error.kind.ErrorKind.TheVariants.{DisplayVersion}
+use Rattle.clap.specs.Words.{App, Row, Rule, Text, new_app, with_rule, with_subcommand}
 use Rattle.cam6_planes.specs.declared.sides.Side.{Side}
 use Rattle.cam6_planes.specs.declared.sides.Side.TheVariants.{S256}
-use Rattle.cam6_planes.specs.Side.{side_named, side_text, side_texts}
 use Rattle.cam6_cache.specs.Limits.{max_capacity}
 use Rattle.cam6_commands.specs.Limits.{max_users, max_boards}
+use Rattle.cam6_arguments.specs.Options.{AreSides, TextsAt, max_port, named, number_option}
+use Rattle.cam6_arguments.specs.Options.{side_option}
+use Rattle.cam6_arguments.specs.Values.{◌>>=◌, number_at, side_at}
+use Rattle.cam6_arguments.specs.declared.programs.Program.TheVariants.{Cam6}
 use Rattle.cam6_modes.specs.declared.modes.Options.{Options}
 use Rattle.cam6_modes.specs.declared.modes.Options.TheVariants.{Alone, Replay, Serve}
-use Rattle.cam6_modes.specs.declared.modes.Refused.{Refused}
-use Rattle.cam6_modes.specs.declared.modes.Refused.TheVariants.{Help, Words, NoMemory}
 
--- a whole number from a least to a most one, as a word
-abbrev pub number_said : ℕ → ℕ → Text → Option ℕ
-number_said least most word = if is_unsigned_in least most word
-    then Some (digits_value 10 (without_leading_plus word)) else None
-
--- a reference to texts
-abbrev pub TextsAt : Type 0
-TextsAt = Bor (List (Bor Text))
-
--- it is to the three sides as words
-abbrev pub AreSides : TextsAt → Type 0
-AreSides sides = texts sides.now ≡ side_texts
-
--- `--side`, one of the words that are referred to, or else 256
-abbrev pub side_option : TextsAt → Rule
-side_option sides = record (new_rule (codes "side")) {
-  long = Some (codes "side");
-  parser = Some (Names sides);
-  defaults = side_text S256 ∷ [];
-}
-
--- an option of this name, a whole number from a least to a most one, or else this word
-abbrev pub number_option : Text → ℕ → ℕ → Text → Rule
-number_option name least most default = record (new_rule name) {
-  long = Some name;
-  parser = Some (Unsigned least most);
-  defaults = default ∷ [];
-}
-
+-- the options of `replay` and of `serve`, each with its range and its default
 abbrev pub users_option : Rule
 users_option = number_option (codes "users") 1 max_users (codes "4")
 
@@ -60,10 +23,7 @@ boards_option = number_option (codes "boards") 1 max_boards (codes "2")
 abbrev pub cache_option : Rule
 cache_option = number_option (codes "cache") 1 max_capacity (codes "16")
 
--- the last port, and the most connections
-abbrev pub max_port : ℕ
-max_port = 65535
-
+-- the most connections
 abbrev pub max_connections : ℕ
 max_connections = 18446744073709551615
 
@@ -112,16 +72,12 @@ serve sides =
     idle_option)
     (side_option sides)
 
--- a command that has a version
-abbrev pub with_version : App → App
-with_version app = record app { top = record (app.top) { has_version = true } }
-
 -- `cam6`, with its subcommands; the three sides may be kept in a place for each
 abbrev pub program : TextsAt → TextsAt → TextsAt → App
 program of_alone of_replay of_serve =
     with_subcommand
     (with_subcommand
-    (with_subcommand (with_version (new_app (codes "cam6"))) (alone of_alone).top)
+    (with_subcommand (named Cam6) (alone of_alone).top)
     (replay of_replay).top)
     (serve of_serve).top
 
@@ -141,19 +97,6 @@ pub data Mode : Type 0 where
   -- serve so many users, boards and cached tables over a network, each user with a machine of at
   -- most this side; for so many connections, with so many seconds for a silent client, at this port
   served : ℕ → ℕ → ℕ → Side → ℕ → ℕ → ℕ → Mode
-
--- the side at the option `--side`, and the number at another one
-abbrev pub side_at : List Row → Option Side
-side_at rows = option_and_then side_named (first_of (codes "side") rows)
-
-abbrev pub number_at : Text → ℕ → ℕ → List Row → Option ℕ
-number_at name least most rows =
-    option_and_then (number_said least most) (first_of name rows)
-
--- the second step, if the first gave a value
-infixl 10 ◌>>=◌
-abbrev ◌>>=◌ : {A B : Type 0} → Option A → (A → Option B) → Option B
-x >>= f = option_and_then f x
 
 -- the mode of `replay` with these options
 abbrev pub shared_at : List Row → Option Mode
@@ -194,20 +137,3 @@ HasMode (Serve serving port) said =
     said
     ≡ Some (served serving.users serving.boards serving.cache serving.limit serving.connections
     serving.idle port)
-
--- help, or the version, is asked for
-abbrev pub IsAsked : ErrorKind → Type 0
-IsAsked kind = (kind ≡ DisplayHelp) ⊎ (kind ≡ DisplayVersion)
-
--- an error of clap's of this kind is refused so
-abbrev pub IsOfKind : Refused → ErrorKind → Type 0
-IsOfKind (Help text) kind = IsAsked kind
-IsOfKind (Words text) kind = (IsAsked kind → ⊥) × (kind ≢ OutOfMemory)
-IsOfKind NoMemory kind = ⊤
-
--- help, the version and a refusal come only if clap has an error of such a kind
-abbrev pub Refuses : Kinds → Refused → Type 0
-Refuses kinds (Help text) = (kind : ErrorKind) × IsAmong kind kinds × IsAsked kind
-Refuses kinds (Words text) =
-    (kind : ErrorKind) × IsAmong kind kinds × (IsAsked kind → ⊥) × (kind ≢ OutOfMemory)
-Refuses kinds NoMemory = ⊤

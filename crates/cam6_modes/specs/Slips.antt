@@ -1,11 +1,8 @@
 -- Words that are often meant otherwise, and the hints about them.
-use Rattle.std.specs.Prelude.{◌≡◌, ◌<◌, ℕ, List, [], ◌∷◌, ◌++◌, codes, length, Option, Some, None}
-use Rattle.std.specs.Prelude.{⊤, string_bytes}
+use Rattle.std.specs.Prelude.{ℕ, List, [], codes, Option, Some, None}
 use Rattle.std.specs.Prelude.{Bool, ◌||◌, ◌&&◌, not, if◌then◌else◌, eqb}
 use Rattle.std.specs.List.{starts_with, slice_get}
 use Rattle.std.specs.Str.{bytes_eq}
-use Rattle.cam6_modes.specs.declared.modes.Refused.{Refused}
-use Rattle.cam6_modes.specs.declared.modes.Refused.TheVariants.{Help, Words, NoMemory}
 use Rattle.cam6_modes.specs.declared.slips.Slip.{Slip}
 use Rattle.cam6_modes.specs.declared.slips.Slip.TheVariants.{SideByItself, SharingByItself}
 use Rattle.cam6_modes.specs.declared.slips.Slip.TheVariants.{ServingByItself, FileAsWord}
@@ -71,17 +68,3 @@ told_of (Some ServingByItself) =
     codes "\ncam6: a port, connections and --idle stand behind a word: cam6 serve --port 6006\n"
 told_of (Some FileAsWord) =
     codes "\ncam6: lines are read from standard input: cam6 < FILE, or cam6 replay < FILE\n"
-
--- refused words have this text, with the hint about a slip after it; or there is a hint, and it
--- couldn't be allocated
-abbrev pub IsTold : Refused → List ℕ → List ℕ → Type 0
-IsTold (Help text) told slip_text = ⊥
-IsTold (Words text) told slip_text = string_bytes text ≡ told ++ slip_text
-IsTold NoMemory told slip_text = 0 < length slip_text
-
--- refused words end with the hint about a slip
-abbrev pub EndsWith : Refused → List ℕ → Type 0
-EndsWith (Help text) slip_text = ⊤
-EndsWith (Words text) slip_text =
-    (told : List ℕ) × (string_bytes text ≡ told ++ slip_text)
-EndsWith NoMemory slip_text = ⊤

@@ -1,8 +1,5 @@
--- The exit status of a session that failed, of a host that can't go on, and of words that ask for
--- nothing, with its text.
-use Rattle.std.specs.Prelude.{ℕ, List, Option, None, Some, codes, string_bytes}
-use Rattle.cam6_modes.specs.declared.modes.Refused.{Refused}
-use Rattle.cam6_modes.specs.declared.modes.Refused.TheVariants as refused
+-- The exit status of a session that failed, and of a host that can't go on, with its text.
+use Rattle.std.specs.Prelude.{ℕ, List, Option, None, Some, codes}
 use Rattle.cam6_server.specs.declared.serving.Fault.{Fault}
 use Rattle.cam6_server.specs.declared.serving.Fault.TheVariants as host
 use Rattle.cam6_session.specs.declared.sessions.End.{End}
@@ -23,9 +20,3 @@ abbrev pub fault : Fault → ℕ × List ℕ
 fault host.NoMemory = (5, codes "cam6: no memory\n")
 fault host.Network = (7, codes "cam6: network failed\n")
 fault host.NoThread = (8, codes "cam6: no thread\n")
-
--- help succeeds
-abbrev pub refusal : Refused → ℕ × List ℕ
-refusal (refused.Help text) = (0, string_bytes text)
-refusal (refused.Words text) = (2, string_bytes text)
-refusal refused.NoMemory = (5, codes "cam6: no memory\n")

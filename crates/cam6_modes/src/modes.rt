@@ -3,7 +3,6 @@
 use cam6_planes::Side;
 use cam6_server::Serving;
 use std::marker::Model;
-use thiserror::Error;
 
 /// What the program is to do.
 #[derive(Clone, Copy, Debug, PartialEq, Eq)]
@@ -50,18 +49,4 @@ impl Model for Sharing {
       boards = s.boards;
       cache = s.cache;
     }) };
-}
-
-/// Why the words ask for nothing.
-#[derive(Debug, Drop, Error)]
-pub enum Refused {
-    /// They ask for the help text.
-    #[error("{0}")]
-    Help(String),
-    /// They are no words of this program; the text says why.
-    #[error("{0}")]
-    Words(String),
-    /// Memory was asked for and refused.
-    #[error("cam6: no memory")]
-    NoMemory,
 }

@@ -1,39 +1,39 @@
 //! The words of the command line.
-ghost use Rattle.std.specs.Prelude.{◌≡◌, ◌<◌, ◌≤◌, [], IfOk, IsSome, MatchResult, Some, false};
-ghost use Rattle.std.specs.Prelude.{◌⊎◌, IsErr, IfErr, length, map, string_bytes};
-ghost use Rattle.clap.specs.Words.{App, app_of, fault_of, found_of, kind_of, rows_of, rule_of};
+ghost use Rattle.std.specs.Prelude.{◌≡◌, ◌≤◌, [], IfErr, IfOk, IsSome, MatchResult, Some, false};
+ghost use Rattle.std.specs.Prelude.{map, string_bytes};
+ghost use Rattle.clap.specs.Words.{App, app_of, fault_of, found_of, rows_of, rule_of};
 ghost use Rattle.clap.specs.Words.{subcommand_of, subcommand_rows_of};
-ghost use Rattle.cam6_modes.specs.CommandLine.{AreSides, HasMode, IsOfKind, IsProgram, Refuses};
-ghost use Rattle.cam6_modes.specs.CommandLine.{TextsAt, mode_of, number_at as number_told};
-ghost use Rattle.cam6_modes.specs.CommandLine.{number_option as option_of_numbers};
+ghost use Rattle.cam6_arguments.specs.Options.{AreSides, TextsAt};
+ghost use Rattle.cam6_arguments.specs.Refusals.{EndsWith, Refuses};
+ghost use Rattle.cam6_arguments.specs.Values.{number_at as number_told, side_at as side_told};
+ghost use Rattle.cam6_modes.specs.CommandLine.{HasMode, IsProgram, mode_of};
 ghost use Rattle.cam6_modes.specs.CommandLine.{replay as replay_of, serve as serve_of, served_at};
-ghost use Rattle.cam6_modes.specs.CommandLine.{shared_at, side_at};
-ghost use Rattle.cam6_modes.specs.CommandLine.{side_option as option_of_sides};
+ghost use Rattle.cam6_modes.specs.CommandLine.{shared_at};
 ghost use Rattle.cam6_modes.specs.CommandLine.{users_option as option_of_users};
 ghost use Rattle.cam6_modes.specs.CommandLine.{boards_option as option_of_boards};
 ghost use Rattle.cam6_modes.specs.CommandLine.{cache_option as option_of_tables};
 ghost use Rattle.cam6_modes.specs.CommandLine.{port_option as option_of_ports};
 ghost use Rattle.cam6_modes.specs.CommandLine.{connections_option as option_of_connections};
 ghost use Rattle.cam6_modes.specs.CommandLine.{idle_option as option_of_silence};
-ghost use Rattle.cam6_modes.specs.Slips.{EndsWith, IsTold, slip, told_of as what_is_told};
+ghost use Rattle.cam6_modes.specs.Slips.{slip, told_of as what_is_told};
 
-use crate::modes::{Options, Refused, Sharing};
+use crate::modes::{Options, Sharing};
 use crate::slips::{slip_of, told_of};
+use cam6_arguments::{
+    MAX_PORT, Program, Refused, named, number_at, number_option, refusal, side_at, side_option,
+};
 use cam6_cache::MAX_CAPACITY;
 use cam6_core::{MAX_BOARDS, MAX_USERS};
 use cam6_planes::Side;
 use cam6_server::Serving;
-use cam6_version::VERSION;
-use clap::builder::ValueParser;
-use clap::error::ErrorKind;
 use clap::{Arg, ArgMatches, Command};
 use std::alloc::{AllocError, Global};
 
-/// The last port.
-const MAX_PORT: u64 = 65_535;
-
 /// The most seconds for which a silent client may keep its seat.
 const MAX_IDLE: u64 = 4_294_967_295;
+
+/// What `--side` is.
+const SIDE_TEXT: &str = "The largest side that a machine may have";
 
 /// What the statuses mean, and where more is said.
 const PROGRAM_TEXT: &str = "\
@@ -90,7 +90,7 @@ pub fn options(alloc: Global, words: &[String]) -> Result<Options, Refused>
         × HasMode options (mode_of (subcommand_of app (map string_bytes words.now)))) }
     ensures refused { (app : App) × IsProgram app × MatchResult result
         (λ _. fault_of app (map string_bytes words.now) ≡ [])
-        (Refuses (fault_of app (map string_bytes words.now))) }
+        (Refuses (fault_of app (map string_bytes words.now)) ⊥) }
     // The hint about words that are often meant otherwise stands at the end.
     ensures slip { IfErr result
         (λ refused. EndsWith refused (what_is_told (slip (map string_bytes words.now)))) }
@@ -158,13 +158,10 @@ fn serve_given(matches: &ArgMatches<'_>) -> Options
 
 /// The largest side that a machine may have.
 fn side_given(matches: &ArgMatches<'_>) -> Side
-    requires { IsSome (side_at (rows_of (found_of matches.now))) }
-    ensures { side_at (rows_of (found_of matches.now)) ≡ Some result }
+    requires { IsSome (side_told (rows_of (found_of matches.now))) }
+    ensures { side_told (rows_of (found_of matches.now)) ≡ Some result }
 {
-    let Some(word) = matches.get_str("side") else {
-        unreachable!()
-    };
-    let Some(side) = Side::named(word) else {
+    let Some(side) = side_at(matches) else {
         unreachable!()
     };
     side
@@ -177,10 +174,7 @@ fn number_given(matches: &ArgMatches<'_>, name: &str, least: u64, most: u64) -> 
         ≡ Some result }
     ensures within { (least ≤ result) × (result ≤ most) }
 {
-    let Some(word) = matches.get_str(name) else {
-        unreachable!()
-    };
-    let Ok(number) = word.parse::<u64>() else {
+    let Some(number) = number_at(matches, name, least, most) else {
         unreachable!()
     };
     number
@@ -193,11 +187,9 @@ pub fn program<'a>(alloc: Global) -> Result<Command<'a>, AllocError>
     let alone = Command::new(alloc, "alone")
         .about("Answers command lines on standard input")
         .after_help(ALONE_TEXT)
-        .arg(side_option(alloc))?;
-    Command::new(alloc, "cam6")
-        .about("A CAM-6 cellular automata machine; without a command, as `alone`")
-        .after_help(PROGRAM_TEXT)
-        .version(VERSION)
+        .arg(side_option(alloc, SIDE_TEXT))?;
+    let about = "A CAM-6 cellular automata machine; without a command, as `alone`";
+    named(alloc, Program::Cam6, about, PROGRAM_TEXT)
         .subcommand(alone)?
         .subcommand(replay(alloc)?)?
         .subcommand(serve(alloc)?)
@@ -214,7 +206,7 @@ fn replay<'a>(alloc: Global) -> Result<Command<'a>, AllocError>
         .arg(users_option(alloc))?
         .arg(boards_option(alloc))?
         .arg(cache_option(alloc))?
-        .arg(side_option(alloc))
+        .arg(side_option(alloc, SIDE_TEXT))
 }
 
 /// `serve`.
@@ -233,7 +225,7 @@ fn serve<'a>(alloc: Global) -> Result<Command<'a>, AllocError>
         .arg(cache_option(alloc))?
         .arg(connections_option(alloc))?
         .arg(idle_option(alloc))?
-        .arg(side_option(alloc))
+        .arg(side_option(alloc, SIDE_TEXT))
 }
 
 /// `--users`.
@@ -288,72 +280,4 @@ fn idle_option<'a>(alloc: Global) -> Arg<'a>
     number_option(alloc, "idle", 0, MAX_IDLE, "0").help(
         "Seconds after which a client that sends nothing loses its seat; 0 for never",
     )
-}
-
-/// Makes an option that is a number from `least` to `most`.
-fn number_option<'a>(
-    alloc: Global,
-    name: &'a str,
-    least: u64,
-    most: u64,
-    default: &'a str,
-) -> Arg<'a>
-    ensures rule { rule_of result ≡ option_of_numbers name.now least most default.now }
-    ensures global { result.global ≡ false }
-{
-    Arg::new(alloc, name)
-        .long(name)
-        .value_parser(ValueParser::Unsigned(least, most))
-        .default_value(default)
-}
-
-/// `--side`.
-fn side_option<'a>(alloc: Global) -> Arg<'a>
-    ensures rule { (sides : TextsAt) × AreSides sides × (rule_of result ≡ option_of_sides sides) }
-    ensures global { result.global ≡ false }
-{
-    Arg::new(alloc, "side")
-        .long("side")
-        .value_parser(ValueParser::Names(Side::texts()))
-        .default_value(Side::S256.text())
-        .help("The largest side that a machine may have")
-}
-
-/// Returns what clap's error means for the program. The hint about a slip stands after its text.
-fn refusal(alloc: Global, error: clap::Error, slip: &str) -> Refused
-    ensures kind { IsOfKind result (kind_of error) }
-    ensures slip { EndsWith result slip.now }
-{
-    let kind = error.kind();
-    refused(kind, error.to_string(alloc), slip)
-}
-
-/// Returns what an error of clap's of this kind means for the program. `text` is its text, or an
-/// error if that couldn't be allocated. The hint about a slip stands after the text.
-pub fn refused(kind: ErrorKind, text: Result<String, AllocError>, slip: &str) -> Refused
-    ensures kind { IsOfKind result kind }
-    ensures slip { EndsWith result slip.now }
-    // `NoMemory` is returned only if an allocation failed or may have failed.
-    ensures memory { result ≡ Refused.NoMemory →
-        (kind ≡ ErrorKind.OutOfMemory) ⊎ (IsErr text ⊎ (0 < length slip.now)) }
-{
-    let Ok(text) = text else {
-        return Refused::NoMemory;
-    };
-    match kind {
-        ErrorKind::OutOfMemory => Refused::NoMemory,
-        ErrorKind::DisplayHelp | ErrorKind::DisplayVersion => Refused::Help(text),
-        _ => with_slip(text, slip),
-    }
-}
-
-/// Refuses the words, with the hint about a slip after the text.
-fn with_slip(text: String, slip: &str) -> Refused
-    ensures words { IsTold result (string_bytes text) slip.now }
-{
-    let mut text = text;
-    match text.push_str(slip) {
-        Ok(()) => Refused::Words(text),
-        Err(_) => Refused::NoMemory,
-    }
 }

@@ -101,7 +101,8 @@ impl Cells {
         self.unless_counting(line, column, Going::More)
     }
 
-    /// Reads a byte, by what it says.
+    /// Reads one byte: a digit of a count, a blank, a `$`, a `!` or a cell. Any other byte is a
+    /// fault, and so is a blank or a `!` after a count. Returns `Over` after a `!`.
     fn step(
         &mut self,
         bounds: &Bounds,

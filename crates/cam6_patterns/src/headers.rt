@@ -113,6 +113,7 @@ fn first_or_second(
     }
 }
 
+/// A fault at the first column of a line.
 fn fault(line: usize, cause: Cause) -> PatternFault
     ensures { result ≡ (record { line = line; column = 1; cause = cause }) }
 {

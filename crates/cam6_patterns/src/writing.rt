@@ -27,6 +27,7 @@ pub struct PatternTexts<W> {
 impl<W: Write> PatternTexts<W> {
     ghost use Rattle.std.specs.Prelude.{◌≡◌, string_bytes};
 
+    /// A writer of texts that name this rule. If the name is empty, they name none.
     pub fn new(alloc: Global, writer: W, rule: String) -> PatternTexts<W>
         ensures writer { result.writer ≡ writer }
         ensures rule { result.rule ≡ rule }
@@ -237,6 +238,7 @@ fn states_of(frame: &Frame) -> u8
     2
 }
 
+/// Whether each cell is 0 or 1.
 fn are_two_states(cells: &[u8]) -> bool
     ensures { result ≡ list_all (λ cell. nat_lt cell 2) cells.now }
 {

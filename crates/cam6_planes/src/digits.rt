@@ -28,6 +28,7 @@ impl Model for Bits {
 }
 
 impl Bits {
+    /// The bytes of the row, one for each eight columns of its side.
     pub fn as_slice(&self) -> &[u8]
         ensures { result.now ≡ self.now }
     {

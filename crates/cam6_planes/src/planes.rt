@@ -68,6 +68,7 @@ impl Planes {
         self.side
     }
 
+    /// The largest side that the planes may have.
     pub fn limit(&self) -> Side
         ensures { result ≡ self.now.limit }
     {

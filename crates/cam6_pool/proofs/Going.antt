@@ -18,7 +18,7 @@ use Rattle.cam6_pool.specs.Internal.Served.{Carries, ServesOn, turns_left}
 use Rattle.cam6_pool.proofs.Serving.{holds_nothing, serves_as}
 
 -- a station that is loaded with a lease serves its place, and what is lost of it goes back there
-pub serves_loaded : (p : Holding) (w : ℕ) (h : Held) → Carries p h.lease h.job →
+serves_loaded : (p : Holding) (w : ℕ) (h : Held) → Carries p h.lease h.job →
     Serves p (loaded w h)
 serves_loaded nothing w h has = absurd has
 serves_loaded (holding u v) w h has = has.2
@@ -65,6 +65,14 @@ module _ (b later : BoardStance) (s after : Stationed) where
     alike = ap emptied out;
     faults = subst (λ (y : Manned). Rises (is_dead y) s.faults after.faults) (sym is) rises;
   }
+
+-- the board was loaded with a lease of the seat's place
+pub loads : (b : BoardStance) (s after : Stationed) (w : ℕ) (h : Held) → after.at ≡ loaded w h →
+    Carries b.holds h.lease h.job → Rises false s.faults after.faults → ServesOn b s b after
+loads b s after w h is has rises =
+    goes_on b b s after refl (serves_as b.holds b.holds after.at (loaded w h) refl is
+    (serves_loaded b.holds w h has))
+    (subst (λ (y : Manned). Rises (is_dead y) s.faults after.faults) (sym is) rises)
 
 -- with the board free the seat is empty
 pub emptied_then : (b later : BoardStance) (s after : Stationed) → ServesOn b s later after →

@@ -1,11 +1,7 @@
 //! The gate of a host: commands on a board make way for each other, and idle boards sleep.
-ghost use Rattle.std.specs.Prelude.{◌≡◌, IfOk, IsOk, OnErr};
-ghost use Rattle.cam6_handoff.specs.Desks.{AskGives, WantsNone};
-ghost use Rattle.cam6_handoff.specs.Standing.{IsResting};
 
 use crate::gates::{Gate, Turn};
-use cam6_commands::{Command, Reply};
-use cam6_handoff::{Desk, Put, Queue};
+use cam6_handoff::Queue;
 use cam6_planes::NoMemory;
 use std::alloc::Global;
 use std::sync::atomic::{AtomicBool, Ordering};
@@ -21,8 +17,8 @@ const POLL: u64 = 100;
 /// What a board is at, as its worker asks.
 #[derive(Drop)]
 struct Slice {
-    /// The user of the command on the board, or 0 if there is none.
-    user: u8,
+    /// The user of the command on the board, if there is one.
+    user: Option<u8>,
     /// When the worker began with it. First its tables are filled.
     began: Option<Instant>,
     /// When the worker asked last.
@@ -42,7 +38,7 @@ fn between(from: Option<Instant>, to: Option<Instant>) -> Option<Duration> {
 impl Slice {
     fn new() -> Slice {
         Slice {
-            user: 0,
+            user: None,
             began: None,
             asked: None,
             heard: 0,
@@ -56,8 +52,8 @@ impl Slice {
     fn ask(&mut self, user: u8, band: u8, now: Option<Instant>) -> bool {
         let last = self.asked;
         self.asked = now;
-        if self.user != user {
-            self.user = user;
+        if self.user != Some(user) {
+            self.user = Some(user);
             self.began = last;
             return false;
         }
@@ -67,7 +63,7 @@ impl Slice {
 
     /// The board is free.
     fn free(&mut self, now: Option<Instant>) {
-        self.user = 0;
+        self.user = None;
         self.asked = now;
     }
 }
@@ -118,22 +114,7 @@ impl<R: Wait + Clock + Drop> SlicingGate<R> {
         self.rung.notify_all();
     }
 
-    /// The reply to a command, as a desk's `ask` gives it, with boards that may sleep.
-    pub fn ask(&self, desk: &mut Desk, command: Command) -> Result<Reply, NoMemory>
-        requires { IsResting desk.old }
-        ensures gives { IfOk result (λ reply. AskGives desk.old command reply desk.new) }
-        ensures err { OnErr result (desk.new ≡ desk.old) }
-        ensures memory { WantsNone desk.old command → IsOk result }
-    {
-        match desk.put(command)? {
-            Put::Answered(reply) => Ok(reply),
-            Put::Waiting => {
-                self.ring();
-                Ok(desk.wait(&self.rt))
-            }
-        }
-    }
-
+    /// The time, or `None` if the clock gives none.
     fn now(&self) -> Option<Instant> {
         Instant::now(&self.rt).ok()
     }
@@ -150,6 +131,9 @@ impl<R: Wait + Clock + Drop> SlicingGate<R> {
 }
 
 impl<R: Wait + Clock + Drop> Gate for SlicingGate<R> {
+    /// Returns `Stop` once `stop` was called. Returns `Preempt` for a command that has had its
+    /// time, if another one waits that may have a board, and else `Go`. Rings at a command's first
+    /// band if another one waits.
     fn turn(&self, board: u8, user: u8, band: u8) -> Turn {
         if self.stopping.load(Ordering::SeqCst) {
             return Turn::Stop;
@@ -158,11 +142,11 @@ impl<R: Wait + Clock + Drop> Gate for SlicingGate<R> {
             return Turn::Go;
         };
         let mut slice = slice.lock(&self.rt);
-        let is_new = slice.user != user;
+        let is_new = slice.user != Some(user);
         let is_over = slice.ask(user, band, self.now());
-        if (is_new || is_over) && self.queue.has_other(usize::from(user)) {
+        if (is_new || is_over) && self.queue.has_other(Some(usize::from(user))) {
             if is_over {
-                slice.user = 0;
+                slice.user = None;
                 return Turn::Preempt;
             }
             // It may have waited for this one's tables, and boards may sleep.
@@ -171,14 +155,15 @@ impl<R: Wait + Clock + Drop> Gate for SlicingGate<R> {
         Turn::Go
     }
 
+    /// Sleeps until it is rung, or for a while, unless a command waits that may have a board.
+    /// Returns false once `stop` was called, or if there is no such board.
     fn idle(&self, board: u8) -> bool {
         let Some(slice) = self.slices.get(usize::from(board)) else {
             return false;
         };
         let mut slice = slice.lock(&self.rt);
-        // A command may have been put back at a word that the worker had looked at before. User 0 is
-        // nobody, so that any command that waits is another one's.
-        if !self.queue.has_other(0) {
+        // A command may have been put back at a word that the worker had looked at before.
+        if !self.queue.has_other(None) {
             slice.heard = self.sleep_until_rung(slice.heard);
         }
         slice.free(self.now());

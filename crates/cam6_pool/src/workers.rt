@@ -33,33 +33,6 @@ fn next_band<B: Board>(station: &Station<B>) -> u8 {
     u8::try_from(rows / BAND as u16).unwrap_or(u8::MAX)
 }
 
-/// Loads the board with a lease. The seat has filled its tables.
-fn load<B: Board>(seat: &mut BoardSeat, station: &mut Station<B>, user: u8, lease: Lease, job: Job)
-    requires seat { Carries seat.old.holds lease job }
-    requires tables { TablesFit lease.work seat.old.tables }
-    requires station { station.old.at ≡ idle }
-    ensures { ServesOn seat.old station.old seat.new station.new }
-{
-    match station.load(usize::from(user), lease, job, seat.tables()) {
-        Ok(()) => {}
-        Err(queued) => seat.put_back(queued),
-    }
-}
-
-/// Does a band. What is finished is put as done, and what is lost waits again.
-fn band<B: Board>(seat: &mut BoardSeat, station: &mut Station<B>)
-    requires loaded { IsLoaded station.old.at }
-    requires serves { Serves seat.old.holds station.old.at }
-    ensures on { ServesOn seat.old station.old seat.new station.new }
-    ensures less { turns_left station.new.at < turns_left station.old.at }
-{
-    match station.band() {
-        Banded::More(_) => {}
-        Banded::Last(_, finished) => seat.put_done(finished),
-        Banded::Lost(_, queued) => seat.put_back(queued),
-    }
-}
-
 /// Takes the command off the board: it waits again.
 fn preempt<B: Board>(seat: &mut BoardSeat, station: &mut Station<B>)
     requires loaded { IsLoaded station.old.at }
@@ -73,8 +46,8 @@ fn preempt<B: Board>(seat: &mut BoardSeat, station: &mut Station<B>)
     }
 }
 
-/// Does what the gate wants next: a band, or the command comes off the board. Returns whether the gate
-/// stops the worker.
+/// Does what the gate wants next: a band, or the command comes off the board. What is finished is put
+/// as done, and what is lost waits again. Returns whether the gate stops the worker.
 fn go_on<B: Board, G: Gate>(
     seat: &mut BoardSeat,
     station: &mut Station<B>,
@@ -88,7 +61,11 @@ fn go_on<B: Board, G: Gate>(
 {
     match gate.turn(seat.number(), user, next_band(station)) {
         Turn::Go => {
-            band(seat, station);
+            match station.band() {
+                Banded::More(_) => {}
+                Banded::Last(_, finished) => seat.put_done(finished),
+                Banded::Lost(_, queued) => seat.put_back(queued),
+            }
             false
         }
         Turn::Preempt => {
@@ -119,7 +96,10 @@ fn serve_lease<B: Board, G: Gate>(
     ensures station { is_loaded station.new.at ≡ false }
     ensures faults { Rises (is_dead station.new.at) station.old.faults station.new.faults }
 {
-    load(seat, station, user, lease, job);
+    if let Err(queued) = station.load(usize::from(user), lease, job, seat.tables()) {
+        seat.put_back(queued);
+        return false;
+    }
     let mut stops = false;
     while station.is_loaded() {
         stops = go_on(seat, station, user, gate);

@@ -2,22 +2,20 @@
 //! such texts.
 //!
 //! Contract: what the arguments ask for, each end's exit status and the line for a text that isn't
-//! a pattern are those of `cam6_show_words`. Which lines set a pattern, and which text a frame has, is
-//! the contract of `read_pattern`, of `write_placed` and of `PatternTexts` in `cam6_patterns`.
-//! Which frames replies show, and how they end, is the contract of `show_frames` in `cam6_show_frames`.
+//! a pattern are those of `cam6_show_words`. `refuse` of `cam6_arguments` ends for arguments that ask
+//! for nothing. Which lines set a pattern, and which text a frame has, is the contract of
+//! `read_pattern`, of `write_placed` and of `PatternTexts` in `cam6_patterns`. Which frames replies show, and how they end, is the contract of `show_frames` in `cam6_show_frames`.
 //!
-//! Stands on: `cam6_show_words`, `cam6_patterns`, `cam6_show_frames`.
+//! Stands on: `cam6_arguments`, `cam6_show_words`, `cam6_patterns`, `cam6_show_frames`.
 #![tactic(auto)]
 
 ghost use Rattle.std.specs.Prelude.{◌≡◌};
 ghost use Rattle.std.specs.Process.{exit_status};
 
+use cam6_arguments::{NO_MEMORY, Program, Refused, failed, refuse, words_given};
 use cam6_patterns::{Pattern, PatternFault, PatternTexts, Unread, read_pattern, write_placed};
 use cam6_show_frames::{End, Unshown, show_frames};
-use cam6_show_words::{
-    BAD_INPUT, NO_MEMORY, Place, Program, Refused, RleOptions, ended, failed, fault_text,
-    options_of_rle, refusal_of_read, refuse,
-};
+use cam6_show_words::{BAD_INPUT, Place, RleOptions, ended, fault_text, options_of_rle};
 use std::env::Env;
 use std::io;
 use std::io::{BufReader, ErrorKind, Read};
@@ -37,15 +35,8 @@ fn run<R: Env + Input + Print + Eprint + AllocGlobal>(rt: &R) -> ExitCode {
 }
 
 fn options_given<R: Env + AllocGlobal>(rt: &R) -> Result<RleOptions, Refused> {
-    let alloc = rt.alloc();
-    let args = match std::env::args(rt) {
-        Ok(args) => args,
-        Err(e) => return Err(refusal_of_read(alloc, Program::Rle, e.kind())),
-    };
-    let Ok(words) = args.collect::<Vec<String>>(alloc) else {
-        return Err(Refused::NoMemory);
-    };
-    options_of_rle(alloc, words.as_slice())
+    let words = words_given(rt, Program::Rle)?;
+    options_of_rle(rt.alloc(), words.as_slice())
 }
 
 /// Writes the lines that set the pattern on standard input.

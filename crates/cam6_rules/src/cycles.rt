@@ -56,6 +56,7 @@ pub(crate) fn closed_cycle(cycle: &[Entry], number: usize) -> Option<Cycle>
     Cycle::new(closed.as_slice()).ok()
 }
 
+/// An entry once the rule at a number is dropped.
 fn closed_entry(entry: Entry, number: usize) -> Entry
     ensures { result ≡ closed_entry number entry }
 {
@@ -67,6 +68,7 @@ fn closed_entry(entry: Entry, number: usize) -> Entry
     }
 }
 
+/// A half's rule once the rule at a number is dropped. The number of a later rule is one less.
 fn closed_half(rule: Option<HalfRule>, number: usize) -> Option<HalfRule>
     ensures { result ≡ closed_half number rule }
 {
@@ -83,6 +85,8 @@ fn closed_half(rule: Option<HalfRule>, number: usize) -> Option<HalfRule>
     })
 }
 
+/// An entry with the numbers of the rules that it names. A half has no rule if no rule has its
+/// name.
 fn numbered_entry(rules: &IndexMap<String, CompiledRule>, entry: &NamedEntry) -> Entry
     ensures { result ≡ numbered_entry (rules_of rules.now.entries) entry.now }
 {

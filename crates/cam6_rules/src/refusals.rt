@@ -69,6 +69,7 @@ pub(crate) fn is_used(cycle: &[Entry], number: usize) -> bool
     cycle.iter().any(|entry| uses_number(*entry, number))
 }
 
+/// Whether a half of an entry has the rule at this number.
 fn uses_number(entry: Entry, number: usize) -> bool
     ensures { result ≡ uses_number number entry }
 {
@@ -102,6 +103,7 @@ pub(crate) fn accept_cycle(
     accept_entries(rules, entries)
 }
 
+/// Whether these are 1 to 16 entries, each with a phase from 0 to 3.
 fn is_named_cycle(entries: &[NamedEntry]) -> bool
     ensures value { result ≡ is_named_cycle entries.now }
     ensures some { OnTrue result (0 < length entries.now) }
@@ -110,6 +112,7 @@ fn is_named_cycle(entries: &[NamedEntry]) -> bool
     !entries.is_empty() && entries.len() <= MAX_ENTRIES && have_phases(entries)
 }
 
+/// Whether each entry has a phase from 0 to 3.
 fn have_phases(entries: &[NamedEntry]) -> bool
     ensures { result ≡ have_phases entries.now }
 {
@@ -129,6 +132,7 @@ fn accept_entries(
     Ok(())
 }
 
+/// Accepts an entry if the names of both halves are accepted. Half A's fault comes first.
 fn accept_entry(rules: &IndexMap<String, CompiledRule>, entry: &NamedEntry) -> Result<(), Fault>
     ensures { result_err result ≡ entry_refusal (rules_of rules.now.entries) entry.now }
 {

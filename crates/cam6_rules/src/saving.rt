@@ -47,6 +47,7 @@ pub(crate) fn saved_entries(
     Ok(NamedEntries::new(saved))
 }
 
+/// An entry with the names of its rules. A half without a rule has none.
 fn named_entry(
     alloc: Global,
     rules: &IndexMap<String, CompiledRule>,

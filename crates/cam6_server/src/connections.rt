@@ -12,7 +12,7 @@ use crate::desks::AtGate;
 use crate::free_desks::FreeDesk;
 use crate::halls::{Hall, Handle};
 use crate::streams::Connection;
-use cam6_session::{Ask, AtDesk, End, Line, LineBuf, next_line_within, send, serve};
+use cam6_session::{Ask, AtDesk, End, Line, LineBuf, answer_lines, next_line_within, send};
 use cam6_wire::{LineFault, Seating, fault_line, read_seat, seating_line};
 use std::alloc::Global;
 use std::io::{BufRead, Write};
@@ -87,7 +87,7 @@ fn answerable(alloc: Global, line: &LineBuf) -> Result<Result<u64, LineFault>, E
     }
 }
 
-/// Returns what a line says of a seat.
+/// Returns the number of the seat that a line asks for, or the line's fault.
 fn said(alloc: Global, line: &LineBuf) -> Result<u64, LineFault>
     ensures said { (l : List ℕ) → Holds line.now l → IsSaid result (seat l) }
     ensures memory { result ≡ Err LineFault.NoMemory →
@@ -125,6 +125,7 @@ fn seated<H: Handle, R: BufRead, W: Write, C: Connection>(
 {
     connection.sit();
     let waiter = AtGate {
+        rt: hall.rt,
         gate: &hall.gate,
         connection,
     };
@@ -136,6 +137,7 @@ fn seated<H: Handle, R: BufRead, W: Write, C: Connection>(
     connection.release();
     let AtDesk {
         waiter: AtGate {
+            rt: _,
             gate: _,
             connection: _,
         },
@@ -147,7 +149,8 @@ fn seated<H: Handle, R: BufRead, W: Write, C: Connection>(
     visit
 }
 
-/// Reports that the client has its seat, and answers the lines after the first one.
+/// Reports that the client has its seat, and answers the lines after the first one, by
+/// `answer_lines`.
 fn sit_down<R: BufRead, W: Write, D: Ask>(
     alloc: Global,
     reader: &mut R,
@@ -161,7 +164,7 @@ fn sit_down<R: BufRead, W: Write, D: Ask>(
         (D.stands_at desk.old) (D.stands_at desk.new) }
 {
     match send(writer, seating_line(Seating::Seated).as_bytes()) {
-        Ok(()) => Visit::Served(serve(alloc, reader, writer, desk, TURNS)),
+        Ok(()) => Visit::Served(answer_lines(alloc, reader, writer, desk, TURNS)),
         Err(_) => Visit::Unheard,
     }
 }

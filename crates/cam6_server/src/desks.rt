@@ -2,16 +2,17 @@
 
 use crate::streams::Connection;
 use cam6_commands::{Command, Reply};
-use cam6_handoff::Desk;
+use cam6_handoff::{Desk, Put};
 use cam6_planes::NoMemory;
 use cam6_pool::SlicingGate;
 use cam6_session::Waiter;
 use std::sync::Wait;
 use std::time::Clock;
 
-/// The gate of the boards, which is rung if steps wait for a board, and the connection, which sends its
-/// answers before.
+/// Waits by a handle of the runtime. If steps wait for a board, the gate of the boards is rung, and the
+/// connection sends the answers that it held back.
 pub struct AtGate<'a, R, C> {
+    pub rt: R,
     pub gate: &'a SlicingGate<R>,
     pub connection: &'a C,
 }
@@ -28,9 +29,13 @@ impl<'a, R: Wait + Clock + Drop, C: Connection> Waiter for AtGate<'a, R, C> {
         ensures err { OnErr result (desk.new ≡ desk.old) }
         ensures memory { WantsNone desk.old command → IsOk result }
     {
-        if let Command::Run { .. } | Command::Back { .. } = command {
-            self.connection.release();
+        match desk.put(command)? {
+            Put::Answered(reply) => Ok(reply),
+            Put::Waiting => {
+                self.gate.ring();
+                self.connection.release();
+                Ok(desk.wait(&self.rt))
+            }
         }
-        self.gate.ask(desk, command)
     }
 }

@@ -39,12 +39,14 @@ impl Places {
         }
     }
 
-    /// Gives a user's desk back to its place.
+    /// Gives a user's desk back to its place. If there is no such user, drops the desk.
     pub fn give_back(&mut self, user: u64, desk: FreeDesk)
         ensures { self.new.desks.items ≡ with_user self.old.desks.items user (Some desk) }
     {
-        // Nobody's index, that of user 0, is past the end.
-        let index = (user as usize).wrapping_sub(1);
+        let Some(index) = user.checked_sub(1) else {
+            return;
+        };
+        let index = index as usize;
         if index < self.desks.len() {
             self.desks[index].insert(desk);
         }

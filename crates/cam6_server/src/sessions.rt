@@ -54,7 +54,7 @@ fn visit<'a, R: Handle>(house: &'a House<R>, stream: &'a TcpStream) -> io::Resul
     Ok(link.standing())
 }
 
-/// Answers the lines of a connection. Fails if there is no memory to read any.
+/// Answers the lines of a connection, by `converse`. Fails if there is no memory to read any.
 fn talk<R: Handle>(hall: &Hall<R>, link: &Link<'_, R>) -> io::Result<Visit> {
     let mut reader = BufReader::new(hall.rt.alloc(), &*link)?;
     Ok(converse(hall, &mut reader, &mut &*link, link))

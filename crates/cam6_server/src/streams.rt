@@ -31,7 +31,7 @@ pub trait Connection {
     /// The client has its seat from now on.
     fn sit(&self);
 
-    /// The next command may take a while, so answers that are held back are to be sent.
+    /// What is waited for may take a while, so answers that are held back are to be sent.
     fn release(&self);
 }
 

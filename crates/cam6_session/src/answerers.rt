@@ -83,7 +83,7 @@ impl<D: Ask> Answerer for D {
     }
 }
 
-/// Returns what a line says.
+/// Returns the command that a line says, or the line's fault.
 fn said(alloc: Global, line: &LineBuf) -> Result<Command, LineFault>
     ensures said { (l : List ℕ) → Holds line.now l → IsSaid result (what_is_said l) }
     ensures memory { (l : List ℕ) → Holds line.now l → result ≡ Err NoMemory → TakesMemory l }
@@ -94,6 +94,8 @@ fn said(alloc: Global, line: &LineBuf) -> Result<Command, LineFault>
     read_command(alloc, bytes)
 }
 
+/// Has the command done, and writes its reply as a line. If an allocation fails, returns whether
+/// the command was done.
 fn respond_to<W: Write, D: Ask>(
     alloc: Global,
     command: Command,
@@ -115,6 +117,8 @@ fn respond_to<W: Write, D: Ask>(
     tell(writer, text)
 }
 
+/// Answers a line that says no command by its fault. If that is `NoMemory`, writes nothing and
+/// stops.
 fn respond_fault<W: Write>(fault: LineFault, writer: &mut W) -> Result<(), Stop>
     ensures { (l : List ℕ) (m : Machine) → IsFaultOf fault (what_is_said l) →
         (fault ≡ NoMemory → TakesMemory l) →

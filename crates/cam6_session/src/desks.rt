@@ -109,8 +109,8 @@ impl<W: Waiter> Ask for AtDesk<W> {
     // A desk may be asked while it doesn't wait, and no longer waits when it has answered.
     ghost is_ready = { λ d. IsResting d.desk };
 
-    /// Does the command and replies. Waits for its steps, whichever boards do them. If it runs out
-    /// of memory, it stays where it stood.
+    /// Has the waiter ask the desk, and replies. Waits for the command's steps, whichever boards do
+    /// them. If it runs out of memory, it stays where it stood.
     fn ask(&mut self, command: Command) -> Result<Reply, NoMemory>
         requires { IsResting self.old.desk }
         ensures reply { IfOk result (λ r. r ≡ reply (machine_at self.old.desk) command) }

@@ -90,6 +90,7 @@ fn said(alloc: Global, line: &LineBuf) -> Result<Event, LineFault>
     read_event(alloc, bytes)
 }
 
+/// Does the event, and writes its outcome as a line.
 fn respond_to<W: Write>(
     alloc: Global,
     event: Event,
@@ -121,6 +122,7 @@ fn tell_outcome<W: Write>(alloc: Global, outcome: &Outcome, writer: &mut W) -> R
     }
 }
 
+/// Answers a line that says no event by its fault. If that is `NoMemory`, writes nothing and stops.
 fn respond_fault<W: Write>(fault: LineFault, writer: &mut W) -> Result<(), Stop>
     ensures { (l : List ℕ) (s : State) → IsFaultOf fault (what_happens l) →
         (fault ≡ NoMemory → TakesMemory l) →

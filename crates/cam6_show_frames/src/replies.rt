@@ -95,6 +95,8 @@ fn reply_in(alloc: Global, value: &Value) -> Result<Option<Said>, AllocError>
     }
 }
 
+/// What a reply with this word says of cells. It is `Other` for all words but `colours` and
+/// `plane`. Returns `None` if what they have is no row or no plane.
 fn by_word(alloc: Global, word: &str, value: &Value) -> Result<Option<Said>, AllocError>
     ensures { IfOk result (λ reply. reply ≡ by_word (Some word.now) (view value.now)) }
 {
@@ -105,6 +107,7 @@ fn by_word(alloc: Global, word: &str, value: &Value) -> Result<Option<Said>, All
     }
 }
 
+/// The row of cells in a reply, or `None` if its text isn't the digits of a row.
 fn colours_in(value: &Value) -> Option<Said>
     ensures { result ≡ colours_in (view value.now) }
 {
@@ -113,6 +116,7 @@ fn colours_in(value: &Value) -> Option<Said>
     Some(Said::Colours(row))
 }
 
+/// All rows in a reply, or `None` if its texts aren't the digits of a plane.
 fn plane_in(alloc: Global, value: &Value) -> Result<Option<Said>, AllocError>
     ensures { IfOk result (λ reply. reply ≡ plane_in (view value.now)) }
 {
@@ -125,6 +129,7 @@ fn plane_in(alloc: Global, value: &Value) -> Result<Option<Said>, AllocError>
     }
 }
 
+/// The frame of these rows, or `None` if they aren't those of a torus.
 fn plane_of_rows(rows: Vec<RowInColours>) -> Option<Said>
     ensures { result ≡ option_map Said.Plane (frame_of_rows rows.items) }
 {

@@ -126,6 +126,7 @@ fn take_reply(alloc: Global, line: &[u8], run: &mut Run) -> Result<Option<Frame>
     }
 }
 
+/// Shows a frame, or returns why showing stops.
 fn show_frame<S: Screen>(screen: &mut S, frame: &Frame) -> Result<(), Stop>
     ensures written { ShowsFrame result (S.contents screen.old) (S.contents screen.new)
         (S.picture screen.old frame.now) }

@@ -108,6 +108,7 @@ fn pixel_row(pixels: &mut Vec<u8>, look: &Look, frame: &Frame, j: usize) -> Resu
     Ok(())
 }
 
+/// Pushes three bytes: red, green and blue.
 fn push_light(pixels: &mut Vec<u8>, light: Light) -> Result<(), AllocError>
     ensures { IfOk result (λ _. pixels.new.items ≡ pixels.old.items ++ light_bytes light) }
 {

@@ -174,6 +174,7 @@ fn push_order(line: &mut Vec<u8>, order: &[u8], number: u8) -> Result<(), AllocE
     line.extend_from_slice(b"m")
 }
 
+/// Pushes a number's decimal digits, without leading zeros.
 fn push_decimal(line: &mut Vec<u8>, n: u8) -> Result<(), AllocError>
     ensures { IfOk result (λ _. line.new.items ≡ line.old.items ++ decimal n) }
 {

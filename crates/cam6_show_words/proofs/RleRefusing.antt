@@ -5,7 +5,8 @@ use Rattle.clap.proofs.OnLiterals.{clap_on_literals}
 use Rattle.clap.specs.Simple.{is_simple}
 use Rattle.clap.specs.Words.{App, is_simple_and_free}
 use Rattle.cam6_planes.specs.Side.{side_texts}
-use Rattle.cam6_show_words.specs.RleWords.{IsProgram, TextsAt, program}
+use Rattle.cam6_arguments.specs.Options.{TextsAt}
+use Rattle.cam6_show_words.specs.RleWords.{IsProgram, program}
 
 program_is_free : (sides : TextsAt) → is_simple_and_free (program sides) ≡ true
 unfolding clap_on_literals

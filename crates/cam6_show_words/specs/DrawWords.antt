@@ -1,16 +1,14 @@
 -- The arguments that `cam6_draw` takes, and what they ask for.
-use Rattle.std.specs.Prelude.{ℕ, ◌-◌, List, [], codes, Option, Some, None, Bool}
-use Rattle.std.specs.Prelude.{true, false, ◌==◌, if◌then◌else◌, length, get_or, option_and_then}
-use Rattle.std.specs.Prelude.{option_map}
+use Rattle.std.specs.Prelude.{ℕ, ◌-◌, List, [], codes, Option, Some, None, Bool, true, false, ◌==◌}
+use Rattle.std.specs.Prelude.{if◌then◌else◌, length, get_or, option_map}
 use Rattle.std.specs.Str.{bytes_eq}
-use Rattle.std.specs.Str.Parse.{digits_value, without_leading_plus}
-use Rattle.clap.specs.ValueTests.{is_unsigned_in}
-use Rattle.clap.specs.Simple.{on_top}
 use Rattle.clap.specs.Walk.{all_of}
-use Rattle.clap.specs.Words.{App, Row, Rule, Text, first_of, new_app, new_rule}
-use Rattle.clap.specs.Words.{with_rule}
+use Rattle.clap.specs.Words.{App, Row, Rule, Text, first_of, new_rule, with_rule}
 use Rattle.clap.specs.declared.builder.action.ArgAction.TheVariants.{SetTrue}
 use Rattle.cam6_planes.specs.Limits.{max_columns}
+use Rattle.cam6_arguments.specs.Options.{named, value_option}
+use Rattle.cam6_arguments.specs.Values.{◌>>=◌, number_by, number_said}
+use Rattle.cam6_arguments.specs.declared.programs.Program.TheVariants.{Draw}
 use Rattle.cam6_show_pictures.specs.declared.looks.Light.{Light}
 use Rattle.cam6_show_words.specs.declared.draw_options.DrawOptions.{DrawOptions}
 use Rattle.cam6_show_words.specs.declared.draw_options.Way.{Way}
@@ -20,12 +18,9 @@ use Rattle.cam6_show_pictures.specs.Palette.{default_palette, palette_said}
 
 -- ---- the arguments
 
--- an option of this name that takes no value, and one that takes one
+-- an option of this name that takes no value
 abbrev pub flag : Text → Rule
 flag name = record (new_rule name) { long = Some name; action = Some SetTrue }
-
-abbrev pub option : Text → Rule
-option name = record (new_rule name) { long = Some name; value_names = 1 }
 
 -- `--crop`, which takes four
 abbrev pub crop_option : Rule
@@ -35,10 +30,6 @@ crop_option = record (new_rule (codes "crop")) {
   value_names = 4;
 }
 
--- `cam6_draw`, which has a version
-abbrev pub named : App
-named = on_top (λ s. record s { has_version = true }) (new_app (codes "cam6_draw"))
-
 -- the program, with its options
 unfoldable pub program : App
 program =
@@ -47,24 +38,14 @@ program =
     (with_rule
     (with_rule
     (with_rule
-    (with_rule named (flag (codes "ppm")))
+    (with_rule (named Draw) (flag (codes "ppm")))
     (flag (codes "text")))
-    (option (codes "scale")))
+    (value_option (codes "scale")))
     crop_option)
-    (option (codes "palette")))
-    (option (codes "frames"))
+    (value_option (codes "palette")))
+    (value_option (codes "frames"))
 
 -- ---- what they ask for
-
--- a whole number from a least to a most one, as a word
-abbrev pub number_said : ℕ → ℕ → Text → Option ℕ
-number_said least most word = if is_unsigned_in least most word
-    then Some (digits_value 10 (without_leading_plus word)) else None
-
--- the second step, if the first gave a value
-infixl 10 ◌>>=◌
-abbrev ◌>>=◌ : {A B : Type 0} → Option A → (A → Option B) → Option B
-x >>= f = option_and_then f x
 
 -- whether a flag is among the words, by its value
 abbrev pub is_true : Option Text → Bool
@@ -112,8 +93,7 @@ window_by (Some words) = option_map (λ window. Some window) (window_of words)
 
 -- the pixels of a cell that are said, or else 1
 abbrev pub scale_by : Option Text → Option ℕ
-scale_by None = Some 1
-scale_by (Some word) = number_said 1 16 word
+scale_by word = number_by word 1 16 1
 
 -- all of them, if each is valid
 abbrev pub all_said : Option Way → Option (List Light) → Option (Option Window) → Option ℕ

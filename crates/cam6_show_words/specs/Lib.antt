@@ -1,6 +1,4 @@
--- In the order of reading: Program, Refusals, Statuses, DrawWords, Placing, RleWords.
-pub mod Program
-pub mod Refusals
+-- In the order of reading: Statuses, DrawWords, Placing, RleWords.
 pub mod Statuses
 pub mod DrawWords
 pub mod Placing

@@ -2,26 +2,16 @@
 use Rattle.std.specs.Prelude.{◌≡◌, ℕ, ◌-◌, List, [], ◌∷◌, codes, length, map, Option, Some, None}
 use Rattle.std.specs.Prelude.{Bool, true, false, ◌||◌, ◌&&◌, ◌==◌, not, nat_lt, nat_le, if◌then◌else◌}
 use Rattle.std.specs.Prelude.{option_and_then, option_map, is_some, unwrap_or, string_bytes}
-use Rattle.std.specs.Borrow.{Bor}
 use Rattle.std.specs.List.{list_all}
-use Rattle.std.specs.Str.{bytes_eq}
-use Rattle.std.specs.Str.Parse.{digits_value, without_leading_plus}
-use Rattle.clap.specs.ValueTests.{is_unsigned_in}
-use Rattle.clap.specs.Walk.{texts}
-use Rattle.clap.specs.Words.{App, Row, Rule, Text, count_of, first_of, new_app, new_rule, with_rule}
+use Rattle.clap.specs.Words.{App, Row, Rule, Text, count_of, first_of, new_rule, with_rule}
 use Rattle.clap.specs.declared.builder.action.ArgAction.TheVariants.{Count}
-use Rattle.clap.specs.declared.builder.value_parser.ValueParser.TheVariants.{Names, Unsigned}
 use Rattle.cam6_planes.specs.declared.sides.Side.{Side}
-use Rattle.cam6_planes.specs.declared.sides.Side.TheVariants.{S256}
-use Rattle.cam6_planes.specs.Side.{side_named, side_text, side_texts}
+use Rattle.cam6_arguments.specs.Options.{AreSides, TextsAt, named, number_option, side_option}
+use Rattle.cam6_arguments.specs.Values.{◌>>=◌, number_at, side_at}
+use Rattle.cam6_arguments.specs.declared.programs.Program.TheVariants.{Rle}
 use Rattle.cam6_show_words.specs.Placing.{Placing, last_move}
 use Rattle.cam6_show_words.specs.declared.rle_options.RleOptions.{RleOptions}
 use Rattle.cam6_show_words.specs.declared.rle_options.RleOptions.TheVariants.{Place, Gather}
-
--- a whole number up to last_move, as a word
-abbrev pub move_said : Text → Option ℕ
-move_said word = if is_unsigned_in 0 last_move word
-    then Some (digits_value 10 (without_leading_plus word)) else None
 
 -- whether a byte is among these
 abbrev pub is_among : ℕ → List ℕ → Bool
@@ -47,29 +37,9 @@ says_planes word =
 abbrev pub planes_said : Text → Option (List ℕ)
 planes_said word = if says_planes word then Some (map (λ b. b - 48) word) else None
 
--- a reference to texts
-abbrev pub TextsAt : Type 0
-TextsAt = Bor (List (Bor Text))
-
--- it is to the three sides as words
-abbrev pub AreSides : TextsAt → Type 0
-AreSides sides = texts sides.now ≡ side_texts
-
--- `--side`, one of the words that are referred to, or else 256
-abbrev pub side_option : TextsAt → Rule
-side_option sides = record (new_rule (codes "side")) {
-  long = Some (codes "side");
-  parser = Some (Names sides);
-  defaults = side_text S256 ∷ [];
-}
-
 -- `--column` and `--row`, numbers of cells, or else 0
 abbrev pub move_option : Text → Rule
-move_option name = record (new_rule name) {
-  long = Some name;
-  parser = Some (Unsigned 0 last_move);
-  defaults = codes "0" ∷ [];
-}
+move_option name = number_option name 0 last_move (codes "0")
 
 -- `--planes`, a text, or else plane 0
 abbrev pub planes_option : Rule
@@ -89,10 +59,6 @@ replies_option = record (new_rule (codes "replies")) {
 abbrev pub rule_option : Rule
 rule_option = record (new_rule (codes "rule")) { long = Some (codes "rule") }
 
--- a command that has a version
-abbrev pub with_version : App → App
-with_version app = record app { top = record (app.top) { has_version = true } }
-
 -- `cam6_rle`, which has a version, with its options
 abbrev pub program : TextsAt → App
 program sides =
@@ -102,7 +68,7 @@ program sides =
     (with_rule
     (with_rule
     (with_rule
-    (with_version (new_app (codes "cam6_rle")))
+    (named Rle)
     (side_option sides))
     (move_option (codes "column")))
     (move_option (codes "row")))
@@ -121,17 +87,9 @@ pub data Task : Type 0 where
   -- write the text of each frame of replies, with this name of a rule
   gather : Text → Task
 
--- the second step, if the first gave a value
-infixl 10 ◌>>=◌
-abbrev pub ◌>>=◌ : {A B : Type 0} → Option A → (A → Option B) → Option B
-x >>= f = option_and_then f x
-
--- the side, the move and the planes that an option's word says
-abbrev pub side_at : List Row → Option Side
-side_at rows = option_and_then side_named (first_of (codes "side") rows)
-
+-- the columns or rows of a move, and the planes, that an option's word says
 abbrev pub move_at : Text → List Row → Option ℕ
-move_at name rows = option_and_then move_said (first_of name rows)
+move_at name = number_at name 0 last_move
 
 abbrev pub planes_at : List Row → Option (List ℕ)
 planes_at rows = option_and_then planes_said (first_of (codes "planes") rows)

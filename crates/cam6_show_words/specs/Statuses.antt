@@ -1,9 +1,9 @@
 -- The exit status of each end, with its line.
 use Rattle.std.specs.Prelude.{ℕ, List, ◌++◌, Option, None, Some, codes, decimal}
 use Rattle.cam6_planes.specs.Limits.{max_columns}
-use Rattle.cam6_show_words.specs.Program.{at_line, told}
-use Rattle.cam6_show_words.specs.declared.programs.Program.{Program}
-use Rattle.cam6_show_words.specs.declared.programs.Program.TheVariants.{Rle}
+use Rattle.cam6_arguments.specs.Program.{name_of, told}
+use Rattle.cam6_arguments.specs.declared.programs.Program.{Program}
+use Rattle.cam6_arguments.specs.declared.programs.Program.TheVariants.{Rle}
 use Rattle.cam6_show_frames.specs.declared.showing.End.{End}
 use Rattle.cam6_show_frames.specs.declared.showing.End.TheVariants.{EndOfInput, NoReply, BreaksOff}
 use Rattle.cam6_show_frames.specs.declared.showing.End.TheVariants.{ReadFault, WriteFault, NoMemory}
@@ -11,6 +11,10 @@ use Rattle.cam6_show_frames.specs.declared.showing.End.TheVariants.{TooManyLines
 use Rattle.cam6_patterns.specs.declared.faults.Cause.{Cause}
 use Rattle.cam6_patterns.specs.declared.faults.Cause.TheVariants as cause
 use Rattle.cam6_patterns.specs.declared.faults.PatternFault.{PatternFault}
+
+-- a text after the program's name and the number of a line
+abbrev pub at_line : Program → ℕ → List ℕ → List ℕ
+at_line program line text = name_of program ++ codes ": line " ++ decimal line ++ text
 
 -- none at the end of input: the program succeeds
 abbrev pub failure : Program → End → Option (ℕ × List ℕ)

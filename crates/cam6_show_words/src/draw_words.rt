@@ -1,26 +1,26 @@
 //! The arguments of `cam6_draw`.
-ghost use Rattle.std.specs.Prelude.{◌≡◌, ◌≤◌, ◌&&◌, [], IfErr, IfOk, IfSome, Some};
-ghost use Rattle.std.specs.Prelude.{None, true, false, codes, if◌then◌else◌, map, nat_le, option_map};
-ghost use Rattle.std.specs.Prelude.{string_bytes};
+ghost use Rattle.std.specs.Prelude.{◌≡◌, ◌≤◌, [], IfErr, IfOk, None, Some, true, false, codes, map};
+ghost use Rattle.std.specs.Prelude.{option_map, string_bytes};
 ghost use Rattle.std.specs.Result.{result_ok};
 ghost use Rattle.clap.specs.Walk.{texts};
 ghost use Rattle.clap.specs.Words.{app_of, fault_of, found_of, matches_of, rows_of};
 ghost use Rattle.clap.specs.Words.{rule_of};
 ghost use Rattle.cam6_show_words.specs.DrawWords.{all_said};
-ghost use Rattle.cam6_show_words.specs.Refusals.{IsRefusal, Refuses};
+ghost use Rattle.cam6_arguments.specs.Options.{value_option as option_of};
+ghost use Rattle.cam6_arguments.specs.Refusals.{IsRefusal, Refuses};
 ghost use Rattle.cam6_show_words.specs.DrawWords.{asked as asked_by, crop_option as option_to_crop};
 ghost use Rattle.cam6_show_words.specs.DrawWords.{flag as flag_of, is_true as is_true_told};
-ghost use Rattle.cam6_show_words.specs.DrawWords.{number_said, option as option_of};
 ghost use Rattle.cam6_show_words.specs.DrawWords.{palette_by as palette_told, program as program_of};
 ghost use Rattle.cam6_show_words.specs.DrawWords.{scale_by as scale_told, way_at, way_said};
 ghost use Rattle.cam6_show_words.specs.DrawWords.{window_by as window_told, window_said};
 ghost use Rattle.cam6_show_words.specs.DrawWords.{window_of as window_of_words};
 
 use crate::draw_options::{DrawOptions, Unsaid, Way};
-use crate::refusals::{Refused, refusal, unasked};
+use cam6_arguments::{
+    Program, Refused, count_of, named, number_by, refusal, text_at, texts_at, unasked, value_option,
+};
 use cam6_planes::COLUMNS;
 use cam6_show_pictures::{Light, Look, MOST_SCALE, PALETTE, Window, palette_of};
-use cam6_version::VERSION;
 use clap::{Arg, ArgAction, ArgMatches, Command};
 use std::alloc::{AllocError, Global};
 
@@ -52,18 +52,18 @@ pub fn options_of_draw(alloc: Global, words: &[String]) -> Result<DrawOptions, R
         (fault_of program_of (map string_bytes words.now) ≡ [])
         × (asked_by (matches_of program_of (map string_bytes words.now)) ≡ Some options)) }
     ensures refused { IfErr result (Refuses (fault_of program_of (map string_bytes words.now))
-        (asked_by (matches_of program_of (map string_bytes words.now)))) }
+        (asked_by (matches_of program_of (map string_bytes words.now)) ≡ None)) }
 {
     let Ok(command) = program(alloc) else {
         return Err(Refused::NoMemory);
     };
     match command.try_get_matches_from(words) {
         Ok(matches) => taken(alloc, &matches),
-        Err(error) => Err(refusal(alloc, error)),
+        Err(error) => Err(refusal(alloc, error, "")),
     }
 }
 
-/// What arguments ask for that clap takes.
+/// Returns the options of arguments that clap takes, or why they are refused.
 fn taken(alloc: Global, matches: &ArgMatches<'_>) -> Result<DrawOptions, Refused>
     ensures asked { IfOk result (λ options.
         asked_by (rows_of (found_of matches.now)) ≡ Some options) }
@@ -82,9 +82,9 @@ fn asked(matches: &ArgMatches<'_>) -> Result<DrawOptions, Unsaid>
 {
     all(
         way_asked(matches),
-        palette_by(matches.get_str("palette")),
-        window_by(matches.get_raw("crop")),
-        scale_by(matches.get_str("scale")),
+        palette_by(text_at(matches, "palette")),
+        window_by(texts_at(matches, "crop")),
+        scale_by(text_at(matches, "scale")),
     )
 }
 
@@ -130,9 +130,9 @@ fn way_asked(matches: &ArgMatches<'_>) -> Result<Way, Unsaid>
     ensures { result_ok result ≡ way_at (rows_of (found_of matches.now)) }
 {
     way_of(
-        is_true(matches.get_str("ppm")),
-        is_true(matches.get_str("text")),
-        matches.get_str("frames"),
+        is_true(text_at(matches, "ppm")),
+        is_true(text_at(matches, "text")),
+        text_at(matches, "frames"),
     )
 }
 
@@ -144,16 +144,16 @@ fn way_of(ppm: bool, text: bool, frames: Option<&str>) -> Result<Way, Unsaid>
         (true, false, None) => Ok(Way::Ppm),
         (true, false, Some(_)) => Err(Unsaid::FramesOfFiles),
         (false, true, None) => Ok(Way::Text { rate: None }),
-        (false, true, Some(word)) => text_at(word),
+        (false, true, Some(word)) => terminal_at(word),
         (true, true, _) | (false, false, _) => Err(Unsaid::Way),
     }
 }
 
 /// A terminal, with as many pictures a second as the word says.
-fn text_at(word: &str) -> Result<Way, Unsaid>
+fn terminal_at(word: &str) -> Result<Way, Unsaid>
     ensures { result_ok result ≡ way_said false true (Some word.now) }
 {
-    match number_of(word, 1, MOST_FRAMES) {
+    match count_of(word, 1, MOST_FRAMES) {
         Some(rate) => Ok(Way::Text { rate: Some(rate) }),
         None => Err(Unsaid::Frames),
     }
@@ -210,16 +210,16 @@ fn window_of(words: &[&str]) -> Option<Window>
 fn window_said(x: &str, y: &str, w: &str, h: &str) -> Option<Window>
     ensures { result ≡ window_said x.now y.now w.now h.now }
 {
-    let Some(column) = number_of(x, 0, COLUMNS - 1) else {
+    let Some(column) = count_of(x, 0, COLUMNS - 1) else {
         return None;
     };
-    let Some(row) = number_of(y, 0, COLUMNS - 1) else {
+    let Some(row) = count_of(y, 0, COLUMNS - 1) else {
         return None;
     };
-    let Some(width) = number_of(w, 1, COLUMNS) else {
+    let Some(width) = count_of(w, 1, COLUMNS) else {
         return None;
     };
-    let Some(height) = number_of(h, 1, COLUMNS) else {
+    let Some(height) = count_of(h, 1, COLUMNS) else {
         return None;
     };
     Some(Window {
@@ -235,36 +235,9 @@ fn scale_by(word: Option<&str>) -> Result<usize, Unsaid>
     ensures scale { result_ok result ≡ scale_told (option_map (λ word. word.now) word.entry) }
     ensures within { IfOk result (λ scale. (1 ≤ scale) × (scale ≤ 16)) }
 {
-    let Some(word) = word else {
-        return Ok(1);
-    };
-    match number_of(word, 1, MOST_SCALE) {
-        Some(scale) => Ok(scale),
+    match number_by(word, 1, MOST_SCALE as u64, 1) {
+        Some(scale) => Ok(scale as usize),
         None => Err(Unsaid::Scale),
-    }
-}
-
-/// The number that a word is, if it is from `least` to `most`.
-fn number_of(word: &str, least: usize, most: usize) -> Option<usize>
-    ensures number { result ≡ number_said least most word.now }
-    ensures within { IfSome result (λ number. (least ≤ number) × (number ≤ most)) }
-{
-    let Ok(number) = word.parse::<usize>() else {
-        return None;
-    };
-    bounded(number, least, most)
-}
-
-/// The number, if it is from `least` to `most`.
-fn bounded(number: usize, least: usize, most: usize) -> Option<usize>
-    ensures number { result
-        ≡ (if nat_le least number && nat_le number most then Some number else None) }
-    ensures within { IfSome result (λ number. (least ≤ number) × (number ≤ most)) }
-{
-    if least <= number && number <= most {
-        Some(number)
-    } else {
-        None
     }
 }
 
@@ -272,10 +245,8 @@ fn bounded(number: usize, least: usize, most: usize) -> Option<usize>
 fn program<'a>(alloc: Global) -> Result<Command<'a>, AllocError>
     ensures { IfOk result (λ command. app_of command ≡ program_of) }
 {
-    Command::new(alloc, "cam6_draw")
-        .about("Draws the cells of replies on standard input, on standard output")
-        .version(VERSION)
-        .after_help(HELP)
+    let about = "Draws the cells of replies on standard input, on standard output";
+    named(alloc, Program::Draw, about, HELP)
         .arg(ppm_option(alloc))?
         .arg(text_option(alloc))?
         .arg(scale_option(alloc))?
@@ -324,10 +295,12 @@ fn scale_option<'a>(alloc: Global) -> Arg<'a>
     ensures rule { rule_of result ≡ option_of (codes "scale") }
     ensures global { result.global ≡ false }
 {
-    Arg::new(alloc, "scale")
-        .long("scale")
-        .value_name("N")
-        .help("A cell is N pixels wide and high, 1 to 16; without it 1")
+    value_option(
+        alloc,
+        "scale",
+        "N",
+        "A cell is N pixels wide and high, 1 to 16; without it 1",
+    )
 }
 
 /// `--crop`.
@@ -347,10 +320,12 @@ fn palette_option<'a>(alloc: Global) -> Arg<'a>
     ensures rule { rule_of result ≡ option_of (codes "palette") }
     ensures global { result.global ≡ false }
 {
-    Arg::new(alloc, "palette")
-        .long("palette")
-        .value_name("P")
-        .help("The lights of the colours 0 to 15: six hexadecimal digits each, with commas between")
+    value_option(
+        alloc,
+        "palette",
+        "P",
+        "The lights of the colours 0 to 15: six hexadecimal digits each, with commas between",
+    )
 }
 
 /// `--frames`.
@@ -358,8 +333,10 @@ fn frames_option<'a>(alloc: Global) -> Arg<'a>
     ensures rule { rule_of result ≡ option_of (codes "frames") }
     ensures global { result.global ≡ false }
 {
-    Arg::new(alloc, "frames")
-        .long("frames")
-        .value_name("N")
-        .help("With --text: at most N pictures a second, 1 to 1000")
+    value_option(
+        alloc,
+        "frames",
+        "N",
+        "With --text: at most N pictures a second, 1 to 1000",
+    )
 }

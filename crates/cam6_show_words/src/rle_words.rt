@@ -4,25 +4,24 @@ ghost use Rattle.std.specs.Prelude.{option_map, map, string_bytes, true, false, 
 ghost use Rattle.std.specs.List.{list_all};
 ghost use Rattle.clap.specs.Words.{App, app_of, found_of, rows_of, rule_of};
 ghost use Rattle.clap.specs.Words.{matches_of, first_of, fault_of};
-ghost use Rattle.cam6_show_words.specs.RleWords.{AreSides, HasTask, IsProgram};
-ghost use Rattle.cam6_show_words.specs.Refusals.{IsRefusal, Refuses};
-ghost use Rattle.cam6_show_words.specs.RleWords.{TextsAt, task_of, place_at, is_one_line, MayHaveTask};
-ghost use Rattle.cam6_show_words.specs.RleWords.{placed, side_at, move_at, planes_at};
-ghost use Rattle.cam6_show_words.specs.RleWords.{move_said, planes_said};
+ghost use Rattle.cam6_arguments.specs.Refusals.{IsRefusal, Refuses};
+ghost use Rattle.cam6_show_words.specs.RleWords.{HasTask, IsProgram, MayHaveTask};
+ghost use Rattle.cam6_show_words.specs.RleWords.{task_of, place_at, is_one_line};
+ghost use Rattle.cam6_show_words.specs.RleWords.{placed, move_at, planes_at, planes_said};
 ghost use Rattle.cam6_show_words.specs.RleWords.{says_planes, is_plane_digit, are_different, gather_at};
-ghost use Rattle.cam6_show_words.specs.RleWords.{side_option as option_of_sides};
 ghost use Rattle.cam6_show_words.specs.Placing.{last_move};
 ghost use Rattle.cam6_show_words.specs.RleWords.{move_option as option_of_moves};
 ghost use Rattle.cam6_show_words.specs.RleWords.{planes_option as option_of_planes};
 ghost use Rattle.cam6_show_words.specs.RleWords.{replies_option as option_of_replies};
 ghost use Rattle.cam6_show_words.specs.RleWords.{rule_option as option_of_rules};
 
-use crate::refusals::{Refused, refusal, unasked};
 use crate::rle_options::{Place, RleOptions};
+use cam6_arguments::{
+    Program, Refused, named, number_at, number_option, refusal, side_at, side_option, text_at,
+    unasked,
+};
 use cam6_patterns::ChosenPlanes;
 use cam6_planes::{COLUMNS, Side};
-use cam6_version::VERSION;
-use clap::builder::ValueParser;
 use clap::{Arg, ArgAction, ArgMatches, Command};
 use std::alloc::{AllocError, Global};
 
@@ -57,14 +56,14 @@ pub fn options_of_rle(alloc: Global, words: &[String]) -> Result<RleOptions, Ref
         × HasTask options (task_of (matches_of app (map string_bytes words.now)))) }
     ensures refused { IfErr result (λ refused. (app : App) × IsProgram app
         × Refuses (fault_of app (map string_bytes words.now))
-        (task_of (matches_of app (map string_bytes words.now))) refused) }
+        (task_of (matches_of app (map string_bytes words.now)) ≡ None) refused) }
 {
     let Ok(command) = program(alloc) else {
         return Err(Refused::NoMemory);
     };
     match command.try_get_matches_from(words) {
         Ok(matches) => task_given(alloc, &matches),
-        Err(error) => Err(refusal(alloc, error)),
+        Err(error) => Err(refusal(alloc, error, "")),
     }
 }
 
@@ -87,11 +86,10 @@ fn task_given(alloc: Global, matches: &ArgMatches<'_>) -> Result<RleOptions, Ref
 }
 
 /// Whether the name of a rule is said.
-#[tactic(auto, using(crate::proofs::RleValues::text_at))]
 fn names_rule(matches: &ArgMatches<'_>) -> bool
     ensures { result ≡ is_some (first_of (codes "rule") (rows_of (found_of matches.now))) }
 {
-    matches.get_str("rule").is_some()
+    text_at(matches, "rule").is_some()
 }
 
 /// Where a pattern is set.
@@ -99,7 +97,7 @@ fn place_given(matches: &ArgMatches<'_>) -> Option<RleOptions>
     ensures { MayHaveTask result (place_at (rows_of (found_of matches.now))) }
 {
     placed(
-        side_given(matches),
+        side_at(matches),
         move_given(matches, "column"),
         move_given(matches, "row"),
         planes_given(matches),
@@ -125,39 +123,29 @@ fn placed(
     }))
 }
 
-/// The side that `--side` says.
-#[tactic(auto, using(crate::proofs::RleValues::text_at))]
-fn side_given(matches: &ArgMatches<'_>) -> Option<Side>
-    ensures { result ≡ side_at (rows_of (found_of matches.now)) }
-{
-    Side::named(matches.get_str("side")?)
-}
-
 /// The columns, or rows, that an option says.
-#[tactic(auto, using(crate::proofs::RleValues::text_at))]
 fn move_given(matches: &ArgMatches<'_>, name: &str) -> Option<usize>
     ensures value { result ≡ move_at name.now (rows_of (found_of matches.now)) }
     ensures within { IfSome result (λ cells. cells ≤ last_move) }
 {
-    move_of_word(matches.get_str(name)?)
+    let cells = number_at(matches, name, 0, LAST_MOVE)?;
+    Some(cells as usize)
 }
 
 /// The planes that `--planes` says.
-#[tactic(auto, using(crate::proofs::RleValues::text_at))]
 fn planes_given(matches: &ArgMatches<'_>) -> Option<ChosenPlanes>
     ensures { result ≡ planes_at (rows_of (found_of matches.now)) }
 {
-    planes_of_word(matches.get_str("planes")?)
+    planes_of_word(text_at(matches, "planes")?)
 }
 
 /// The name of a rule that texts are written with.
-#[tactic(auto, using(crate::proofs::RleValues::text_at))]
 fn gather_given(alloc: Global, matches: &ArgMatches<'_>) -> Result<RleOptions, Refused>
     ensures task { IfOk result (λ options. HasTask options (gather_at (rows_of (found_of matches.now)))) }
     ensures refused { IfErr result (λ refused. IsRefusal refused
         × ((gather_at (rows_of (found_of matches.now)) ≡ None) ⊎ (refused ≡ Refused.NoMemory))) }
 {
-    let name = matches.get_str("rule").unwrap_or("");
+    let name = text_at(matches, "rule").unwrap_or("");
     if !is_one_line(name.as_bytes()) {
         return Err(no_task(alloc));
     }
@@ -186,20 +174,6 @@ fn no_task(alloc: Global) -> Refused
     ensures { IsRefusal result }
 {
     unasked(String::from_str(alloc, NO_TASK_TEXT))
-}
-
-/// The columns, or rows, that a word is.
-fn move_of_word(word: &str) -> Option<usize>
-    ensures value { result ≡ move_said word.now }
-    ensures within { IfSome result (λ cells. cells ≤ last_move) }
-{
-    let Ok(number) = word.parse::<u64>() else {
-        return None;
-    };
-    if number > LAST_MOVE {
-        return None;
-    }
-    Some(number as usize)
 }
 
 /// The planes of a word's one to four different digits.
@@ -280,11 +254,9 @@ fn planes_of_digits(digits: &[u8]) -> ChosenPlanes
 fn program<'a>(alloc: Global) -> Result<Command<'a>, AllocError>
     ensures { IfOk result (λ command. IsProgram (app_of command)) }
 {
-    Command::new(alloc, "cam6_rle")
-        .about("Patterns as run-length text, into command lines of cam6 and out of its replies")
-        .after_help(PROGRAM_TEXT)
-        .version(VERSION)
-        .arg(side_option(alloc))?
+    let about = "Patterns as run-length text, into command lines of cam6 and out of its replies";
+    named(alloc, Program::Rle, about, PROGRAM_TEXT)
+        .arg(side_option(alloc, "The side of the torus"))?
         .arg(move_option(alloc, "column"))?
         .arg(move_option(alloc, "row"))?
         .arg(planes_option(alloc))?
@@ -292,28 +264,12 @@ fn program<'a>(alloc: Global) -> Result<Command<'a>, AllocError>
         .arg(rule_option(alloc))
 }
 
-/// `--side`.
-fn side_option<'a>(alloc: Global) -> Arg<'a>
-    ensures rule { (sides : TextsAt) × AreSides sides × (rule_of result ≡ option_of_sides sides) }
-    ensures global { result.global ≡ false }
-{
-    Arg::new(alloc, "side")
-        .long("side")
-        .value_parser(ValueParser::Names(Side::texts()))
-        .default_value(Side::S256.text())
-        .help("The side of the torus")
-}
-
 /// `--column` or `--row`.
 fn move_option<'a>(alloc: Global, name: &'a str) -> Arg<'a>
     ensures rule { rule_of result ≡ option_of_moves name.now }
     ensures global { result.global ≡ false }
 {
-    Arg::new(alloc, name)
-        .long(name)
-        .value_parser(ValueParser::Unsigned(0, LAST_MOVE))
-        .default_value("0")
-        .help("How far the pattern is moved")
+    number_option(alloc, name, 0, LAST_MOVE, "0").help("How far the pattern is moved")
 }
 
 /// `--planes`.

@@ -1,25 +1,16 @@
 //! The exit statuses of the programs.
 ghost use Rattle.std.specs.Prelude.{◌≡◌, IfOk, IfSome, option_map, string_bytes};
-ghost use Rattle.cam6_show_words.specs.Program.{at_line as at_line_told, told as told_in};
-ghost use Rattle.cam6_show_words.specs.Statuses.{cause_told, column_told, failure, fault_told};
+ghost use Rattle.cam6_show_words.specs.Statuses.{at_line as at_line_told, cause_told, column_told};
+ghost use Rattle.cam6_show_words.specs.Statuses.{failure, fault_told};
 
-use crate::programs::Program;
+use cam6_arguments::{NO_MEMORY, Program, WRITE_FAILED, told};
 use cam6_patterns::{Cause, PatternFault};
 use cam6_planes::COLUMNS;
 use cam6_show_frames::End;
 use std::alloc::{AllocError, Global};
 
-/// Arguments that are refused.
-pub const REFUSED_WORDS: u8 = 2;
-
 /// A text that is no pattern, a line that is no reply, a frame that breaks off, or a read that failed.
 pub const BAD_INPUT: u8 = 3;
-
-/// A write that failed.
-pub const WRITE_FAILED: u8 = 4;
-
-/// An allocation that failed.
-pub const NO_MEMORY: u8 = 5;
 
 /// More lines than can be counted.
 pub const TOO_MANY_LINES: u8 = 6;
@@ -49,14 +40,6 @@ pub fn failure_of(
         End::TooManyLines => (TOO_MANY_LINES, told(alloc, program, "too many lines\n")),
     };
     Some((status, text))
-}
-
-/// A text after the program's name.
-pub(crate) fn told(alloc: Global, program: Program, text: &str) -> Result<String, AllocError>
-    ensures { IfOk result (λ line. string_bytes line ≡ told_in program text.now) }
-{
-    let name = program.name();
-    format!(in alloc; "{name}: {text}")
 }
 
 /// A text after the program's name and the number of a line.

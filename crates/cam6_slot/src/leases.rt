@@ -59,7 +59,7 @@ impl Lease {
         Lease { work, rows, board }
     }
 
-    /// The number of the board.
+    /// The number of the board, counted from 0.
     pub fn board(&self) -> u8
         ensures { result ≡ self.now.board }
     {
@@ -98,7 +98,8 @@ impl Lease {
         self
     }
 
-    /// Does the same in place, since a lease takes more than a kilobyte.
+    /// Counts one band that was done on the board, as `band` does, but in place: a lease takes more
+    /// than a kilobyte.
     pub fn advance(&mut self, _end: BandEnd)
         requires { 0 < lease_left self.old }
         // For whatever machine and command, and whatever end the board reported.
@@ -160,7 +161,8 @@ impl Lease {
         Queued::new(work, Parked::Spare(spare))
     }
 
-    /// All bands are done, and the image is off the board.
+    /// Finishes the command: the machine with this image, and the reply for its user. All bands are
+    /// done, and the image is off the board.
     pub fn finish(self, image: AtRest) -> Finished
         requires left { lease_left self ≡ 0 }
         requires limit { image.planes.limit ≡ self.work.home.limit }

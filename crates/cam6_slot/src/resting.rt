@@ -86,7 +86,8 @@ impl Resting {
     }
 }
 
-/// Returns what comes of a command, by what the machine has said of it at once.
+/// Finishes the command with the machine's reply, or queues its steps, with the machine's image at
+/// home.
 fn answered(machine: Machine, now: Now) -> Asked
     requires { CanWork now (machine_of machine) }
     // For whatever machine and command it is said.

@@ -40,6 +40,7 @@ impl Filling {
         })
     }
 
+    /// The tables that were filled last.
     pub fn tables(&self) -> &Tables
         ensures { result.now ≡ self.now }
     {
@@ -58,8 +59,8 @@ impl Filling {
         }
     }
 
-    /// Fills the table of one use of a rule, through the cache: whether it was there. It takes no
-    /// memory but for what is newly cached; if that is refused nobody sees it.
+    /// Fills the table of one use of a rule through the cache. Returns whether the cache had it.
+    /// Allocates only for a newly cached table. If that fails, the table is right all the same.
     pub fn fill_one(&mut self, cache: &mut TableCache, lease: &Lease, index: u8) -> bool
         requires { index < needs_of lease.now.work }
         ensures table { FillsOne lease.now.work index self.old self.new }

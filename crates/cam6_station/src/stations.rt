@@ -118,8 +118,8 @@ impl<B: Board> Station<B> {
         matches!(self.post, Post::Dead)
     }
 
-    /// The lease of the command that is held, if one is. Whoever has a station learns here what it
-    /// always is.
+    /// The lease of the command that is held, if one is. The clause `always` gives the invariant of
+    /// a station.
     pub fn lease(&self) -> Option<&Lease>
         ensures lease { option_copied result ≡ lease_on self.now.at }
         ensures always { IsFit self.now.at }
@@ -171,7 +171,9 @@ impl<B: Board> Station<B> {
         }
     }
 
-    /// One band. The last one frees the board.
+    /// Does one band on the board, and counts it in the lease. After the last one the command is
+    /// finished, and the board is idle. If the board fails, the command waits again with what is at
+    /// its home.
     pub fn band(&mut self) -> Banded
         requires { IsLoaded self.old.at }
         ensures gives { BandGives self.old.at result self.new.at }
@@ -203,7 +205,7 @@ impl<B: Board> Station<B> {
         }
     }
 
-    /// The user's command is taken off the board, which is free.
+    /// Takes the user's command off the board, which is idle after that, unless it fails.
     pub fn preempt(&mut self) -> Preempted
         requires { IsLoaded self.old.at }
         ensures gives { PreemptGives self.old.at result self.new.at }
@@ -239,7 +241,7 @@ impl<B: Board> Station<B> {
         Some((user, lease.lost(spare)))
     }
 
-    /// A station that was dead is idle.
+    /// Makes a station idle whose board has failed.
     pub fn repair(&mut self)
         requires { self.old.at ≡ dead }
         ensures { self.new ≡ record { at = idle; faults = self.old.faults } }
@@ -248,7 +250,7 @@ impl<B: Board> Station<B> {
     }
 }
 
-/// Takes the user and the lease from a post, which is another one then.
+/// Puts `after` in the place of a post that has a lease. Returns the user and the lease.
 fn taken(post: &mut Post, after: Post) -> (usize, Lease)
     requires { HasLease post.old }
     ensures was { post.old ≡ Post.Loaded result.0 result.1 }

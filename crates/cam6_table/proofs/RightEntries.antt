@@ -1,5 +1,5 @@
 -- A table is filled: an entry that is put where it is the result makes no other wrong.
-use Rattle.std.proofs.Common.{◌≡◌, ◌∙◌, ◌<◌, ◌+◌, ℕ, List, Result, Ok, Err, length, IsOk}
+use Rattle.std.proofs.Common.{◌≡◌, ◌∙◌, ◌<◌, ◌≤◌, ◌+◌, ℕ, List, Result, Ok, Err, length, IsOk}
 use Rattle.std.proofs.Common.{slice_index, slice_set, bit_and, sym, ap, subst, arith, refl}
 use Rattle.std.proofs.Common.{inl, inr}
 use Rattle.std.proofs.lemmas.Bool.{cases_eq, cases_lt}
@@ -10,7 +10,8 @@ use Rattle.cam6_table.specs.declared.codes.Instruction.{Instruction}
 use Rattle.cam6_table.specs.declared.faults.RuleFault.{RuleFault}
 use Rattle.cam6_table.specs.Codes.{result_at}
 use Rattle.cam6_table.specs.Tables.{Results, IsLeastStop}
-use Rattle.cam6_table.specs.Internal.Filling.{IsRight, IsStopFrom}
+use Rattle.cam6_table.specs.Internal.Filling.{IsRight, AreRightIfFilled, AreNext}
+use Rattle.cam6_table.specs.Internal.Filling.{IsFirstStop, IsStopFrom}
 use Rattle.cam6_table.specs.Internal.LinesRead.{IsMaskFor}
 use Rattle.cam6_table.proofs.LinesRead.{masked_same}
 
@@ -45,6 +46,46 @@ module _ (results : Results) (entries : List ℕ) (here entry : ℕ) (within : h
             right_here
         | inr other ↦ right_still a (before a (omega arith))
       ]
+
+-- of the addresses in lanes, one that is lower stands before
+stands_before : (mask from : ℕ) (entries some : List ℕ) (count end j k : ℕ) →
+    AreNext mask from entries some count end → j < count →
+    slice_index some j < slice_index some k → j < k
+stands_before mask from entries some count end j k next counts lower =
+    elim (cases_lt j k) [
+      | inl before ↦ before
+      | inr behind ↦ elim (cases_eq k j) [
+        | inl same ↦ omega (arith, lower, ap (slice_index some) same)
+        | inr other ↦ omega (arith, lower, next.rising k j (omega arith) counts)
+      ]
+    ]
+
+-- the first fault in lanes is the first of all that are not filled
+pub stop_of_lanes : (code : List Instruction) (mask from : ℕ) (entries some : List ℕ)
+    (count end address : ℕ) (fault : RuleFault) → end ≤ 4096 →
+    AreRightIfFilled (result_at code) entries → AreNext mask from entries some count end →
+    IsFirstStop some count (result_at code) address fault →
+    IsStopFrom mask from (result_at code) address fault
+stop_of_lanes code mask from entries some count end address fault within right next stop =
+    let here = stop.position in
+    let below_end : address < end =
+    subst (λ a. a < end) stop.is (next.before here stop.counts) in
+    record {
+      within = omega arith;
+      stops = stop.stops;
+      least = λ a low below shows.
+          elim (right a (omega arith)) [
+            | inl unfilled ↦
+                let among = next.all a low (omega arith) shows unfilled in
+                let lower : slice_index some among.position < slice_index some here =
+                omega (arith, among.is, stop.is) in
+                subst (λ b. IsOk (result_at code b)) among.is
+                (stop.before among.position
+                (stands_before mask from entries some count end among.position here next
+                among.counts lower))
+            | inr done ↦ is_ok (result_at code a) (slice_index entries a) done
+          ];
+    }
 
 -- a masked address shows nothing but lines of the mask
 masked_shows : (a mask : ℕ) → bit_and (bit_and a mask) mask ≡ bit_and a mask

@@ -151,6 +151,8 @@ impl Emitter {
         Ok(())
     }
 
+    /// Writes the test of the innermost open IF. If the value is 0, it passes the instructions up
+    /// to the landing.
     fn emit_if(&mut self) -> Result<(), NoMemory>
         requires { IsOpen self.old.landings }
         ensures { OnOk result (self.new ≡ emit_if self.old.landings self.old) }
@@ -162,6 +164,7 @@ impl Emitter {
         self.code.put(Instruction::SkipIfZero(passed))
     }
 
+    /// Opens a case at its end, without words. Writes nothing.
     fn emit_end_cases(&mut self)
         ensures { self.new ≡ emit_end_cases self.old }
     {
@@ -171,6 +174,7 @@ impl Emitter {
         });
     }
 
+    /// Closes the case, and writes the instruction that takes its index.
     fn emit_cases(&mut self) -> Result<(), NoMemory>
         requires { IsThere self.old.case }
         ensures { OnOk result (self.new ≡ emit_cases self.old.case self.old) }
@@ -209,6 +213,7 @@ impl Emitter {
         Ok(())
     }
 
+    /// Writes the instructions of a single word, without a head. Those of a definition are copied.
     fn put_word(
         &mut self,
         wiring: Wiring,

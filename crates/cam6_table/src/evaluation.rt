@@ -117,6 +117,7 @@ fn act(
     Ok(go(0, None))
 }
 
+/// Goes on after so many instructions, and looks for that word of a case, if any.
 pub fn go(passed: usize, word: Option<usize>) -> Next
     ensures { result ≡ record { passed = passed; word = word } }
 {

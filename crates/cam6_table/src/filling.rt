@@ -1,6 +1,9 @@
 //! Fills a table. The code runs at the addresses at which the lines that it reads differ, many at
 //! once. All other entries are copies of theirs.
-ghost use Rattle.std.specs.Prelude.{◌≡◌, ◌<◌, ◌≤◌, ℕ, Ok, Err, IfOk, IfErr, IsOk, length};
+//!
+//! Groups of addresses come first, in an order in which their lanes part seldom. What they left
+//! follows in the order of the addresses, so that the first fault is the least.
+ghost use Rattle.std.specs.Prelude.{◌≡◌, ◌<◌, ◌≤◌, ℕ, Ok, Err, IfOk, IfErr, OnOk, length};
 ghost use Rattle.std.specs.Prelude.{slice_index, bit_and};
 ghost use Rattle.cam6_table.specs.declared.lane_values.TheConstants.{LANES};
 ghost use Rattle.cam6_entries.specs.declared.tables.TheConstants.{ENTRIES};
@@ -9,7 +12,8 @@ ghost use Rattle.cam6_entries.specs.Limits.{addresses};
 ghost use Rattle.cam6_table.specs.Codes.{result_at};
 ghost use Rattle.cam6_table.specs.Internal.Lanes.{IsLeft, AreLeft};
 ghost use Rattle.cam6_table.specs.Internal.LinesRead.{IsMaskFor};
-ghost use Rattle.cam6_table.specs.Internal.Filling.{IsRight, AreNext, IsStopFrom};
+ghost use Rattle.cam6_table.specs.Internal.Filling.{IsRight, AreRightIfFilled, AreNext};
+ghost use Rattle.cam6_table.specs.Internal.Filling.{IsFirstStop, unfilled};
 
 use crate::codes::Code;
 use crate::evaluation::{MAX_TURNS, Place, run};
@@ -17,10 +21,14 @@ use crate::faults::RuleFault;
 use crate::flows::{Places, all_at_start};
 use crate::lane_values::{LANES, LaneValues};
 use crate::lanes::{Lanes, all_untouched, clear, entry_at_end, state_of};
+use crate::least_read::least_read_lines;
 use crate::lines_read::lines_read;
 use crate::outputs::entry_of;
 use crate::together::run_together;
 use cam6_entries::{ENTRIES, Table};
+
+/// What stands at an address whose entry is not filled. An entry has two bits.
+const UNFILLED: u8 = 4;
 
 /// Makes the table that of a rule. If the rule stops at any address, returns the least one with the
 /// fault there, even if no cell shows that address. Then the table's entries may be anything. Does
@@ -55,12 +63,77 @@ fn fill_where_lines_differ(
         IsRight (result_at code.now) table.new a) }
     ensures fault { IfErr result (λ refused. IsLeastStop (result_at code.now) refused.0 refused.1) }
 {
-    let last = mask.min(ENTRIES - 1);
     let mut room = new_room(code);
+    leave_unfilled(table);
+    fill_in_groups(code, mask, &mut room, table);
+    fill_the_rest(code, mask, &mut room, table)
+}
+
+/// Writes to each address what is no entry.
+fn leave_unfilled(table: &mut Table)
+    requires whole { length table.old ≡ addresses }
+    ensures whole { length table.new ≡ addresses }
+    ensures unfilled { (a : ℕ) → a < ENTRIES → slice_index table.new a ≡ unfilled }
+{
+    for address in 0..ENTRIES {
+        table.put(address, UNFILLED);
+    }
+}
+
+/// Fills entries group by group, in an order in which lanes part seldom. It stops at a fault, and
+/// then leaves the rest.
+fn fill_in_groups(code: &Code, mask: u16, room: &mut Room, table: &mut Table)
+    requires whole { length table.old ≡ addresses }
+    requires before { AreRightIfFilled (result_at code.now) table.old }
+    ensures whole { length table.new ≡ addresses }
+    ensures after { AreRightIfFilled (result_at code.now) table.new }
+{
+    let own = least_read_lines(code, mask).min(ENTRIES - 1);
+    if own == mask {
+        return;
+    }
+    let lanes = next_batch(own, 0, own, table);
+    for group in 0..ENTRIES {
+        if group & mask & !own == group {
+            let at = in_group(group, &lanes.addresses);
+            if fill_lanes(code, &at, lanes.count, room, table).is_err() {
+                return;
+            }
+        }
+    }
+}
+
+/// The addresses of a group: each has the group's lines and its own.
+fn in_group(group: u16, own: &LaneValues) -> LaneValues
+    ensures { (lane : ℕ) → lane < LANES → slice_index result lane < ENTRIES }
+{
+    let mut at = [0; LANES];
+    for lane in 0..LANES {
+        at[lane] = (group | own[lane]) % ENTRIES;
+    }
+    at
+}
+
+/// Fills the entries that are not filled, in the order of their addresses.
+fn fill_the_rest(
+    code: &Code,
+    mask: u16,
+    room: &mut Room,
+    table: &mut Table,
+) -> Result<(), (u16, RuleFault)>
+    requires mask { IsMaskFor mask code.now }
+    requires whole { length table.old ≡ addresses }
+    requires before { AreRightIfFilled (result_at code.now) table.old }
+    ensures whole { length table.new ≡ addresses }
+    ensures filled { IfOk result (λ _. (a : ℕ) → a < ENTRIES → bit_and a mask ≡ a →
+        IsRight (result_at code.now) table.new a) }
+    ensures fault { IfErr result (λ refused. IsLeastStop (result_at code.now) refused.0 refused.1) }
+{
+    let last = mask.min(ENTRIES - 1);
     let mut from = 0;
     while from <= last {
-        let batch = next_batch(mask, from, last);
-        if let Err(stop) = fill_batch(code, mask, &batch, &mut room, table) {
+        let batch = next_batch(mask, from, last, table);
+        if let Err(stop) = fill_lanes(code, &batch.addresses, batch.count, room, table) {
             return Err(stop);
         }
         from = batch.end;
@@ -78,13 +151,14 @@ struct Batch {
     end: u16,
 }
 
-/// The next addresses from `from` to `last` that show nothing but lines of the mask. There is one
-/// for each lane, if there are as many.
-fn next_batch(mask: u16, from: u16, last: u16) -> Batch
+/// The next addresses from `from` to `last` that show nothing but lines of the mask and are not
+/// filled. There is one for each lane, if there are as many.
+fn next_batch(mask: u16, from: u16, last: u16, table: &Table) -> Batch
+    requires whole { length table.now ≡ addresses }
     requires from { from ≤ last }
     requires last { last < ENTRIES }
     ensures from { result.from ≡ from }
-    ensures next { AreNext mask result.from result.addresses result.count result.end }
+    ensures next { AreNext mask result.from table.now result.addresses result.count result.end }
     ensures lanes { result.count ≤ LANES }
     ensures goes_on { from < result.end }
     ensures within { result.end ≤ ENTRIES }
@@ -93,7 +167,7 @@ fn next_batch(mask: u16, from: u16, last: u16) -> Batch
     let mut count = 0;
     let mut end = from;
     while end <= last && count < LANES {
-        if end & mask == end {
+        if end & mask == end && table.at(end) == UNFILLED {
             addresses[count] = end;
             count += 1;
         }
@@ -121,31 +195,33 @@ fn new_room(code: &Code) -> Room {
     }
 }
 
-/// Fills the entries at the addresses of a batch, up to the first at which there is a fault.
-fn fill_batch(
+/// Fills the entries at the addresses of the first `count` lanes, up to the first of them at which
+/// there is a fault.
+fn fill_lanes(
     code: &Code,
-    mask: u16,
-    batch: &Batch,
+    at: &LaneValues,
+    count: usize,
     room: &mut Room,
     table: &mut Table,
 ) -> Result<(), (u16, RuleFault)>
-    requires next { AreNext mask batch.now.from batch.now.addresses batch.now.count batch.now.end }
-    requires lanes { batch.now.count ≤ LANES }
-    requires within { batch.now.end ≤ ENTRIES }
+    requires lanes { count ≤ LANES }
+    requires within { (lane : ℕ) → lane < count → slice_index at.now lane < ENTRIES }
     requires whole { length table.old ≡ addresses }
+    requires before { AreRightIfFilled (result_at code.now) table.old }
     ensures whole { length table.new ≡ addresses }
+    ensures after { AreRightIfFilled (result_at code.now) table.new }
     ensures kept { (a : ℕ) → a < ENTRIES → IsRight (result_at code.now) table.old a →
         IsRight (result_at code.now) table.new a }
-    ensures filled { IfOk result (λ _. (a : ℕ) → batch.now.from ≤ a → a < batch.now.end →
-        bit_and a mask ≡ a → IsRight (result_at code.now) table.new a) }
+    ensures filled { OnOk result ((lane : ℕ) → lane < count →
+        IsRight (result_at code.now) table.new (slice_index at.now lane)) }
     ensures fault { IfErr result (λ refused.
-        IsStopFrom mask batch.now.from (result_at code.now) refused.0 refused.1) }
+        IsFirstStop at.now count (result_at code.now) refused.0 refused.1) }
 {
-    run_all(code, &batch.addresses, room);
-    for lane in 0..batch.count {
-        match entry_in(code, room, lane, batch.addresses[lane]) {
-            Ok(entry) => table.put(batch.addresses[lane], entry),
-            Err(fault) => return Err((batch.addresses[lane], fault)),
+    run_all(code, at, room);
+    for lane in 0..count {
+        match entry_in(code, room, lane, at[lane]) {
+            Ok(entry) => table.put(at[lane], entry),
+            Err(fault) => return Err((at[lane], fault)),
         }
     }
     Ok(())

@@ -13,9 +13,9 @@ use crate::codes::{Instruction, Instructions};
 use crate::lane_stacks::{Apart, ROWS};
 use crate::lane_values::{LANES, LaneValues, in_all};
 use crate::lanes::Lanes;
-use crate::sets::{IN, LaneSet, Mask, greatest_in, is_none, put_in, those_with, those_without};
+use crate::sets::{IN, LaneMask, LaneSet, greatest_in, is_none, put_in, those_with, those_without};
 use crate::spans::{Span, span_of};
-use crate::waiting::{Queue, Waiting, waiting_at};
+use crate::waiting::{LaneQueue, LanesWaiting, waiting_at};
 
 /// Where each lane waits: so many instructions are left to it, and its stack ends at a row.
 #[derive(Drop)]
@@ -52,9 +52,10 @@ pub fn all_at_start(code: &Instructions) -> Places
     }
 }
 
-/// A flow of the lanes of a set. Their stacks end at the row of the lanes at work.
+/// Makes a flow of the lanes of a set, with `behind` instructions left to them. It goes on until
+/// `until` are left. Their stacks end at the row of the lanes at work.
 #[inline(always)]
-pub fn flow_of(set: Mask, behind: usize, until: usize, lanes: &Lanes) -> Flow
+pub fn flow_of(set: LaneMask, behind: usize, until: usize, lanes: &Lanes) -> Flow
     requires limit { lanes.now.stacks.len ≤ ROWS }
     ensures left { (addresses : List ℕ) (code : List Instruction) (places : Places) →
         AreLeftAt addresses code set behind places lanes.now →
@@ -74,7 +75,7 @@ pub fn flow_of(set: Mask, behind: usize, until: usize, lanes: &Lanes) -> Flow
 #[inline(always)]
 pub fn resume(
     code: &Instructions,
-    waiting: Waiting,
+    waiting: LanesWaiting,
     until: usize,
     places: &Places,
     lanes: &mut Lanes,
@@ -93,9 +94,10 @@ pub fn resume(
     }
 }
 
-/// What stands for a lane in the set of those that wait at a place and are not in another set.
+/// Returns `IN` for a lane that waits at the place and is not in the other set, and 0 for any other
+/// lane.
 #[inline(always)]
-fn in_if_at(other: u16, is_there: bool) -> u16
+fn mark_of(other: u16, is_there: bool) -> u16
     ensures { IsOther result other is_there }
 {
     if is_there & (other == 0) { IN } else { 0 }
@@ -104,7 +106,7 @@ fn in_if_at(other: u16, is_there: bool) -> u16
 /// The lanes that wait where so many instructions are left, with stacks that end at a row, and are
 /// not in a set.
 #[inline(always)]
-pub fn others_at(set: &Mask, places: &Places, behind: u16, top: u16) -> Mask
+pub fn others_at(set: &LaneMask, places: &Places, behind: u16, top: u16) -> LaneMask
     ensures { (lane : ℕ) → lane < LANES → IsOther (slice_index result lane)
         (slice_index set.now lane) (slice_index places.now.behinds lane == behind
         && slice_index places.now.tops lane == top) }
@@ -112,7 +114,7 @@ pub fn others_at(set: &Mask, places: &Places, behind: u16, top: u16) -> Mask
     let mut those = [0; LANES];
     for lane in 0..LANES {
         let is_there = (places.behinds[lane] == behind) & (places.tops[lane] == top);
-        those[lane] = in_if_at(set[lane], is_there);
+        those[lane] = mark_of(set[lane], is_there);
     }
     those
 }
@@ -120,7 +122,7 @@ pub fn others_at(set: &Mask, places: &Places, behind: u16, top: u16) -> Mask
 /// Lets the lanes of a set wait with so many instructions left to them and stacks that end at a
 /// row.
 #[inline(always)]
-pub fn wait(places: &mut Places, set: &Mask, behind: usize, top: usize)
+pub fn wait(places: &mut Places, set: &LaneMask, behind: usize, top: usize)
     requires behind { behind ≤ max_turns }
     requires top { top ≤ ROWS }
     ensures behinds { (lane : ℕ) → lane < LANES → IsIn set.now lane →
@@ -141,7 +143,7 @@ pub fn wait(places: &mut Places, set: &Mask, behind: usize, top: usize)
 pub fn part_at_if(
     distance: usize,
     flow: &mut Flow,
-    queue: &mut Queue,
+    queue: &mut LaneQueue,
     places: &mut Places,
     lanes: &mut Lanes,
 ) -> Result<(), Apart>
@@ -192,7 +194,7 @@ pub fn part_at_case(
     code: &Instructions,
     count: usize,
     flow: &mut Flow,
-    queue: &mut Queue,
+    queue: &mut LaneQueue,
     places: &mut Places,
     lanes: &mut Lanes,
 ) -> Result<(), Apart>
@@ -209,7 +211,7 @@ pub fn part_at_case(
     lanes.stacks.need(flow.span, 1)?;
     let behind = flow.behind - 1;
     let indices = lanes.stacks.at_depth(1);
-    let mut words = Queue::new();
+    let mut words = LaneQueue::new();
     let behinds = words_found(
         code,
         behind,
@@ -238,11 +240,11 @@ fn words_found(
     code: &Instructions,
     from: usize,
     count: usize,
-    set: &Mask,
+    set: &LaneMask,
     indices: &LaneValues,
     old: &LaneValues,
     top: usize,
-    words: &mut Queue,
+    words: &mut LaneQueue,
 ) -> Result<LaneValues, Apart>
     requires within { from ≤ length code.now }
     requires code { length code.now ≤ max_turns }

@@ -9,7 +9,7 @@ ghost use Rattle.cam6_table.specs.Internal.Lanes.{Pushes, StayOut, LeavesIn};
 ghost use Rattle.cam6_table.specs.Internal.Sets.{IsIn, IsOut};
 
 use crate::lane_values::{LANES, LaneValues, Merge, zeros};
-use crate::sets::{LaneSet, Mask, chosen};
+use crate::sets::{LaneMask, LaneSet, chosen};
 use crate::spans::Span;
 use crate::stacks::Stack;
 use cam6_forth::StackWord;
@@ -101,7 +101,7 @@ impl Stacks {
 
     /// Copies a row over another one in the lanes of a set.
     #[inline(always)]
-    pub fn copy(&mut self, set: &Mask, from: usize, to: usize)
+    pub fn copy(&mut self, set: &LaneMask, from: usize, to: usize)
         requires from { from < ROWS }
         requires to { to < ROWS }
         ensures len { self.new.len ≡ self.old.len }
@@ -155,6 +155,7 @@ impl Stacks {
         }
     }
 
+    /// Puts a copy of the top values on top.
     fn dup(&mut self, set: &LaneSet, span: Span) -> Result<(), Apart>
         requires holds { Holds span self.old.len }
         ensures { LeavesIn set.now.mask span StackWord.Dup self.old self.new result }
@@ -166,6 +167,7 @@ impl Stacks {
         Ok(())
     }
 
+    /// Takes the top values off. No row changes, so the set isn't needed.
     fn drop_top(&mut self, _set: &LaneSet, span: Span) -> Result<(), Apart>
         requires holds { Holds span self.old.len }
         ensures { LeavesIn _set.now.mask span StackWord.Drop self.old self.new result }
@@ -188,6 +190,7 @@ impl Stacks {
         Ok(())
     }
 
+    /// Puts a copy of the values below the top ones on top.
     fn over(&mut self, set: &LaneSet, span: Span) -> Result<(), Apart>
         requires holds { Holds span self.old.len }
         ensures { LeavesIn set.now.mask span StackWord.Over self.old self.new result }
@@ -199,6 +202,7 @@ impl Stacks {
         Ok(())
     }
 
+    /// Brings the third values to the top, over the two that were above them.
     fn rot(&mut self, set: &LaneSet, span: Span) -> Result<(), Apart>
         requires holds { Holds span self.old.len }
         ensures { LeavesIn set.now.mask span StackWord.Rot self.old self.new result }
@@ -214,6 +218,7 @@ impl Stacks {
         Ok(())
     }
 
+    /// Replaces each top value by 1 if it is 0, and else by 0.
     fn is_zero(&mut self, set: &LaneSet, span: Span) -> Result<(), Apart>
         requires holds { Holds span self.old.len }
         ensures { LeavesIn set.now.mask span StackWord.IsZero self.old self.new result }

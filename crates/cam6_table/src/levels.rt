@@ -9,11 +9,11 @@ use crate::floors::Floors;
 use crate::lane_stacks::Stacks;
 use crate::lane_values::{LANES, LaneValues};
 use crate::lanes::Lanes;
-use crate::sets::{Mask, chosen};
+use crate::sets::{LaneMask, chosen};
 
 /// Moves the stacks of the lanes of a set, which end at one row and begin at `lowest` or above, so
 /// that they end at another row.
-pub fn move_stacks(set: &Mask, lowest: usize, from: usize, to: usize, lanes: &mut Lanes)
+pub fn move_stacks(set: &LaneMask, lowest: usize, from: usize, to: usize, lanes: &mut Lanes)
     requires set { (lane : ℕ) → lane < LANES → IsIn set.now lane ⊎ IsOut set.now lane }
     requires lowest { (lane : ℕ) → lane < LANES → IsIn set.now lane →
         lowest ≤ floor_of lane lanes.old }
@@ -46,7 +46,7 @@ fn moved_row(row: u16, from: u16, to: u16) -> u16
 
 /// The rows at which stacks begin that were moved in the lanes of a set.
 #[inline(always)]
-fn moved(set: &Mask, from: u16, to: u16, rows: &LaneValues) -> LaneValues
+fn moved(set: &LaneMask, from: u16, to: u16, rows: &LaneValues) -> LaneValues
     ensures inside { (lane : ℕ) → lane < LANES → IsIn set.now lane →
         slice_index rows.now lane + to < 65536 → from ≤ slice_index rows.now lane + to →
         slice_index result lane + from ≡ slice_index rows.now lane + to }
@@ -61,7 +61,7 @@ fn moved(set: &Mask, from: u16, to: u16, rows: &LaneValues) -> LaneValues
 }
 
 /// Copies the rows from `lowest` to `from` in the lanes of a set, so that they end at another row.
-fn move_rows(stacks: &mut Stacks, set: &Mask, lowest: usize, from: usize, to: usize)
+fn move_rows(stacks: &mut Stacks, set: &LaneMask, lowest: usize, from: usize, to: usize)
     requires set { (lane : ℕ) → lane < LANES → IsIn set.now lane ⊎ IsOut set.now lane }
     requires from { from ≤ ROWS }
     requires to { to ≤ ROWS }
@@ -81,7 +81,7 @@ fn move_rows(stacks: &mut Stacks, set: &Mask, lowest: usize, from: usize, to: us
 }
 
 /// Copies rows so far up, the last one first, in the lanes of a set.
-fn move_up(stacks: &mut Stacks, set: &Mask, by: usize, from: usize, to: usize)
+fn move_up(stacks: &mut Stacks, set: &LaneMask, by: usize, from: usize, to: usize)
     requires set { (lane : ℕ) → lane < LANES → IsIn set.now lane ⊎ IsOut set.now lane }
     requires within { to + by ≤ ROWS }
     ensures len { stacks.new.len ≡ stacks.old.len }
@@ -98,7 +98,7 @@ fn move_up(stacks: &mut Stacks, set: &Mask, by: usize, from: usize, to: usize)
 }
 
 /// Copies rows so far down, the first one first, in the lanes of a set.
-fn move_down(stacks: &mut Stacks, set: &Mask, by: usize, from: usize, to: usize)
+fn move_down(stacks: &mut Stacks, set: &LaneMask, by: usize, from: usize, to: usize)
     requires set { (lane : ℕ) → lane < LANES → IsIn set.now lane ⊎ IsOut set.now lane }
     requires low { by ≤ from }
     requires within { to ≤ ROWS }

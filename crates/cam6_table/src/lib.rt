@@ -20,7 +20,8 @@
 //! Read next: `stacks`, what a word does; `outputs`; `codes`, the instructions; `emitter`, how a
 //! rule becomes code; `evaluation`; `lane_values`, `sets`, `floors`, `spans`, `lane_stacks`, `lanes`,
 //! `levels`, `waiting`, `flows`, `meeting` and `together`, how code runs at many addresses at
-//! once; `lines_read`, the lines that its results depend on; `filling` and `faults`; `compiling`;
+//! once; `lines_read`, the lines that its results depend on; `least_read`, those that differ between
+//! lanes; `filling` and `faults`; `compiling`;
 //! then `laws`.
 #![tactic(auto)]
 
@@ -36,6 +37,7 @@ mod lane_stacks;
 mod lane_values;
 mod lanes;
 pub mod laws;
+mod least_read;
 mod levels;
 mod lines_read;
 mod meeting;

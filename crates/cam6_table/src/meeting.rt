@@ -14,8 +14,8 @@ use crate::flows::{Flow, Places, flow_of, others_at, resume, wait};
 use crate::lane_stacks::{Apart, ROWS};
 use crate::lanes::Lanes;
 use crate::levels::move_stacks;
-use crate::sets::{IN, Mask, least_in, put_in};
-use crate::waiting::{Queue, Waiting, waiting_at};
+use crate::sets::{IN, LaneMask, least_in, put_in};
+use crate::waiting::{LaneQueue, LanesWaiting, waiting_at};
 
 /// If more rows would have to be moved, a flow first passes as many instructions apart from the
 /// others. Nothing has to be moved if their stacks then end at one row.
@@ -26,7 +26,7 @@ pub fn go_on(
     code: &Instructions,
     ran: Result<(), Apart>,
     flow: &mut Flow,
-    queue: &mut Queue,
+    queue: &mut LaneQueue,
     places: &mut Places,
     lanes: &mut Lanes,
 ) -> bool
@@ -55,13 +55,13 @@ pub fn go_on(
     }
 }
 
-/// The lanes of a flow wait, and others go on.
+/// Lets the lanes of a flow wait at their place, and makes the flow that of the lanes at `next`.
 #[inline(always)]
 fn exchange(
     code: &Instructions,
-    next: Waiting,
+    next: LanesWaiting,
     flow: &mut Flow,
-    queue: &mut Queue,
+    queue: &mut LaneQueue,
     places: &mut Places,
     lanes: &mut Lanes,
 )
@@ -78,7 +78,13 @@ fn exchange(
 }
 
 /// A flow comes to a place where others wait, and takes them along.
-fn meet(next: Waiting, flow: &mut Flow, queue: &mut Queue, places: &Places, lanes: &mut Lanes)
+fn meet(
+    next: LanesWaiting,
+    flow: &mut Flow,
+    queue: &mut LaneQueue,
+    places: &Places,
+    lanes: &mut Lanes,
+)
     requires here { next.behind ≡ flow.old.behind }
     requires holds { Holds flow.old.span lanes.old.stacks.len }
     requires each { (lane : ℕ) → lane < LANES →
@@ -107,7 +113,7 @@ fn meet(next: Waiting, flow: &mut Flow, queue: &mut Queue, places: &Places, lane
 }
 
 /// The flow passes some instructions while others at the same place wait.
-fn pass_by(next: Waiting, rows: usize, flow: &mut Flow, queue: &mut Queue)
+fn pass_by(next: LanesWaiting, rows: usize, flow: &mut Flow, queue: &mut LaneQueue)
     ensures left { (addresses : List ℕ) (code : List Instruction) (places : Places)
         (lanes : Lanes) → AreLeftWith addresses code flow.old places lanes →
         AreLeftWith addresses code flow.new places lanes }
@@ -116,12 +122,12 @@ fn pass_by(next: Waiting, rows: usize, flow: &mut Flow, queue: &mut Queue)
     let lost = rows.min(ROWS) as u16;
     flow.until = until.min(flow.behind.saturating_sub(1));
     flow.lost = lost;
-    queue.put(Waiting { lost, ..next });
+    queue.put(LanesWaiting { lost, ..next });
 }
 
 /// Moves the stacks of others at the same place, and takes them along.
 #[inline(always)]
-fn bring(those: &Mask, lowest: usize, there: usize, flow: &mut Flow, lanes: &mut Lanes)
+fn bring(those: &LaneMask, lowest: usize, there: usize, flow: &mut Flow, lanes: &mut Lanes)
     requires holds { Holds flow.old.span lanes.old.stacks.len }
     requires each { (lane : ℕ) → lane < LANES →
         IsIn flow.old.set.mask lane ⊎ IsOut flow.old.set.mask lane }
@@ -145,7 +151,7 @@ fn bring(those: &Mask, lowest: usize, there: usize, flow: &mut Flow, lanes: &mut
 
 /// Moves the stacks of a flow up to where those of others at the same place end, and takes them
 /// along.
-fn follow(those: &Mask, there: usize, flow: &mut Flow, lanes: &mut Lanes)
+fn follow(those: &LaneMask, there: usize, flow: &mut Flow, lanes: &mut Lanes)
     requires holds { Holds flow.old.span lanes.old.stacks.len }
     requires each { (lane : ℕ) → lane < LANES →
         IsIn flow.old.set.mask lane ⊎ IsOut flow.old.set.mask lane }

@@ -8,7 +8,7 @@ ghost use Rattle.cam6_table.specs.Internal.Sets.{IsIn, IsOut};
 use crate::lane_values::{LANES, LaneValues};
 
 /// Some lanes: `IN` stands for each of them, and 0 for each of the others.
-pub type Mask = LaneValues;
+pub type LaneMask = LaneValues;
 
 /// What stands for a lane that is in a set.
 pub const IN: u16 = u16::MAX;
@@ -16,14 +16,15 @@ pub const IN: u16 = u16::MAX;
 /// A set of lanes, which knows whether it has all of them. Then nothing has to be chosen.
 #[derive(Drop)]
 pub struct LaneSet {
-    pub mask: Mask,
+    pub mask: LaneMask,
     pub is_all: bool,
     ghost whole: { is_all ≡ true → (lane : ℕ) → lane < LANES → IsIn mask lane },
 }
 
 impl LaneSet {
+    /// The set of a mask. Looks whether it has all lanes.
     #[inline(always)]
-    pub fn of(mask: Mask) -> LaneSet
+    pub fn of(mask: LaneMask) -> LaneSet
         ensures { result.mask ≡ mask }
     {
         let is_all = is_all(&mask);
@@ -48,7 +49,7 @@ impl LaneSet {
 
 /// Whether a set has all lanes.
 #[inline(always)]
-fn is_all(set: &Mask) -> bool
+fn is_all(set: &LaneMask) -> bool
     ensures { IsTrue result → (lane : ℕ) → lane < LANES → IsIn set.now lane }
 {
     let mut missing = 0;
@@ -86,7 +87,7 @@ fn choose(set: u16, new: u16, old: u16) -> u16
 
 /// The new values in the lanes of a set, and the old ones in the others.
 #[inline(always)]
-pub fn chosen(set: &Mask, new: &LaneValues, old: &LaneValues) -> LaneValues
+pub fn chosen(set: &LaneMask, new: &LaneValues, old: &LaneValues) -> LaneValues
     ensures inside { (lane : ℕ) → lane < LANES → IsIn set.now lane →
         slice_index result lane ≡ slice_index new.now lane }
     ensures outside { (lane : ℕ) → lane < LANES → IsOut set.now lane →
@@ -101,7 +102,7 @@ pub fn chosen(set: &Mask, new: &LaneValues, old: &LaneValues) -> LaneValues
 
 /// One new value in the lanes of a set, and the old ones in the others.
 #[inline(always)]
-pub fn put_in(set: &Mask, new: u16, old: &LaneValues) -> LaneValues
+pub fn put_in(set: &LaneMask, new: u16, old: &LaneValues) -> LaneValues
     ensures inside { (lane : ℕ) → lane < LANES → IsIn set.now lane →
         slice_index result lane ≡ new }
     ensures outside { (lane : ℕ) → lane < LANES → IsOut set.now lane →
@@ -116,7 +117,7 @@ pub fn put_in(set: &Mask, new: u16, old: &LaneValues) -> LaneValues
 
 /// The lanes of a set in which the value is this one.
 #[inline(always)]
-pub fn those_with(set: &Mask, values: &LaneValues, value: u16) -> Mask
+pub fn those_with(set: &LaneMask, values: &LaneValues, value: u16) -> LaneMask
     ensures { (lane : ℕ) → lane < LANES → slice_index result lane ≡
         (if slice_index values.now lane == value then slice_index set.now lane else 0) }
 {
@@ -129,7 +130,7 @@ pub fn those_with(set: &Mask, values: &LaneValues, value: u16) -> Mask
 
 /// The lanes of a set in which the value is another one.
 #[inline(always)]
-pub fn those_without(set: &Mask, values: &LaneValues, value: u16) -> Mask
+pub fn those_without(set: &LaneMask, values: &LaneValues, value: u16) -> LaneMask
     ensures { (lane : ℕ) → lane < LANES → slice_index result lane ≡
         (if slice_index values.now lane == value then 0 else slice_index set.now lane) }
 {
@@ -142,7 +143,7 @@ pub fn those_without(set: &Mask, values: &LaneValues, value: u16) -> Mask
 
 /// Whether a set has no lane.
 #[inline(always)]
-pub fn is_none(set: &Mask) -> bool
+pub fn is_none(set: &LaneMask) -> bool
     ensures { IsTrue result → (lane : ℕ) → lane < LANES → slice_index set.now lane ≡ 0 }
 {
     let mut some = 0;
@@ -154,7 +155,7 @@ pub fn is_none(set: &Mask) -> bool
 
 /// The greatest of the values in the lanes of a set, and 0 in none.
 #[inline(always)]
-pub fn greatest_in(set: &Mask, values: &LaneValues) -> u16
+pub fn greatest_in(set: &LaneMask, values: &LaneValues) -> u16
     ensures { (lane : ℕ) → lane < LANES → IsIn set.now lane →
         slice_index values.now lane ≤ result }
 {
@@ -167,7 +168,7 @@ pub fn greatest_in(set: &Mask, values: &LaneValues) -> u16
 
 /// The least of the values in the lanes of a set, and 65,535 in none.
 #[inline(always)]
-pub fn least_in(set: &Mask, values: &LaneValues) -> u16
+pub fn least_in(set: &LaneMask, values: &LaneValues) -> u16
     ensures { (lane : ℕ) → lane < LANES → IsIn set.now lane →
         result ≤ slice_index values.now lane }
 {

@@ -8,7 +8,7 @@ ghost use Rattle.cam6_table.specs.Internal.Sets.{IsIn};
 use crate::floors::Floors;
 use crate::lane_stacks::ROWS;
 use crate::lane_values::LaneValues;
-use crate::sets::{Mask, greatest_in, least_in};
+use crate::sets::{LaneMask, greatest_in, least_in};
 use crate::stacks::MAX_VALUES;
 
 /// None of the stacks begins above the floor, and none is full below the row `room`.
@@ -20,7 +20,7 @@ pub struct Span {
 
 /// A span for the lanes of a set, whose stacks end at one row.
 #[inline(always)]
-pub fn span_of(floors: &Floors, set: &Mask, top: usize) -> Span
+pub fn span_of(floors: &Floors, set: &LaneMask, top: usize) -> Span
     requires top { top ≤ ROWS }
     ensures holds { Holds result top }
     ensures each { (lane : ℕ) → lane < LANES → IsIn set.now lane →
@@ -39,7 +39,7 @@ pub fn span_of(floors: &Floors, set: &Mask, top: usize) -> Span
 
 /// The same from the rows at which the stacks begin.
 #[inline(always)]
-fn span_between(rows: &LaneValues, set: &Mask, top: usize) -> Span
+fn span_between(rows: &LaneValues, set: &LaneMask, top: usize) -> Span
     requires top { top ≤ ROWS }
     ensures holds { Holds result top }
     ensures each { (lane : ℕ) → lane < LANES → IsIn set.now lane →

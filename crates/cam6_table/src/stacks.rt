@@ -94,6 +94,7 @@ impl Stack {
         }
     }
 
+    /// Puts a copy of the top value on top, if there is room.
     fn dup(&mut self) -> Result<(), RuleFault>
         ensures { IsOutcome (on_stack StackWord.Dup self.old) self.new result }
     {
@@ -119,6 +120,7 @@ impl Stack {
         Ok(())
     }
 
+    /// Puts a copy of the value below the top one on top, if there is room.
     fn over(&mut self) -> Result<(), RuleFault>
         ensures { IsOutcome (on_stack StackWord.Over self.old) self.new result }
     {
@@ -129,6 +131,7 @@ impl Stack {
         self.push(a)
     }
 
+    /// Brings the third value to the top, over the two that were above it.
     fn rot(&mut self) -> Result<(), RuleFault>
         ensures { IsOutcome (on_stack StackWord.Rot self.old) self.new result }
     {
@@ -141,6 +144,7 @@ impl Stack {
         Ok(())
     }
 
+    /// Replaces the top two values by their sum. Above 65,535 it is out of range.
     fn plus(&mut self) -> Result<(), RuleFault>
         ensures { IsOutcome (on_stack StackWord.Plus self.old) self.new result }
     {
@@ -153,6 +157,7 @@ impl Stack {
         Ok(())
     }
 
+    /// Subtracts the top value from the one below it. Below 0 the result is out of range.
     fn minus(&mut self) -> Result<(), RuleFault>
         ensures { IsOutcome (on_stack StackWord.Minus self.old) self.new result }
     {
@@ -165,6 +170,7 @@ impl Stack {
         Ok(())
     }
 
+    /// Replaces the top two values by their product. Above 65,535 it is out of range.
     fn times(&mut self) -> Result<(), RuleFault>
         ensures { IsOutcome (on_stack StackWord.Times self.old) self.new result }
     {
@@ -177,6 +183,7 @@ impl Stack {
         Ok(())
     }
 
+    /// Replaces the top two values by their AND, bit by bit.
     fn and(&mut self) -> Result<(), RuleFault>
         ensures { IsOutcome (on_stack StackWord.And self.old) self.new result }
     {
@@ -186,6 +193,7 @@ impl Stack {
         Ok(())
     }
 
+    /// Replaces the top two values by their OR, bit by bit.
     fn or(&mut self) -> Result<(), RuleFault>
         ensures { IsOutcome (on_stack StackWord.Or self.old) self.new result }
     {
@@ -195,6 +203,7 @@ impl Stack {
         Ok(())
     }
 
+    /// Replaces the top two values by their XOR, bit by bit.
     fn xor(&mut self) -> Result<(), RuleFault>
         ensures { IsOutcome (on_stack StackWord.Xor self.old) self.new result }
     {
@@ -204,6 +213,7 @@ impl Stack {
         Ok(())
     }
 
+    /// Replaces the top value by 1 if it is 0, and else by 0.
     fn is_zero(&mut self) -> Result<(), RuleFault>
         ensures { IsOutcome (on_stack StackWord.IsZero self.old) self.new result }
     {
@@ -212,6 +222,7 @@ impl Stack {
         Ok(())
     }
 
+    /// Replaces the top two values by 1 if they are equal, and else by 0.
     fn equal(&mut self) -> Result<(), RuleFault>
         ensures { IsOutcome (on_stack StackWord.Equal self.old) self.new result }
     {
@@ -221,6 +232,7 @@ impl Stack {
         Ok(())
     }
 
+    /// Replaces the top two values by 1 if the top one is the greater one, and else by 0.
     fn less(&mut self) -> Result<(), RuleFault>
         ensures { IsOutcome (on_stack StackWord.Less self.old) self.new result }
     {
@@ -230,6 +242,7 @@ impl Stack {
         Ok(())
     }
 
+    /// Replaces the top two values by 1 if the top one is the lesser one, and else by 0.
     fn greater(&mut self) -> Result<(), RuleFault>
         ensures { IsOutcome (on_stack StackWord.Greater self.old) self.new result }
     {

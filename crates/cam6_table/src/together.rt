@@ -14,7 +14,7 @@ use crate::lanes::{Lanes, write_in};
 use crate::meeting::go_on;
 use crate::sets::LaneSet;
 use crate::spans::Span;
-use crate::waiting::{Queue, waiting_at};
+use crate::waiting::{LaneQueue, waiting_at};
 
 /// More flows than code of 4,096 instructions can have in 64 lanes.
 const FLOWS: u32 = 64 * 4096;
@@ -53,7 +53,7 @@ fn run_flows(
     requires left { AreLeftWith addresses.now code.now flow.old places.old lanes.old }
     ensures left { AreLeftWith addresses.now code.now flow.new places.new lanes.new }
 {
-    let mut queue = Queue::new();
+    let mut queue = LaneQueue::new();
     let mut turns = MOST_TURNS;
     for _ in 0..FLOWS {
         let ran = run_flow(code, addresses, flow, &mut queue, places, lanes, &mut turns);
@@ -71,7 +71,7 @@ fn run_flow(
     code: &Instructions,
     addresses: &LaneValues,
     flow: &mut Flow,
-    queue: &mut Queue,
+    queue: &mut LaneQueue,
     places: &mut Places,
     lanes: &mut Lanes,
     turns: &mut u32,
@@ -93,7 +93,7 @@ fn act_in_flow(
     code: &Instructions,
     addresses: &LaneValues,
     flow: &mut Flow,
-    queue: &mut Queue,
+    queue: &mut LaneQueue,
     places: &mut Places,
     lanes: &mut Lanes,
 ) -> Result<(), Apart>

@@ -9,7 +9,7 @@ const MOST_BEHIND: usize = 4096;
 
 /// A place where lanes wait: how many instructions are left, and the row at which their stacks end.
 #[derive(Clone, Copy, Debug, PartialEq, Eq)]
-pub struct Waiting {
+pub struct LanesWaiting {
     pub behind: u16,
     pub top: u16,
     /// More than 0 if the lanes passed instructions apart from others at the same place.
@@ -18,8 +18,8 @@ pub struct Waiting {
 
 /// A place. No code has more instructions, and no stack ends above the last row.
 #[inline(always)]
-pub fn waiting_at(behind: usize, top: usize, lost: u16) -> Waiting {
-    Waiting {
+pub fn waiting_at(behind: usize, top: usize, lost: u16) -> LanesWaiting {
+    LanesWaiting {
         behind: behind.min(MOST_BEHIND) as u16,
         top: top.min(ROWS) as u16,
         lost,
@@ -28,15 +28,15 @@ pub fn waiting_at(behind: usize, top: usize, lost: u16) -> Waiting {
 
 /// Places where lanes wait. The one with the most instructions left is the last, and goes on first.
 #[derive(Drop)]
-pub struct Queue {
-    waiting: [Waiting; LANES],
+pub struct LaneQueue {
+    waiting: [LanesWaiting; LANES],
     len: usize,
 }
 
-impl Queue {
+impl LaneQueue {
     /// No place.
-    pub fn new() -> Queue {
-        Queue {
+    pub fn new() -> LaneQueue {
+        LaneQueue {
             waiting: [waiting_at(0, 0, 0); LANES],
             len: 0,
         }
@@ -55,7 +55,7 @@ impl Queue {
 
     /// Takes off the place that goes on next.
     #[inline(always)]
-    pub fn pop(&mut self) -> Option<Waiting> {
+    pub fn pop(&mut self) -> Option<LanesWaiting> {
         let len = self.len.min(LANES);
         if len == 0 {
             return None;
@@ -66,7 +66,7 @@ impl Queue {
 
     /// Adds a place, unless it is the end of the code, is there already or finds no room.
     #[inline(always)]
-    pub fn put(&mut self, new: Waiting) {
+    pub fn put(&mut self, new: LanesWaiting) {
         if new.behind == 0 || self.len >= LANES {
             return;
         }
@@ -79,8 +79,8 @@ impl Queue {
     }
 
     /// Adds a place before those that go on earlier.
-    fn put_between(&mut self, new: Waiting) {
-        if self.len >= LANES || self.has(new) {
+    fn put_between(&mut self, new: LanesWaiting) {
+        if self.len >= LANES || self.has_place(new) {
             return;
         }
         let mut at = self.len;
@@ -94,7 +94,7 @@ impl Queue {
     }
 
     /// Whether a place is there already.
-    fn has(&self, new: Waiting) -> bool {
+    fn has_place(&self, new: LanesWaiting) -> bool {
         let len = self.len.min(LANES);
         for back in 1..len + 1 {
             let other = self.waiting[len - back];
@@ -110,7 +110,7 @@ impl Queue {
 
     /// Adds the places of another queue, the last of them first.
     #[inline(always)]
-    pub fn put_all(&mut self, others: &mut Queue) {
+    pub fn put_all(&mut self, others: &mut LaneQueue) {
         for _ in 0..LANES {
             match others.pop() {
                 None => return,
@@ -121,7 +121,7 @@ impl Queue {
 
     /// Adds a place at the end, without a look at the others.
     #[inline(always)]
-    pub fn push(&mut self, new: Waiting) {
+    pub fn push(&mut self, new: LanesWaiting) {
         if self.len < LANES {
             self.waiting[self.len] = new;
             self.len += 1;

@@ -32,7 +32,7 @@ impl<R: Handle> Hall<R> {
         self.visitors.lock(&self.rt).enter()
     }
 
-    /// Gives a connection its socket, or returns false if there is no room.
+    /// Lets a connection that waited have a socket, or returns false if there is no room for one.
     pub fn open(&self) -> bool {
         self.visitors.lock(&self.rt).open()
     }

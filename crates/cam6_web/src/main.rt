@@ -1,18 +1,19 @@
 //! The program `cam6_web`: the page of a machine, for browsers on this machine, and a socket for each
 //! page.
 //!
-//! Contract: `told` and `closed` end with the exit statuses of `cam6_web_words`, which says what the
-//! arguments ask for. `cam6_web_door` says what each request is answered, and `cam6_web_talk` what is
-//! carried between a page and its host. The host is a machine in this process (`cam6_web_machine`) or
-//! is at the other end of a connection. No more connections are open than there is room for
-//! (`specs/Visitors.antt`, an invariant of the counts under a lock).
+//! Contract: `closed` ends with the exit statuses of `cam6_web_words`, which says what the arguments
+//! ask for, and `refuse` of `cam6_arguments` ends for arguments that ask for nothing. `cam6_web_door`
+//! says what each request is answered, and `cam6_web_talk` what is carried between a page and its
+//! host. The host is a machine in this process (`cam6_web_machine`) or is at the other end of a
+//! connection. No more connections are open than there is room for (`specs/Visitors.antt`, an
+//! invariant of the counts under a lock).
 //!
 //! No clause says how long anything may wait, that threads are joined, or which bytes a socket has.
 //! `links` bounds the time of each call: ten seconds for a request, a minute for a message that is
 //! sent, half a minute for silence.
 //!
-//! Stands on: `cam6_web_words`, `cam6_web_door`, `cam6_web_talk`, `cam6_web_machine`; `cam6_planes`,
-//! for what it hands on.
+//! Stands on: `cam6_arguments`, `cam6_web_words`, `cam6_web_door`, `cam6_web_talk`,
+//! `cam6_web_machine`; `cam6_planes`, for what it hands on.
 //!
 //! Read next: `visitors`, the counts of connections; `halls`, what the threads share; `visits`, a
 //! connection; `links`, its bytes; `servers`, all of them.
@@ -24,13 +25,12 @@ mod servers;
 mod visitors;
 mod visits;
 
-ghost use Rattle.std.specs.Prelude.{◌≡◌, ◌≢◌};
+ghost use Rattle.std.specs.Prelude.{◌≡◌};
 ghost use Rattle.std.specs.Process.{exit_status};
-ghost use Rattle.cam6_web_words.specs.Statuses.{fault as fault_told, refusal};
+ghost use Rattle.cam6_web_words.specs.Statuses.{fault as fault_told};
 
-use cam6_web_words::{
-    Fault, Options, Refused, WRITE_FAILED, fault_of, options_of_web, refusal_of, refusal_of_read,
-};
+use cam6_arguments::{Program, Refused, failed, refuse, words_given};
+use cam6_web_words::{Fault, Options, fault_of, options_of_web};
 use halls::Handle;
 use servers::serve_pages;
 use std::env::Env;
@@ -54,35 +54,13 @@ fn run<
 >(rt: R) -> ExitCode {
     match options_given(&rt) {
         Ok(options) => over_network(rt, options),
-        Err(refused) => told(&rt, &refused),
-    }
-}
-
-/// Reports why the arguments ask for nothing, and ends.
-fn told(rt: &(impl Print + Eprint), refused: &Refused) -> ExitCode
-    // Help may end otherwise, if it can't be written.
-    ensures { (refusal refused.now).0 ≢ 0 → exit_status result ≡ (refusal refused.now).0 }
-{
-    let (status, text) = refusal_of(refused);
-    if status != 0 {
-        return failed(rt, status, text);
-    }
-    match rt.print(text) {
-        Ok(()) => ExitCode::SUCCESS,
-        Err(_) => failed(rt, WRITE_FAILED, "cam6_web: write failed\n"),
+        Err(refused) => refuse(&rt, Program::Web, &refused),
     }
 }
 
 fn options_given<R: Env + AllocGlobal>(rt: &R) -> Result<Options, Refused> {
-    let alloc = rt.alloc();
-    let args = match std::env::args(rt) {
-        Ok(args) => args,
-        Err(e) => return Err(refusal_of_read(alloc, e.kind())),
-    };
-    let Ok(words) = args.collect::<Vec<String>>(alloc) else {
-        return Err(Refused::NoMemory);
-    };
-    options_of_web(alloc, words.as_slice())
+    let words = words_given(rt, Program::Web)?;
+    options_of_web(rt.alloc(), words.as_slice())
 }
 
 /// Serves pages at a port of this machine.
@@ -107,13 +85,4 @@ fn closed(rt: &impl Eprint, fault: Fault) -> ExitCode
 {
     let (status, text) = fault_of(fault);
     failed(rt, status, text)
-}
-
-/// Ends with a status, and a text on standard error.
-fn failed(rt: &impl Eprint, status: u8, text: &str) -> ExitCode
-    ensures { exit_status result ≡ status }
-{
-    // Standard error is the last place for a report, so a failure to write there isn't reported.
-    let _ = rt.eprint(text);
-    ExitCode::from(status)
 }

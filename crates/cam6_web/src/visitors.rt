@@ -59,7 +59,7 @@ impl Visitors {
         true
     }
 
-    /// Gives a connection that waited its socket, or returns false if there is no room for one.
+    /// Lets a connection that waited have a socket, or returns false if there is no room for one.
     pub fn open(&mut self) -> bool
         ensures { Opens self.old result self.new }
     {

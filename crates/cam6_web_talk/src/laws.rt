@@ -3,8 +3,8 @@ ghost use Rattle.cam6_web_talk.specs.Laws.{HostIsToldTheTexts};
 
 use crate::pages::Page;
 
-/// The lines that a host at the other end of two streams was told are the texts that it answered, in
-/// order, each with its LF. The texts that were sent are the lines that it said, in order.
+/// A host at the other end of two streams is told the page's texts, in order, each with its LF. The
+/// page is sent the lines that the host says, in order.
 pub fn a_host_is_told_the_texts<P: Page>()
     ensures law { HostIsToldTheTexts P.talking }
 {}

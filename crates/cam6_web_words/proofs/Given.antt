@@ -2,11 +2,11 @@
 use Rattle.std.proofs.Common.{◌≡◌, ◌⊎◌, ◌∙◌, List, Option, Some, ap, ap₂, subst}
 use Rattle.std.specs.Prelude.{Result, Ok, Err, IfOk, IfErr, option_map}
 use Rattle.clap.specs.Words.{Text}
-use Rattle.cam6_web_words.specs.Refusals.{IsRefusal, SayNothing}
-use Rattle.cam6_web_words.specs.Words.{AreOptions, HasOptions, asked_with}
+use Rattle.cam6_arguments.specs.Refusals.{IsRefusal}
+use Rattle.cam6_arguments.specs.declared.refusals.Refused.{Refused}
+use Rattle.cam6_arguments.specs.declared.refusals.Refused.TheVariants.{NoMemory}
+use Rattle.cam6_web_words.specs.Words.{AreOptions, HasOptions, SayNothing, asked_with}
 use Rattle.cam6_web_words.specs.declared.options.Options.{Options}
-use Rattle.cam6_web_words.specs.declared.refusals.Refused.{Refused}
-use Rattle.cam6_web_words.specs.declared.refusals.Refused.TheVariants.{NoMemory}
 use Rattle.cam6_web_words.specs.declared.words.Numbers.{Numbers}
 
 module _ (hosts names said_hosts said_names : Option (List Text)) (numbers : Numbers)

@@ -1,7 +1,5 @@
 -- Lemmas, in the order of reading.
 
--- What the code reads of an option's text is the number there.
-pub mod Numbers
 -- Words are read one after another.
 pub mod Lists
 -- What is asked for, by the parts that clap's rows say.

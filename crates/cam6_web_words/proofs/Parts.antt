@@ -2,7 +2,8 @@
 use Rattle.std.proofs.Common.{◌≡◌, ℕ, List, Option, ◌∙◌, ap₂, codes}
 use Rattle.clap.specs.Words.{Row, first_of}
 use Rattle.cam6_planes.specs.declared.sides.Side.{Side}
-use Rattle.cam6_web_words.specs.Values.{number_by, side_by}
+use Rattle.cam6_arguments.specs.Values.{number_by}
+use Rattle.cam6_web_words.specs.Values.{side_by}
 use Rattle.cam6_web_words.specs.Words.{all_said, numbers_at}
 use Rattle.cam6_web_words.specs.declared.words.Numbers.{Numbers}
 

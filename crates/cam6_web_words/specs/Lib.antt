@@ -1,6 +1,4 @@
--- In the order of reading: what a word says; the arguments, and what they ask for; refusals; and exit
--- statuses.
+-- In the order of reading: what a word says; the arguments, and what they ask for; and exit statuses.
 pub mod Values
 pub mod Words
-pub mod Refusals
 pub mod Statuses

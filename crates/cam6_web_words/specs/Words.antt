@@ -1,31 +1,27 @@
 -- The arguments that `cam6_web` takes, and what they ask for.
 use Rattle.std.specs.Prelude.{◌≡◌, ℕ, List, [], codes, map, Option, Some, None, string_bytes}
-use Rattle.std.specs.Prelude.{true, option_and_then, option_map}
-use Rattle.clap.specs.Simple.{on_top}
+use Rattle.std.specs.Prelude.{option_map, ⊤}
+use Rattle.std.specs.declared.net.socket_addr.SocketAddr.{SocketAddr}
 use Rattle.clap.specs.Walk.{all_of}
-use Rattle.clap.specs.Words.{App, Row, Rule, Text, first_of, new_app, new_rule, with_rule}
+use Rattle.clap.specs.Words.{App, Row, Rule, Text, first_of, new_rule, with_rule}
 use Rattle.clap.specs.declared.builder.action.ArgAction.TheVariants.{Append}
 use Rattle.cam6_planes.specs.declared.sides.Side.{Side}
-use Rattle.cam6_web_words.specs.Values.{AreAddresses, number_by, side_by}
+use Rattle.cam6_arguments.specs.Options.{max_port, named, value_option}
+use Rattle.cam6_arguments.specs.Values.{◌>>=◌, number_by}
+use Rattle.cam6_arguments.specs.declared.programs.Program.TheVariants.{Web}
+use Rattle.cam6_web_words.specs.Values.{AreAddresses, side_by}
 use Rattle.cam6_web_words.specs.declared.options.Options.{Options}
 use Rattle.cam6_web_words.specs.declared.words.Numbers.{Numbers}
 
 -- ---- the arguments
 
--- an option of this name that takes one value, and one that may be given again and again
-abbrev pub option : Text → Rule
-option name = record (new_rule name) { long = Some name; value_names = 1 }
-
+-- an option of this name that takes one value, and may be given again and again
 abbrev pub list_option : Text → Rule
 list_option name = record (new_rule name) {
   long = Some name;
   action = Some Append;
   value_names = 1;
 }
-
--- `cam6_web`, which has a version
-abbrev pub named : App
-named = on_top (λ s. record s { has_version = true }) (new_app (codes "cam6_web"))
 
 -- the program, with its options
 unfoldable pub program : App
@@ -35,12 +31,12 @@ program =
     (with_rule
     (with_rule
     (with_rule
-    (with_rule named (option (codes "port")))
+    (with_rule (named Web) (value_option (codes "port")))
     (list_option (codes "host")))
     (list_option (codes "name")))
-    (option (codes "connections")))
-    (option (codes "side")))
-    (option (codes "requests"))
+    (value_option (codes "connections")))
+    (value_option (codes "side")))
+    (value_option (codes "requests"))
 
 -- ---- what they ask for
 
@@ -49,11 +45,6 @@ pub record Asked : Type 0 where
   pub numbers : Numbers
   pub hosts : List Text
   pub names : List Text
-
--- the second step, if the first gave a value
-infixl 10 ◌>>=◌
-abbrev ◌>>=◌ : {A B : Type 0} → Option A → (A → Option B) → Option B
-x >>= f = option_and_then f x
 
 -- all numbers, if each is valid
 abbrev pub all_said : Option ℕ → Option ℕ → Option Side → Option ℕ → Option Numbers
@@ -67,7 +58,7 @@ all_said said_port said_connections said_limit said_requests = do
 -- the numbers at their options, by clap's matches
 abbrev pub numbers_at : List Row → Option Numbers
 numbers_at rows =
-    all_said (number_by (first_of (codes "port") rows) 1 65535 6007)
+    all_said (number_by (first_of (codes "port") rows) 1 max_port 6007)
     (number_by (first_of (codes "connections") rows) 1 1000 64)
     (side_by (first_of (codes "side") rows))
     (number_by (first_of (codes "requests") rows) 0 18446744073709551615 0)
@@ -100,3 +91,8 @@ pub record AreOptions (options : Options) (asked : Asked) : Type 0 where
 abbrev pub HasOptions : Options → Option Asked → Type 0
 HasOptions options None = ⊥
 HasOptions options (Some asked) = AreOptions options asked
+
+-- the words at some option say nothing of its kind
+abbrev pub SayNothing : Option Asked → Type 0
+SayNothing None = ⊤
+SayNothing (Some asked) = (addresses : List SocketAddr) → ¬ (AreAddresses asked.hosts addresses)

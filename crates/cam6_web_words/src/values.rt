@@ -1,53 +1,14 @@
 //! What the word at an option says.
-ghost use Rattle.std.specs.Prelude.{◌≡◌, ◌≤◌, ◌&&◌, IfErr, IfOk, IfSome, Some, None, if◌then◌else◌};
-ghost use Rattle.std.specs.Prelude.{List, map, nat_le, option_map, string_bytes};
+ghost use Rattle.std.specs.Prelude.{◌≡◌, IfErr, IfOk, List, map, option_map, string_bytes};
 ghost use Rattle.std.specs.Net.Grammar.{IsSocketText};
 ghost use Rattle.clap.specs.Walk.{texts};
-ghost use Rattle.cam6_web_words.specs.Values.{AreAddresses, number_by as number_told, number_said};
-ghost use Rattle.cam6_web_words.specs.Values.{side_by as side_told};
+ghost use Rattle.cam6_web_words.specs.Values.{AreAddresses, side_by as side_told};
 ghost use Rattle.cam6_web_words.specs.Words.{given};
 ghost use Rattle.std.specs.declared.net.socket_addr.SocketAddr.{SocketAddr};
 
 use cam6_planes::Side;
 use std::alloc::{AllocError, Global};
 use std::net::SocketAddr;
-
-/// The number at an option, from `least` to `most`, or the default if the option isn't there.
-pub fn number_by(word: Option<&str>, least: u64, most: u64, default: u64) -> Option<u64>
-    requires { (least ≤ default) × (default ≤ most) }
-    ensures number { result
-        ≡ number_told (option_map (λ word. word.now) word.entry) least most default }
-    ensures within { IfSome result (λ number. (least ≤ number) × (number ≤ most)) }
-{
-    match word {
-        Some(word) => number_of(word, least, most),
-        None => Some(default),
-    }
-}
-
-/// The number that a word is, if it is from `least` to `most`.
-fn number_of(word: &str, least: u64, most: u64) -> Option<u64>
-    ensures number { result ≡ number_said least most word.now }
-    ensures within { IfSome result (λ number. (least ≤ number) × (number ≤ most)) }
-{
-    let Ok(number) = word.parse::<u64>() else {
-        return None;
-    };
-    bounded(number, least, most)
-}
-
-/// The number, if it is from `least` to `most`.
-fn bounded(number: u64, least: u64, most: u64) -> Option<u64>
-    ensures number { result
-        ≡ (if nat_le least number && nat_le number most then Some number else None) }
-    ensures within { IfSome result (λ number. (least ≤ number) × (number ≤ most)) }
-{
-    if least <= number && number <= most {
-        Some(number)
-    } else {
-        None
-    }
-}
 
 /// The side at an option, or 512 if the option isn't there.
 pub fn side_by(word: Option<&str>) -> Option<Side>

@@ -4,22 +4,21 @@ ghost use Rattle.std.specs.Prelude.{IfSome, Some, option_map, string_bytes};
 ghost use Rattle.std.specs.Result.{result_ok};
 ghost use Rattle.clap.specs.Walk.{texts};
 ghost use Rattle.clap.specs.Words.{app_of, fault_of, found_of, matches_of, rows_of, rule_of};
-ghost use Rattle.cam6_web_words.specs.Refusals.{IsRefusal, Refuses, SayNothing};
-ghost use Rattle.cam6_web_words.specs.Words.{HasOptions, all_said, asked as asked_by};
+ghost use Rattle.cam6_arguments.specs.Options.{value_option as option_of};
+ghost use Rattle.cam6_arguments.specs.Refusals.{IsRefusal, Refuses};
+ghost use Rattle.cam6_web_words.specs.Words.{HasOptions, SayNothing, all_said, asked as asked_by};
 ghost use Rattle.cam6_web_words.specs.Words.{list_option as option_of_lists, numbers_at};
-ghost use Rattle.cam6_web_words.specs.Words.{option as option_of, program as program_of};
+ghost use Rattle.cam6_web_words.specs.Words.{program as program_of};
 ghost use Rattle.cam6_web_words.specs.Words.{AreOptions, asked_with};
 
 use crate::options::{Options, Unsaid};
-use crate::refusals::{Refused, refusal, unasked};
-use crate::values::{Unaddressed, addresses_by, copied_by, number_by, side_by};
+use crate::values::{Unaddressed, addresses_by, copied_by, side_by};
+use cam6_arguments::{
+    MAX_PORT, Program, Refused, named, number_by, refusal, text_at, texts_at, unasked, value_option,
+};
 use cam6_planes::Side;
-use cam6_version::VERSION;
 use clap::{Arg, ArgAction, ArgMatches, Command};
 use std::alloc::{AllocError, Global};
-
-/// The last port.
-const MAX_PORT: u64 = 65_535;
 
 /// The most sockets at a time.
 const MAX_CONNECTIONS: u64 = 1_000;
@@ -45,18 +44,18 @@ pub fn options_of_web(alloc: Global, words: &[String]) -> Result<Options, Refuse
         (fault_of program_of (map string_bytes words.now) ≡ [])
         × HasOptions options (asked_by (matches_of program_of (map string_bytes words.now)))) }
     ensures refused { IfErr result (Refuses (fault_of program_of (map string_bytes words.now))
-        (asked_by (matches_of program_of (map string_bytes words.now)))) }
+        (SayNothing (asked_by (matches_of program_of (map string_bytes words.now))))) }
 {
     let Ok(command) = program(alloc) else {
         return Err(Refused::NoMemory);
     };
     match command.try_get_matches_from(words) {
         Ok(matches) => taken(alloc, &matches),
-        Err(error) => Err(refusal(alloc, error)),
+        Err(error) => Err(refusal(alloc, error, "")),
     }
 }
 
-/// What arguments ask for that clap takes.
+/// Returns the options of arguments that clap takes, or why they are refused.
 fn taken(alloc: Global, matches: &ArgMatches<'_>) -> Result<Options, Refused>
     ensures asked { IfOk result (λ options.
         HasOptions options (asked_by (rows_of (found_of matches.now)))) }
@@ -67,8 +66,8 @@ fn taken(alloc: Global, matches: &ArgMatches<'_>) -> Result<Options, Refused>
         Ok(numbers) => with_lists(
             alloc,
             numbers,
-            matches.get_raw("host"),
-            matches.get_raw("name"),
+            texts_at(matches, "host"),
+            texts_at(matches, "name"),
         ),
         Err(unsaid) => Err(says_nothing(alloc, unsaid)),
     }
@@ -128,10 +127,10 @@ fn numbers_asked(matches: &ArgMatches<'_>) -> Result<Numbers, Unsaid>
     ensures { result_ok result ≡ numbers_at (rows_of (found_of matches.now)) }
 {
     all(
-        number_by(matches.get_str("port"), 1, MAX_PORT, 6_007),
-        number_by(matches.get_str("connections"), 1, MAX_CONNECTIONS, 64),
-        side_by(matches.get_str("side")),
-        number_by(matches.get_str("requests"), 0, u64::MAX, 0),
+        number_by(text_at(matches, "port"), 1, MAX_PORT, 6_007),
+        number_by(text_at(matches, "connections"), 1, MAX_CONNECTIONS, 64),
+        side_by(text_at(matches, "side")),
+        number_by(text_at(matches, "requests"), 0, u64::MAX, 0),
     )
 }
 
@@ -170,27 +169,14 @@ fn all(
 fn program<'a>(alloc: Global) -> Result<Command<'a>, AllocError>
     ensures { IfOk result (λ command. app_of command ≡ program_of) }
 {
-    Command::new(alloc, "cam6_web")
-        .about("Serves the page of a CAM-6 cellular automata machine to browsers on this machine")
-        .version(VERSION)
-        .after_help(HELP)
+    let about = "Serves the page of a CAM-6 cellular automata machine to browsers on this machine";
+    named(alloc, Program::Web, about, HELP)
         .arg(port_option(alloc))?
         .arg(host_option(alloc))?
         .arg(name_option(alloc))?
         .arg(connections_option(alloc))?
         .arg(side_option(alloc))?
         .arg(requests_option(alloc))
-}
-
-/// An option that takes one value.
-fn option<'a>(alloc: Global, name: &'a str, value: &'a str, help: &'a str) -> Arg<'a>
-    ensures rule { rule_of result ≡ option_of name.now }
-    ensures global { result.global ≡ false }
-{
-    Arg::new(alloc, name)
-        .long(name)
-        .value_name(value)
-        .help(help)
 }
 
 /// An option that takes one value, and may be given again and again.
@@ -210,7 +196,7 @@ fn port_option<'a>(alloc: Global) -> Arg<'a>
     ensures rule { rule_of result ≡ option_of (codes "port") }
     ensures global { result.global ≡ false }
 {
-    option(
+    value_option(
         alloc,
         "port",
         "N",
@@ -249,7 +235,7 @@ fn connections_option<'a>(alloc: Global) -> Arg<'a>
     ensures rule { rule_of result ≡ option_of (codes "connections") }
     ensures global { result.global ≡ false }
 {
-    option(
+    value_option(
         alloc,
         "connections",
         "N",
@@ -262,7 +248,7 @@ fn side_option<'a>(alloc: Global) -> Arg<'a>
     ensures rule { rule_of result ≡ option_of (codes "side") }
     ensures global { result.global ≡ false }
 {
-    option(
+    value_option(
         alloc,
         "side",
         "N",
@@ -275,7 +261,7 @@ fn requests_option<'a>(alloc: Global) -> Arg<'a>
     ensures rule { rule_of result ≡ option_of (codes "requests") }
     ensures global { result.global ≡ false }
 {
-    option(
+    value_option(
         alloc,
         "requests",
         "N",

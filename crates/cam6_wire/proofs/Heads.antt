@@ -1,6 +1,6 @@
 -- The first bytes of a line, by which its limit goes.
-use Rattle.std.proofs.Common.{◌≡◌, ◌≤◌, ◌+◌, ℕ, List, [], ◌∷◌, ◌++◌, length, take, drop, Bool, true, false}
-use Rattle.std.proofs.Common.{◌&&◌, eqb, refl, ap, ◌∙◌, sym, arith, cond}
+use Rattle.std.proofs.Common.{◌≡◌, ◌≤◌, ℕ, List, [], ◌∷◌, ◌++◌, length, take, drop, Bool, true, false}
+use Rattle.std.proofs.Common.{◌&&◌, eqb, refl, ap, ◌∙◌, arith, cond}
 use Rattle.std.specs.Cmp.Lexicographic.{pointwise}
 use Rattle.std.proofs.lemmas.List.{take-append-le}
 use Rattle.cam6_wire.specs.Limits.{max_line, max_load_line, load_head, begins_load, limit_of}

@@ -141,20 +141,26 @@ by_spelling line machine version saved false found at is other e =
       same,
     )
 
+-- what a line shows as a saved machine can be said
+pub shown_sayable : (line : List ℕ) (machine : Data) (saved : SavedMachine) →
+    value_of line ≡ Some (load_data machine) → saved_in machine ≡ Some saved →
+    IsSayableIn machine saved
+shown_sayable line machine saved is shows =
+    let text = is_text line (load_data machine) is in
+    let texts : HasTexts (load_data machine) =
+    texts_are_utf8 line (load_data machine) text.0 text.1 in
+    let words : HasWords (load_data machine) = words_are_read line (load_data machine) text.1 in
+    of_value (IsSayableIn machine) (saved_in machine) saved
+    (saved_read machine (texts.2.1, words.1.0)) shows
+
 pub load_has_one_line : LoadHasOneLine
 load_has_one_line line saved said =
     let shown = (said_is_shown line (Load saved) said).1 in
     let machine = shown.2.0 in
-    let text = is_text line shown.0 shown.1 in
-    let found : read line ≡ Some (load_data machine) = text.1 ∙ ap Some shown.2.2 in
-    let texts : HasTexts (load_data machine) =
-    texts_are_utf8 line (load_data machine) text.0 found in
-    let words : HasWords (load_data machine) = words_are_read line (load_data machine) found in
-    let sayable =
-    of_value (IsSayableIn machine) (saved_in machine) saved
-    (saved_read machine (texts.2.1, words.1.0)) shown.2.1 in
-    by_spelling line machine sayable.0 saved (bytes_eq line (load_bytes Second saved)) found
-    sayable.1 sayable.2 refl shown.3
+    let is : value_of line ≡ Some (load_data machine) = shown.1 ∙ ap Some shown.2.2 in
+    let sayable = shown_sayable line machine saved is shown.2.1 in
+    by_spelling line machine sayable.0 saved (bytes_eq line (load_bytes Second saved))
+    (is_text line (load_data machine) is).1 sayable.1 sayable.2 refl shown.3
 
 -- what is written in one text is one
 pub one_text_one_saved : OneTextOneSaved

@@ -18,16 +18,16 @@ use Rattle.cam6_planes.specs.Side.{side_number, side_of}
 use Rattle.cam6_planes.specs.declared.sides.Side.{Side}
 use Rattle.cam6_planes.proofs.SideNumbers.{side_words}
 use Rattle.cam6_wiring.specs.Texts.{grid_named}
-use Rattle.cam6_wiring.specs.declared.wirings.Wiring.{Wiring}
 use Rattle.cam6_commands.specs.Limits.{cell_states}
 use Rattle.cam6_commands.specs.declared.saved.NamedRule.{NamedRule}
 use Rattle.cam6_commands.specs.declared.saved.SavedMachine.{SavedMachine}
 use Rattle.cam6_wire.specs.Fields.{has_size, number_in, number_at, text_at, numbers_of, of_states}
 use Rattle.cam6_wire.specs.Fields.{colours_at, ◌>>=◌}
 use Rattle.cam6_wire.specs.Wirings.{wiring_in}
+use Rattle.cam6_wire.specs.Rules.{rule_fields}
 use Rattle.cam6_wire.specs.Entries.{rule_name_in, entry_fields, entry_in, entries_in, entries_at}
 use Rattle.cam6_wire.specs.Loads.{bits_in, rows_of, rows_in, planes_of, of_four, planes_at}
-use Rattle.cam6_wire.specs.Loads.{rule_fields, rule_in, rules_in, rules_at, version_in, side_in}
+use Rattle.cam6_wire.specs.Loads.{rule_in, rules_in, rules_at, version_in, side_in}
 use Rattle.cam6_wire.specs.Loads.{saved_fields, saved_in}
 use Rattle.cam6_wire.specs.Laws.{IsWord, IsNameOrNone, IsSayableEntry, AreRowBytes, IsSideIn}
 use Rattle.cam6_wire.specs.Laws.{IsSayable}
@@ -36,6 +36,7 @@ use Rattle.cam6_wire.specs.declared.saved.Version.TheVariants.{First, Second}
 use Rattle.cam6_wire.proofs.Steps.{of_step, of_test, of_two, of_three, of_four as four_steps}
 use Rattle.cam6_wire.proofs.ColourCount.{whatever}
 use Rattle.cam6_wire.proofs.ShownEntries.{made_entry}
+use Rattle.cam6_wire.proofs.Showing.{made_rule}
 use Rattle.cam6_wire.proofs.TextsAreUtf8.{HasTexts, HaveTexts, found_at, a_text}
 use Rattle.cam6_wire.proofs.WordsRead.{HasWords, HaveWords, words_at}
 use Rattle.cam6_wire.proofs.SavedBack.{made}
@@ -224,11 +225,8 @@ four_read d read =
 abbrev IsRule : NamedRule → Type 0
 IsRule rule = IsUtf8 rule.name × IsUtf8 rule.text
 
-made_rule : List ℕ → Wiring → List ℕ → NamedRule
-made_rule name wiring text = record { name = name; wiring = wiring; text = text }
-
 rule_read : (d : Data) → IsRead d → IfSome (rule_in d) IsRule
-unfolding rule_in made_rule
+unfolding rule_in
 rule_read d read =
     of_test IsRule (has_size 5 d) (rule_fields d) None
     (λ five.

@@ -8,11 +8,12 @@ use Rattle.serde_json.specs.Find.{get}
 use Rattle.cam6_wiring.specs.Wiring.{wired}
 use Rattle.cam6_wiring.specs.declared.wirings.Wiring.{Wiring}
 use Rattle.cam6_commands.specs.declared.commands.Command.{Command}
-use Rattle.cam6_commands.specs.declared.commands.Command.TheVariants.{Set, Rule, Cycle, Run, Back}
+use Rattle.cam6_commands.specs.declared.commands.Command.TheVariants.{Set, Cycle, Run, Back}
 use Rattle.cam6_commands.specs.declared.commands.Command.TheVariants.{Row, Plane, Clear}
 use Rattle.cam6_commands.specs.declared.commands.Command.TheVariants.{Drop as DropRule, Rules, Map}
 use Rattle.cam6_commands.specs.declared.commands.Command.TheVariants.{Side as SetSide, Colours}
 use Rattle.cam6_commands.specs.declared.commands.Command.TheVariants.{Count, Save, Load}
+use Rattle.cam6_commands.specs.declared.saved.NamedRule.{NamedRule}
 use Rattle.cam6_commands.specs.declared.saved.SavedMachine.{SavedMachine}
 use Rattle.cam6_wire.specs.Fields.{count, number_at, text_at, bits_at, colours_at}
 use Rattle.cam6_wire.specs.Fields.{◌>>=◌}
@@ -20,8 +21,9 @@ use Rattle.cam6_wire.specs.Numbers.{natural, naturals}
 use Rattle.cam6_wiring.specs.Texts.{half_text, hood_text, minor_text}
 use Rattle.cam6_wiring.specs.Texts.{half_named, hood_named, minor_named}
 use Rattle.cam6_wire.specs.Wirings.{wiring_in}
+use Rattle.cam6_wire.specs.Rules.{rule_fields}
 use Rattle.cam6_wire.specs.Entries.{entries_at}
-use Rattle.cam6_wire.specs.Commands.{set_fields, set_of, clear_of, rule_fields, rule_of, drop_of}
+use Rattle.cam6_wire.specs.Commands.{set_fields, set_of, clear_of, defining, rule_of, drop_of}
 use Rattle.cam6_wire.specs.Commands.{listing_of, cycle_of, run_of, back_of, row_fields, row_of}
 use Rattle.cam6_wire.specs.Commands.{plane_of, side_of, map_of, colours_of, count_of, save_of}
 use Rattle.cam6_wire.specs.Commands.{by_word, shown_in, load_of, line_by_word, command_in}
@@ -156,12 +158,18 @@ wiring_found d =
     (text_at (codes "minor") d >>= minor_named)
     (half_found (codes "half") d) (hood_found (codes "hood") d) (minor_found (codes "minor") d)
 
+abbrev pub made_rule : List ℕ → Wiring → List ℕ → NamedRule
+made_rule name wiring text = record { name = name; wiring = wiring; text = text }
+
 rule_held : (held : Members) → count held ≡ 6 → HasDo (codes "rule") (object held) →
-    IfSome (rule_fields (object held)) (Shows (object held))
+    IfSome (option_map defining (rule_fields (object held))) (Shows (object held))
 rule_held held same given =
-    of_three (λ name. get (codes "name") (object held) ≡ Some (string name))
+    of_map (λ rule. Shows (object held) (defining rule)) (Shows (object held)) defining
+    (λ rule shows. shows) (rule_fields (object held))
+    (of_three (λ name. get (codes "name") (object held) ≡ Some (string name))
     (HasWiring (object held))
-    (λ text. get (codes "text") (object held) ≡ Some (string text)) (Shows (object held)) Rule
+    (λ text. get (codes "text") (object held) ≡ Some (string text))
+    (λ rule. Shows (object held) (defining rule)) made_rule
     (λ name wiring text at_name has at_text.
     these
     (member (codes "do") (string (codes "rule"))
@@ -180,11 +188,13 @@ rule_held held same given =
     (text_at (codes "name") (object held)) (wiring_in (object held))
     (text_at (codes "text") (object held))
     (text_found (codes "name") (object held)) (wiring_found (object held))
-    (text_found (codes "text") (object held))
+    (text_found (codes "text") (object held)))
 
 rule_shown : (d : Data) → HasDo (codes "rule") d → IfSome (rule_of d) (Shows d)
 unfolding rule_of
-rule_shown d given = of_object 6 rule_fields (HasDo (codes "rule")) Shows rule_held d given
+rule_shown d given =
+    of_object 6 (λ x. option_map defining (rule_fields x)) (HasDo (codes "rule")) Shows rule_held d
+    given
 
 cycle_held : (held : Members) → count held ≡ 2 → HasDo (codes "cycle") (object held) →
     IfSome (option_map Cycle (entries_at (codes "entries") (object held))) (Shows (object held))
@@ -312,7 +322,7 @@ asked_shown d ordered = by_command (shown_in d) refl (command_shown d ordered)
     by_command None is shows = tt
     by_command (Some c) is shows = (shows, can_be_asked d c is shows)
 
-line_shown : (d : Data) → IsOrdered d → IfSome (command_in d) (Shows d)
+pub line_shown : (d : Data) → IsOrdered d → IfSome (command_in d) (Shows d)
 line_shown d ordered =
     word_shown line_by_word (codes "do") d (Shows d) ordered
     (λ word has.

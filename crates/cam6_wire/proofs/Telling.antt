@@ -28,7 +28,8 @@ use Rattle.cam6_wiring.proofs.NamesOfTexts.{half_of_text, hood_of_text, minor_of
 use Rattle.cam6_wiring.proofs.NamesOfTexts.{grid_of_text}
 use Rattle.cam6_wire.specs.Wirings.{wiring_in}
 use Rattle.cam6_wire.specs.Entries.{rule_name_in, entry_in, entries_in}
-use Rattle.cam6_wire.specs.Commands.{set_of, sole_number, clear_of, rule_of, drop_of, listing_of}
+use Rattle.cam6_wire.specs.Commands.{set_of, sole_number, clear_of, defining, rule_of, drop_of}
+use Rattle.cam6_wire.specs.Commands.{listing_of}
 use Rattle.cam6_wire.specs.Commands.{cycle_of, run_of, back_of, row_of, plane_of, side_of, map_of}
 use Rattle.cam6_wire.specs.Commands.{colours_of, count_of, save_of, by_word, shown_in}
 use Rattle.cam6_wire.specs.Commands.{load_of, line_by_word, command_in}
@@ -88,7 +89,11 @@ rule_said : (wiring : Wiring) (name text : List ℕ) →
     ≡ Some (Rule name wiring text)
 unfolding rule_of
 rule_said wiring name text =
-    ap (option_and_then (λ wiring. Some (Rule name wiring text))) (wiring_said wiring name text)
+    ap
+    (λ o.
+    option_map defining
+    (o >>= λ wiring. Some (record { name = name; wiring = wiring; text = text })))
+    (wiring_said wiring name text)
 
 entry_said : (entry : NamedEntry) (a b : List ℕ) → rule_name_in a ≡ entry.a →
     rule_name_in b ≡ entry.b →

@@ -13,6 +13,7 @@ use Rattle.cam6_commands.specs.declared.commands.Command.TheVariants.{Row, Plane
 use Rattle.cam6_commands.specs.declared.commands.Command.TheVariants.{Drop as DropRule, Rules, Map}
 use Rattle.cam6_commands.specs.declared.commands.Command.TheVariants.{Side as SetSide, Colours}
 use Rattle.cam6_commands.specs.declared.commands.Command.TheVariants.{Count, Save, Load}
+use Rattle.cam6_commands.specs.declared.saved.NamedRule.{NamedRule}
 use Rattle.cam6_commands.specs.declared.saved.SavedMachine.{SavedMachine}
 use Rattle.cam6_commands.specs.declared.commands.NamedEntry.{NamedEntry}
 use Rattle.cam6_wire.specs.declared.faults.LineFault.{LineFault}
@@ -21,7 +22,7 @@ use Rattle.cam6_wire.specs.declared.faults.LineFault.TheVariants.{NoJson, NoComm
 use Rattle.cam6_wire.specs.Limits.{limit_of}
 use Rattle.cam6_wire.specs.Fields.{has_size, number_at, text_at, bits_at, colours_at}
 use Rattle.cam6_wire.specs.Fields.{◌>>=◌}
-use Rattle.cam6_wire.specs.Wirings.{wiring_in}
+use Rattle.cam6_wire.specs.Rules.{rule_fields}
 use Rattle.cam6_wire.specs.Entries.{entries_at}
 use Rattle.cam6_wire.specs.Loads.{saved_in}
 use Rattle.cam6_wire.specs.Saved.{load_bytes}
@@ -47,17 +48,13 @@ sole_number key d = if has_size 2 d then number_at key d else None
 unfoldable pub clear_of : Data → Option Command
 clear_of d = option_map Clear (sole_number (codes "plane") d)
 
--- the command of the keys name, half, hood, minor and text
-abbrev pub rule_fields : Data → Option Command
-rule_fields d = do
-  name ← text_at (codes "name") d
-  wiring ← wiring_in d
-  text ← text_at (codes "text") d
-  Some (Rule name wiring text)
+-- the command that defines a rule
+abbrev pub defining : NamedRule → Command
+defining rule = Rule rule.name rule.wiring rule.text
 
 -- {"do":"rule","name":n,"half":h,"hood":o,"minor":m,"text":t}
 unfoldable pub rule_of : Data → Option Command
-rule_of d = if has_size 6 d then rule_fields d else None
+rule_of d = if has_size 6 d then option_map defining (rule_fields d) else None
 
 -- {"do":"drop","name":n}
 unfoldable pub drop_of : Data → Option Command

@@ -6,9 +6,9 @@ use Rattle.serde_json.specs.Find.{get, as_str, as_array}
 use Rattle.cam6_planes.specs.Digits.{bits_of_digits}
 use Rattle.cam6_commands.specs.declared.saved.NamedRule.{NamedRule}
 use Rattle.cam6_commands.specs.declared.saved.SavedMachine.{SavedMachine}
-use Rattle.cam6_wire.specs.Fields.{has_size, number_at, text_at, colours_at, ◌>>=◌}
+use Rattle.cam6_wire.specs.Fields.{has_size, number_at, colours_at, ◌>>=◌}
 use Rattle.cam6_wire.specs.Entries.{entries_at}
-use Rattle.cam6_wire.specs.Wirings.{wiring_in}
+use Rattle.cam6_wire.specs.Rules.{rule_fields}
 use Rattle.cam6_wire.specs.declared.saved.Version.{Version}
 use Rattle.cam6_wire.specs.declared.saved.Version.TheVariants.{First, Second}
 
@@ -46,14 +46,6 @@ planes_at key d = do
   items ← as_array found
   planes ← planes_of items
   of_four planes
-
--- the rule of the keys half, hood, minor, name and text
-abbrev pub rule_fields : Data → Option NamedRule
-rule_fields d = do
-  name ← text_at (codes "name") d
-  wiring ← wiring_in d
-  text ← text_at (codes "text") d
-  Some (record { name = name; wiring = wiring; text = text })
 
 -- {"half":h,"hood":o,"minor":m,"name":n,"text":t}
 unfoldable pub rule_in : Data → Option NamedRule

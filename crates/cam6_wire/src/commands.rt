@@ -1,9 +1,8 @@
 //! A line as a command.
 ghost use Rattle.std.specs.Prelude.{◌≡◌, ◌<◌, ◌≤◌, length, Err, IfErr, IfOk, IfSome, IsOk, Some};
 ghost use Rattle.std.specs.Prelude.{codes, false};
-ghost use Rattle.std.specs.List.{AllByRecursion};
 ghost use Rattle.std.specs.Option.{option_map_or};
-ghost use Rattle.std.specs.Str.{IsUtf8, bytes_eq};
+ghost use Rattle.std.specs.Str.{bytes_eq};
 ghost use Rattle.cam6_wire.specs.declared.faults.LineFault.TheVariants.{NoMemory};
 ghost use Rattle.serde_json.specs.View.{view};
 ghost use Rattle.cam6_commands.specs.RuleTexts.{HasText};
@@ -19,10 +18,9 @@ use crate::faults::LineFault;
 use crate::fields::{bits_at, colours_at, has_size, number_at, text_at};
 use crate::limits::line_limit;
 use crate::loads::saved_in;
+use crate::rules::rule_fields;
 use crate::saved::is_load_line;
-use crate::wirings::wiring_in;
 use cam6_commands::{Command, NamedRule, Text};
-use cam6_wiring::Wiring;
 use serde_json::{Category, Value};
 use std::alloc::{AllocError, Global};
 
@@ -85,20 +83,16 @@ pub(crate) fn line_value(alloc: Global, line: &[u8]) -> Result<Value, LineFault>
 
 /// The command that a line's JSON value shows.
 fn command_in(alloc: Global, value: &Value) -> Result<Option<Command>, AllocError>
-    ensures command { IfOk result (λ command. command ≡ command_in (view value.now)) }
-    ensures texts { IfOk result (λ command. IfSome command HasText) }
+    ensures { IfOk result (λ command. command ≡ command_in (view value.now)) }
 {
-    let Some(word) = text_at(value, "do") else {
-        return Ok(None);
-    };
-    let shown = line_by_word(alloc, word, value)?;
-    if let Some(command) = &shown {
-        has_text(command);
+    match text_at(value, "do") {
+        Some(word) => line_by_word(alloc, word, value),
+        None => Ok(None),
     }
-    Ok(shown)
 }
 
-/// A load, or another command.
+/// Returns the command of this word, a load or any other. Returns `None` if there is no such word,
+/// or the value's other members are not those of the word.
 fn line_by_word(alloc: Global, word: &str, value: &Value) -> Result<Option<Command>, AllocError>
     ensures { IfOk result (λ command. command ≡ line_by_word word.now (view value.now)) }
 {
@@ -132,55 +126,18 @@ pub fn command_shown(alloc: Global, value: &Value) -> Result<Option<Command>, Al
     ensures memory { takes_text (view value.now) ≡ false → IsOk result }
     ensures texts { IfOk result (λ command. IfSome command HasText) }
 {
-    let Some(word) = text_at(value, "do") else {
-        return Ok(None);
-    };
-    let shown = by_word(alloc, word, value)?;
-    if let Some(command) = &shown {
-        has_text(command);
-    }
-    Ok(shown)
-}
-
-/// The texts of rules are UTF-8, as every `Text` is.
-fn has_text(command: &Command)
-    ensures { HasText command.now }
-{
-    match command {
-        Command::Rule { text, .. } => {
-            text.as_str();
-        }
-        Command::Load { machine } => have_texts(machine.rules.as_slice()),
-        Command::Set { .. }
-        | Command::Clear { .. }
-        | Command::Drop { .. }
-        | Command::Rules
-        | Command::Cycle { .. }
-        | Command::Run { .. }
-        | Command::Back { .. }
-        | Command::Row { .. }
-        | Command::Plane { .. }
-        | Command::Side { .. }
-        | Command::Map { .. }
-        | Command::Colours { .. }
-        | Command::Count { .. }
-        | Command::Save => {}
+    match text_at(value, "do") {
+        Some(word) => by_word(alloc, word, value),
+        None => Ok(None),
     }
 }
 
-fn have_texts(rules: &[NamedRule])
-    ensures { AllByRecursion (λ rule. IsUtf8 rule.text) rules.now }
-{
-    for rule in rules {
-        rule.text.as_str();
-    }
-}
-
-/// The command of this word.
+/// Returns the command of this word as `line_by_word` does, but `None` for a load.
 fn by_word(alloc: Global, word: &str, value: &Value) -> Result<Option<Command>, AllocError>
     ensures command { IfOk result (λ command. command ≡ by_word word.now (view value.now)) }
     ensures memory { option_map_or keeps_text (by_word word.now (view value.now)) false ≡ false
         → IsOk result }
+    ensures texts { IfOk result (λ command. IfSome command HasText) }
 {
     match word {
         "rule" => rule_of(alloc, value),
@@ -244,29 +201,16 @@ fn rule_of(alloc: Global, value: &Value) -> Result<Option<Command>, AllocError>
     ensures command { IfOk result (λ command. command ≡ rule_of (view value.now)) }
     ensures memory { option_map_or keeps_text (rule_of (view value.now)) false ≡ false
         → IsOk result }
+    ensures texts { IfOk result (λ command. IfSome command HasText) }
 {
     if !has_size(value, 6) {
         return Ok(None);
     }
-    let Some(name) = text_at(value, "name") else {
+    let Some(rule) = rule_fields(value) else {
         return Ok(None);
     };
-    let Some(wiring) = wiring_in(value) else {
-        return Ok(None);
-    };
-    let Some(text) = text_at(value, "text") else {
-        return Ok(None);
-    };
-    Ok(Some(new_rule(alloc, name, wiring, text)?))
-}
-
-/// The command that defines a rule, with copies of these texts.
-fn new_rule(alloc: Global, name: &str, wiring: Wiring, text: &str) -> Result<Command, AllocError>
-    ensures { IfOk result (λ command. command ≡ Command.Rule name.now wiring text.now) }
-{
-    let name = Text::new(String::from_str(alloc, name)?);
-    let text = Text::new(String::from_str(alloc, text)?);
-    Ok(Command::Rule { name, wiring, text })
+    let NamedRule { name, wiring, text } = rule.copied(alloc)?;
+    Ok(Some(Command::Rule { name, wiring, text }))
 }
 
 #[tactic(auto, unfolding(crate::specs::Commands::drop_of))]
@@ -274,6 +218,7 @@ fn drop_of(alloc: Global, value: &Value) -> Result<Option<Command>, AllocError>
     ensures command { IfOk result (λ command. command ≡ drop_of (view value.now)) }
     ensures memory { option_map_or keeps_text (drop_of (view value.now)) false ≡ false
         → IsOk result }
+    ensures texts { IfOk result (λ command. IfSome command HasText) }
 {
     if !has_size(value, 2) {
         return Ok(None);
@@ -301,6 +246,7 @@ fn cycle_of(alloc: Global, value: &Value) -> Result<Option<Command>, AllocError>
     ensures command { IfOk result (λ command. command ≡ cycle_of (view value.now)) }
     ensures memory { option_map_or keeps_text (cycle_of (view value.now)) false ≡ false
         → IsOk result }
+    ensures texts { IfOk result (λ command. IfSome command HasText) }
 {
     if !has_size(value, 2) {
         return Ok(None);

@@ -1,5 +1,5 @@
 //! The entries of a cycle.
-ghost use Rattle.std.specs.Prelude.{◌≡◌, false, IfOk, IsOk, is_some, option_map};
+ghost use Rattle.std.specs.Prelude.{◌≡◌, false, IfOk, IsOk, is_some};
 ghost use Rattle.std.specs.Option.{option_map_or};
 ghost use Rattle.serde_json.specs.View.{view, items_view};
 ghost use Rattle.cam6_wire.specs.Commands.{are_some};
@@ -10,6 +10,7 @@ use cam6_commands::{NamedEntries, NamedEntry, Text};
 use cam6_wiring::Grid;
 use serde_json::Value;
 use std::alloc::{AllocError, Global};
+use std::marker::Model;
 
 /// The entries at a key, or `None` if it has no list, or one with something else in it.
 pub(crate) fn entries_at(
@@ -38,11 +39,10 @@ fn entries_in(alloc: Global, values: &[Value]) -> Result<Option<NamedEntries>, A
     }
     let mut entries = Vec::new(alloc);
     for value in values {
-        let entry = match entry_in(alloc, value)? {
-            Some(entry) => entry,
-            None => unreachable!(),
+        let Some(entry) = entry_in(value) else {
+            unreachable!()
         };
-        entries.push(entry)?;
+        entries.push(entry.copied(alloc)?)?;
     }
     Ok(Some(NamedEntries::new(entries)))
 }
@@ -52,46 +52,63 @@ fn are_entries(values: &[Value]) -> bool
     ensures { result ≡ is_some (entries_in (items_view values.now)) }
 {
     for value in values {
-        if !is_entry(value) {
+        if entry_in(value).is_none() {
             return false;
         }
     }
     true
 }
 
-#[tactic(auto, unfolding(crate::specs::Entries::entry_in))]
-fn is_entry(value: &Value) -> bool
-    ensures { result ≡ is_some (entry_in (view value.now)) }
-{
-    has_size(value, 4)
-        && text_at(value, "a").is_some()
-        && text_at(value, "b").is_some()
-        && text_at(value, "grid").and_then(Grid::named).is_some()
-        && number_at(value, "phase").is_some()
+/// An entry whose names are in the value that shows it. Contracts see it as the entry.
+#[derive(Drop)]
+struct ShownEntry<'a> {
+    a: &'a str,
+    b: &'a str,
+    grid: Grid,
+    phase: u64,
 }
 
+impl<'a> Model for ShownEntry<'a> {
+    ghost use Rattle.cam6_commands.specs.declared.commands.NamedEntry.{NamedEntry};
+    ghost use Rattle.cam6_wire.specs.Entries.{rule_name_in};
+
+    ghost Value = { NamedEntry };
+
+    ghost view = { λ e. record {
+      a = rule_name_in e.a.now;
+      b = rule_name_in e.b.now;
+      grid = e.grid;
+      phase = e.phase;
+    } };
+}
+
+impl<'a> ShownEntry<'a> {
+    /// The entry with copies of its names.
+    fn copied(&self, alloc: Global) -> Result<NamedEntry, AllocError>
+        ensures { IfOk result (λ entry. entry ≡ self.now) }
+    {
+        Ok(NamedEntry {
+            a: rule_name_in(alloc, self.a)?,
+            b: rule_name_in(alloc, self.b)?,
+            grid: self.grid,
+            phase: self.phase,
+        })
+    }
+}
+
+/// The entry that a value shows. It takes no memory.
 #[tactic(auto, unfolding(crate::specs::Entries::entry_in))]
-fn entry_in(alloc: Global, value: &Value) -> Result<Option<NamedEntry>, AllocError>
-    ensures { IfOk result (λ entry. entry ≡ entry_in (view value.now)) }
+fn entry_in(value: &Value) -> Option<ShownEntry<'_>>
+    ensures { result ≡ entry_in (view value.now) }
 {
     if !has_size(value, 4) {
-        return Ok(None);
+        return None;
     }
-    let Some(a) = text_at(value, "a") else {
-        return Ok(None);
-    };
-    let Some(b) = text_at(value, "b") else {
-        return Ok(None);
-    };
-    let Some(grid) = text_at(value, "grid").and_then(Grid::named) else {
-        return Ok(None);
-    };
-    let Some(phase) = number_at(value, "phase") else {
-        return Ok(None);
-    };
-    let a = rule_name_in(alloc, a)?;
-    let b = rule_name_in(alloc, b)?;
-    Ok(Some(NamedEntry { a, b, grid, phase }))
+    let a = text_at(value, "a")?;
+    let b = text_at(value, "b")?;
+    let grid = text_at(value, "grid").and_then(Grid::named)?;
+    let phase = number_at(value, "phase")?;
+    Some(ShownEntry { a, b, grid, phase })
 }
 
 /// The rule that an entry names for a half; `-` names none.

@@ -53,31 +53,32 @@ pub fn event_shown(alloc: Global, value: &Value) -> Result<Option<Event>, AllocE
     // Only a rule, a name and entries of an ask take memory, after all of them were looked at.
     ensures memory { takes_text_of (view value.now) ≡ false → IsOk result }
 {
-    let Some(word) = text_at(value, "event") else {
+    let Some(kind) = text_at(value, "event") else {
         return Ok(None);
     };
-    by_word(alloc, word, value)
+    by_word(alloc, kind, value)
 }
 
-/// The event of this word.
-fn by_word(alloc: Global, word: &str, value: &Value) -> Result<Option<Event>, AllocError>
-    ensures event { IfOk result (λ event. event ≡ event_by_word word.now (view value.now)) }
-    ensures memory { option_map_or keeps_text_of (event_by_word word.now (view value.now)) false
+/// Returns the event of this kind, or `None` if there is no such kind or its other members are not
+/// those of the kind.
+fn by_word(alloc: Global, kind: &str, value: &Value) -> Result<Option<Event>, AllocError>
+    ensures event { IfOk result (λ event. event ≡ event_by_word kind.now (view value.now)) }
+    ensures memory { option_map_or keeps_text_of (event_by_word kind.now (view value.now)) false
         ≡ false → IsOk result }
 {
-    match word {
+    match kind {
         "ask" => ask_of(alloc, value),
-        _ => Ok(askless_by_word(word, value)),
+        _ => Ok(askless_by_word(kind, value)),
     }
 }
 
-/// The event of a word that isn't `ask`: it keeps no texts.
+/// The event of a kind that isn't `ask`: it keeps no texts.
 #[tactic(auto, unfolding(crate::specs::Events::band_of, crate::specs::Events::preempt_of, crate::specs::Events::fail_of, crate::specs::Events::repair_of, crate::specs::Events::collect_of))]
-fn askless_by_word(word: &str, value: &Value) -> Option<Event>
-    requires no_ask { bytes_eq word.now (codes "ask") ≡ false }
-    ensures { result ≡ event_by_word word.now (view value.now) }
+fn askless_by_word(kind: &str, value: &Value) -> Option<Event>
+    requires no_ask { bytes_eq kind.now (codes "ask") ≡ false }
+    ensures { result ≡ event_by_word kind.now (view value.now) }
 {
-    match word {
+    match kind {
         "lease" => lease_of(value),
         "band" => sole_number(value, "board").map(Event::Band),
         "preempt" => sole_number(value, "board").map(Event::Preempt),

@@ -28,9 +28,9 @@
 //! Stands on: `cam6_planes`, `cam6_wiring`, `cam6_table`, `cam6_block`, `cam6_commands`;
 //! `serde_json` with its grammar in `json`, and `hex`.
 //!
-//! Read next: `faults`, `limits`, `commands` and `replies`; what they read, `fields`, `wirings` and
-//! `entries`, and how they write, `objects`; `saved`, a machine as it is written, and `loads`, as
-//! it is read; `events`, `outcomes` and `seats`; then `laws`.
+//! Read next: `faults`, `limits`, `commands` and `replies`; what they read, `fields`, `wirings`,
+//! `rules` and `entries`, and how they write, `objects`; `saved`, a machine as it is written, and
+//! `loads`, as it is read; `events`, `outcomes` and `seats`; then `laws`.
 #![tactic(auto)]
 
 mod commands;
@@ -44,6 +44,7 @@ mod loads;
 mod objects;
 mod outcomes;
 mod replies;
+mod rules;
 mod saved;
 mod seats;
 mod wirings;

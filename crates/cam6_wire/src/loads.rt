@@ -6,10 +6,10 @@ ghost use Rattle.cam6_wire.specs.Loads.{rule_in, rules_in, rules_at, version_in,
 ghost use Rattle.cam6_wire.specs.Loads.{saved_fields, saved_in};
 
 use crate::entries::entries_at;
-use crate::fields::{colours_at, has_size, number_at, text_at};
+use crate::fields::{colours_at, has_size, number_at};
+use crate::rules::rule_fields;
 use crate::saved::Version;
-use crate::wirings::wiring_in;
-use cam6_commands::{BitRows, NamedRule, NamedRules, SavedMachine, Text};
+use cam6_commands::{BitRows, NamedRule, NamedRules, SavedMachine};
 use cam6_planes::{Bits, bits_of_digits};
 use serde_json::Value;
 use std::alloc::{AllocError, Global};
@@ -176,18 +176,8 @@ fn rule_in(alloc: Global, value: &Value) -> Result<Option<NamedRule>, AllocError
     if !has_size(value, 5) {
         return Ok(None);
     }
-    let Some(name) = text_at(value, "name") else {
-        return Ok(None);
-    };
-    let Some(wiring) = wiring_in(value) else {
-        return Ok(None);
-    };
-    let Some(text) = text_at(value, "text") else {
-        return Ok(None);
-    };
-    Ok(Some(NamedRule {
-        name: Text::new(String::from_str(alloc, name)?),
-        wiring,
-        text: Text::new(String::from_str(alloc, text)?),
-    }))
+    match rule_fields(value) {
+        Some(rule) => Ok(Some(rule.copied(alloc)?)),
+        None => Ok(None),
+    }
 }

@@ -49,6 +49,7 @@ pub fn address_at(
     address
 }
 
+/// The bit that a cell sees under a line's name. It is 0 for a line without a name.
 fn line_bit(planes: &Planes, setting: Setting, line: Option<Name>, x: usize, y: usize) -> u16
     requires column { x < width planes.now }
     requires row { y < width planes.now }

@@ -6,7 +6,7 @@ use crate::workers::gates::Watch;
 use crate::workers::holds::{Hold, LOOKS, pause};
 use cam6_cache::TableCache;
 use cam6_commands::{Command, Reply};
-use cam6_handoff::{Desk, MAX_BOARDS};
+use cam6_handoff::{Desk, MAX_BOARDS, Put};
 use cam6_pool::{Gate, SlicingGate, Turn};
 use std::sync::atomic::{AtomicBool, AtomicU64, Ordering};
 use std::sync::{Mutex, Wait};
@@ -133,7 +133,13 @@ impl<R: Handle> WorkerHouse<R> {
         requires { is_waiting desk.old ≡ false }
     {
         match &self.slices {
-            Some(gate) => gate.ask(desk, command).ok(),
+            Some(gate) => match desk.put(command).ok()? {
+                Put::Answered(reply) => Some(reply),
+                Put::Waiting => {
+                    gate.ring();
+                    Some(desk.wait(&self.rt))
+                }
+            },
             None => desk.ask(&self.rt, command).ok(),
         }
     }

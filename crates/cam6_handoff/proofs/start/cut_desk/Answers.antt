@@ -7,7 +7,7 @@ use Rattle.cam6_handoff.proofs.start.cut_desk.Goals as goal
 
 pub split_seat-seat-requires : goal.split_seat-seat-requires
 split_seat-seat-requires c =
-    let u : ℕ = c.args.user in
+    let u : ℕ = c.args.row in
     let users : ℕ = c.deref.result.now.shared.key.users in
     let id : ℕ = c.args.first.now.id in (
       search rules,

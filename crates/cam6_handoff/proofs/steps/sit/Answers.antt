@@ -8,7 +8,7 @@ use Rattle.cam6_handoff.proofs.steps.sit.Goals as goal
 
 pub load-requires : goal.load-requires
 load-requires c = let users : ℕ = c.args.shelf.now.key.users in let slots : ℕ =
-    c.args.shelf.now.table_id.slots in let u : ℕ = c.args.user in let id : ℕ =
+    c.args.shelf.now.table_id.slots in let u : ℕ = c.args.row in let id : ℕ =
     c.args.chair.now.id in (
       search rules,
       search rules,

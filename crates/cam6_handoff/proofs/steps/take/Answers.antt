@@ -10,7 +10,7 @@ use Rattle.cam6_handoff.proofs.steps.take.Goals as goal
 
 pub compare_exchange-requires : goal.compare_exchange-requires
 compare_exchange-requires c = let users : ℕ = c.args.shelf.now.key.users in let slots : ℕ =
-    c.args.shelf.now.table_id.slots in let u : ℕ = c.args.user in let id : ℕ =
+    c.args.shelf.now.table_id.slots in let u : ℕ = c.args.row in let id : ℕ =
     c.args.chair.now.id in let n : ℕ = 3 + c.args.board in (
       search rules,
       search rules,
@@ -21,7 +21,7 @@ compare_exchange-requires c = let users : ℕ = c.args.shelf.now.key.users in le
 
 pub exchange-requires : goal.exchange-requires
 exchange-requires c = let t = c.compare_exchange.ensures.2.0 c.if-compare_exchange-ne-READY.false in
-    let u : ℕ = c.args.user in let is = ap (λ (m : Seated). m.1) t.1 in (
+    let u : ℕ = c.args.row in let is = ap (λ (m : Seated). m.1) t.1 in (
       search rules,
       (
         Some (Queued t.0),

@@ -1,7 +1,8 @@
 use Rattle.std.proofs.Common.{◌∙◌, ap, subst}
 use Rattle.clap.specs.Words.{app_of}
+use Rattle.cam6_arguments.specs.Refusals.{EndsWith}
 use Rattle.cam6_modes.specs.CommandLine.{HasMode}
-use Rattle.cam6_modes.specs.Slips.{EndsWith, told_of}
+use Rattle.cam6_modes.specs.Slips.{told_of}
 use Rattle.cam6_modes.proofs.Refusals.{is_simple_program, refused_as_clap_does, some_program}
 use Rattle.cam6_modes.proofs.ModesGiven.{mode_of_matches}
 use Rattle.cam6_modes.proofs.words.options.Goals as goal
@@ -43,4 +44,4 @@ returns-in-Err-clause-refused c = (
 pub returns-in-Err-clause-slip : goal.returns-in-Err-clause-slip
 returns-in-Err-clause-slip c =
     subst (EndsWith c.refusal.result) (c.told_of.ensures ∙ ap told_of c.slip_of.ensures)
-    c.refusal.ensures.slip
+    c.refusal.ensures.hint

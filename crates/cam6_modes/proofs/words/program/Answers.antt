@@ -2,7 +2,6 @@ use Rattle.std.proofs.Common.{◌∙◌, ap, ap₂, refl}
 use Rattle.std.proofs.lemmas.Result.{IfOk-weaker}
 use Rattle.clap.specs.Simple.{app_of_fields}
 use Rattle.clap.specs.Words.{with_rule, with_subcommand}
-use Rattle.cam6_modes.specs.CommandLine.{with_version}
 use Rattle.cam6_modes.proofs.PlainCommands.{has_no_globals}
 use Rattle.cam6_modes.proofs.words.program.Goals as goal
 
@@ -17,10 +16,7 @@ returns c =
     of_alone.2 in
     let one = c.in_ok-subcommand.ensures.shape (has_no_globals _ _ alone refl)
     ∙ ap₂ with_subcommand
-    (ap app_of_fields c.version.ensures
-    ∙ ap with_version
-    (ap app_of_fields c.after_help-2.ensures ∙ ap app_of_fields c.about-2.ensures ∙ c.new-2.ensures.app))
-    (ap (λ a. a.top) alone) in
+    c.named.ensures (ap (λ a. a.top) alone) in
     let two = c.in_ok-subcommand-2.ensures.shape (has_no_globals _ _ of_replay.2 refl)
     ∙ ap₂ with_subcommand one (ap (λ a. a.top) of_replay.2) in
     IfOk-weaker c.subcommand-3.result _ _ (λ command adds. (

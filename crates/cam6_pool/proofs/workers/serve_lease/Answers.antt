@@ -1,6 +1,16 @@
 use Rattle.std.proofs.Common.{rules}
-use Rattle.cam6_pool.proofs.Going.{emptied_then, on_and_on, is_loaded_then}
+use Rattle.cam6_pool.proofs.Going.{accepts_home, emptied_then, is_loaded_then, loads, on_and_on}
 use Rattle.cam6_pool.proofs.workers.serve_lease.Goals as goal
+
+pub put_back-requires : goal.put_back-requires
+put_back-requires g c =
+    accepts_home c.args.seat.now.holds _ c.in-Err.queued c.requires.seat c.in-Err.ensures.back
+
+pub loop-stops-init : goal.loop-stops-init
+loop-stops-init g c = record {
+  on = loads c.args.seat.now c.args.station.now c.load.new.self _ _ c.in_default.ensures.ok
+      c.requires.seat c.in_default.ensures.faults;
+}
 
 pub loop-stops-preserved : goal.loop-stops-preserved
 loop-stops-preserved g c =

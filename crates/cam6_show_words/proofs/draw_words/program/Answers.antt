@@ -1,6 +1,5 @@
-use Rattle.std.proofs.Common.{◌∙◌, ap, ap₂, true}
+use Rattle.std.proofs.Common.{◌∙◌, ap₂}
 use Rattle.std.proofs.lemmas.Result.{IfOk-weaker}
-use Rattle.clap.specs.Simple.{app_of_fields, on_top}
 use Rattle.clap.specs.Words.{with_rule}
 use Rattle.cam6_show_words.specs.DrawWords.{program}
 use Rattle.cam6_show_words.proofs.draw_words.program.Goals as goal
@@ -8,11 +7,8 @@ use Rattle.cam6_show_words.proofs.draw_words.program.Goals as goal
 pub returns : goal.returns
 unfolding program
 returns c =
-    let none = ap app_of_fields c.after_help.ensures ∙ ap app_of_fields c.version.ensures
-    ∙ ap (on_top (λ s. record s { has_version = true }))
-    (ap app_of_fields c.about.ensures ∙ c.new.ensures.app) in
     let ppm = c.in_ok-arg.ensures.shape c.ppm_option.ensures.global
-    ∙ ap₂ with_rule none c.ppm_option.ensures.rule in
+    ∙ ap₂ with_rule c.named.ensures c.ppm_option.ensures.rule in
     let text = c.in_ok-arg-2.ensures.shape c.text_option.ensures.global
     ∙ ap₂ with_rule ppm c.text_option.ensures.rule in
     let scale = c.in_ok-arg-3.ensures.shape c.scale_option.ensures.global

@@ -1,17 +1,13 @@
-use Rattle.std.proofs.Common.{◌∙◌, ap, ap₂}
+use Rattle.std.proofs.Common.{◌∙◌, ap₂}
 use Rattle.std.proofs.lemmas.Result.{IfOk-weaker}
-use Rattle.clap.specs.Simple.{app_of_fields}
 use Rattle.clap.specs.Words.{with_rule}
-use Rattle.cam6_show_words.specs.RleWords.{with_version}
 use Rattle.cam6_show_words.proofs.rle_words.program.Goals as goal
 
 pub returns : goal.returns
 returns c =
     let sides = c.side_option.ensures.rule in
-    let none = ap app_of_fields c.version.ensures
-    ∙ ap with_version (ap app_of_fields c.after_help.ensures ∙ ap app_of_fields c.about.ensures ∙ c.new.ensures.app) in
     let side = c.in_ok-arg.ensures.shape c.side_option.ensures.global
-    ∙ ap₂ with_rule none sides.2 in
+    ∙ ap₂ with_rule c.named.ensures sides.2 in
     let column = c.in_ok-arg-2.ensures.shape c.move_option.ensures.global
     ∙ ap₂ with_rule side c.move_option.ensures.rule in
     let row = c.in_ok-arg-3.ensures.shape c.move_option-2.ensures.global

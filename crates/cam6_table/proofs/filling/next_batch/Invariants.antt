@@ -11,7 +11,7 @@ invariant-loop-end l = record {
   from : l.fn.from ≤ l.end;
   within : l.end ≤ l.fn.last + 1;
   empty : l.end ≡ l.fn.from → l.count ≡ 0;
-  next : AreNext l.fn.mask l.fn.from l.addresses l.count l.end;
+  next : AreNext l.fn.mask l.fn.from l.table l.addresses l.count l.end;
 }
 
 abbrev pub decreases-loop-end : goal.decreases-loop-end

@@ -9,10 +9,10 @@ loop-lane-preserved c =
     let l = c.loop-lane in
     let set = c.args.set.now in
     let places = c.args.places.now in
-    let value = c.in_if_at.result in
+    let value = c.mark_of.result in
     record {
       lanes = length-set l.those l.lane value ∙ l.invariant.lanes;
       each = one_lane_more (λ k v. IsOther v (slice_index set k)
           (slice_index places.behinds k == c.args.behind && slice_index places.tops k == c.args.top))
-          l.those l.lane value (omega arith) c.in_if_at.ensures l.invariant.each;
+          l.those l.lane value (omega arith) c.mark_of.ensures l.invariant.each;
     }

@@ -1,6 +1,5 @@
-use Rattle.std.proofs.Common.{◌∙◌, ap, ap₂, true}
+use Rattle.std.proofs.Common.{◌∙◌, ap₂}
 use Rattle.std.proofs.lemmas.Result.{IfOk-weaker}
-use Rattle.clap.specs.Simple.{app_of_fields, on_top}
 use Rattle.clap.specs.Words.{with_rule}
 use Rattle.cam6_web_words.specs.Words.{program}
 use Rattle.cam6_web_words.proofs.words.program.Goals as goal
@@ -8,11 +7,8 @@ use Rattle.cam6_web_words.proofs.words.program.Goals as goal
 pub returns : goal.returns
 unfolding program
 returns c =
-    let none = ap app_of_fields c.after_help.ensures ∙ ap app_of_fields c.version.ensures
-    ∙ ap (on_top (λ s. record s { has_version = true }))
-    (ap app_of_fields c.about.ensures ∙ c.new.ensures.app) in
     let port = c.in_ok-arg.ensures.shape c.port_option.ensures.global
-    ∙ ap₂ with_rule none c.port_option.ensures.rule in
+    ∙ ap₂ with_rule c.named.ensures c.port_option.ensures.rule in
     let host = c.in_ok-arg-2.ensures.shape c.host_option.ensures.global
     ∙ ap₂ with_rule port c.host_option.ensures.rule in
     let name = c.in_ok-arg-3.ensures.shape c.name_option.ensures.global

@@ -1,4 +1,7 @@
+use Rattle.std.proofs.Common.{IfOk, sym, subst}
+use Rattle.cam6_commands.specs.RuleTexts.{HasText}
 use Rattle.cam6_wire.proofs.Saying.{not_empty}
+use Rattle.cam6_wire.proofs.RuleTexts.{value_has_text}
 use Rattle.cam6_wire.proofs.commands.command_said.Goals as goal
 
 pub returns-in_err-command_in-clause-memory : goal.returns-in_err-command_in-clause-memory
@@ -6,3 +9,9 @@ returns-in_err-command_in-clause-memory c = λ wanted. (
   not_empty c.args.line.now _ c.in_ok-value.ensures.value.1,
   c.in_ok-value.ensures.value.0,
 )
+
+pub returns-clause-texts : goal.returns-clause-texts
+returns-clause-texts c =
+    subst (λ r. IfOk r HasText) (sym c.ok_or.ensures.value)
+    (value_has_text c.args.line.now _ _ c.in_ok-value.ensures.value.0
+    c.in_ok-value.ensures.value.1 c.in_ok-command_in.ensures)

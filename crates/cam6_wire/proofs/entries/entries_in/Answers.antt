@@ -15,7 +15,8 @@ loop-value-preserved c =
     let now = c.loop-value in
     one_more_read entry_in entries_in (λ d ds. refl) c.args.values.now now.value-index
     c.value-item.result now.entries.items c.push.new.self.items c.in-Some.entry c.loop-value-test.true
-    c.value-item.is (sym c.in_ok-entry.ensures ∙ c.in-Some.is) c.in_ok-push.ensures.items
+    c.value-item.is (sym c.entry_in.ensures ∙ c.in-Some.is)
+    (rw (← c.in_ok-copied.ensures) c.in_ok-push.ensures.items)
     (entries_in (items_view c.args.values.now)) now.invariant
 
 pub unreachable-requires : goal.unreachable-requires
@@ -24,7 +25,7 @@ unreachable-requires c =
     let none : None ≡ entries_in (items_view c.args.values.now) =
     none_read entry_in entries_in (λ d ds. refl) c.args.values.now now.value-index
     c.value-item.result now.entries.items c.loop-value-test.true c.value-item.is
-    (sym c.in_ok-entry.ensures ∙ c.in-None.is) (entries_in (items_view c.args.values.now))
+    (sym c.entry_in.ensures ∙ c.in_default.is) (entries_in (items_view c.args.values.now))
     now.invariant in
     let all = rw (← none) at c.are_entries.ensures in
     grind (arith, all)
@@ -44,8 +45,8 @@ has_some (value ∷ values) i within all none =
     of_steps (Some e) None all none = cc
     of_steps (Some e) (Some es) all none = cc
 
-pub returns-in_err-entry-clause-memory : goal.returns-in_err-entry-clause-memory
-returns-in_err-entry-clause-memory c = λ none.
+pub returns-in_err-copied-clause-memory : goal.returns-in_err-copied-clause-memory
+returns-in_err-copied-clause-memory c = λ none.
     absurd (has_some c.args.values.now c.loop-value.value-index c.loop-value-test.true
     (sym c.are_entries.ensures ∙ grind arith) none)
 

@@ -18,7 +18,7 @@ back-requires-clause-holds c =
 
 pub back-requires-clause-stands : goal.back-requires-clause-stands
 back-requires-clause-stands c =
-    accepts_at c.in-Some.word c.args.self.now.holds c.args.queued c.self.inside.seat.me
+    accepts_at c.in-Some.row c.args.self.now.holds c.args.queued c.self.inside.seat.me
     (ap (λ (z : BoardStance). z.holds) (sym c.self.view_is)) c.requires
 
 pub invariant_of-self : goal.invariant_of-self

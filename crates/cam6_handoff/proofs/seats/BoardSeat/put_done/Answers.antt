@@ -18,7 +18,7 @@ done-requires-clause-holds c =
 
 pub done-requires-clause-is_done : goal.done-requires-clause-is_done
 done-requires-clause-is_done c =
-    accepts_done_at c.in-Some.word c.args.self.now.holds c.args.finished c.self.inside.seat.me
+    accepts_done_at c.in-Some.row c.args.self.now.holds c.args.finished c.self.inside.seat.me
     (ap (λ (z : BoardStance). z.holds) (sym c.self.view_is)) c.requires
 
 pub invariant_of-self : goal.invariant_of-self

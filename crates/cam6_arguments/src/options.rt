@@ -1,0 +1,74 @@
+//! A program's command, and options of numbers, sides and texts.
+ghost use Rattle.std.specs.Prelude.{◌≡◌, false};
+ghost use Rattle.clap.specs.Words.{app_of, rule_of};
+ghost use Rattle.cam6_arguments.specs.Options.{AreSides, TextsAt, named as named_in};
+ghost use Rattle.cam6_arguments.specs.Options.{number_option as option_of_numbers};
+ghost use Rattle.cam6_arguments.specs.Options.{side_option as option_of_sides};
+ghost use Rattle.cam6_arguments.specs.Options.{value_option as option_of_values};
+
+use crate::programs::Program;
+use cam6_planes::Side;
+use cam6_version::VERSION;
+use clap::builder::ValueParser;
+use clap::{Arg, Command};
+use std::alloc::Global;
+
+/// The last port.
+pub const MAX_PORT: u64 = 65_535;
+
+/// Makes a program's command, with its version and without options. Help begins with `about` and
+/// ends with `after_help`.
+pub fn named<'a>(
+    alloc: Global,
+    program: Program,
+    about: &'a str,
+    after_help: &'a str,
+) -> Command<'a>
+    ensures { app_of result ≡ named_in program }
+{
+    let name: &'a str = program.name();
+    Command::new(alloc, name)
+        .about(about)
+        .after_help(after_help)
+        .version(VERSION)
+}
+
+/// Makes an option that is a number from `least` to `most`.
+pub fn number_option<'a>(
+    alloc: Global,
+    name: &'a str,
+    least: u64,
+    most: u64,
+    default: &'a str,
+) -> Arg<'a>
+    ensures rule { rule_of result ≡ option_of_numbers name.now least most default.now }
+    ensures global { result.global ≡ false }
+{
+    Arg::new(alloc, name)
+        .long(name)
+        .value_parser(ValueParser::Unsigned(least, most))
+        .default_value(default)
+}
+
+/// Makes `--side`, one of the three sides, and 256 by default.
+pub fn side_option<'a>(alloc: Global, help: &'a str) -> Arg<'a>
+    ensures rule { (sides : TextsAt) × AreSides sides × (rule_of result ≡ option_of_sides sides) }
+    ensures global { result.global ≡ false }
+{
+    Arg::new(alloc, "side")
+        .long("side")
+        .value_parser(ValueParser::Names(Side::texts()))
+        .default_value(Side::S256.text())
+        .help(help)
+}
+
+/// Makes an option that takes one value, which help calls `value`.
+pub fn value_option<'a>(alloc: Global, name: &'a str, value: &'a str, help: &'a str) -> Arg<'a>
+    ensures rule { rule_of result ≡ option_of_values name.now }
+    ensures global { result.global ≡ false }
+{
+    Arg::new(alloc, name)
+        .long(name)
+        .value_name(value)
+        .help(help)
+}

@@ -1,0 +1,88 @@
+//! What the option of a name says, and what a word says.
+ghost use Rattle.std.specs.Prelude.{◌≡◌, ◌≤◌, ◌&&◌, IfSome, Some, None, if◌then◌else◌, nat_le};
+ghost use Rattle.std.specs.Prelude.{option_map};
+ghost use Rattle.clap.specs.Walk.{texts};
+ghost use Rattle.clap.specs.Words.{all_of, first_of, found_of, rows_of};
+ghost use Rattle.cam6_arguments.specs.Values.{number_at, number_by, number_said, side_at};
+
+use cam6_planes::Side;
+use clap::ArgMatches;
+
+/// Returns the first text at an option, if it has one.
+pub fn text_at<'a>(matches: &ArgMatches<'a>, name: &str) -> Option<&'a str>
+    ensures { option_map (λ text. text.now) result
+        ≡ first_of name.now (rows_of (found_of matches.now)) }
+{
+    matches.get_str(name)
+}
+
+/// Returns all texts at an option, if it has any.
+pub fn texts_at<'m, 'a>(matches: &'m ArgMatches<'a>, name: &str) -> Option<&'m [&'a str]>
+    ensures { option_map (λ words. texts words.now) result
+        ≡ all_of name.now (rows_of (found_of matches.now)) }
+{
+    matches.get_raw(name)
+}
+
+/// Returns the number at an option, if it is from `least` to `most`.
+pub fn number_at(matches: &ArgMatches<'_>, name: &str, least: u64, most: u64) -> Option<u64>
+    ensures number { result ≡ number_at name.now least most (rows_of (found_of matches.now)) }
+    ensures within { IfSome result (λ number. (least ≤ number) × (number ≤ most)) }
+{
+    number_of(text_at(matches, name)?, least, most)
+}
+
+/// Returns the side at `--side`.
+pub fn side_at(matches: &ArgMatches<'_>) -> Option<Side>
+    ensures { result ≡ side_at (rows_of (found_of matches.now)) }
+{
+    Side::named(text_at(matches, "side")?)
+}
+
+/// Returns the number that a word is, from `least` to `most`, or the default if there is no word.
+pub fn number_by(word: Option<&str>, least: u64, most: u64, default: u64) -> Option<u64>
+    requires { (least ≤ default) × (default ≤ most) }
+    ensures number { result
+        ≡ number_by (option_map (λ word. word.now) word.entry) least most default }
+    ensures within { IfSome result (λ number. (least ≤ number) × (number ≤ most)) }
+{
+    match word {
+        Some(word) => number_of(word, least, most),
+        None => Some(default),
+    }
+}
+
+/// Returns the number that a word is, if it is from `least` to `most`, for what is counted in memory.
+pub fn count_of(word: &str, least: usize, most: usize) -> Option<usize>
+    ensures number { result ≡ number_said least most word.now }
+    ensures within { IfSome result (λ number. (least ≤ number) × (number ≤ most)) }
+{
+    match number_of(word, least as u64, most as u64) {
+        Some(number) => Some(number as usize),
+        None => None,
+    }
+}
+
+/// Returns the number that a word is, if it is from `least` to `most`.
+pub fn number_of(word: &str, least: u64, most: u64) -> Option<u64>
+    ensures number { result ≡ number_said least most word.now }
+    ensures within { IfSome result (λ number. (least ≤ number) × (number ≤ most)) }
+{
+    let Ok(number) = word.parse::<u64>() else {
+        return None;
+    };
+    bounded(number, least, most)
+}
+
+/// The number, if it is from `least` to `most`.
+fn bounded(number: u64, least: u64, most: u64) -> Option<u64>
+    ensures number { result
+        ≡ (if nat_le least number && nat_le number most then Some number else None) }
+    ensures within { IfSome result (λ number. (least ≤ number) × (number ≤ most)) }
+{
+    if least <= number && number <= most {
+        Some(number)
+    } else {
+        None
+    }
+}

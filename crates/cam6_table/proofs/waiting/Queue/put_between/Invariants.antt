@@ -1,4 +1,0 @@
-use Rattle.cam6_table.proofs.waiting.Queue.put_between.Given as goal
-
-abbrev pub decreases-loop-at : goal.decreases-loop-at
-decreases-loop-at l = l.at

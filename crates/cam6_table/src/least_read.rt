@@ -1,0 +1,51 @@
+//! Which lines differ between the addresses that are run at once. No result depends on it.
+//!
+//! Lanes part where code decides by a line that differs between them. So the lines that differ are
+//! those that code reads least.
+
+use crate::codes::{Code, Instruction};
+
+/// Lines that differ between 64 addresses.
+const LINES_OF_LANES: usize = 6;
+
+/// The lines that an instruction can name.
+const NAMED_LINES: usize = 16;
+
+/// The bits of six lines of a mask that code reads least, or of all if there are fewer.
+pub fn least_read_lines(code: &Code, mask: u16) -> u16 {
+    let reads = reads_of_lines(code);
+    let mut chosen = 0;
+    for _ in 0..LINES_OF_LANES {
+        chosen |= least_read_of(&reads, mask & !chosen);
+    }
+    chosen
+}
+
+/// How many instructions read each line.
+fn reads_of_lines(code: &Code) -> [u16; NAMED_LINES] {
+    let instructions = code.instructions();
+    let mut reads = [0u16; NAMED_LINES];
+    for behind in 0..instructions.len() {
+        if let Instruction::Line(line) = instructions.before(behind)
+            && line < 16
+        {
+            let number = usize::from(line);
+            reads[number] = reads[number].saturating_add(1);
+        }
+    }
+    reads
+}
+
+/// The bit of the line of a mask that is read least, or 0 without a line.
+fn least_read_of(reads: &[u16; NAMED_LINES], mask: u16) -> u16 {
+    let mut least = 0;
+    let mut fewest = u16::MAX;
+    for line in 0..NAMED_LINES {
+        let bit = 1u16 << line;
+        if mask & bit != 0 && reads[line] < fewest {
+            fewest = reads[line];
+            least = bit;
+        }
+    }
+    least
+}
