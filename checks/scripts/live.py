@@ -35,6 +35,8 @@ class Live:
         self.said = b""
         self.process, self.terminal = pty.fork()
         if self.process == 0:
+            # A shell in the background has its programs ignore it, and what they start does too.
+            signal.signal(signal.SIGINT, signal.SIG_DFL)
             os.execv(LIVE, [LIVE, *words])
 
     def is_begun(self) -> bool:
