@@ -1,6 +1,6 @@
 -- The rows of a band that are put into a plane one after the other.
 use Rattle.std.proofs.Common.{◌≡◌, ◌≢◌, ℕ, ◌+◌, ◌<◌, ◌≤◌, ◌⊎◌, inl, inr, ◌∙◌, sym, ap, arith}
-use Rattle.std.proofs.Common.{List, [], slice_index_or}
+use Rattle.std.proofs.Common.{List, Bool}
 use native.Mathlib.Decide.{dec_lt}
 use Rattle.cam6_planes.specs.Cells.{Cells, with_row}
 use Rattle.cam6_planes.specs.Row.{column_bit}
@@ -13,20 +13,20 @@ others_more p y k q v (inl other) = inl other
 others_more p y k q v (inr (inl before)) = inr (inl before)
 others_more p y k q v (inr (inr after)) = inr (inr (omega (arith, after)))
 
-module _ (s : ℕ) (g new : Cells) (p y k : ℕ) (rows : List (List ℕ)) (plane : p < 4)
-    (within : y + k < s)
-    (made : new ≡ with_row s g p (y + k) (column_bit (slice_index_or rows k []))) where
+module _ (s : ℕ) (g new : Cells) (p y k : ℕ) (row : List ℕ) (plane : p < 4) (within : y + k < s)
+    (made : new ≡ with_row s g p (y + k) (column_bit row)) where
   elsewhere : (q x v : ℕ) → q < 4 → x < s → v < s → (q ≢ p) ⊎ (v ≢ y + k) →
       new q x v ≡ g q x v
   elsewhere q x v h l m other =
       ap (λ (f : Cells). f q x v) made ∙
-      with_row-elsewhere s g p (y + k) (column_bit (slice_index_or rows k [])) q x v h l m other
+      with_row-elsewhere s g p (y + k) (column_bit row) q x v h l m other
 
   -- one more of them is there
-  pub one_more_put : ((x r : ℕ) → x < s → r < k →
-      g p x (y + r) ≡ column_bit (slice_index_or rows r []) x) →
-      (x r : ℕ) → x < s → r < k + 1 → new p x (y + r) ≡ column_bit (slice_index_or rows r []) x
-  one_more_put there x r l h =
+  pub one_more_put : (bits : ℕ → ℕ → Bool) →
+      ((x : ℕ) → x < s → column_bit row x ≡ bits k x) →
+      ((x r : ℕ) → x < s → r < k → g p x (y + r) ≡ bits r x) →
+      (x r : ℕ) → x < s → r < k + 1 → new p x (y + r) ≡ bits r x
+  one_more_put bits here there x r l h =
       elim (dec_lt r k) [
         | Prim.yes lt ↦
             elsewhere p x (y + r) plane l (omega (arith, lt, within)) (inr (λ e. absurd (omega (
@@ -37,8 +37,8 @@ module _ (s : ℕ) (g new : Cells) (p y k : ℕ) (rows : List (List ℕ)) (plane
         | Prim.no ge ↦
             let e : r ≡ k = omega (arith, ge, h) in
             ap (λ n. new p x (y + n)) e ∙ ap (λ (f : Cells). f p x (y + k)) made ∙
-            with_row-here s g p (y + k) (column_bit (slice_index_or rows k [])) x plane l within ∙
-            ap (λ n. column_bit (slice_index_or rows n []) x) (sym e)
+            with_row-here s g p (y + k) (column_bit row) x plane l within ∙ here x l ∙
+            ap (λ n. bits n x) (sym e)
       ]
 
   -- outside the rows that are put so far all stays

@@ -10,6 +10,7 @@ ghost use Rattle.cam6_band.specs.Next.{GoesOn, IsNext};
 
 use crate::images::{AtRest, Spare};
 use crate::new_rows::step_band;
+use crate::rooms::Room;
 use crate::tables::EntryTables;
 use cam6_planes::{CellRow, Planes, Side};
 use std::marker::Model;
@@ -66,14 +67,27 @@ impl MidStep {
         self.image.side()
     }
 
+    /// The largest side that the image may have.
     pub fn limit(&self) -> Side
         ensures { result ≡ self.now.planes.limit }
     {
         self.image.limit()
     }
 
-    /// Makes the next sixteen rows, by the tables of the step.
-    pub fn band(mut self, tables: &EntryTables) -> Next
+    /// As `band_in`, in room of its own, which is emptied first.
+    pub fn band(self, tables: &EntryTables) -> Next
+        ensures next { let s = width self.planes in (o : Cells) →
+            Partway o (step_by s (values_of tables.now) o) self →
+            IsNext o (step_by s (values_of tables.now) o) result }
+        ensures goes_on { GoesOn self.planes self.done result }
+    {
+        let mut room = Room::blank();
+        self.band_in(tables, &mut room)
+    }
+
+    /// Makes the next sixteen rows, by the tables of the step. The room is lent for it, and may hold
+    /// anything before.
+    pub fn band_in(mut self, tables: &EntryTables, room: &mut Room) -> Next
         ensures next { let s = width self.planes in (o : Cells) →
             Partway o (step_by s (values_of tables.now) o) self →
             IsNext o (step_by s (values_of tables.now) o) result }
@@ -86,6 +100,7 @@ impl MidStep {
             &self.first,
             self.done,
             tables,
+            room,
         );
         let done = self.done + BAND;
         if done == side.number() {

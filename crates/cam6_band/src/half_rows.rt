@@ -1,21 +1,20 @@
 //! A half's new rows of a band: made beside the planes, and then put in the place of the old ones.
-ghost use Rattle.std.specs.Prelude.{◌≡◌, ◌≢◌, ◌<◌, ◌≤◌, ◌+◌, ◌⊎◌, ℕ, []};
-ghost use Rattle.std.specs.Prelude.{slice_index_or};
+ghost use Rattle.std.specs.Prelude.{◌≡◌, ◌≢◌, ◌<◌, ◌≤◌, ◌+◌, ◌⊎◌, ℕ};
 ghost use Rattle.cam6_planes.specs.Cells.{Cells, cells};
-ghost use Rattle.cam6_planes.specs.Row.{column_bit};
 ghost use Rattle.cam6_planes.specs.Stored.{width};
 ghost use Rattle.cam6_wiring.specs.Name.{plane_of, other_half};
 ghost use Rattle.cam6_wiring.specs.declared.names.Level.{Level};
 ghost use Rattle.cam6_lines.specs.Bands.{IsBandOf, IsWithin};
+ghost use Rattle.cam6_lines.specs.Units.{bit_in};
 ghost use Rattle.cam6_entries.specs.Bands.{ShowNewBits};
 ghost use Rattle.cam6_band.specs.Limits.{band};
 ghost use Rattle.cam6_band.specs.Internal.HalfRows.{rows_of, bit_put};
 ghost use Rattle.cam6_band.specs.Internal.NewRows.{IsOutside};
 
 use crate::tables::HalfTable;
-use cam6_entries::BandRows;
-use cam6_lines::{Band, HEIGHT};
-use cam6_planes::{Planes, WORDS};
+use cam6_entries::{BandRows, TableRoom, row_of};
+use cam6_lines::{Band, HEIGHT, UNIT};
+use cam6_planes::{Planes, Side};
 use cam6_wiring::{Half, Level, Setting};
 
 /// A plane's new rows of a band. They are put only if they were written. Otherwise every cell keeps
@@ -34,9 +33,10 @@ pub(crate) struct HalfRows {
 }
 
 impl PlaneRows {
+    /// Rows that aren't written. To put them changes nothing.
     fn blank() -> PlaneRows {
         PlaneRows {
-            rows: [[0; WORDS]; HEIGHT],
+            rows: [[0; UNIT]; 2],
             is_written: false,
         }
     }
@@ -46,7 +46,8 @@ impl PlaneRows {
         requires plane { p < 4 }
         requires rows { y + band ≤ width image.old }
         ensures rows { (x r : ℕ) → x < width image.old → r < band →
-            cells image.new p x (y + r) ≡ bit_put self.now (cells image.old) p x y r }
+            cells image.new p x (y + r)
+            ≡ bit_put image.old.side self.now (cells image.old) p x y r }
         ensures others { (q x v : ℕ) → q < 4 → x < width image.old → v < width image.old →
             (q ≢ p) ⊎ IsOutside y v → cells image.new q x v ≡ cells image.old q x v }
         ensures side { image.new.side ≡ image.old.side }
@@ -59,6 +60,7 @@ impl PlaneRows {
 }
 
 impl HalfRows {
+    /// Rows that aren't written, in either plane. To put them changes nothing.
     pub(crate) fn blank() -> HalfRows {
         HalfRows {
             lower: PlaneRows::blank(),
@@ -67,7 +69,13 @@ impl HalfRows {
     }
 
     /// Makes the new rows of a band, by the half's table.
-    pub(crate) fn make(&mut self, setting: Setting, by: &HalfTable, band: &Band)
+    pub(crate) fn make(
+        &mut self,
+        room: &mut TableRoom,
+        setting: Setting,
+        by: &HalfTable,
+        band: &Band,
+    )
         requires { IsWithin band.now }
         ensures { (f : Cells) → IsBandOf f band.now → (level : Level) →
             let plane = rows_of level self.new in
@@ -77,7 +85,7 @@ impl HalfRows {
         let HalfTable { table, hood, minor } = *by;
         let lower = &mut self.lower.rows;
         let upper = &mut self.upper.rows;
-        let written = table.band(lower, upper, setting, hood, minor, band);
+        let written = table.band(room, lower, upper, setting, hood, minor, band);
         self.lower.is_written = written.lower;
         self.upper.is_written = written.upper;
     }
@@ -88,7 +96,7 @@ impl HalfRows {
         ensures half { (level : Level) (x r : ℕ) → x < width image.old → r < band →
             let p = plane_of half level in
             cells image.new p x (y + r)
-            ≡ bit_put (rows_of level self.now) (cells image.old) p x y r }
+            ≡ bit_put image.old.side (rows_of level self.now) (cells image.old) p x y r }
         ensures other_half { (level : Level) (x v : ℕ) → x < width image.old →
             v < width image.old → let p = plane_of (other_half half) level in
             cells image.new p x v ≡ cells image.old p x v }
@@ -102,18 +110,38 @@ impl HalfRows {
     }
 }
 
-/// Writes the rows of plane `p` from row `y` on.
+/// Writes the rows of plane `p` from row `y` on. Each side has a loop of its own, compiled for its
+/// rows.
 fn put_rows(image: &mut Planes, p: usize, y: usize, rows: &BandRows)
     requires plane { p < 4 }
     requires rows { y + band ≤ width image.old }
     ensures rows { (x r : ℕ) → x < width image.old → r < band →
-        cells image.new p x (y + r) ≡ column_bit (slice_index_or rows.now r []) x }
+        cells image.new p x (y + r) ≡ bit_in image.old.side rows.now r x }
+    ensures others { (q x v : ℕ) → q < 4 → x < width image.old → v < width image.old →
+        (q ≢ p) ⊎ IsOutside y v → cells image.new q x v ≡ cells image.old q x v }
+    ensures side { image.new.side ≡ image.old.side }
+    ensures limit { image.new.limit ≡ image.old.limit }
+{
+    match image.side() {
+        Side::S128 => put_rows_at(image, Side::S128, p, y, rows),
+        Side::S256 => put_rows_at(image, Side::S256, p, y, rows),
+        Side::S512 => put_rows_at(image, Side::S512, p, y, rows),
+    }
+}
+
+#[inline(always)]
+fn put_rows_at(image: &mut Planes, side: Side, p: usize, y: usize, rows: &BandRows)
+    requires side { side ≡ image.old.side }
+    requires plane { p < 4 }
+    requires rows { y + band ≤ width image.old }
+    ensures rows { (x r : ℕ) → x < width image.old → r < band →
+        cells image.new p x (y + r) ≡ bit_in side rows.now r x }
     ensures others { (q x v : ℕ) → q < 4 → x < width image.old → v < width image.old →
         (q ≢ p) ⊎ IsOutside y v → cells image.new q x v ≡ cells image.old q x v }
     ensures side { image.new.side ≡ image.old.side }
     ensures limit { image.new.limit ≡ image.old.limit }
 {
     for r in 0..HEIGHT {
-        image.set_row_words(p, y + r, rows[r]);
+        image.set_row_words(p, y + r, row_of(rows, side, r));
     }
 }

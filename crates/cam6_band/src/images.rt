@@ -43,6 +43,7 @@ impl AtRest {
         &self.planes
     }
 
+    /// Lends the planes. What is written to them is in the image afterwards.
     pub fn planes_mut(&mut self) -> &mut Planes
         ensures* writes_back { sem 𝓛 (LendsPlanes self.entry result) }
         ensures value { result.now ≡ self.old.planes }
@@ -69,6 +70,7 @@ impl Spare {
         Spare { planes }
     }
 
+    /// The largest side that the image may have.
     pub fn limit(&self) -> Side
         ensures { result ≡ self.now.planes.limit }
     {

@@ -11,7 +11,7 @@ ghost use Rattle.cam6_band.specs.ByTables.{step_by, values_of, half_entries, set
 ghost use Rattle.cam6_band.specs.Limits.{band};
 ghost use Rattle.cam6_band.specs.Internal.NewRows.{AreOldRows, HasNewBits, IsOutside};
 
-use crate::half_rows::HalfRows;
+use crate::rooms::{HalfRoom, Room};
 use crate::tables::{EntryTables, HalfTable};
 use cam6_lines::{Band, HEIGHT};
 use cam6_planes::{CellRow, Planes};
@@ -27,6 +27,7 @@ pub(crate) fn step_band(
     first: &CellRow,
     y: usize,
     tables: &EntryTables,
+    room: &mut Room,
 )
     requires { y + band ≤ width image.old }
     ensures new { let s = width image.old in (f : Cells) →
@@ -40,8 +41,11 @@ pub(crate) fn step_band(
     ensures limit { image.new.limit ≡ image.old.limit }
 {
     match tables.a {
-        Some(by) => step_halves(image, last, first, y, &by, tables),
-        None => step_half(image, last, first, y, tables.setting(Half::B), &tables.b),
+        Some(by) => step_halves(image, last, first, y, &by, tables, room),
+        None => {
+            let b = tables.setting(Half::B);
+            step_half(image, last, first, y, b, &tables.b, &mut room.half)
+        }
     }
 }
 
@@ -54,6 +58,7 @@ fn step_halves(
     y: usize,
     by: &HalfTable,
     tables: &EntryTables,
+    room: &mut Room,
 )
     requires { y + band ≤ width image.old }
     ensures a { let s = width image.old in (f : Cells) →
@@ -69,11 +74,12 @@ fn step_halves(
     ensures side { image.new.side ≡ image.old.side }
     ensures limit { image.new.limit ≡ image.old.limit }
 {
-    let mut rows = HalfRows::blank();
+    let a = tables.setting(Half::A);
+    let b = tables.setting(Half::B);
     let old = old_rows(image, last, first, y);
-    rows.make(tables.setting(Half::A), by, &old);
-    step_half(image, last, first, y, tables.setting(Half::B), &tables.b);
-    rows.put(image, Half::A, y);
+    room.a.make(&mut room.half.table, a, by, &old);
+    step_half(image, last, first, y, b, &tables.b, &mut room.half);
+    room.a.put(image, Half::A, y);
 }
 
 /// Writes a half's new rows, if it has a table, and saves the last of the old ones.
@@ -84,6 +90,7 @@ fn step_half(
     y: usize,
     setting: Setting,
     table: &Option<HalfTable>,
+    room: &mut HalfRoom,
 )
     requires { y + band ≤ width image.old }
     ensures new { let s = width image.old in (f : Cells) →
@@ -99,7 +106,7 @@ fn step_half(
     ensures limit { image.new.limit ≡ image.old.limit }
 {
     match *table {
-        Some(by) => step_by_table(image, last, first, y, setting, &by),
+        Some(by) => step_by_table(image, last, first, y, setting, &by, room),
         None => *last = *image.row(y + HEIGHT - 1),
     }
 }
@@ -113,6 +120,7 @@ fn step_by_table(
     y: usize,
     setting: Setting,
     by: &HalfTable,
+    room: &mut HalfRoom,
 )
     requires { y + band ≤ width image.old }
     ensures new { let s = width image.old in (f : Cells) →
@@ -127,11 +135,10 @@ fn step_by_table(
     ensures side { image.new.side ≡ image.old.side }
     ensures limit { image.new.limit ≡ image.old.limit }
 {
-    let mut rows = HalfRows::blank();
     let old = old_rows(image, last, first, y);
-    rows.make(setting, by, &old);
+    room.rows.make(&mut room.table, setting, by, &old);
     *last = *image.row(y + HEIGHT - 1);
-    rows.put(image, setting.half, y);
+    room.rows.put(image, setting.half, y);
 }
 
 /// The old rows from row `y` on, with those beside them.
@@ -139,7 +146,7 @@ fn old_rows<'a>(image: &'a Planes, last: &'a CellRow, first: &'a CellRow, y: usi
     requires { y + band ≤ width image.now }
     ensures rows { (f : Cells) →
         AreOldRows (width image.now) f y (cells image.now) last.now first.now → IsBandOf f result }
-    ensures side { side_of result ≡ width image.now }
+    ensures side { result.planes.now.side ≡ image.now.side }
     ensures first { result.first ≡ y }
     ensures within { IsWithin result }
 {

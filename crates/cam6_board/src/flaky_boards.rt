@@ -6,6 +6,7 @@ use crate::boards::{BandEnd, Board, BoardFault};
 use crate::images::Image;
 use crate::jobs::Job;
 use crate::tables::Tables;
+use cam6_band::Room;
 use cam6_planes::NoMemory;
 use std::alloc::Global;
 use std::marker::Model;
@@ -16,6 +17,8 @@ use std::marker::Model;
 pub struct FlakyBoard {
     job: Option<Job>,
     tables: Tables,
+    /// What each band is lent.
+    room: Box<Room>,
     /// The calls at which it fails: the next one is 1, and one that has been is 0.
     due: Vec<u64>,
     faults: u64,
@@ -45,9 +48,11 @@ impl FlakyBoard {
         ensures due { IfOk result (λ board. board.due ≡ calls.items) }
         ensures faults { IfOk result (λ board. board.faults ≡ 0) }
     {
+        let room = Box::new(alloc, Room::blank())?;
         Ok(FlakyBoard {
             job: None,
             tables: Tables::blank(alloc)?,
+            room,
             due: calls,
             faults: 0,
         })
@@ -152,7 +157,7 @@ impl Board for FlakyBoard {
         let Some(job) = &mut self.job else {
             unreachable!()
         };
-        Ok(job.band(self.tables.as_slice()))
+        Ok(job.band(self.tables.as_slice(), &mut self.room))
     }
 
     fn unload(&mut self) -> Result<Image, BoardFault>

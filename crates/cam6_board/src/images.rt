@@ -6,7 +6,7 @@ ghost use Rattle.cam6_band.specs.Limits.{band};
 ghost use Rattle.cam6_band.specs.Partway.{Partway};
 ghost use Rattle.cam6_band.specs.ByTables.{step_by, values_of};
 
-use cam6_band::{AtRest, EntryTables, MidStep, Next, Spare};
+use cam6_band::{AtRest, EntryTables, MidStep, Next, Room, Spare};
 use cam6_planes::Side;
 
 /// An image at rest, or one in the middle of a step. A step can't be dropped, so it is abandoned.
@@ -81,14 +81,14 @@ impl Image {
     }
 
     /// Goes on by one band, or begins a step with it.
-    pub(crate) fn band(self, tables: &EntryTables) -> Image
+    pub(crate) fn band(self, tables: &EntryTables, room: &mut Room) -> Image
         // From whatever planes the step began.
         ensures planes { let s = width (planes_in self) in (o : Cells) →
             IsOnTheWay o (step_by s (values_of tables.now) o) self →
             IsBehindBand o (step_by s (values_of tables.now) o) result }
         ensures goes_on { GoesOn self result }
     {
-        match self.into_step(tables).band(tables) {
+        match self.into_step(tables).band_in(tables, room) {
             Next::More(step) => Image::Mid(step),
             Next::Whole(image) => Image::Rest(image),
         }

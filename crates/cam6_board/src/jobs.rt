@@ -6,7 +6,7 @@ ghost use Rattle.cam6_board.specs.Bands.{end_of};
 use crate::boards::BandEnd;
 use crate::images::Image;
 use crate::worked::Worked;
-use cam6_band::go_by;
+use cam6_band::{Room, go_by};
 use cam6_cycle::{Cycle, Direction};
 use cam6_entries::Table;
 use std::marker::Model;
@@ -93,15 +93,15 @@ impl Job {
         self.steps
     }
 
-    /// Does one band, by tables that lie as the cycle needs them. If a step ends with it, moves the
-    /// position on and counts the step.
-    pub fn band(&mut self, tables: &[Table]) -> BandEnd
+    /// Does one band, by tables that lie as the cycle needs them, in room that is lent for it. If a
+    /// step ends with it, moves the position on and counts the step.
+    pub fn band(&mut self, tables: &[Table], room: &mut Room) -> BandEnd
         requires work { 0 < self.old.steps }
         requires room { max_tables ≤ length tables.now }
         ensures { Moves tables.now self.old result self.new }
     {
         let (by, after) = go_by(&self.cycle, self.position, self.direction, tables);
-        self.image.band(&by);
+        self.image.band(&by, room);
         if !self.image.image().is_rest() {
             return BandEnd::Inside;
         }

@@ -5,14 +5,17 @@ use crate::boards::{BandEnd, Board, BoardFault};
 use crate::images::Image;
 use crate::jobs::Job;
 use crate::tables::Tables;
+use cam6_band::Room;
 use cam6_planes::NoMemory;
 use std::alloc::Global;
 
-/// A board that never fails. Its tables are made once.
+/// A board that never fails. Its tables, and the room for its bands, are made once.
 #[derive(Drop)]
 pub struct SoftBoard {
     job: Option<Job>,
     tables: Tables,
+    /// What each band is lent.
+    room: Box<Room>,
 }
 
 impl SoftBoard {
@@ -23,9 +26,11 @@ impl SoftBoard {
     pub fn new(alloc: Global) -> Result<SoftBoard, NoMemory>
         ensures { IfOk result (λ board. load_in board ≡ empty) }
     {
+        let room = Box::new(alloc, Room::blank())?;
         Ok(SoftBoard {
             job: None,
             tables: Tables::blank(alloc)?,
+            room,
         })
     }
 }
@@ -70,7 +75,7 @@ impl Board for SoftBoard {
         let Some(job) = &mut self.job else {
             unreachable!()
         };
-        Ok(job.band(self.tables.as_slice()))
+        Ok(job.band(self.tables.as_slice(), &mut self.room))
     }
 
     fn unload(&mut self) -> Result<Image, BoardFault>

@@ -6,7 +6,7 @@ ghost use Rattle.cam6_band.specs.ByTables.{step_by, values_of};
 ghost use Rattle.cam6_board.specs.Images.{planes_in, IsOnTheWay, IsBehindBand, GoesOn};
 
 use crate::images::Image;
-use cam6_band::EntryTables;
+use cam6_band::{EntryTables, Room};
 use std::marker::Model;
 
 /// An image. It is away only in the midst of a band. Contracts see the image.
@@ -53,7 +53,7 @@ impl Worked {
     }
 
     /// Goes on by one band, or begins a step with it.
-    pub(crate) fn band(&mut self, tables: &EntryTables)
+    pub(crate) fn band(&mut self, tables: &EntryTables, room: &mut Room)
         // From whatever planes the step began.
         ensures planes { let s = width (planes_in self.old) in (o : Cells) →
             IsOnTheWay o (step_by s (values_of tables.now) o) self.old →
@@ -64,6 +64,6 @@ impl Worked {
             Some(image) => image,
             None => unreachable!(),
         };
-        self.image = Some(image.band(tables));
+        self.image = Some(image.band(tables, room));
     }
 }

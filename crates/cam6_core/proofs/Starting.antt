@@ -1,5 +1,5 @@
 -- Users of a new core, one more after the others.
-use Rattle.std.proofs.Common.{Option, None, ◌≡◌, ◌∙◌, ◌<◌, ◌+◌, ◌++◌, ◌⊎◌, inl, inr, ℕ, zero, suc, List, [], ◌∷◌}
+use Rattle.std.proofs.Common.{Option, None, ◌≡◌, ◌∙◌, ◌<◌, ◌+◌, ◌++◌, inl, inr, ℕ, zero, suc, List, [], ◌∷◌}
 use Rattle.std.proofs.Common.{length, map, replicate, Some, refl, sym, ap, subst, arith, get_or}
 use Rattle.std.specs.List.{slice_get}
 use Rattle.std.specs.Option.{option_map}
@@ -12,6 +12,7 @@ use Rattle.cam6_machine.specs.Stored.{StoredMachine, machine_of}
 use Rattle.cam6_model.specs.Machine.{blank}
 use Rattle.cam6_core.specs.declared.parts.Whereabouts.{Whereabouts}
 use Rattle.cam6_core.specs.declared.parts.Whereabouts.TheVariants.{Resting, Queued, Out, Finished}
+use Rattle.cam6_station.proofs.Lists.{last_or_before}
 use Rattle.cam6_station.specs.Held.{Manned}
 use Rattle.cam6_station.specs.Held as board
 use Rattle.cam6_core.specs.State.{State, at_number, IsHeldWithin, AreHeldWithin}
@@ -20,17 +21,6 @@ use Rattle.cam6_core.specs.Good.{UserFits, BoardFits, IsOnHisBoard, Good}
 use Rattle.cam6_core.specs.Model.{User, user, or_nobody, newcomer, resting, Seat, seat, idle}
 use Rattle.cam6_core.specs.Model.{machine_of as alone_of}
 use Rattle.cam6_core.specs.Internal.Starting.{IsNewcomer, AreNewcomersTo, AreNewcomers}
-
--- what stands in a list with one more at its end
-last_or_before : {A : Type 0} (xs : List A) (x : A) (i : ℕ) (y : A) →
-    slice_get (xs ++ x ∷ []) i ≡ Some y → (slice_get xs i ≡ Some y) ⊎ ((i ≡ length xs) × (x ≡ y))
-last_or_before [] x zero y at = inr (refl, same_Some x y at)
-last_or_before [] x (suc i) y at = cc at
-last_or_before (z ∷ xs) x zero y at = inl at
-last_or_before (z ∷ xs) x (suc i) y at = elim (last_or_before xs x i y at) [
-  | inl before ↦ inl before
-  | inr last ↦ inr (ap suc last.0, last.1)
-]
 
 pub one_more : (n : ℕ) (limits : List Side) (users : List Whereabouts) (r : StoredMachine)
     (d : Side) → AreNewcomersTo n limits users → n < length limits →

@@ -9,7 +9,7 @@ use crate::parts::{Core, Whereabouts};
 use cam6_commands::{Command, Event, Outcome, Reply};
 use cam6_slot::Asked;
 use cam6_slot::laws::places_have_the_side;
-use cam6_station::Banded;
+use cam6_station::{Banded, User};
 
 impl Core {
     /// Does an event, or refuses it. Allocates only for an ask and for newly cached tables.
@@ -22,20 +22,29 @@ impl Core {
             return Outcome::Refused(reason);
         }
         match event {
-            Event::Ask(user, command) => self.ask(user, command),
-            Event::Lease(user, board) => self.lease(user, board),
+            Event::Ask(number, command) => {
+                let user = self.user_of(number);
+                self.ask(user, command)
+            }
+            Event::Lease(number, board) => {
+                let user = self.user_of(number);
+                self.lease(user, board)
+            }
             Event::Band(board) => self.band(board),
             Event::Preempt(board) => self.preempt(board),
             Event::Fail(board) => self.fail(board),
             Event::Repair(board) => self.repair(board),
             Event::Evict => self.evict(),
-            Event::Collect(user) => self.collect(user),
+            Event::Collect(number) => {
+                let user = self.user_of(number);
+                self.collect(user)
+            }
         }
     }
 
     /// Gives a user's machine a command. Returns how many bands it needs, which is 0 if its reply
     /// is already there. If an allocation fails, the machine is as it was.
-    fn ask(&mut self, user: u64, command: Command) -> Outcome
+    fn ask(&mut self, user: User, command: Command) -> Outcome
         requires { is_waiting ((standing self.old).user user) ≡ false }
         ensures takes { Takes self.old (event.Ask user command) result self.new }
         ensures others { Spares (event.Ask user command) self.old self.new }
@@ -63,7 +72,7 @@ impl Core {
 
     /// Puts a user's command on an idle board, with its tables filled. Returns how many bands are
     /// left.
-    fn lease(&mut self, user: u64, board: u64) -> Outcome
+    fn lease(&mut self, user: User, board: u64) -> Outcome
         requires board { is_idle ((standing self.old).board board) ≡ true }
         requires user { is_queued ((standing self.old).user user) ≡ true }
         ensures takes { Takes self.old (event.Lease user board) result self.new }
@@ -90,7 +99,7 @@ impl Core {
         match self.band_on(board) {
             Banded::More(left) => Outcome::Banded(left),
             Banded::Last(user, finished) => {
-                self.set_user(user as u64, Whereabouts::Finished(finished));
+                self.set_user(user, Whereabouts::Finished(finished));
                 Outcome::Banded(0)
             }
             Banded::Lost(_, _) => unreachable!(),
@@ -107,7 +116,7 @@ impl Core {
         places_have_the_side();
         let (user, queued) = self.preempt_on(board);
         let left = queued.left();
-        self.set_user(user as u64, Whereabouts::Queued(queued));
+        self.set_user(user, Whereabouts::Queued(queued));
         Outcome::Preempted(left)
     }
 
@@ -119,11 +128,12 @@ impl Core {
         ensures takes { Takes self.old (event.Fail board) result self.new }
         ensures others { Spares (event.Fail board) self.old self.new }
     {
-        let Some((user, queued)) = self.fail_on(board) else {
+        let Some(back) = self.fail_on(board) else {
             return Outcome::Failed(None);
         };
+        let (user, queued) = back;
         let left = queued.left();
-        self.set_user(user as u64, Whereabouts::Queued(queued));
+        self.set_user(user, Whereabouts::Queued(queued));
         Outcome::Failed(Some(left))
     }
 
@@ -148,7 +158,7 @@ impl Core {
     }
 
     /// Returns a user's reply. Their machine has no command then.
-    fn collect(&mut self, user: u64) -> Outcome
+    fn collect(&mut self, user: User) -> Outcome
         requires { is_finished ((standing self.old).user user) ≡ true }
         ensures takes { Takes self.old (event.Collect user) result self.new }
         ensures others { Spares (event.Collect user) self.old self.new }

@@ -30,7 +30,7 @@ pub struct Core {
 
 impl Model for Core {
     ghost use Rattle.std.specs.Prelude.{◌≤◌, length};
-    ghost use Rattle.cam6_commands.specs.Limits.{max_boards};
+    ghost use Rattle.cam6_commands.specs.Limits.{max_boards, max_users};
     ghost use Rattle.cam6_core.specs.State.{State, state, AreHeldWithin};
 
     ghost Value = { State };
@@ -38,5 +38,5 @@ impl Model for Core {
     ghost view = { λ c. state c.users.items c.boards.items c.cache };
 
     ghost invariant = { λ c. AreHeldWithin (length c.users.items) c.boards.items
-        × (length c.boards.items ≤ max_boards) };
+        × (length c.boards.items ≤ max_boards) × (length c.users.items ≤ max_users) };
 }

@@ -9,7 +9,7 @@ ghost use Rattle.cam6_station.specs.Held.{is_idle, is_loaded, is_dead};
 use cam6_board::{Job, SoftBoard, Tables};
 use cam6_planes::NoMemory;
 use cam6_slot::{Lease, Queued};
-use cam6_station::{Banded, Preempted, Station};
+use cam6_station::{Banded, Preempted, Station, User};
 use std::alloc::Global;
 use std::marker::Model;
 
@@ -58,7 +58,7 @@ impl SoftStation {
     }
 
     /// Loads an idle station with the lease of a user.
-    pub(crate) fn load(&mut self, user: usize, lease: Lease, job: Job, tables: &Tables)
+    pub(crate) fn load(&mut self, user: User, lease: Lease, job: Job, tables: &Tables)
         requires idle { self.old ≡ idle }
         requires job { JobFits lease job }
         requires left { 0 < lease_left lease }
@@ -89,7 +89,7 @@ impl SoftStation {
     }
 
     /// Takes the command off the board, which is idle after that. Returns its user and the command.
-    pub(crate) fn preempt(&mut self) -> (usize, Queued)
+    pub(crate) fn preempt(&mut self) -> (User, Queued)
         requires { IsLoaded self.old }
         ensures back { PreemptGives self.old (Preempted.Back result.0 result.1) idle }
         ensures idle { self.new ≡ idle }
@@ -105,7 +105,7 @@ impl SoftStation {
 
     /// The board fails, and with it is lost what it holds: the user's command, if there is one, waits
     /// again with what is at its home.
-    pub(crate) fn fail(&mut self) -> Option<(usize, Queued)>
+    pub(crate) fn fail(&mut self) -> Option<(User, Queued)>
         requires { IsAlive self.old }
         ensures back { FailGives self.old result }
         ensures dead { self.new ≡ dead }

@@ -7,32 +7,42 @@ ghost use Rattle.cam6_slot.specs.Lefts.{lease_left};
 ghost use Rattle.cam6_station.specs.Calls.{BandGives, PreemptGives, FailGives, is_lost};
 ghost use Rattle.cam6_station.specs.Held.{idle, dead, IsLoaded, IsAlive};
 ghost use Rattle.cam6_station.specs.Loading.{IsBehindLoads};
+ghost use Rattle.cam6_core.specs.Refusals.{standing, is_missing};
 ghost use Rattle.cam6_core.specs.State.{at_number, with_user, with_board, board_of, IsNumber};
 ghost use Rattle.cam6_core.specs.Internal.Returning.{IsLoadedWith, IsOfUser, IsOfUserIf};
 
 use crate::parts::{Core, Whereabouts};
 use cam6_board::Job;
 use cam6_slot::{Lease, Queued};
-use cam6_station::{Banded, Preempted};
+use cam6_station::{Banded, Preempted, User};
 use std::mem;
 
 impl Core {
+    /// Returns the user with a number that was looked at. There are at most 32 users.
+    pub(crate) fn user_of(&self, number: u64) -> User
+        requires { is_missing ((standing self.now).user number) ≡ false }
+        ensures { result ≡ number }
+    {
+        let _users = self.users.len();
+        User::numbered(number as usize)
+    }
+
     /// Takes a user's whereabouts, and leaves `Out` in their place.
-    pub(crate) fn take_user(&mut self, user: u64) -> Whereabouts
+    pub(crate) fn take_user(&mut self, user: User) -> Whereabouts
         requires { IsNumber (length self.old.users) user }
         ensures was { at_number self.old.users user ≡ Some result }
         ensures now { self.new ≡ with_user self.old user Whereabouts.Out }
         ensures number { IsNumber (length self.new.users) user }
     {
-        mem::replace(&mut self.users[(user - 1) as usize], Whereabouts::Out)
+        mem::replace(&mut self.users[user.row()], Whereabouts::Out)
     }
 
     /// Replaces a user's whereabouts.
-    pub(crate) fn set_user(&mut self, user: u64, whereabouts: Whereabouts)
+    pub(crate) fn set_user(&mut self, user: User, whereabouts: Whereabouts)
         requires { IsNumber (length self.old.users) user }
         ensures { self.new ≡ with_user self.old user whereabouts }
     {
-        drop(mem::replace(&mut self.users[(user - 1) as usize], whereabouts));
+        drop(mem::replace(&mut self.users[user.row()], whereabouts));
     }
 
     /// Returns the number of an idle board as a lease keeps it. There are at most 8 boards.
@@ -45,7 +55,7 @@ impl Core {
     }
 
     /// Fills the tables of a user's lease, and then loads an idle board with it.
-    pub(crate) fn load(&mut self, board: u64, user: u64, lease: Lease, job: Job)
+    pub(crate) fn load(&mut self, board: u64, user: User, lease: Lease, job: Job)
         requires user { IsNumber (length self.old.users) user }
         requires board { slice_get self.old.boards board ≡ Some idle }
         requires job { JobFits lease job }
@@ -63,7 +73,7 @@ impl Core {
         self.filling.fill(&mut self.cache, &lease);
         let _tables = self.cache.len();
         let station = &mut self.boards[board as usize];
-        station.load(user as usize, lease, job, self.filling.tables());
+        station.load(user, lease, job, self.filling.tables());
     }
 
     /// A board does one band.
@@ -77,8 +87,8 @@ impl Core {
         self.boards[board as usize].band()
     }
 
-    /// Takes the command off a board, and returns it with its user's number.
-    pub(crate) fn preempt_on(&mut self, board: u64) -> (usize, Queued)
+    /// Takes the command off a board, and returns it with its user.
+    pub(crate) fn preempt_on(&mut self, board: u64) -> (User, Queued)
         requires { IsLoaded (board_of self.old board) }
         ensures back { PreemptGives (board_of self.old board)
             (Preempted.Back result.0 result.1) idle }
@@ -88,8 +98,8 @@ impl Core {
         self.boards[board as usize].preempt()
     }
 
-    /// Fails a board, and returns the command that it held, if any, with its user's number.
-    pub(crate) fn fail_on(&mut self, board: u64) -> Option<(usize, Queued)>
+    /// Fails a board, and returns the command that it held, if any, with its user.
+    pub(crate) fn fail_on(&mut self, board: u64) -> Option<(User, Queued)>
         requires { IsAlive (board_of self.old board) }
         ensures back { FailGives (board_of self.old board) result }
         ensures dead { self.new ≡ with_board self.old board dead }

@@ -1,54 +1,13 @@
--- Rows of a band, written one by one.
-use Rattle.std.proofs.Common.{◌≡◌, ℕ, ◌+◌, ◌-◌, ◌*◌, ◌<◌, ◌≤◌, ◌∙◌, ap, sym, arith, Bool}
+-- Rows of a band in its units, written one by one.
+use Rattle.std.proofs.Common.{◌≡◌, ◌≢◌, ℕ, ◌+◌, ◌*◌, ◌/◌, ◌%◌, ◌<◌, ◌≤◌, ◌∙◌, ap, sym, arith, Bool}
 use Rattle.std.proofs.Common.{List, [], length, get_or, set, get_or-set_same, get_or-set_other}
-use Rattle.std.proofs.Math.Nat.{mul_assoc}
 use native.Mathlib.Decide.{dec_lt}
 use Rattle.cam6_planes.specs.Row.{column_bit}
 use Rattle.cam6_planes.specs.Side.{side_number}
 use Rattle.cam6_planes.specs.declared.sides.Side.{Side}
 use Rattle.cam6_planes.specs.declared.sides.Side.TheVariants.{S128, S256, S512}
-use Rattle.cam6_lines.specs.Units.{columns, place}
-
--- one more row is written, where g says what f is to show of each
-pub row_written : (f : List ℕ → Bool) (g : ℕ → Bool) (rows : List (List ℕ)) (v : List ℕ)
-    (k : ℕ) → k < length rows → f v ≡ g k → (r : ℕ) → f (get_or rows r []) ≡ g r →
-    f (get_or (set rows k v) r []) ≡ g r
-row_written f g rows v k within here r there =
-    elim (dec_lt r k) [
-      | Prim.yes lt ↦ ap f (get_or-set_other rows k r v [] (omega arith)) ∙ there
-      | Prim.no ge ↦
-          elim (dec_lt k r) [
-            | Prim.yes gt ↦ ap f (get_or-set_other rows k r v [] (omega arith)) ∙ there
-            | Prim.no le ↦
-                let e : r ≡ k = omega arith in
-                ap (λ n. f (get_or (set rows k v) n [])) e ∙
-                ap f (get_or-set_same rows k v [] within) ∙ here ∙ ap g (sym e)
-          ]
-    ]
-
--- so many words, counted in columns
-pub in_columns : (w n wide : ℕ) → 64 * w ≡ wide → 64 * (w * n) ≡ wide * n
-in_columns w n wide e = sym (mul_assoc 64 w n) ∙ ap (λ m. m * n) e
-
--- a unit's columns lie within a row
-pub row_room : (side : Side) (n : ℕ) → columns side * n < side_number side →
-    columns side * n + columns side ≤ 512
-row_room S128 n h = omega (arith, h)
-row_room S256 n h = omega (arith, h)
-row_room S512 n h = omega (arith, h)
-
--- and its rows within the unit
-pub unit_room : (side : Side) (r : ℕ) → r < 16 → columns side * r + columns side ≤ 4096
-unit_room S128 r h = omega (arith, h)
-unit_room S256 r h = omega (arith, h)
-unit_room S512 r h = omega (arith, h)
-
--- the columns of one more unit
-pub columns_next : (side : Side) (n : ℕ) →
-    columns side * (n + 1) ≡ columns side * n + columns side
-columns_next S128 n = omega arith
-columns_next S256 n = omega arith
-columns_next S512 n = omega arith
+use Rattle.cam6_lines.specs.Units.{columns, place, bit_in}
+use Rattle.cam6_entries.proofs.UnitRows.{same_words}
 
 -- places lie within the words of the unit's rows
 pub place_within : (side : Side) (w r i : ℕ) → 64 * w ≡ columns side → r < 16 →
@@ -57,24 +16,177 @@ place_within S128 w r i e h l = omega (arith, e, h, l)
 place_within S256 w r i e h l = omega (arith, e, h, l)
 place_within S512 w r i e h l = omega (arith, e, h, l)
 
--- one more unit is written, where g says the bit at each row and column
-pub unit_written : (g : ℕ → ℕ → Bool) (old new : List (List ℕ)) (unit : List ℕ) (side : Side)
-    (n : ℕ) →
-    ((r i : ℕ) → r < 16 → i < columns side →
-    column_bit (get_or new r []) (columns side * n + i) ≡ column_bit unit (place side r i)) →
-    ((r x : ℕ) → r < 16 → x < columns side * n →
-    column_bit (get_or new r []) x ≡ column_bit (get_or old r []) x) →
-    ((r i : ℕ) → r < 16 → i < columns side →
-    column_bit unit (place side r i) ≡ g r (columns side * n + i)) →
-    ((r x : ℕ) → r < 16 → x < columns side * n → column_bit (get_or old r []) x ≡ g r x) →
-    (r x : ℕ) → r < 16 → x < columns side * (n + 1) → column_bit (get_or new r []) x ≡ g r x
-unit_written g old new unit side n here before made below r x h l =
+-- so many words, counted in columns
+pub words_begin : (side : Side) (w n : ℕ) → 64 * w ≡ columns side → 64 * (w * n) ≡ columns side * n
+words_begin S128 w n e = let two : w ≡ 2 = omega (arith, e) in rw two (omega arith)
+words_begin S256 w n e = let four : w ≡ 4 = omega (arith, e) in rw four (omega arith)
+words_begin S512 w n e = let four : w ≡ 4 = omega (arith, e) in rw four (omega arith)
+
+-- a row lies within its unit
+pub row_fits : (side : Side) (w r : ℕ) → 64 * w ≡ columns side → r < 16 → w * r + w ≤ 64
+row_fits S128 w r e h = let two : w ≡ 2 = omega (arith, e) in rw two (omega (arith, h))
+row_fits S256 w r e h = let four : w ≡ 4 = omega (arith, e) in rw four (omega (arith, h))
+row_fits S512 w r e h = let four : w ≡ 4 = omega (arith, e) in rw four (omega (arith, h))
+
+-- a unit's part of a row lies within the row
+pub unit_fits : (side : Side) (w unit units : ℕ) → 64 * w ≡ columns side →
+    columns side * units ≡ side_number side → unit < units → w * unit + w ≤ 8
+unit_fits S128 w unit units e all h =
+    let two : w ≡ 2 = omega (arith, e) in rw two (omega (arith, all, h))
+unit_fits S256 w unit units e all h =
+    let four : w ≡ 4 = omega (arith, e) in rw four (omega (arith, all, h))
+unit_fits S512 w unit units e all h =
+    let four : w ≡ 4 = omega (arith, e) in rw four (omega (arith, all, h))
+
+-- there are up to two units
+pub two_units : (side : Side) (units : ℕ) → columns side * units ≡ side_number side → units ≤ 2
+two_units S128 units all = omega (arith, all)
+two_units S256 units all = omega (arith, all)
+two_units S512 units all = omega (arith, all)
+
+-- the unit of a column, and its column there
+
+pub unit_before : (side : Side) (n x : ℕ) → x < columns side * n → x / columns side < n
+unit_before S128 n x h = omega (arith, h)
+unit_before S256 n x h = omega (arith, h)
+unit_before S512 n x h = omega (arith, h)
+
+pub unit_here : (side : Side) (n x : ℕ) → columns side * n ≤ x → x < columns side * (n + 1) →
+    x / columns side ≡ n
+unit_here S128 n x g h = omega (arith, g, h)
+unit_here S256 n x g h = omega (arith, g, h)
+unit_here S512 n x g h = omega (arith, g, h)
+
+pub column_within : (side : Side) (x : ℕ) → x % columns side < columns side
+column_within S128 x = omega arith
+column_within S256 x = omega arith
+column_within S512 x = omega arith
+
+pub column_there : (side : Side) (x : ℕ) → columns side * (x / columns side) + x % columns side ≡ x
+column_there S128 x = omega arith
+column_there S256 x = omega arith
+column_there S512 x = omega arith
+
+-- row r in one more unit, where g says the bit at each column
+pub unit_more : (g : ℕ → Bool) (old : List (List ℕ)) (unit : List ℕ) (side : Side) (n r : ℕ) →
+    n < length old →
+    ((i : ℕ) → i < columns side →
+    column_bit unit (place side r i) ≡ g (columns side * n + i)) →
+    ((x : ℕ) → x < columns side * n → bit_in side old r x ≡ g x) →
+    (x : ℕ) → x < columns side * (n + 1) → bit_in side (set old n unit) r x ≡ g x
+unit_more g old unit side n r within made below x h =
     elim (dec_lt x (columns side * n)) [
-      | Prim.yes lt ↦ before r x h lt ∙ below r x h lt
+      | Prim.yes lt ↦
+          ap (λ u. column_bit u (place side r (x % columns side)))
+          (get_or-set_other old n (x / columns side) unit []
+          (omega (arith, unit_before side n x lt))) ∙ below x lt
       | Prim.no ge ↦
-          let i : ℕ = x - columns side * n in
-          let small : i < columns side = omega (arith, l, columns_next side n) in
-          let e : columns side * n + i ≡ x = omega arith in
-          ap (column_bit (get_or new r [])) (sym e) ∙ here r i h small ∙ made r i h small ∙
-          ap (g r) e
+          let e : x / columns side ≡ n = unit_here side n x (omega (arith, ge)) h in
+          ap (λ m. column_bit (get_or (set old n unit) m []) (place side r (x % columns side))) e ∙
+          ap (λ u. column_bit u (place side r (x % columns side)))
+          (get_or-set_same old n unit [] within) ∙
+          made (x % columns side) (column_within side x) ∙
+          ap (λ m. g (columns side * m + x % columns side)) (sym e) ∙ ap g (column_there side x)
+    ]
+
+-- one more row, where g says the bit of each at a column
+pub row_more : (new old g : ℕ → Bool) (k : ℕ) → k < 16 → new k ≡ g k →
+    ((v : ℕ) → v < 16 → v ≢ k → new v ≡ old v) → ((r : ℕ) → r < k → old r ≡ g r) → (r : ℕ) →
+    r < k + 1 → new r ≡ g r
+row_more new old g k within here others below r h =
+    elim (dec_lt r k) [
+      | Prim.yes lt ↦ others r (omega (arith, lt, within)) (omega (arith, lt)) ∙ below r lt
+      | Prim.no ge ↦
+          let e : r ≡ k = omega (arith, ge, h) in ap new e ∙ here ∙ ap g (sym e)
+    ]
+
+-- where a row's places lie beside those of another row
+pub place_outside : (side : Side) (w v r i c : ℕ) → 64 * w ≡ columns side → i < columns side →
+    v ≢ r → 64 * (w * r) ≤ place side v i → 64 * (w * r + w) ≤ place side v i
+place_outside S128 w v r i c e h other from =
+    let two : w ≡ 2 = omega (arith, e) in
+    let begins : 64 * (w * r) ≡ 128 * r = words_begin S128 w r e in
+    omega (arith, two, begins, h, other, from)
+place_outside S256 w v r i c e h other from =
+    let four : w ≡ 4 = omega (arith, e) in
+    let begins : 64 * (w * r) ≡ 256 * r = words_begin S256 w r e in
+    omega (arith, four, begins, h, other, from)
+place_outside S512 w v r i c e h other from =
+    let four : w ≡ 4 = omega (arith, e) in
+    let begins : 64 * (w * r) ≡ 256 * r = words_begin S512 w r e in
+    omega (arith, four, begins, h, other, from)
+
+-- row v stays, where a unit has another row written
+pub unit_stays : (units : List (List ℕ)) (unit : List ℕ) (side : Side) (w n r v x : ℕ) →
+    n < length units → 64 * w ≡ columns side → v ≢ r →
+    ((c : ℕ) → c < 64 * (w * r) → column_bit unit c ≡ column_bit (get_or units n []) c) →
+    ((c : ℕ) → 64 * (w * r + w) ≤ c → column_bit unit c ≡ column_bit (get_or units n []) c) →
+    bit_in side (set units n unit) v x ≡ bit_in side units v x
+unit_stays units unit side w n r v x within e other before after =
+    let i : ℕ = x % columns side in
+    let at : ℕ = place side v (x % columns side) in
+    let small : x % columns side < columns side = column_within side x in
+    let stays : column_bit unit at ≡ column_bit (get_or units n []) at =
+    elim (dec_lt at (64 * (w * r))) [
+      | Prim.yes lt ↦ before at lt
+      | Prim.no ge ↦
+          after at (place_outside side w v r i 0 e small other (omega (arith, ge)))
+    ] in
+    elim (dec_lt (x / columns side) n) [
+      | Prim.yes lt ↦
+          ap (λ u. column_bit u at)
+          (get_or-set_other units n (x / columns side) unit [] (omega (arith, lt)))
+      | Prim.no ge ↦
+          elim (dec_lt n (x / columns side)) [
+            | Prim.yes gt ↦
+                ap (λ u. column_bit u at)
+                (get_or-set_other units n (x / columns side) unit [] (omega (arith, gt)))
+            | Prim.no le ↦
+                let same : x / columns side ≡ n = omega (arith, ge, le) in
+                ap (λ m. column_bit (get_or (set units n unit) m []) at) same ∙
+                ap (λ u. column_bit u at) (get_or-set_same units n unit [] within) ∙ stays ∙
+                ap (λ m. column_bit (get_or units m []) at) (sym same)
+          ]
+    ]
+
+-- a row of a band that lies in one unit
+pub in_one : (units : List (List ℕ)) (row : List ℕ) (side : Side) (w r : ℕ) →
+    64 * w ≡ columns side → columns side ≡ side_number side →
+    ((k : ℕ) → k < w → get_or row (0 + k) 0 ≡ get_or (get_or units 0 []) (w * r + k) 0) →
+    (x : ℕ) → x < side_number side → column_bit row x ≡ bit_in side units r x
+in_one units row side w r e whole same x h =
+    let i : ℕ = x % columns side in
+    let none : x / columns side ≡ 0 = unit_here side 0 x (omega arith) (omega (arith, h, whole)) in
+    let there : columns side * 0 + x % columns side ≡ x =
+    ap (λ n. columns side * n + x % columns side) (sym none) ∙ column_there side x in
+    let here : x ≡ 64 * 0 + x % columns side = omega (arith, there) in
+    ap (column_bit row) here ∙
+    same_words row (get_or units 0 []) 0 (w * r) w same i
+    (omega (arith, e, column_within side x)) ∙
+    ap (λ n. column_bit (get_or units 0 []) (n + x % columns side)) (words_begin side w r e) ∙
+    ap (λ n. column_bit (get_or units n []) (place side r (x % columns side))) (sym none)
+
+-- and of one that lies in two
+pub in_two : (units : List (List ℕ)) (row : List ℕ) (w r : ℕ) → 64 * w ≡ 256 →
+    ((k : ℕ) → k < w → get_or row (0 + k) 0 ≡ get_or (get_or units 0 []) (w * r + k) 0) →
+    ((k : ℕ) → k < w → get_or row (4 + k) 0 ≡ get_or (get_or units 1 []) (w * r + k) 0) →
+    (x : ℕ) → x < 512 → column_bit row x ≡ bit_in S512 units r x
+in_two units row w r e first second x h =
+    elim (dec_lt x 256) [
+      | Prim.yes lt ↦
+          let none : x / 256 ≡ 0 = omega (arith, lt) in
+          let here : x ≡ 64 * 0 + x % 256 = omega (arith, lt) in
+          let small : x % 256 < 64 * w = omega (arith, e) in
+          ap (column_bit row) here ∙
+          same_words row (get_or units 0 []) 0 (w * r) w first (x % 256) small ∙
+          ap (λ n. column_bit (get_or units 0 []) (n + x % 256)) (words_begin S512 w r e) ∙
+          ap (λ n. column_bit (get_or units n []) (place S512 r (x % 256))) (sym none)
+      | Prim.no ge ↦
+          let one : x / 256 ≡ 1 = omega (arith, ge, h) in
+          let here : x ≡ 64 * 4 + x % 256 = omega (arith, ge, h) in
+          let small : x % 256 < 64 * w = omega (arith, e) in
+          ap (column_bit row) here ∙
+          same_words row (get_or units 1 []) 4 (w * r) w second (x % 256) small ∙
+          ap (λ n. column_bit (get_or units 1 []) (n + x % 256)) (words_begin S512 w r e) ∙
+          ap (λ n. column_bit (get_or units n []) (place S512 r (x % 256))) (sym one)
     ]

@@ -1,6 +1,6 @@
 -- The bits that a program makes which computes the entries.
 use Rattle.std.proofs.Common.{◌≡◌, ℕ, ◌%◌, ◌==◌, ◌∙◌, ap, Bool, List, map}
-use Rattle.std.proofs.Common.{get_or, subst, sym}
+use Rattle.std.proofs.Common.{get_or}
 use Rattle.std.proofs.Math.Nat.{div-one}
 use Rattle.std.proofs.lemmas.List.{length-map}
 use Rattle.cam6_planes.specs.Cells.{Cells}
@@ -35,11 +35,10 @@ computed entries program computes Upper s f setting hood minor x y =
 -- the same by the names of a plan that is for this wiring
 pub computed_by : (entries : List ℕ) (program : Steps) → Computes entries program →
     (level : Level) (s : ℕ) (f : Cells) (setting : Setting) (hood : Hood) (minor : Minor)
-    (asked x y : ℕ) (plan : Asked) → plan ≡ record { lines = asked; hood = hood; minor = minor } →
+    (x y : ℕ) (plan : Asked) → plan.hood ≡ hood → plan.minor ≡ minor →
     bit_by level program (map (line_shows (sees_at s f setting x y)) (names_of plan.hood plan.minor))
     ≡ new_bit entries s f setting hood minor level x y
-computed_by entries program computes level s f setting hood minor asked x y plan e =
-    subst (λ (q : Asked). bit_by level program
-    (map (line_shows (sees_at s f setting x y)) (names_of q.hood q.minor))
-    ≡ new_bit entries s f setting hood minor level x y) (sym e)
-    (computed entries program computes level s f setting hood minor x y)
+computed_by entries program computes level s f setting hood minor x y plan e d =
+    computed entries program computes level s f setting plan.hood plan.minor x y ∙
+    ap (λ h. new_bit entries s f setting h plan.minor level x y) e ∙
+    ap (λ m. new_bit entries s f setting hood m level x y) d

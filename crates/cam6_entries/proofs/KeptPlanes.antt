@@ -1,6 +1,6 @@
 -- Planes in which every cell keeps its bit.
 use Rattle.std.proofs.Common.{◌≡◌, ℕ, ◌<◌, ◌%◌, ◌∙◌, ap, refl, Bool, true, false, not}
-use Rattle.std.proofs.Common.{List, map, get_or, Option, Some, None}
+use Rattle.std.proofs.Common.{List, [], map, get_or, Option, Some, None}
 use Rattle.std.specs.Bool.{if◌then◌else◌}
 use Rattle.std.specs.Option.{is_none}
 use Rattle.std.proofs.Math.Nat.{mod-eq_of_lt}
@@ -18,7 +18,7 @@ use Rattle.cam6_wiring.specs.declared.wirings.Hood.{Hood}
 use Rattle.cam6_wiring.specs.declared.wirings.Hood.TheVariants.{Moore, VonNeumann, Margolus}
 use Rattle.cam6_wiring.specs.declared.wirings.Hood.TheVariants.{MargolusPhase, MargolusHorzVert}
 use Rattle.cam6_wiring.specs.declared.wirings.Minor.{Minor}
-use Rattle.cam6_program.specs.Meaning.{bit_by, given, after_steps, empty}
+use Rattle.cam6_program.specs.Meaning.{bit_by, given, after_steps}
 use Rattle.cam6_program.specs.Programs.{Steps, number, keeps, source_of}
 use Rattle.cam6_program.specs.declared.steps.Source.{Source}
 use Rattle.cam6_lines.specs.Units.{asked_for}
@@ -33,7 +33,7 @@ pub bit_kept : (level : Level) (program : Steps) (bits : List Bool) → keeps le
     bit_by level program bits ≡ get_or bits (number level) false
 bit_kept level program bits =
     given_kept level bits (asked_for program.asked bits)
-    (after_steps (asked_for program.asked bits) program.steps (empty program.slots))
+    (after_steps (asked_for program.asked bits) program.steps [])
     (source_of level program)
 
 cell_here : (s : ℕ) (f : Cells) (half : Half) (level : Level) (x y : ℕ) → x < s → y < s →

@@ -1,8 +1,8 @@
 -- Lemmas, in the order of reading.
 
--- Rows of a unit go to their places in the rows of a band.
+-- Rows of a band, word by word.
 pub mod UnitRows
--- Rows of a band are written one by one.
+-- Rows of a band in its units, written one by one.
 pub mod BandRows
 -- In planes that are kept every cell keeps its bit.
 pub mod KeptPlanes

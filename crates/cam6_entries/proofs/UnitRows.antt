@@ -1,8 +1,8 @@
--- Rows of a unit, written word by word to their places in the rows of a band.
-use Rattle.std.proofs.Common.{◌≡◌, ℕ, ◌+◌, ◌-◌, ◌*◌, ◌<◌, ◌≤◌, ◌∙◌, ap, sym, arith}
-use Rattle.std.proofs.Common.{List, length, get_or, set, refl, length-set}
+-- Rows of a band, word by word.
+use Rattle.std.proofs.Common.{◌≡◌, ℕ, zero, suc, ◌+◌, ◌-◌, ◌*◌, ◌<◌, ◌∙◌, ap, sym, arith}
+use Rattle.std.proofs.Common.{List, length, get_or, set, ◌/◌, ◌%◌}
 use native.Mathlib.Decide.{dec_lt}
-use Rattle.cam6_planes.specs.Row.{column_bit}
+use Rattle.cam6_planes.specs.Row.{word_column, column_bit}
 use Rattle.cam6_planes.proofs.WordByWord.{column_bit-at, column_bit-set_other, column_bit-set_same}
 
 -- one more word, at place j of the row and u of the unit
@@ -26,51 +26,40 @@ word_more row unit from at k j u e d within below i h =
           sym (column_bit-at unit u c small) ∙ ap (column_bit unit) here
     ]
 
--- the columns before stay
-pub word_before : (row : List ℕ) (from j v : ℕ) → from ≤ j → (x : ℕ) → x < 64 * from →
-    column_bit (set row j v) x ≡ column_bit row x
-word_before row from j v past x h = column_bit-set_other row j v x (omega arith)
+-- so many words of a row are those of a unit
+pub same_words : (row unit : List ℕ) (from at m : ℕ) →
+    ((k : ℕ) → k < m → get_or row (from + k) 0 ≡ get_or unit (at + k) 0) →
+    (i : ℕ) → i < 64 * m → column_bit row (64 * from + i) ≡ column_bit unit (64 * at + i)
+same_words row unit from at m same i h =
+    let k : ℕ = i / 64 in
+    let c : ℕ = i % 64 in
+    let small : i % 64 < 64 = omega arith in
+    let there : 64 * from + i ≡ 64 * (from + i / 64) + i % 64 = omega arith in
+    let here : 64 * (at + i / 64) + i % 64 ≡ 64 * at + i = omega arith in
+    ap (column_bit row) there ∙ column_bit-at row (from + k) c small ∙
+    ap (λ w. word_column w c) (same k (omega (arith, h))) ∙
+    sym (column_bit-at unit (at + k) c small) ∙ ap (column_bit unit) here
 
--- a unit's words at u go to places from j on
-abbrev pub two_words : List ℕ → List ℕ → ℕ → ℕ → List ℕ
-two_words row unit from at = set (set row from (get_or unit at 0)) (from + 1) (get_or unit (at + 1) 0)
+pub same_two : (row unit : List ℕ) (from at : ℕ) →
+    get_or row from 0 ≡ get_or unit at 0 → get_or row (from + 1) 0 ≡ get_or unit (at + 1) 0 →
+    (k : ℕ) → k < 2 → get_or row (from + k) 0 ≡ get_or unit (at + k) 0
+same_two row unit from at a b zero h =
+    let e : from + 0 ≡ from = omega arith in
+    let d : at ≡ at + 0 = omega arith in
+    ap (λ n. get_or row n 0) e ∙ a ∙ ap (λ n. get_or unit n 0) d
+same_two row unit from at a b (suc zero) h = b
+same_two row unit from at a b (suc (suc k)) h = absurd (omega (arith, h))
 
-abbrev pub four_words : List ℕ → List ℕ → ℕ → ℕ → List ℕ
-four_words row unit from at =
-    set (set (two_words row unit from at) (from + 2) (get_or unit (at + 2) 0)) (from + 3)
-    (get_or unit (at + 3) 0)
-
-pub two_here : (row unit : List ℕ) (from at : ℕ) → from + 2 ≤ length row → (i : ℕ) → i < 128 →
-    column_bit (two_words row unit from at) (64 * from + i) ≡ column_bit unit (64 * at + i)
-two_here row unit from at room =
-    word_more (set row from (get_or unit at 0)) unit from at 1 (from + 1) (at + 1) refl refl
-    (omega (arith, length-set row from (get_or unit at 0)))
-    (word_more row unit from at 0 from at (omega arith) (omega arith) (omega arith)
-    (λ i h. absurd (omega arith)))
-
-pub two_before : (row unit : List ℕ) (from at x : ℕ) → x < 64 * from →
-    column_bit (two_words row unit from at) x ≡ column_bit row x
-two_before row unit from at x h =
-    word_before (set row from (get_or unit at 0)) from (from + 1) (get_or unit (at + 1) 0)
-    (omega arith) x h ∙ word_before row from from (get_or unit at 0) (omega arith) x h
-
-pub four_here : (row unit : List ℕ) (from at : ℕ) → from + 4 ≤ length row → (i : ℕ) → i < 256 →
-    column_bit (four_words row unit from at) (64 * from + i) ≡ column_bit unit (64 * at + i)
-four_here row unit from at room =
-    let two = two_words row unit from at in
-    let long : length two ≡ length row =
-    length-set (set row from (get_or unit at 0)) (from + 1) (get_or unit (at + 1) 0) ∙
-    length-set row from (get_or unit at 0) in
-    word_more (set two (from + 2) (get_or unit (at + 2) 0)) unit from at 3 (from + 3) (at + 3) refl
-    refl (omega (arith, long, length-set two (from + 2) (get_or unit (at + 2) 0)))
-    (word_more two unit from at 2 (from + 2) (at + 2) refl refl (omega (arith, long))
-    (two_here row unit from at (omega arith)))
-
-pub four_before : (row unit : List ℕ) (from at x : ℕ) → x < 64 * from →
-    column_bit (four_words row unit from at) x ≡ column_bit row x
-four_before row unit from at x h =
-    let two = two_words row unit from at in
-    word_before (set two (from + 2) (get_or unit (at + 2) 0)) from (from + 3)
-    (get_or unit (at + 3) 0) (omega arith) x h ∙
-    word_before two from (from + 2) (get_or unit (at + 2) 0) (omega arith) x h ∙
-    two_before row unit from at x h
+pub same_four : (row unit : List ℕ) (from at : ℕ) →
+    get_or row from 0 ≡ get_or unit at 0 → get_or row (from + 1) 0 ≡ get_or unit (at + 1) 0 →
+    get_or row (from + 2) 0 ≡ get_or unit (at + 2) 0 →
+    get_or row (from + 3) 0 ≡ get_or unit (at + 3) 0 →
+    (k : ℕ) → k < 4 → get_or row (from + k) 0 ≡ get_or unit (at + k) 0
+same_four row unit from at a b c d zero h =
+    let e : from + 0 ≡ from = omega arith in
+    let f : at ≡ at + 0 = omega arith in
+    ap (λ n. get_or row n 0) e ∙ a ∙ ap (λ n. get_or unit n 0) f
+same_four row unit from at a b c d (suc zero) h = b
+same_four row unit from at a b c d (suc (suc zero)) h = c
+same_four row unit from at a b c d (suc (suc (suc zero))) h = d
+same_four row unit from at a b c d (suc (suc (suc (suc k)))) h = absurd (omega (arith, h))

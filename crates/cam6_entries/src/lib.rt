@@ -4,7 +4,8 @@
 //! `Table::band` give each cell the bits of the entry at the address that the cell shows
 //! (`specs/Bands.antt`). A table may have a program, which `Table::quicken` makes from its entries.
 //! A band by the program gives the same bits, only faster. An entry that is written takes the
-//! program away. Only `Table::blank` allocates.
+//! program away. A band is lent a `TableRoom`, which may hold anything before it and after it. Only
+//! `Table::blank` allocates.
 //!
 //! So, if entry 5 of a table is 2, each cell that shows address 5 gets 0 in the lower plane of the
 //! half and 1 in the upper plane.
@@ -13,11 +14,13 @@
 //!
 //! Stands on: `cam6_planes`, `cam6_wiring`, `cam6_lookup`, `cam6_lines` and `cam6_program`.
 //!
-//! Read next: `tables`; then `bands`.
+//! Read next: `tables`; `rooms`, what is lent to a band; then `bands`.
 #![tactic(auto)]
 
 mod bands;
+mod rooms;
 mod tables;
 
-pub use bands::{BandRows, Written};
+pub use bands::{BandRows, Written, row_of};
+pub use rooms::TableRoom;
 pub use tables::{ENTRIES, Table};

@@ -1,25 +1,15 @@
 -- Desks and seats, one more after the others.
-use Rattle.std.proofs.Common.{◌≡◌, ◌∙◌, ◌<◌, ◌+◌, ◌++◌, ◌⊎◌, inl, inr, ℕ, zero, suc, List, [], ◌∷◌}
-use Rattle.std.proofs.Common.{length, Some, refl, sym, ap, subst, arith, get_or}
+use Rattle.std.proofs.Common.{◌≡◌, ◌∙◌, ◌<◌, ◌+◌, ◌++◌, inl, inr, ℕ, suc, List, [], ◌∷◌}
+use Rattle.std.proofs.Common.{length, Some, sym, ap, subst, arith, get_or}
 use Rattle.std.specs.List.{slice_get}
 use Rattle.std.proofs.lemmas.List.{length-append}
 use Rattle.std.proofs.lemmas.Option.{same_Some, slice_get-get_or}
 use Rattle.cam6_planes.specs.declared.sides.Side.{Side}
+use Rattle.cam6_station.proofs.Lists.{last_or_before}
 use Rattle.cam6_handoff.specs.Boot.{AreBlankDesksTo, AreIdleSeats, IsSeatOf}
 use Rattle.cam6_handoff.specs.Desks.{IsBlankDesk}
 use Rattle.cam6_handoff.specs.Holding.{BoardStance}
 use Rattle.cam6_handoff.specs.Standing.{Stance}
-
--- what stands in a list with one more at its end
-last_or_before : {A : Type 0} (xs : List A) (x : A) (i : ℕ) (y : A) →
-    slice_get (xs ++ x ∷ []) i ≡ Some y → (slice_get xs i ≡ Some y) ⊎ ((i ≡ length xs) × (x ≡ y))
-last_or_before [] x zero y at = inr (refl, same_Some x y at)
-last_or_before [] x (suc i) y at = cc at
-last_or_before (z ∷ xs) x zero y at = inl at
-last_or_before (z ∷ xs) x (suc i) y at = elim (last_or_before xs x i y at) [
-  | inl before ↦ inl before
-  | inr last ↦ inr (ap suc last.0, last.1)
-]
 
 pub one_more_desk : (n : ℕ) (limits : List Side) (desks : List Stance) (desk : Stance)
     (d : Side) → AreBlankDesksTo n limits desks → n < length limits →

@@ -17,7 +17,7 @@ use cam6_board::{Job, Tables};
 use cam6_cache::TableCache;
 use cam6_planes::NoMemory;
 use cam6_slot::{Finished, Lease, Queued};
-use cam6_station::Filling;
+use cam6_station::{Filling, User};
 use std::marker::Model;
 use std::sync::{Arc, Mutex, Wait};
 
@@ -160,10 +160,8 @@ impl BoardSeat {
 
     /// Whether the user's command, if it waits, must wait longer: another seat makes many tables,
     /// and the user's last command made many too.
-    pub fn is_held_back(&self, user: usize) -> bool
-        requires { 0 < user }
-    {
-        self.turns.holds_back(user - 1)
+    pub fn is_held_back(&self, user: User) -> bool {
+        self.turns.holds_back(user.row())
     }
 
     /// The tables that were filled last.

@@ -16,9 +16,7 @@ pub mod Looking
 pub mod WrittenRows
 -- Lines that are written one by one.
 pub mod LineByLine
--- The home of a line's part.
-pub mod Homes
+-- The part in which a line is seen.
+pub mod SeenParts
 -- Units that are seen in parts.
 pub mod UnitsSeen
--- How lines are seen is the same at both wider sides.
-pub mod PlannedViews

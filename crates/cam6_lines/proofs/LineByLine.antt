@@ -1,5 +1,5 @@
 -- Lines that are written one by one, and what all of them show.
-use Rattle.std.proofs.Common.{◌≡◌, ℕ, zero, suc, ◌+◌, ◌/◌, ◌%◌, ◌<◌, ◌==◌, ◌&&◌, Bool, true, false}
+use Rattle.std.proofs.Common.{◌≡◌, ℕ, zero, suc, ◌+◌, ◌/◌, ◌%◌, ◌<◌, ◌==◌, ◌&&◌, Bool}
 use Rattle.std.proofs.Common.{List, [], ◌∷◌, map, length, get_or, set, refl, sym, ◌∙◌, ap, subst}
 use Rattle.std.proofs.Common.{arith, get_or-set_other, get_or-set_same}
 use Rattle.std.proofs.lemmas.Nat.Bits.{bit_at-suc, bit_at_lowest}
@@ -19,21 +19,6 @@ one_more P xs d r k room below here j h =
           let e : k ≡ j = omega (arith, h, ge) in
           subst (λ n. P n (get_or (set xs k r) n d)) e
           (subst (P k) (sym (get_or-set_same xs k r d room)) here)
-    ]
-
--- what is set stays set
-pub still_set : (xs : List Bool) (k i : ℕ) → k < length xs → get_or xs i false ≡ true →
-    get_or (set xs k true) i false ≡ true
-still_set xs k i room h =
-    elim (dec_lt i k) [
-      | Prim.yes lt ↦ get_or-set_other xs k i true false (omega (arith, lt)) ∙ h
-      | Prim.no ge ↦
-          elim (dec_lt k i) [
-            | Prim.yes gt ↦ get_or-set_other xs k i true false (omega (arith, gt)) ∙ h
-            | Prim.no le ↦
-                let e : i ≡ k = omega (arith, ge, le) in
-                ap (λ n. get_or (set xs k true) n false) e ∙ get_or-set_same xs k true false room
-          ]
     ]
 
 -- two lists of one length, of which the first shows, item by item, what the second does where a

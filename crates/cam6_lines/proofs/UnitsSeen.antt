@@ -10,8 +10,10 @@ use Rattle.cam6_planes.proofs.Blank.{column_bit-zeros}
 use Rattle.cam6_planes.proofs.WordByWord.{column_bit-at}
 use Rattle.cam6_wiring.specs.Seen.{line_shows}
 use Rattle.cam6_wiring.specs.declared.names.Name.{Name}
-use Rattle.cam6_lines.specs.Units.{columns, place}
-use Rattle.cam6_lines.specs.Internal.Views.{home_of, seen_from, view_of, unit_of}
+use Rattle.cam6_lines.specs.Units.{columns, place, place as place_of}
+use Rattle.cam6_lines.specs.Internal.Views.{part_name, seen_from, unit_of, IsPartFor, IsSeen}
+use Rattle.cam6_lines.specs.declared.views.View.{View}
+use Rattle.cam6_lines.specs.declared.views.Needed.{Needed}
 
 -- the columns of a unit that is seen from a word on
 unit_column : (part : List ℕ) (start x : ℕ) → x < 4096 →
@@ -34,27 +36,34 @@ place_below S128 r i h l = omega (arith, h, l)
 place_below S256 r i h l = omega (arith, h, l)
 place_below S512 r i h l = omega (arith, h, l)
 
-place_there : (side : Side) (r from i : ℕ) →
-    64 * (columns side / 64 * from) + place side r i ≡ place side (r + from) i
-place_there S128 r from i = omega arith
-place_there S256 r from i = omega arith
-place_there S512 r from i = omega arith
+place_there : (side : Side) (words r from i : ℕ) → 64 * words ≡ columns side →
+    64 * (words * from) + place side r i ≡ place side (r + from) i
+place_there S128 words r from i e =
+    let two : words ≡ 2 = omega (arith, e) in rw two (omega arith)
+place_there S256 words r from i e =
+    let four : words ≡ 4 = omega (arith, e) in rw four (omega arith)
+place_there S512 words r from i e =
+    let four : words ≡ 4 = omega (arith, e) in rw four (omega arith)
 
--- a line shows what its home's part does, where it is asked for and has a name, and 0 elsewhere
-pub line_seen : (side : Side) (parts : List (List ℕ)) (asked : Bool) (known : Option Name)
-    (line r i : ℕ) (sees : Name → Bool) → r < 16 → i < columns side →
-    ((name : Name) → asked ≡ true → known ≡ Some name →
-    column_bit (get_or parts (home_of name line) []) (place side (r + seen_from name) i)
-    ≡ sees name) →
-    column_bit (unit_of parts (view_of side asked known line)) (place side r i)
-    ≡ (asked && line_shows sees known)
-line_seen side parts false known line r i sees h l is = column_bit-zeros 64 (place side r i)
-line_seen side parts true None line r i sees h l is = column_bit-zeros 64 (place side r i)
-line_seen side parts true (Some name) line r i sees h l is =
-    let part = get_or parts (home_of name line) [] in
-    unit_column part (columns side / 64 * seen_from name) (place side r i)
-    (place_below side r i h l) ∙ ap (column_bit part) (place_there side r (seen_from name) i) ∙
-    is name refl refl
+-- a line shows what its part does, where it is asked for and has a name, and 0 elsewhere
+pub line_seen : (side : Side) (parts : List (List ℕ)) (needed : Needed) (asked : Bool)
+    (known : Option Name) (view : Option View) (words r i : ℕ) (sees : Name → Bool) →
+    64 * words ≡ columns side → r < 16 → i < columns side → IsSeen needed asked known view →
+    ((name : Name) (place : ℕ) → IsPartFor needed (part_name name) place →
+    column_bit (get_or parts place []) (place_of side (r + seen_from name) i) ≡ sees name) →
+    column_bit (unit_of parts words view) (place_of side r i) ≡ (asked && line_shows sees known)
+line_seen side parts needed false known view words r i sees e h l seen is =
+    ap (λ v. column_bit (unit_of parts words v) (place_of side r i)) seen ∙
+    column_bit-zeros 64 (place_of side r i)
+line_seen side parts needed true None view words r i sees e h l seen is =
+    ap (λ v. column_bit (unit_of parts words v) (place_of side r i)) seen ∙
+    column_bit-zeros 64 (place_of side r i)
+line_seen side parts needed true (Some name) None words r i sees e h l seen is = absurd seen
+line_seen side parts needed true (Some name) (Some view) words r i sees e h l seen is =
+    let part = get_or parts view.part [] in
+    unit_column part (words * view.row) (place_of side r i) (place_below side r i h l) ∙
+    ap (λ n. column_bit part (64 * (words * n) + place_of side r i)) seen.1 ∙
+    ap (column_bit part) (place_there side words r (seen_from name) i e) ∙ is name view.part seen.0
 
 -- the items of a list, one after the other
 abbrev pub items : {A : Type 0} → ℕ → ℕ → List A → A → List A

@@ -7,7 +7,6 @@ use Rattle.cam6_planes.specs.declared.sides.Side.TheVariants.{S128, S256, S512}
 use Rattle.cam6_planes.specs.Row.{column_bit}
 use Rattle.cam6_planes.proofs.WordByWord.{column_bit-at, column_bit-set_other, column_bit-set_same}
 use Rattle.cam6_lines.specs.Units.{columns, place}
-use Rattle.cam6_lines.proofs.RowsOfUnits.{columns_most}
 
 -- one more word of a row, from word at on
 pub word_more : (part row : List ℕ) (at k : ℕ) → at + k < length part →
@@ -51,7 +50,7 @@ earlier S512 r j i h l = omega (arith, h, l)
 -- one more row of a part, where g says the bit at each column of each row
 pub rows_more : (side : Side) (g : ℕ → ℕ → Bool) (old new row : List ℕ) (w first j : ℕ) →
     64 * w ≡ columns side →
-    ((x : ℕ) → x < 256 → column_bit new (64 * (w * j) + x) ≡ column_bit row x) →
+    ((x : ℕ) → x < 64 * w → column_bit new (64 * (w * j) + x) ≡ column_bit row x) →
     ((x : ℕ) → x < 64 * (w * j) → column_bit new x ≡ column_bit old x) →
     ((i : ℕ) → i < columns side → column_bit row i ≡ g j i) →
     ((r i : ℕ) → first ≤ r → r < j → i < columns side → column_bit old (place side r i) ≡ g r i) →
@@ -65,5 +64,5 @@ rows_more side g old new row w first j e here before made done r i from h l =
           let last : r ≡ j = omega (arith, h, ge) in
           ap (λ n. column_bit new (columns side * n + i)) last ∙
           ap (λ n. column_bit new (n + i)) (sym (row_begins side w j e)) ∙
-          here i (omega (arith, l, columns_most side)) ∙ made i l ∙ ap (λ n. g n i) (sym last)
+          here i (omega (arith, l, e)) ∙ made i l ∙ ap (λ n. g n i) (sym last)
     ]

@@ -15,7 +15,6 @@ ghost use Rattle.cam6_lines.specs.declared.rows.TheConstants.{ROW_WORDS};
 
 use crate::bands::{Band, HEIGHT};
 use crate::rows::{ROW_WORDS, UnitRow, is_lower, row_seen, seen_beside, seen_in_block};
-use crate::units::words_of_row;
 use cam6_planes::Side;
 use cam6_wiring::{Compass, Grid, Name, Rotation, Setting};
 
@@ -27,79 +26,144 @@ pub(crate) const PART: usize = 72;
 pub(crate) type Part = [u64; PART];
 
 /// Writes what the cells of the unit see under a name, in each row of the part that is made for
-/// the name.
-pub(crate) fn put_part(part: &mut Part, setting: Setting, name: Name, band: &Band, unit: usize)
+/// the name. A row of the unit has `W` words, so loops over its words are compiled for as many.
+#[inline(always)]
+pub(crate) fn put_part<const W: usize>(
+    part: &mut Part,
+    side: Side,
+    setting: Setting,
+    name: Name,
+    band: &Band,
+    unit: usize,
+)
+    requires words { 64 * W ≡ columns band.now.planes.now.side }
+    requires side { side ≡ band.now.planes.now.side }
     requires within { IsWithin band.now }
     requires unit { columns band.now.planes.now.side * unit < side_of band.now }
     ensures { (f : Cells) → IsBandOf f band.now → ShowsPart f setting name band.now unit part.new }
 {
     let Setting { half, grid, .. } = setting;
     match name {
-        Name::Beside(Compass::Center, level) => put_here(part, half.plane(level), band, unit),
-        Name::Beside(Compass::West, level) => put_west(part, half.plane(level), band, unit),
-        Name::Beside(Compass::East, level) => put_east(part, half.plane(level), band, unit),
-        Name::MinorCenter(level) => put_here(part, half.other().plane(level), band, unit),
+        Name::Beside(Compass::Center, level) => put_here::<W>(
+            part,
+            side,
+            half.plane(level),
+            band,
+            unit,
+        ),
+        Name::Beside(Compass::West, level) => put_west::<W>(
+            part,
+            side,
+            half.plane(level),
+            band,
+            unit,
+        ),
+        Name::Beside(Compass::East, level) => put_east::<W>(
+            part,
+            side,
+            half.plane(level),
+            band,
+            unit,
+        ),
+        Name::MinorCenter(level) => {
+            put_here::<W>(part, side, half.other().plane(level), band, unit)
+        }
         Name::InBlock(rotation, level) => match grid {
-            Grid::Even => put_in_even_blocks(part, rotation, half.plane(level), band, unit),
-            Grid::Odd => put_in_odd_blocks(part, rotation, half.plane(level), band, unit),
+            Grid::Even => put_in_even_blocks::<W>(
+                part,
+                side,
+                rotation,
+                half.plane(level),
+                band,
+                unit,
+            ),
+            Grid::Odd => put_in_odd_blocks::<W>(
+                part,
+                side,
+                rotation,
+                half.plane(level),
+                band,
+                unit,
+            ),
         },
-        _ => put_rows(part, setting, name, band, unit),
+        _ => put_rows::<W>(part, side, setting, name, band, unit),
     }
 }
 
 /// As `put_part`, under any name. The functions below do the same for names that many lines have.
 /// Each has a loop of its own, so that no row asks anew where its cells look.
-fn put_rows(part: &mut Part, setting: Setting, name: Name, band: &Band, unit: usize)
+fn put_rows<const W: usize>(
+    part: &mut Part,
+    side: Side,
+    setting: Setting,
+    name: Name,
+    band: &Band,
+    unit: usize,
+)
+    requires words { 64 * W ≡ columns band.now.planes.now.side }
+    requires side { side ≡ band.now.planes.now.side }
     requires within { IsWithin band.now }
     requires unit { columns band.now.planes.now.side * unit < side_of band.now }
     ensures { (f : Cells) → IsBandOf f band.now → ShowsPart f setting name band.now unit part.new }
 {
-    let side = band.planes.side();
-    let words = words_of_row(side);
     let first = first_row(name);
     for j in first..HEIGHT + 2 - first {
-        put_row(
-            part,
-            words * j,
-            row_seen(side, setting, name, band, unit, j),
-        );
+        put_row::<W>(part, W * j, row_seen(side, setting, name, band, unit, j));
     }
 }
 
 /// Writes the cells of the unit in plane `p`.
-fn put_here(part: &mut Part, p: usize, band: &Band, unit: usize)
+#[inline(always)]
+fn put_here<const W: usize>(part: &mut Part, side: Side, p: usize, band: &Band, unit: usize)
+    requires words { 64 * W ≡ columns band.now.planes.now.side }
+    requires side { side ≡ band.now.planes.now.side }
     requires plane { p < 4 }
     requires within { IsWithin band.now }
     requires unit { columns band.now.planes.now.side * unit < side_of band.now }
     ensures { (f : Cells) → IsBandOf f band.now → ShowsBeside f Center p band.now unit part.new }
 {
-    put_beside(part, Compass::Center, p, band, unit);
+    put_beside::<W>(part, side, Compass::Center, p, band, unit);
 }
 
 /// Writes what lies to the west of the cells in plane `p`.
-fn put_west(part: &mut Part, p: usize, band: &Band, unit: usize)
+#[inline(always)]
+fn put_west<const W: usize>(part: &mut Part, side: Side, p: usize, band: &Band, unit: usize)
+    requires words { 64 * W ≡ columns band.now.planes.now.side }
+    requires side { side ≡ band.now.planes.now.side }
     requires plane { p < 4 }
     requires within { IsWithin band.now }
     requires unit { columns band.now.planes.now.side * unit < side_of band.now }
     ensures { (f : Cells) → IsBandOf f band.now → ShowsBeside f West p band.now unit part.new }
 {
-    put_beside(part, Compass::West, p, band, unit);
+    put_beside::<W>(part, side, Compass::West, p, band, unit);
 }
 
 /// Writes what lies to the east of the cells in plane `p`.
-fn put_east(part: &mut Part, p: usize, band: &Band, unit: usize)
+#[inline(always)]
+fn put_east<const W: usize>(part: &mut Part, side: Side, p: usize, band: &Band, unit: usize)
+    requires words { 64 * W ≡ columns band.now.planes.now.side }
+    requires side { side ≡ band.now.planes.now.side }
     requires plane { p < 4 }
     requires within { IsWithin band.now }
     requires unit { columns band.now.planes.now.side * unit < side_of band.now }
     ensures { (f : Cells) → IsBandOf f band.now → ShowsBeside f East p band.now unit part.new }
 {
-    put_beside(part, Compass::East, p, band, unit);
+    put_beside::<W>(part, side, Compass::East, p, band, unit);
 }
 
 /// Writes what lies in this direction in plane `p`. The first row and the last one lie elsewhere,
 /// so they are written apart from the others.
 #[inline(always)]
-fn put_beside(part: &mut Part, compass: Compass, p: usize, band: &Band, unit: usize)
+fn put_beside<const W: usize>(
+    part: &mut Part,
+    side: Side,
+    compass: Compass,
+    p: usize,
+    band: &Band,
+    unit: usize,
+)
+    requires words { 64 * W ≡ columns band.now.planes.now.side }
+    requires side { side ≡ band.now.planes.now.side }
     requires compass { first_beside compass ≡ 0 }
     requires plane { p < 4 }
     requires within { IsWithin band.now }
@@ -108,17 +172,16 @@ fn put_beside(part: &mut Part, compass: Compass, p: usize, band: &Band, unit: us
 {
     // A copy, since no write to the part can change it: its fields are fetched once.
     let own = *band;
-    let side = own.planes.side();
-    put_row_beside(part, side, compass, p, &own, unit, 0);
+    put_row_beside::<W>(part, side, compass, p, &own, unit, 0);
     for j in 1..HEIGHT + 1 {
-        put_row_beside(part, side, compass, p, &own, unit, j);
+        put_row_beside::<W>(part, side, compass, p, &own, unit, j);
     }
-    put_row_beside(part, side, compass, p, &own, unit, HEIGHT + 1);
+    put_row_beside::<W>(part, side, compass, p, &own, unit, HEIGHT + 1);
 }
 
 /// Writes row `j` for `put_beside`, after the rows before it.
 #[inline(always)]
-fn put_row_beside(
+fn put_row_beside<const W: usize>(
     part: &mut Part,
     side: Side,
     compass: Compass,
@@ -127,6 +190,7 @@ fn put_row_beside(
     unit: usize,
     j: usize,
 )
+    requires words { 64 * W ≡ columns band.now.planes.now.side }
     requires side { side ≡ band.now.planes.now.side }
     requires plane { p < 4 }
     requires within { IsWithin band.now }
@@ -137,14 +201,22 @@ fn put_row_beside(
         ShowsRowsBeside f compass p band.now unit j part.old →
         ShowsRowsBeside f compass p band.now unit (j + 1) part.new }
 {
-    let at = words_of_row(side) * j;
-    put_row(part, at, seen_beside(side, compass, p, band, unit, j));
+    put_row::<W>(part, W * j, seen_beside(side, compass, p, band, unit, j));
 }
 
 /// Writes what lies in the cells' blocks of the even grid. The columns of a block lie in one word.
 /// Each call gets the grid and the rotation as constants, so its loop is compiled for them alone.
 #[inline(never)]
-fn put_in_even_blocks(part: &mut Part, rotation: Rotation, p: usize, band: &Band, unit: usize)
+fn put_in_even_blocks<const W: usize>(
+    part: &mut Part,
+    side: Side,
+    rotation: Rotation,
+    p: usize,
+    band: &Band,
+    unit: usize,
+)
+    requires words { 64 * W ≡ columns band.now.planes.now.side }
+    requires side { side ≡ band.now.planes.now.side }
     requires plane { p < 4 }
     requires within { IsWithin band.now }
     requires unit { columns band.now.planes.now.side * unit < side_of band.now }
@@ -155,23 +227,39 @@ fn put_in_even_blocks(part: &mut Part, rotation: Rotation, p: usize, band: &Band
     match rotation {
         Rotation::Clockwise => {
             if lower {
-                put_from_lower(part, Grid::Even, Rotation::Clockwise, p, band, unit)
+                put_from_lower::<W>(part, side, Grid::Even, Rotation::Clockwise, p, band, unit)
             } else {
-                put_from_upper(part, Grid::Even, Rotation::Clockwise, p, band, unit)
+                put_from_upper::<W>(part, side, Grid::Even, Rotation::Clockwise, p, band, unit)
             }
         }
         Rotation::Opposite => {
             if lower {
-                put_from_lower(part, Grid::Even, Rotation::Opposite, p, band, unit)
+                put_from_lower::<W>(part, side, Grid::Even, Rotation::Opposite, p, band, unit)
             } else {
-                put_from_upper(part, Grid::Even, Rotation::Opposite, p, band, unit)
+                put_from_upper::<W>(part, side, Grid::Even, Rotation::Opposite, p, band, unit)
             }
         }
         Rotation::CounterClockwise => {
             if lower {
-                put_from_lower(part, Grid::Even, Rotation::CounterClockwise, p, band, unit)
+                put_from_lower::<W>(
+                    part,
+                    side,
+                    Grid::Even,
+                    Rotation::CounterClockwise,
+                    p,
+                    band,
+                    unit,
+                )
             } else {
-                put_from_upper(part, Grid::Even, Rotation::CounterClockwise, p, band, unit)
+                put_from_upper::<W>(
+                    part,
+                    side,
+                    Grid::Even,
+                    Rotation::CounterClockwise,
+                    p,
+                    band,
+                    unit,
+                )
             }
         }
     }
@@ -179,7 +267,16 @@ fn put_in_even_blocks(part: &mut Part, rotation: Rotation, p: usize, band: &Band
 
 /// As `put_in_even_blocks`, of the odd grid. The columns of some of its blocks lie in two words.
 #[inline(never)]
-fn put_in_odd_blocks(part: &mut Part, rotation: Rotation, p: usize, band: &Band, unit: usize)
+fn put_in_odd_blocks<const W: usize>(
+    part: &mut Part,
+    side: Side,
+    rotation: Rotation,
+    p: usize,
+    band: &Band,
+    unit: usize,
+)
+    requires words { 64 * W ≡ columns band.now.planes.now.side }
+    requires side { side ≡ band.now.planes.now.side }
     requires plane { p < 4 }
     requires within { IsWithin band.now }
     requires unit { columns band.now.planes.now.side * unit < side_of band.now }
@@ -190,23 +287,39 @@ fn put_in_odd_blocks(part: &mut Part, rotation: Rotation, p: usize, band: &Band,
     match rotation {
         Rotation::Clockwise => {
             if lower {
-                put_from_lower(part, Grid::Odd, Rotation::Clockwise, p, band, unit)
+                put_from_lower::<W>(part, side, Grid::Odd, Rotation::Clockwise, p, band, unit)
             } else {
-                put_from_upper(part, Grid::Odd, Rotation::Clockwise, p, band, unit)
+                put_from_upper::<W>(part, side, Grid::Odd, Rotation::Clockwise, p, band, unit)
             }
         }
         Rotation::Opposite => {
             if lower {
-                put_from_lower(part, Grid::Odd, Rotation::Opposite, p, band, unit)
+                put_from_lower::<W>(part, side, Grid::Odd, Rotation::Opposite, p, band, unit)
             } else {
-                put_from_upper(part, Grid::Odd, Rotation::Opposite, p, band, unit)
+                put_from_upper::<W>(part, side, Grid::Odd, Rotation::Opposite, p, band, unit)
             }
         }
         Rotation::CounterClockwise => {
             if lower {
-                put_from_lower(part, Grid::Odd, Rotation::CounterClockwise, p, band, unit)
+                put_from_lower::<W>(
+                    part,
+                    side,
+                    Grid::Odd,
+                    Rotation::CounterClockwise,
+                    p,
+                    band,
+                    unit,
+                )
             } else {
-                put_from_upper(part, Grid::Odd, Rotation::CounterClockwise, p, band, unit)
+                put_from_upper::<W>(
+                    part,
+                    side,
+                    Grid::Odd,
+                    Rotation::CounterClockwise,
+                    p,
+                    band,
+                    unit,
+                )
             }
         }
     }
@@ -214,14 +327,17 @@ fn put_in_odd_blocks(part: &mut Part, rotation: Rotation, p: usize, band: &Band,
 
 /// Writes what lies in the cells' blocks, if the band is eight whole rows of blocks.
 #[inline(always)]
-fn put_from_upper(
+fn put_from_upper<const W: usize>(
     part: &mut Part,
+    side: Side,
     grid: Grid,
     rotation: Rotation,
     p: usize,
     band: &Band,
     unit: usize,
 )
+    requires words { 64 * W ≡ columns band.now.planes.now.side }
+    requires side { side ≡ band.now.planes.now.side }
     requires upper { side_in_block grid band.now.first ≡ 0 }
     requires plane { p < 4 }
     requires within { IsWithin band.now }
@@ -230,23 +346,25 @@ fn put_from_upper(
         ShowsInBlock f grid rotation p band.now unit part.new }
 {
     let own = *band;
-    let side = own.planes.side();
     for k in 0..HEIGHT / 2 {
-        put_pair(part, side, grid, rotation, p, &own, unit, 2 * k + 1);
+        put_pair::<W>(part, side, grid, rotation, p, &own, unit, 2 * k + 1);
     }
 }
 
 /// As `put_from_upper`, if the band's first row shares its blocks with the row to the band's north,
 /// and the last one with the row to its south.
 #[inline(always)]
-fn put_from_lower(
+fn put_from_lower<const W: usize>(
     part: &mut Part,
+    side: Side,
     grid: Grid,
     rotation: Rotation,
     p: usize,
     band: &Band,
     unit: usize,
 )
+    requires words { 64 * W ≡ columns band.now.planes.now.side }
+    requires side { side ≡ band.now.planes.now.side }
     requires lower { side_in_block grid band.now.first ≡ 1 }
     requires plane { p < 4 }
     requires within { IsWithin band.now }
@@ -255,17 +373,16 @@ fn put_from_lower(
         ShowsInBlock f grid rotation p band.now unit part.new }
 {
     let own = *band;
-    let side = own.planes.side();
     for k in 0..HEIGHT / 2 {
-        put_row_in_block(part, side, grid, rotation, true, p, &own, unit, 2 * k + 1);
-        put_row_in_block(part, side, grid, rotation, false, p, &own, unit, 2 * k + 2);
+        put_row_in_block::<W>(part, side, grid, rotation, true, p, &own, unit, 2 * k + 1);
+        put_row_in_block::<W>(part, side, grid, rotation, false, p, &own, unit, 2 * k + 2);
     }
 }
 
 /// Writes row `j`, the upper one of its blocks, and their lower one, after the rows before. Both
 /// are made before the first is written, so that what they look at is fetched once.
 #[inline(always)]
-fn put_pair(
+fn put_pair<const W: usize>(
     part: &mut Part,
     side: Side,
     grid: Grid,
@@ -275,6 +392,7 @@ fn put_pair(
     unit: usize,
     j: usize,
 )
+    requires words { 64 * W ≡ columns band.now.planes.now.side }
     requires side { side ≡ band.now.planes.now.side }
     requires upper { side_in_block grid (band.now.first + j - 1) ≡ 0 }
     requires plane { p < 4 }
@@ -286,16 +404,15 @@ fn put_pair(
         ShowsRowsInBlock f grid rotation p band.now unit j part.old →
         ShowsRowsInBlock f grid rotation p band.now unit (j + 2) part.new }
 {
-    let words = words_of_row(side);
     let upper = seen_in_block(side, grid, rotation, false, p, band, unit, j);
     let lower = seen_in_block(side, grid, rotation, true, p, band, unit, j + 1);
-    put_row(part, words * j, upper);
-    put_row(part, words * (j + 1), lower);
+    put_row::<W>(part, W * j, upper);
+    put_row::<W>(part, W * (j + 1), lower);
 }
 
 /// As `put_pair`, for row `j` alone.
 #[inline(always)]
-fn put_row_in_block(
+fn put_row_in_block<const W: usize>(
     part: &mut Part,
     side: Side,
     grid: Grid,
@@ -306,6 +423,7 @@ fn put_row_in_block(
     unit: usize,
     j: usize,
 )
+    requires words { 64 * W ≡ columns band.now.planes.now.side }
     requires side { side ≡ band.now.planes.now.side }
     requires lower { lower ≡ (side_in_block grid (band.now.first + j - 1) == 1) }
     requires plane { p < 4 }
@@ -317,10 +435,9 @@ fn put_row_in_block(
         ShowsRowsInBlock f grid rotation p band.now unit j part.old →
         ShowsRowsInBlock f grid rotation p band.now unit (j + 1) part.new }
 {
-    let at = words_of_row(side) * j;
-    put_row(
+    put_row::<W>(
         part,
-        at,
+        W * j,
         seen_in_block(side, grid, rotation, lower, p, band, unit, j),
     );
 }
@@ -337,16 +454,15 @@ fn first_row(name: Name) -> usize
     }
 }
 
-/// Writes a row from word `at` on. At side 128 its last two words lie in the next row, which is
-/// written after it.
+/// Writes the first `W` words of a row from word `at` on.
 #[inline(always)]
-fn put_row(part: &mut Part, at: usize, row: UnitRow)
-    requires room { at + ROW_WORDS ≤ PART }
-    ensures row { (x : ℕ) → x < 64 * ROW_WORDS →
-        column_bit part.new (64 * at + x) ≡ column_bit row x }
+fn put_row<const W: usize>(part: &mut Part, at: usize, row: UnitRow)
+    requires words { W ≤ ROW_WORDS }
+    requires room { at + W ≤ PART }
+    ensures row { (x : ℕ) → x < 64 * W → column_bit part.new (64 * at + x) ≡ column_bit row x }
     ensures before { (x : ℕ) → x < 64 * at → column_bit part.new x ≡ column_bit part.old x }
 {
-    for k in 0..ROW_WORDS {
+    for k in 0..W {
         part[at + k] = row[k];
     }
 }

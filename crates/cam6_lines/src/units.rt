@@ -26,7 +26,8 @@ pub fn words_of_row(side: Side) -> usize
 
 /// How many units make a band.
 pub fn units_of_band(side: Side) -> usize
-    ensures { columns side * result ≡ side_number side }
+    ensures columns { columns side * result ≡ side_number side }
+    ensures most { result ≤ 2 }
 {
     match side {
         Side::S128 | Side::S256 => 1,

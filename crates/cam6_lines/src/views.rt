@@ -1,104 +1,132 @@
-//! From which part, and from which row of it on, each line's unit is seen.
-ghost use Rattle.std.specs.Prelude.{◌≡◌, ◌<◌, ◌≤◌, ◌*◌, ◌==◌, ℕ, IfSome, Some, None, true, false};
-ghost use Rattle.std.specs.Prelude.{slice_index_or, length, take, drop, [], ◌-◌};
+//! In which part, and from which row of it on, each line's unit is seen.
+ghost use Rattle.std.specs.Prelude.{◌≡◌, ◌<◌, ◌≤◌, ◌*◌, ◌+◌, ◌==◌, ℕ, IfSome, Some, None};
+ghost use Rattle.std.specs.Prelude.{slice_index_or, length, take, drop, [], IsTrue};
 ghost use Rattle.cam6_lines.specs.declared.parts.TheConstants.{PART};
 ghost use Rattle.cam6_lines.specs.declared.units.TheConstants.{UNIT};
 ghost use Rattle.std.specs.Int.{bit_at};
 ghost use Rattle.cam6_wiring.specs.declared.names.Name.{Name};
 ghost use Rattle.cam6_wiring.specs.declared.wirings.TheConstants.{LINES};
-ghost use Rattle.cam6_lines.specs.Internal.Views.{center_line, home_beside, home_of};
-ghost use Rattle.cam6_lines.specs.Internal.Views.{seen_beside_from, seen_from, view_of, unit_of};
-ghost use Rattle.cam6_lines.specs.Internal.Views.{IsInside, AreHomes, AreViews};
+ghost use Rattle.cam6_lines.specs.Internal.Views.{part_beside, part_name, seen_beside_from, seen_from};
+ghost use Rattle.cam6_lines.specs.Internal.Views.{unit_of, IsInside, IsPartFor, IsSeen, AreViews};
+ghost use Rattle.cam6_lines.specs.Internal.Views.{HasParts};
 
 use crate::parts::{PART, Part};
-use crate::units::{UNIT, Unit, words_of_row};
-use cam6_planes::Side;
-use cam6_wiring::{Compass, LINES, Level, Name};
+use crate::units::{UNIT, Unit};
+use cam6_wiring::{Compass, LINES, Name};
 
-/// Where a unit is seen: in the part of a line, from a word on.
+/// Where a unit is seen: in a part, from a row on.
 #[derive(Clone, Copy)]
 pub(crate) struct View {
-    pub(crate) home: u8,
-    pub(crate) start: u8,
+    pub(crate) part: u8,
+    pub(crate) row: u8,
+}
+
+/// The parts that lines need: the names for which they are made, in the order of their room.
+#[derive(Clone, Copy)]
+pub(crate) struct Needed {
+    pub(crate) names: [Option<Name>; LINES],
+    pub(crate) count: usize,
 }
 
 /// A unit in which every line shows 0.
 static NOTHING: Unit = [0; UNIT];
 
-/// The unit that is seen in parts; zeros without a view.
+/// The unit that is seen in parts with so many words in a row; zeros without a view.
 #[inline]
-pub(crate) fn unit_of(parts: &[Part; LINES], view: Option<View>) -> &Unit
-    requires { IfSome view IsInside }
-    ensures { result.now ≡ unit_of parts.now view }
+pub(crate) fn unit_of(parts: &[Part], words: usize, view: Option<View>) -> &Unit
+    requires view { IfSome view (IsInside (length parts.now)) }
+    requires words { words ≤ 4 }
+    ensures { result.now ≡ unit_of parts.now words view }
 {
     match view {
-        Some(View { home, start }) => unit_at(parts, usize::from(home), usize::from(start)),
+        Some(View { part, row }) => unit_at(parts, usize::from(part), words * usize::from(row)),
         None => &NOTHING,
     }
 }
 
 /// The unit of words of a part, from word `start` on.
 #[inline]
-fn unit_at(parts: &[Part; LINES], home: usize, start: usize) -> &Unit
-    requires home { home < LINES }
-    requires start { start ≤ PART - UNIT }
-    ensures { result.now ≡ take UNIT (drop start (slice_index_or parts.now home [])) }
+fn unit_at(parts: &[Part], part: usize, start: usize) -> &Unit
+    requires part { part < length parts.now }
+    requires start { start + UNIT ≤ PART }
+    ensures { result.now ≡ take UNIT (drop start (slice_index_or parts.now part [])) }
 {
-    parts[home][start..].first_chunk().unwrap()
+    parts[part][start..].first_chunk().unwrap()
 }
 
-/// How the lines that are asked for are seen.
-pub(crate) fn views_of(
-    asked: u16,
-    names: &[Option<Name>; LINES],
-    side: Side,
-) -> [Option<View>; LINES]
-    ensures { AreViews side asked names.now result }
-{
-    let mut views = [None; LINES];
-    for k in 0..LINES {
-        views[k] = view_of(side, is_asked(asked, k), names[k], k);
-    }
-    views
-}
-
-/// How a line is seen, if it is asked for and has a name.
-fn view_of(side: Side, asked: bool, name: Option<Name>, line: usize) -> Option<View>
-    requires { line < LINES }
-    ensures { result ≡ view_of side asked name line }
-{
-    match name {
-        Some(name) if asked => Some(View {
-            home: home_of(name, line) as u8,
-            start: (words_of_row(side) * seen_from(name)) as u8,
-        }),
-        _ => None,
-    }
-}
-
-/// Which parts the lines that are asked for need.
-pub(crate) fn homes_of(asked: u16, names: &[Option<Name>; LINES]) -> [bool; LINES]
-    ensures { AreHomes asked names.now result }
-{
-    let mut homes = [false; LINES];
-    for k in 0..LINES {
-        mark_home(&mut homes, is_asked(asked, k), names[k], k);
-    }
-    homes
-}
-
-/// Marks the home of a line, if it is asked for and has a name.
-fn mark_home(homes: &mut [bool; LINES], asked: bool, name: Option<Name>, line: usize)
-    requires { line < LINES }
-    ensures marked { (known : Name) → asked ≡ true → name ≡ Some known →
-        slice_index_or homes.new (home_of known line) false ≡ true }
-    ensures kept { (k : ℕ) → slice_index_or homes.old k false ≡ true →
-        slice_index_or homes.new k false ≡ true }
-{
-    if let Some(name) = name
-        && asked
+impl Needed {
+    /// No part.
+    pub(crate) fn none() -> Needed
+        ensures { result.count ≡ 0 }
     {
-        homes[home_of(name, line)] = true;
+        Needed {
+            names: [None; LINES],
+            count: 0,
+        }
+    }
+
+    /// How the lines that are asked for are seen. Their parts are added to these.
+    pub(crate) fn views_of(
+        &mut self,
+        asked: u16,
+        names: &[Option<Name>; LINES],
+    ) -> [Option<View>; LINES]
+        requires { self.old.count ≡ 0 }
+        ensures views { AreViews asked names.now self.new result }
+        ensures most { self.new.count ≤ LINES }
+    {
+        let mut views = [None; LINES];
+        for k in 0..LINES {
+            views[k] = self.view_of(is_asked(asked, k), names[k]);
+        }
+        views
+    }
+
+    /// How a line is seen, if it is asked for and has a name.
+    fn view_of(&mut self, asked: bool, name: Option<Name>) -> Option<View>
+        requires { self.old.count < LINES }
+        ensures seen { IsSeen self.new asked name result }
+        ensures kept { HasParts self.old self.new }
+        ensures more { self.new.count ≤ self.old.count + 1 }
+    {
+        match name {
+            Some(name) if asked => {
+                let part = self.place_of(part_name(name)) as u8;
+                Some(View {
+                    part,
+                    row: seen_from(name) as u8,
+                })
+            }
+            _ => None,
+        }
+    }
+
+    /// The place of the part for a name. It is added if it isn't there.
+    fn place_of(&mut self, name: Name) -> usize
+        requires { self.old.count < LINES }
+        ensures place { IsPartFor self.new name result }
+        ensures kept { HasParts self.old self.new }
+        ensures more { self.new.count ≤ self.old.count + 1 }
+    {
+        for place in 0..self.count {
+            if is_named(self.names[place], name) {
+                return place;
+            }
+        }
+        let place = self.count;
+        self.names[place] = Some(name);
+        self.count += 1;
+        place
+    }
+}
+
+/// Whether this is the name.
+fn is_named(known: Option<Name>, name: Name) -> bool
+    ensures { IsTrue result → known ≡ Some name }
+{
+    match known {
+        Some(known) => known == name,
+        None => false,
     }
 }
 
@@ -111,17 +139,24 @@ fn is_asked(asked: u16, line: usize) -> bool
     asked >> line & 1 == 1
 }
 
-/// The home of a line with this name: the line with the part in which it is seen.
-fn home_of(name: Name, line: usize) -> usize
-    ensures line { result ≡ home_of name line }
-    ensures within { line < LINES → result < LINES }
+/// The name for which the part is made in which a line with this name is seen.
+fn part_name(name: Name) -> Name
+    ensures { result ≡ part_name name }
 {
     match name {
-        Name::Beside(Compass::North | Compass::South, Level::Lower) => 0,
-        Name::Beside(Compass::North | Compass::South, Level::Upper) => 1,
-        Name::Beside(Compass::NorthWest | Compass::SouthWest, _) => 4,
-        Name::Beside(Compass::NorthEast | Compass::SouthEast, _) => 5,
-        _ => line,
+        Name::Beside(compass, level) => Name::Beside(part_beside(compass), level),
+        _ => name,
+    }
+}
+
+/// Where the cells of the part look in which a line is seen that looks in this direction.
+fn part_beside(compass: Compass) -> Compass
+    ensures { result ≡ part_beside compass }
+{
+    match compass {
+        Compass::Center | Compass::North | Compass::South => Compass::Center,
+        Compass::West | Compass::NorthWest | Compass::SouthWest => Compass::West,
+        Compass::East | Compass::NorthEast | Compass::SouthEast => Compass::East,
     }
 }
 

@@ -22,7 +22,7 @@ use crate::refusals::{accept_colours, accept_run};
 use crate::replies::Now;
 use crate::runs::go_along;
 use crate::saving::{saved_colours, saved_planes};
-use cam6_band::AtRest;
+use cam6_band::{AtRest, Room};
 use cam6_commands::{
     Command, Done, Fault, NamedEntries, Names, Refusal, Reply, SavedMachine, Text,
 };
@@ -34,7 +34,8 @@ use std::alloc::Global;
 use std::marker::Model;
 
 /// All of a machine but its images: rules, cycle, position, colours and the limit of the side. The
-/// tables of the cycle's rules are with it, and stay filled from one command to the next.
+/// tables of the cycle's rules are with it, and stay filled from one command to the next. So is the
+/// room for the bands of its steps.
 #[derive(Drop)]
 pub struct Kept {
     alloc: Global,
@@ -44,6 +45,8 @@ pub struct Kept {
     position: usize,
     colours: [u8; 16],
     tables: Tables,
+    /// What each band is lent.
+    room: Box<Room>,
 }
 
 impl Model for Kept {
@@ -69,6 +72,7 @@ impl Kept {
     pub(crate) fn new(alloc: Global, limit: Side) -> Result<Kept, NoMemory>
         ensures { IfOk result (λ kept. kept ≡ nothing_kept limit) }
     {
+        let room = Box::new(alloc, Room::blank())?;
         Ok(Kept {
             alloc,
             limit,
@@ -77,6 +81,7 @@ impl Kept {
             position: 0,
             colours: [0, 1, 2, 3, 4, 5, 6, 7, 8, 9, 10, 11, 12, 13, 14, 15],
             tables: Tables::blank(alloc)?,
+            room,
         })
     }
 
@@ -337,7 +342,8 @@ impl Kept {
             Err(_) => unreachable!(),
         }
         let tables = self.tables.by_use();
-        let (image, position) = go_along(image, cycle, direction, tables, self.position, n);
+        let room = &mut self.room;
+        let (image, position) = go_along(image, cycle, direction, tables, room, self.position, n);
         self.position = position;
         image
     }

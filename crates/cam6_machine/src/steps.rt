@@ -4,18 +4,18 @@ ghost use Rattle.cam6_planes.specs.Cells.{cells};
 ghost use Rattle.cam6_planes.specs.Stored.{width, AreAlike};
 ghost use Rattle.cam6_band.specs.ByTables.{step_by, values_of};
 
-use cam6_band::{AtRest, EntryTables, Next};
+use cam6_band::{AtRest, EntryTables, Next, Room};
 
-/// One step by tables, band by band: each cell of both halves takes what its half's table makes of
-/// the planes.
-pub(crate) fn step(image: AtRest, tables: &EntryTables) -> AtRest
+/// One step by tables, band by band, in room that is lent to each band. Each cell of both halves
+/// takes what its half's table makes of the planes.
+pub(crate) fn step(image: AtRest, tables: &EntryTables, room: &mut Room) -> AtRest
     ensures planes { cells result.planes
         ≡ step_by (width image.planes) (values_of tables.now) (cells image.planes) }
     ensures alike { AreAlike image.planes result.planes }
 {
     let mut mid = image.begin(tables);
     loop {
-        match mid.band(tables) {
+        match mid.band_in(tables, room) {
             Next::More(more) => mid = more,
             Next::Whole(image) => return image,
         }

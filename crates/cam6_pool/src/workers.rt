@@ -15,7 +15,7 @@ use cam6_board::{Board, Job};
 use cam6_cache::TableCache;
 use cam6_handoff::BoardSeat;
 use cam6_slot::Lease;
-use cam6_station::{Banded, Preempted, Station};
+use cam6_station::{Banded, Preempted, Station, User};
 use std::sync::{Mutex, Wait};
 
 /// How a worker ends.
@@ -51,7 +51,7 @@ fn preempt<B: Board>(seat: &mut BoardSeat, station: &mut Station<B>)
 fn go_on<B: Board, G: Gate>(
     seat: &mut BoardSeat,
     station: &mut Station<B>,
-    user: u8,
+    user: User,
     gate: &G,
 ) -> bool
     requires loaded { IsLoaded station.old.at }
@@ -59,7 +59,7 @@ fn go_on<B: Board, G: Gate>(
     ensures on { ServesOn seat.old station.old seat.new station.new }
     ensures less { turns_left station.new.at < turns_left station.old.at }
 {
-    match gate.turn(seat.number(), user, next_band(station)) {
+    match gate.turn(seat.number(), user.number(), next_band(station)) {
         Turn::Go => {
             match station.band() {
                 Banded::More(_) => {}
@@ -84,7 +84,7 @@ fn go_on<B: Board, G: Gate>(
 fn serve_lease<B: Board, G: Gate>(
     seat: &mut BoardSeat,
     station: &mut Station<B>,
-    user: u8,
+    user: User,
     lease: Lease,
     job: Job,
     gate: &G,
@@ -96,7 +96,7 @@ fn serve_lease<B: Board, G: Gate>(
     ensures station { is_loaded station.new.at ≡ false }
     ensures faults { Rises (is_dead station.new.at) station.old.faults station.new.faults }
 {
-    if let Err(queued) = station.load(usize::from(user), lease, job, seat.tables()) {
+    if let Err(queued) = station.load(user, lease, job, seat.tables()) {
         seat.put_back(queued);
         return false;
     }
@@ -116,19 +116,20 @@ fn give_back(seat: &mut BoardSeat, lease: Lease, job: Job)
     seat.put_back(queued);
 }
 
-/// Takes a command that waits: that of the first user who has one, from the user after the last on.
-fn take_next(seat: &mut BoardSeat, last: u8) -> Option<(u8, Lease, Job)>
+/// Takes a command that waits: that of the first user who has one, from the user of a row on. Rows
+/// are counted from 0.
+fn take_next(seat: &mut BoardSeat, row: u8) -> Option<(User, Lease, Job)>
     requires { IsIdle seat.old }
     ensures { TakesNext seat.old result seat.new }
 {
     let users = seat.users();
     for step in 0..users {
-        let user = (usize::from(last) + step) % users + 1;
+        let user = User::numbered((usize::from(row) + step) % users + 1);
         if seat.is_held_back(user) {
             continue;
         }
-        if let Some((lease, job)) = seat.try_take(user) {
-            return Some((user as u8, lease, job));
+        if let Some((lease, job)) = seat.try_take(usize::from(user.number())) {
+            return Some((user, lease, job));
         }
     }
     None
@@ -155,15 +156,16 @@ pub fn serve_board<R: Wait, B: Board, G: Gate>(
     ensures faults { EndsBy result.2 (B.fault_count board) (B.fault_count result.1) }
 {
     let mut station = Station::of(board);
-    let mut last = 0;
+    let mut row = 0;
     for _ in rt.forever() {
-        let Some((user, lease, job)) = take_next(&mut seat, last) else {
+        let Some((user, lease, job)) = take_next(&mut seat, row) else {
             if gate.idle(seat.number()) {
                 continue;
             }
             return (seat, station.into_board(), Ended::Stopped);
         };
-        last = user;
+        // Users are numbered from 1, so this is the row of the user after this one.
+        row = user.number();
         if !seat.fill_each(rt, &lease, cache) {
             give_back(&mut seat, lease, job);
             continue;

@@ -1,15 +1,17 @@
 -- What lines and slots show at a column.
 use Rattle.std.proofs.Common.{◌≡◌, ℕ, zero, suc, ◌≤◌, ◌<◌, Bool, false, List, [], ◌∷◌, ◌++◌}
 use Rattle.std.proofs.Common.{length, map, get_or, set, refl, sym, ◌∙◌, ap, arith}
-use Rattle.std.proofs.Common.{Bor, take, replicate}
+use Rattle.std.proofs.Common.{true, ◌+◌, ◌==◌, ◌&&◌, nat_lt}
+use Rattle.std.proofs.Common.{if◌then◌else◌, Bor, take}
 use Rattle.std.proofs.Math.Seq.{set-append_seam}
-use Rattle.std.proofs.lemmas.List.{get_or-map, get_or_past, length-map, map-append}
+use Rattle.std.proofs.lemmas.Bool.{and_parts, eqb-true, ltb-true}
+use Rattle.std.proofs.lemmas.List.{get_or-map, get_or_past, length-map, length-take-le}
+use Rattle.std.proofs.lemmas.List.{map-append, take_more}
 use Rattle.cam6_planes.specs.Row.{column_bit}
 use Rattle.cam6_wiring.specs.Lines.{at_column}
-use Rattle.cam6_planes.proofs.Blank.{column_bit-zeros}
-use Rattle.cam6_lines.specs.declared.units.TheConstants.{UNIT}
-use Rattle.cam6_program.specs.Meaning.{made, after_step, empty}
-use Rattle.cam6_program.specs.Running.{with_first}
+use Rattle.cam6_program.specs.Limits.{max_slots}
+use Rattle.cam6_program.specs.Meaning.{made, put_into, with_next, after_step}
+use Rattle.cam6_program.specs.Running.{with_first, written_after}
 use Rattle.cam6_program.specs.declared.steps.Step.{Step}
 
 -- what a line shows
@@ -37,7 +39,7 @@ no_line lines line c past =
 -- a step writes the first of the slots behind those before it
 pub slot_written : (lines front slots : List Bool) (step : Step) → length front ≡ step.into →
     0 < length slots →
-    front ++ with_first lines front step.operation slots ≡ after_step lines step (front ++ slots)
+    front ++ with_first lines front step.operation slots ≡ put_into lines step (front ++ slots)
 slot_written lines front [] step place some = absurd (omega (arith, some))
 slot_written lines front (held ∷ back) step place some =
     let emptied : set (front ++ (held ∷ back)) step.into false ≡ front ++ (false ∷ back) =
@@ -51,22 +53,60 @@ slot_written lines front (held ∷ back) step place some =
 pub step_taken : (lines : List Bool) (step : Step) (old before rest new : List (List ℕ)) (c : ℕ) →
     length before ≡ step.into → 0 < length rest → old ≡ before ++ rest →
     at_column c new ≡ with_first lines (at_column c before) step.operation (at_column c rest) →
-    at_column c (before ++ new) ≡ after_step lines step (at_column c old)
+    at_column c (before ++ new) ≡ put_into lines step (at_column c old)
 step_taken lines step old before rest new c place some parts is =
     let front : List Bool = at_column c before in
     map-append (λ unit. column_bit unit c) before new ∙ ap (λ slots. front ++ slots) is ∙
     slot_written lines front (at_column c rest) step
     (length-map before (λ unit. column_bit unit c) ∙ place)
     (omega (arith, some, length-map rest (λ unit. column_bit unit c))) ∙
-    ap (after_step lines step) (sym (map-append (λ unit. column_bit unit c) before rest)) ∙
-    ap (λ slots. after_step lines step (at_column c slots)) (sym parts)
+    ap (put_into lines step) (sym (map-append (λ unit. column_bit unit c) before rest)) ∙
+    ap (λ slots. put_into lines step (at_column c slots)) (sym parts)
 
--- slots that hold nothing are empty
-pub empty_slots : (n m c : ℕ) → n ≤ m →
-    at_column c (take n (replicate m (replicate UNIT 0))) ≡ empty n
-empty_slots zero m c h = refl
-empty_slots (suc n) zero c h = absurd (omega (arith, h))
-empty_slots (suc n) (suc m) c h =
-    ap (λ bit. bit ∷ at_column c (take n (replicate m (replicate UNIT 0))))
-    (column_bit-zeros UNIT c) ∙
-    ap (λ bits. false ∷ bits) (empty_slots n m c (omega (arith, h)))
+-- a step empties the slot that it writes, whatever it held
+emptied : (lines before : List Bool) (step : Step) (held : Bool) → step.into ≡ length before →
+    put_into lines step (before ++ (held ∷ [])) ≡ put_into lines step (before ++ (false ∷ []))
+emptied lines before step held place =
+    let own : set (before ++ (held ∷ [])) step.into false ≡ before ++ (false ∷ []) =
+    ap (λ i. set (before ++ (held ∷ [])) i false) place ∙ set-append_seam before held [] false in
+    let blank : set (before ++ (false ∷ [])) step.into false ≡ before ++ (false ∷ []) =
+    ap (λ i. set (before ++ (false ∷ [])) i false) place ∙ set-append_seam before false [] false in
+    ap (λ slots. set slots step.into (made lines slots step.operation)) (own ∙ sym blank)
+
+module _ (lines : List Bool) (step : Step) (written c : ℕ) (slots : List (List ℕ))
+    (long : length slots ≡ max_slots) (within : written ≤ max_slots) where
+  abbrev held : List Bool
+  held = at_column c (take written slots)
+
+  length-held : length held ≡ written
+  length-held =
+      length-map (take written slots) (λ unit. column_bit unit c) ∙
+      length-take-le written slots (omega (arith, long, within))
+
+  by_test : (is_next : Bool) → (is_next ≡ true → step.into ≡ written) →
+      (is_next ≡ true → step.into < max_slots) →
+      put_into lines step (at_column c (take (if is_next then written + 1 else written) slots))
+      ≡ put_into lines step (if is_next then held ++ (false ∷ []) else held)
+  by_test true place room =
+      let fits : written < length slots = omega (arith, place refl, room refl, long) in
+      ap (λ units. put_into lines step (at_column c units)) (take_more slots written [] fits) ∙
+      ap (put_into lines step)
+      (map-append (λ unit. column_bit unit c) (take written slots) (get_or slots written [] ∷ [])) ∙
+      emptied lines held step (column_bit (get_or slots written []) c)
+      (place refl ∙ sym length-held)
+  by_test false place room = refl
+
+  both : ((step.into == written) && nat_lt step.into max_slots) ≡ true →
+      ((step.into == written) ≡ true) × (nat_lt step.into max_slots ≡ true)
+  both = and_parts (step.into == written) (nat_lt step.into max_slots)
+
+  -- a step takes the slots that are written on, whatever the next one held
+  pub step_in_order :
+      put_into lines step (at_column c (take (written_after written step.into) slots))
+      ≡ after_step lines step held
+  step_in_order =
+      by_test ((step.into == written) && nat_lt step.into max_slots)
+      (λ e. eqb-true step.into written (both e).0) (λ e. ltb-true step.into max_slots (both e).1) ∙
+      ap (λ n. put_into lines step
+      (if (step.into == n) && nat_lt step.into max_slots then held ++ (false ∷ []) else held))
+      (sym length-held)

@@ -1,6 +1,6 @@
 -- What is right at every address is right for all that the lines can show.
 use Rattle.std.proofs.Common.{◌≡◌, ℕ, ◌<◌, ◌^◌, Bool, true, false, List, length, get_or, nat_eq}
-use Rattle.std.proofs.Common.{Option, Some, None, refl, sym, ◌∙◌, ap, arith}
+use Rattle.std.proofs.Common.{[], Option, Some, None, refl, sym, ◌∙◌, ap, arith}
 use Rattle.std.specs.Option.{is_none}
 use Rattle.cam6_planes.specs.Row.{column_bit}
 use Rattle.cam6_wiring.specs.Seen.{number_of, shown}
@@ -13,7 +13,7 @@ use Rattle.cam6_lookup.specs.Entries.{entry_bit}
 use Rattle.cam6_lines.specs.Units.{asked_for}
 use Rattle.cam6_program.specs.declared.steps.Source.{Source}
 use Rattle.cam6_program.specs.Computing.{Computes}
-use Rattle.cam6_program.specs.Meaning.{given, after_steps, empty}
+use Rattle.cam6_program.specs.Meaning.{given, after_steps}
 use Rattle.cam6_program.specs.Programs.{Steps, number, source_of, keeps}
 use Rattle.cam6_program.specs.Running.{MakesAtAddresses}
 
@@ -39,7 +39,7 @@ pub kept_bit : (level : Level) (program : Steps) (unit : List ℕ) → keeps lev
 kept_bit level program unit kept shows bits long =
     let lines : List Bool = asked_for program.asked bits in
     shows (number_of bits) (address-lt bits long) ∙ shown_bit bits (number level) ∙
-    given_from_none level bits lines (after_steps lines program.steps (empty program.slots))
+    given_from_none level bits lines (after_steps lines program.steps [])
     (source_of level program) kept
 
 -- where both levels have the bits of the entries at every address

@@ -11,11 +11,10 @@ abbrev pub number : Level → ℕ
 number Lower = 0
 number Upper = 1
 
--- the steps in their order; how many slots they may use; the mask of the lines that they are shown;
--- and the sources of the two new bits at the end. A bit without a source is kept
+-- the steps in their order; the mask of the lines that they are shown; and the sources of the two new
+-- bits at the end. A bit without a source is kept
 pub record Steps : Type 0 where
   pub steps : List Step
-  pub slots : ℕ
   pub asked : ℕ
   pub lower : Option Source
   pub upper : Option Source

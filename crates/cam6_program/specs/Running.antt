@@ -1,11 +1,13 @@
 -- What is read and made at one column of units, which only this crate cites.
-use Rattle.std.specs.Prelude.{ℕ, Bool, false, ◌≡◌, ◌<◌, ◌*◌, List, ◌∷◌, ◌++◌, map, drop, length}
+use Rattle.std.specs.Prelude.{ℕ, Bool, false, ◌≡◌, ◌<◌, ◌*◌, ◌+◌, ◌==◌, ◌&&◌, nat_lt, if◌then◌else◌}
+use Rattle.std.specs.Prelude.{List, ◌∷◌, ◌++◌, map, drop, length}
 use Rattle.cam6_planes.specs.Row.{column_bit}
 use Rattle.cam6_wiring.specs.Lines.{at_column}
 use Rattle.cam6_wiring.specs.Seen.{number_of}
 use Rattle.cam6_wiring.specs.declared.wirings.TheConstants.{LINES}
 use Rattle.cam6_wiring.specs.declared.names.Level.{Level}
 use Rattle.cam6_lines.specs.Units.{asked_for}
+use Rattle.cam6_program.specs.Limits.{max_slots}
 use Rattle.cam6_program.specs.Programs.{Steps, keeps}
 use Rattle.cam6_program.specs.Meaning.{made, bit_by}
 use Rattle.cam6_program.specs.declared.steps.Operation.{Operation}
@@ -23,6 +25,12 @@ slots_at c readable = at_column c readable.before.now ++ (false ∷ at_column c 
 abbrev pub with_first : List Bool → List Bool → Operation → List Bool → List Bool
 with_first lines before operation slots =
     made lines (before ++ (false ∷ drop 1 slots)) operation ∷ drop 1 slots
+
+-- how many slots are written after a step into this one: one more if it is the next one, and there is
+-- room for it
+abbrev pub written_after : ℕ → ℕ → ℕ
+written_after written into =
+    if (into == written) && nat_lt into max_slots then written + 1 else written
 
 -- unless the level is kept, the unit has the bits that the program makes of these lines, which show
 -- 0 if the program doesn't ask for them

@@ -12,7 +12,7 @@ use crate::nodes::{Choice, Node, ONE, ZERO};
 use crate::programs::MAX_STEPS;
 use cam6_wiring::LINES;
 
-const ENTRIES: usize = 1 << LINES;
+pub(crate) const ENTRIES: usize = 1 << LINES;
 
 /// There are more choices than a program has steps.
 #[derive(Drop)]
@@ -23,6 +23,8 @@ pub(crate) struct TooLong;
 pub(crate) struct Diagram {
     pub(crate) choices: [Choice; MAX_STEPS],
     pub(crate) count: usize,
+    /// How many of the first choices stand for operations that count lines.
+    pub(crate) counters: usize,
     /// The first choice by the line that is being joined.
     first: usize,
     pub(crate) lower: Node,
@@ -40,28 +42,44 @@ impl Diagram {
             nodes[address] = Node::lowest_bit(entries[address]);
             nodes[ENTRIES + address] = Node::lowest_bit(entries[address] >> 1);
         }
-        let mut diagram = Diagram {
+        let mut diagram = Diagram::after(0);
+        for line in 0..LINES {
+            diagram.join_pairs(Node::line(line), &mut nodes[..2 * ENTRIES >> line])?;
+        }
+        diagram.end(nodes[0], nodes[1]);
+        Ok(diagram)
+    }
+
+    /// A diagram with no choice yet, after operations that count lines.
+    pub(crate) fn after(counters: usize) -> Diagram
+        requires { counters ≤ MAX_STEPS }
+        ensures { result.count ≡ counters }
+    {
+        Diagram {
             choices: [Choice {
                 by: ZERO,
                 low: ZERO,
                 high: ZERO,
             }; MAX_STEPS],
-            count: 0,
-            first: 0,
+            count: counters,
+            counters,
+            first: counters,
             lower: ZERO,
             upper: ZERO,
-        };
-        for line in 0..LINES {
-            diagram.join_pairs(Node::line(line), &mut nodes[..2 * ENTRIES >> line])?;
         }
-        diagram.lower = nodes[0];
-        diagram.upper = nodes[1];
-        Ok(diagram)
+    }
+
+    /// Notes the nodes of both levels.
+    pub(crate) fn end(&mut self, lower: Node, upper: Node)
+        ensures { self.new.count ≡ self.old.count }
+    {
+        self.lower = lower;
+        self.upper = upper;
     }
 
     /// Joins each pair of nodes to their choice by a line. Writes the choices to the first half of
     /// `nodes`.
-    fn join_pairs(&mut self, by: Node, nodes: &mut [Node]) -> Result<(), TooLong>
+    pub(crate) fn join_pairs(&mut self, by: Node, nodes: &mut [Node]) -> Result<(), TooLong>
         requires { self.old.count ≤ MAX_STEPS }
         ensures { self.new.count ≤ MAX_STEPS }
     {

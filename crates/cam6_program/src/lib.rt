@@ -2,8 +2,9 @@
 //!
 //! Contract: `Program::of` returns a program that computes the entries, if it finds a short one
 //! (`specs/Computing.antt`). `run` writes, at each column of a unit, the two bits that a program
-//! makes of what the lines show there (`specs/Meaning.antt`). `asked` returns which lines it has to
-//! be shown, and `keeps` whether every cell keeps its bit of a level.
+//! makes of what the lines show there (`specs/Meaning.antt`). It is lent room for what its steps make,
+//! which may hold anything before. `asked` returns which lines the program has to be shown, and
+//! `keeps` whether every cell keeps its bit of a level.
 //!
 //! Stands on: `cam6_planes`, for the columns of a word; `cam6_lines`, for units; `cam6_lookup`, for
 //! entries; `cam6_wiring`, for lines and levels.
@@ -12,19 +13,22 @@
 //! builder is proved only to be safe. `Program::of` runs what was built on all 4,096 addresses at
 //! once, and returns it only if it makes the bits of every entry.
 //!
-//! Read next: `steps` and `programs`; `operations` and `running`, how a program is run;
-//! `validating`; then `nodes`, `building`, `inverses` and `writing`, how one is built.
+//! Read next: `steps` and `programs`; `slots`, `operations` and `running`, how a program is run;
+//! `validating`; then `nodes`, `building`, `counting`, `inverses` and `writing`, how one is built.
 #![tactic(auto)]
 
 mod building;
+mod counting;
 mod inverses;
 mod nodes;
 mod operations;
 mod programs;
 mod running;
+mod slots;
 mod steps;
 mod validating;
 mod writing;
 
 pub use programs::{MAX_SLOTS, MAX_STEPS, Program};
+pub use slots::Slots;
 pub use steps::{Operation, Source, Step};

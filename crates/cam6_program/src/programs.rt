@@ -1,6 +1,6 @@
 //! A program, and how it is run over the units of twelve lines.
 ghost use Rattle.std.specs.Prelude.{◌≡◌, ◌<◌, ◌≤◌, ◌*◌, ◌^◌, ℕ, Bool, List, IfSome, false};
-ghost use Rattle.std.specs.Prelude.{length, map};
+ghost use Rattle.std.specs.Prelude.{length, map, IfOk};
 ghost use Rattle.cam6_planes.specs.Row.{column_bit};
 ghost use Rattle.cam6_wiring.specs.Lines.{at_column};
 ghost use Rattle.cam6_wiring.specs.declared.names.Level.TheVariants.{Lower, Upper};
@@ -8,15 +8,16 @@ ghost use Rattle.cam6_wiring.specs.declared.wirings.TheConstants.{LINES};
 ghost use Rattle.cam6_lines.specs.Units.{asked_for};
 ghost use Rattle.cam6_lines.specs.declared.units.TheConstants.{UNIT};
 ghost use Rattle.cam6_program.specs.Computing.{Computes};
-ghost use Rattle.cam6_program.specs.Limits.{max_steps, max_slots};
 ghost use Rattle.cam6_program.specs.Programs.{keeps};
 
-use crate::building::Diagram;
+use crate::building::{Diagram, TooLong};
+use crate::counting::{counting, counts};
 use crate::running::{put_given, take_steps};
-use crate::steps::{Source, Step};
+use crate::slots::Slots;
+use crate::steps::{Operation, Source, Step};
 use crate::validating::agrees;
 use crate::writing::written;
-use cam6_lines::{Lines, UNIT, Unit};
+use cam6_lines::{Lines, Unit};
 use cam6_wiring::Level;
 use std::marker::Model;
 
@@ -26,18 +27,11 @@ pub const MAX_STEPS: usize = 128;
 /// Slots of a program at most.
 pub const MAX_SLOTS: usize = 48;
 
-/// Slots that are enough for most programs.
-const FEW_SLOTS: usize = 6;
-
-/// Slots that are enough for the shortest ones.
-const LEAST_SLOTS: usize = 2;
-
 /// Steps that make two bits of what the twelve lines show, for all cells of a unit at once.
 #[derive(Drop)]
 pub struct Program {
     steps: [Step; MAX_STEPS],
     count: usize,
-    slots: usize,
     asked: u16,
     lower: Option<Source>,
     upper: Option<Source>,
@@ -45,27 +39,24 @@ pub struct Program {
 
 impl Model for Program {
     ghost use Rattle.std.specs.Prelude.{◌≤◌, take};
-    ghost use Rattle.cam6_program.specs.Limits.{max_steps, max_slots};
+    ghost use Rattle.cam6_program.specs.Limits.{max_steps};
     ghost use Rattle.cam6_program.specs.Programs.{Steps};
 
     ghost Value = { Steps };
 
     ghost view = { λ p. record {
       steps = take p.count p.steps;
-      slots = p.slots;
       asked = p.asked;
       lower = p.lower;
       upper = p.upper;
     } };
 
-    ghost invariant = { λ p. (p.count ≤ max_steps) × (p.slots ≤ max_slots) };
+    ghost invariant = { λ p. p.count ≤ max_steps };
 }
 
 impl Program {
-    ghost use Rattle.cam6_program.specs.Meaning.{bit_by, empty};
-    ghost use Rattle.cam6_program.specs.Running.{Makes};
-    ghost use Rattle.cam6_program.specs.declared.programs.TheConstants.{FEW_SLOTS, MAX_STEPS};
-    ghost use Rattle.cam6_program.specs.declared.programs.TheConstants.{MAX_SLOTS};
+    ghost use Rattle.cam6_program.specs.Meaning.{bit_by};
+    ghost use Rattle.cam6_program.specs.declared.programs.TheConstants.{MAX_STEPS};
     ghost use Rattle.cam6_program.specs.Computing.{Computes};
 
     /// Returns a program that computes the entries, or `None` if it finds no short one. Does not
@@ -74,7 +65,7 @@ impl Program {
         requires { length entries.now ≡ 2 ^ LINES }
         ensures { IfSome result (λ program. Computes entries.now program) }
     {
-        let program = written(&Diagram::of(entries).ok()?)?;
+        let program = shortest(entries)?;
         if agrees(&program, entries) {
             Some(program)
         } else {
@@ -82,22 +73,31 @@ impl Program {
         }
     }
 
+    /// What its steps take: a choice reads three units, and the others two.
+    fn work(&self) -> usize {
+        let mut work = 0usize;
+        for step in self.steps[..self.count].iter() {
+            work = work.saturating_add(match step.operation {
+                Operation::Choice { .. } => 5,
+                _ => 3,
+            });
+        }
+        work
+    }
+
     /// A program of the first `count` steps. It may mean anything.
     pub(crate) fn new(
         steps: [Step; MAX_STEPS],
         count: usize,
-        slots: usize,
         asked: u16,
         lower: Option<Source>,
         upper: Option<Source>,
     ) -> Program
-        requires steps { count ≤ MAX_STEPS }
-        requires slots { slots ≤ MAX_SLOTS }
+        requires { count ≤ MAX_STEPS }
     {
         Program {
             steps,
             count,
-            slots,
             asked,
             lower,
             upper,
@@ -129,8 +129,16 @@ impl Program {
     }
 
     /// Writes the new bits of both levels in the first `words` words. Lines that the program
-    /// doesn't ask for must show 0. A level that is kept is not written.
-    pub fn run(&self, lines: &Lines, words: usize, lower: &mut Unit, upper: &mut Unit)
+    /// doesn't ask for must show 0. A level that is kept is not written. The slots are room for
+    /// what the steps make, and may hold anything before.
+    pub fn run(
+        &self,
+        lines: &Lines,
+        words: usize,
+        slots: &mut Slots,
+        lower: &mut Unit,
+        upper: &mut Unit,
+    )
         requires { words ≤ UNIT }
         ensures lower { keeps Lower self.now ≡ false → (c : ℕ) (bits : List Bool) → c < 64 * words →
             at_column c (map (λ line. line.now) lines.now) ≡ asked_for self.now.asked bits →
@@ -139,67 +147,40 @@ impl Program {
             at_column c (map (λ line. line.now) lines.now) ≡ asked_for self.now.asked bits →
             column_bit upper.new c ≡ bit_by Upper self.now bits }
     {
-        if self.slots <= LEAST_SLOTS {
-            self.run_in_least(lines, words, lower, upper)
-        } else if self.slots <= FEW_SLOTS {
-            self.run_in_few(lines, words, lower, upper)
-        } else {
-            self.run_in_many(lines, words, lower, upper)
-        }
-    }
-
-    /// `run` with a few slots. Room on the stack is emptied whenever its function is entered. So
-    /// the room for many slots stands in a function of its own.
-    #[inline(never)]
-    fn run_in_few(&self, lines: &Lines, words: usize, lower: &mut Unit, upper: &mut Unit)
-        requires words { words ≤ UNIT }
-        requires slots { self.now.slots ≤ FEW_SLOTS }
-        ensures lower { Makes Lower self.now (map (λ line. line.now) lines.now) words lower.new }
-        ensures upper { Makes Upper self.now (map (λ line. line.now) lines.now) words upper.new }
-    {
-        let mut slots = [[0; UNIT]; FEW_SLOTS];
-        self.run_in(&mut slots[..self.slots], lines, words, lower, upper);
-    }
-
-    /// `run` with very few slots.
-    #[inline(never)]
-    fn run_in_least(&self, lines: &Lines, words: usize, lower: &mut Unit, upper: &mut Unit)
-        requires words { words ≤ UNIT }
-        requires slots { self.now.slots ≤ LEAST_SLOTS }
-        ensures lower { Makes Lower self.now (map (λ line. line.now) lines.now) words lower.new }
-        ensures upper { Makes Upper self.now (map (λ line. line.now) lines.now) words upper.new }
-    {
-        let mut slots = [[0; UNIT]; LEAST_SLOTS];
-        self.run_in(&mut slots[..self.slots], lines, words, lower, upper);
-    }
-
-    /// `run` with the most slots.
-    #[inline(never)]
-    fn run_in_many(&self, lines: &Lines, words: usize, lower: &mut Unit, upper: &mut Unit)
-        requires { words ≤ UNIT }
-        ensures lower { Makes Lower self.now (map (λ line. line.now) lines.now) words lower.new }
-        ensures upper { Makes Upper self.now (map (λ line. line.now) lines.now) words upper.new }
-    {
-        let mut slots = [[0; UNIT]; MAX_SLOTS];
-        self.run_in(&mut slots[..self.slots], lines, words, lower, upper);
-    }
-
-    /// `run` with these slots, which are empty.
-    fn run_in(
-        &self,
-        slots: &mut [Unit],
-        lines: &Lines,
-        words: usize,
-        lower: &mut Unit,
-        upper: &mut Unit,
-    )
-        requires words { words ≤ UNIT }
-        requires slots { (c : ℕ) → at_column c slots.old ≡ empty self.now.slots }
-        ensures lower { Makes Lower self.now (map (λ line. line.now) lines.now) words lower.new }
-        ensures upper { Makes Upper self.now (map (λ line. line.now) lines.now) words upper.new }
-    {
-        take_steps(&self.steps[..self.count], lines, slots, words);
+        let written = take_steps(&self.steps[..self.count], lines, &mut slots.units, words);
+        let slots = &slots.units[..written];
         put_given(lower, self.lower, lines, slots);
         put_given(upper, self.upper, lines, slots);
+    }
+}
+
+/// The program with the least work that is found for entries. It may mean anything.
+fn shortest(entries: &[u8]) -> Option<Program>
+    requires { length entries.now ≡ 2 ^ LINES }
+{
+    let plain = program_of(Diagram::of(entries));
+    if !counts(entries) {
+        return plain;
+    }
+    let counted = program_of(counting(entries));
+    if work_of(&counted) < work_of(&plain) {
+        counted
+    } else {
+        plain
+    }
+}
+
+/// The program of a diagram, if there is one.
+fn program_of(diagram: Result<Diagram, TooLong>) -> Option<Program>
+    requires { IfOk diagram (λ diagram. diagram.count ≤ MAX_STEPS) }
+{
+    written(&diagram.ok()?)
+}
+
+/// The work of a program. None has the most.
+fn work_of(program: &Option<Program>) -> usize {
+    match program {
+        Some(program) => program.work(),
+        None => usize::MAX,
     }
 }

@@ -1,13 +1,16 @@
 //! Steps, one after the other, at all columns of units at once.
 ghost use Rattle.std.specs.Prelude.{◌≡◌, ◌<◌, ◌≤◌, ◌*◌, ℕ, false, length, map, IfSome};
-ghost use Rattle.std.specs.Prelude.{slice_index_or};
+ghost use Rattle.std.specs.Prelude.{[], slice_index_or, take};
 ghost use Rattle.cam6_planes.specs.Row.{column_bit};
 ghost use Rattle.cam6_wiring.specs.Lines.{at_column};
 ghost use Rattle.cam6_lines.specs.declared.units.TheConstants.{UNIT};
-ghost use Rattle.cam6_program.specs.Meaning.{read, made, after_step, after_steps};
-ghost use Rattle.cam6_program.specs.Running.{lines_at, slots_at, with_first};
+ghost use Rattle.cam6_program.specs.Meaning.{read, made, put_into, after_step, after_steps};
+ghost use Rattle.cam6_program.specs.Running.{lines_at, slots_at, with_first, written_after};
+ghost use Rattle.cam6_program.specs.declared.programs.TheConstants.{MAX_SLOTS};
+ghost use Rattle.cam6_program.specs.declared.running.TheConstants.{HALF_UNIT};
 
 use crate::operations::{put_and, put_and_not, put_choice, put_or, put_or_not, put_xor};
+use crate::programs::MAX_SLOTS;
 use crate::steps::{Operation, Source, Step};
 use cam6_lines::{Lines, UNIT, Unit};
 use cam6_wiring::LINES;
@@ -19,6 +22,9 @@ pub(crate) struct Readable<'a> {
     pub(crate) before: &'a [Unit],
     pub(crate) behind: &'a [Unit],
 }
+
+/// Words of a band at the narrowest side.
+const HALF_UNIT: usize = 32;
 
 static ZEROS: Unit = [0; UNIT];
 
@@ -72,7 +78,7 @@ fn shown<'a>(lines: &Lines<'a>, line: usize) -> &'a Unit
     }
 }
 
-/// Writes the result of an operation, in so many words.
+/// Writes the result of an operation to the first `words` words of `out`.
 #[inline(always)]
 fn put_result(out: &mut Unit, operation: Operation, from: &Readable, words: usize)
     requires { words ≤ UNIT }
@@ -95,13 +101,51 @@ fn put_result(out: &mut Unit, operation: Operation, from: &Readable, words: usiz
     }
 }
 
-/// Takes a step.
+/// How many slots are written after a step into this one: one more if it is the next one, and there
+/// is room for it.
 #[inline(always)]
-fn take_step(step: Step, lines: &Lines, slots: &mut [Unit], words: usize)
+fn written_after(written: usize, into: usize) -> usize
+    requires { written ≤ MAX_SLOTS }
+    ensures value { result ≡ written_after written into }
+    ensures within { result ≤ MAX_SLOTS }
+{
+    if into == written && into < MAX_SLOTS {
+        written + 1
+    } else {
+        written
+    }
+}
+
+/// Takes a step, of which the first `written` slots are known to hold what earlier steps made.
+/// Returns how many do after it.
+#[inline(always)]
+fn take_step(
+    step: Step,
+    lines: &Lines,
+    slots: &mut [Unit; MAX_SLOTS],
+    written: usize,
+    words: usize,
+) -> usize
+    requires words { words ≤ UNIT }
+    requires written { written ≤ MAX_SLOTS }
+    ensures within { result ≤ MAX_SLOTS }
+    ensures count { length slots.new ≡ length slots.old }
+    ensures step { (c : ℕ) → c < 64 * words → at_column c (take result slots.new) ≡ after_step
+        (at_column c (map (λ line. line.now) lines.now)) step
+        (at_column c (take written slots.old)) }
+{
+    let written = written_after(written, usize::from(step.into));
+    write_slot(step, lines, &mut slots[..written], words);
+    written
+}
+
+/// Puts what a step makes into its slot, whatever that holds.
+#[inline(always)]
+fn write_slot(step: Step, lines: &Lines, slots: &mut [Unit], words: usize)
     requires { words ≤ UNIT }
     ensures count { length slots.new ≡ length slots.old }
     ensures step { (c : ℕ) → c < 64 * words → at_column c slots.new ≡
-        after_step (at_column c (map (λ line. line.now) lines.now)) step (at_column c slots.old) }
+        put_into (at_column c (map (λ line. line.now) lines.now)) step (at_column c slots.old) }
 {
     let into = usize::from(step.into);
     if into < slots.len() {
@@ -136,48 +180,78 @@ fn write_first(
     }
 }
 
-/// Takes all steps, one after the other. For whole units the compiler knows the number of words,
-/// which makes the loops over them a third shorter.
-pub(crate) fn take_steps(steps: &[Step], lines: &Lines, slots: &mut [Unit], words: usize)
+/// Takes all steps, one after the other, and returns how many slots they wrote. The slots may hold
+/// anything before. For whole units and for halves the compiler knows the number of words, which
+/// makes the loops over them a third shorter.
+pub(crate) fn take_steps(
+    steps: &[Step],
+    lines: &Lines,
+    slots: &mut [Unit; MAX_SLOTS],
+    words: usize,
+) -> usize
     requires { words ≤ UNIT }
-    ensures { (c : ℕ) → c < 64 * words → at_column c slots.new ≡ after_steps
-        (at_column c (map (λ line. line.now) lines.now)) steps.now (at_column c slots.old) }
+    ensures within { result ≤ MAX_SLOTS }
+    ensures slots { (c : ℕ) → c < 64 * words → at_column c (take result slots.new) ≡ after_steps
+        (at_column c (map (λ line. line.now) lines.now)) steps.now [] }
 {
     if words == UNIT {
-        take_steps_of_units(steps, lines, slots);
+        take_steps_of_units(steps, lines, slots)
+    } else if words == HALF_UNIT {
+        take_steps_of_halves(steps, lines, slots)
     } else {
-        take_steps_of_parts(steps, lines, slots, words);
+        take_steps_of_parts(steps, lines, slots, words)
     }
 }
 
 /// Takes all steps over whole units.
 #[inline(never)]
-fn take_steps_of_units(steps: &[Step], lines: &Lines, slots: &mut [Unit])
-    ensures { (c : ℕ) → c < 64 * UNIT → at_column c slots.new ≡ after_steps
-        (at_column c (map (λ line. line.now) lines.now)) steps.now (at_column c slots.old) }
+fn take_steps_of_units(steps: &[Step], lines: &Lines, slots: &mut [Unit; MAX_SLOTS]) -> usize
+    ensures within { result ≤ MAX_SLOTS }
+    ensures slots { (c : ℕ) → c < 64 * UNIT → at_column c (take result slots.new) ≡ after_steps
+        (at_column c (map (λ line. line.now) lines.now)) steps.now [] }
 {
-    take_in_turn(steps, lines, slots, UNIT);
+    take_in_turn(steps, lines, slots, UNIT)
+}
+
+/// Takes all steps over the first halves of units.
+#[inline(never)]
+fn take_steps_of_halves(steps: &[Step], lines: &Lines, slots: &mut [Unit; MAX_SLOTS]) -> usize
+    ensures within { result ≤ MAX_SLOTS }
+    ensures slots { (c : ℕ) → c < 64 * HALF_UNIT → at_column c (take result slots.new) ≡ after_steps
+        (at_column c (map (λ line. line.now) lines.now)) steps.now [] }
+{
+    take_in_turn(steps, lines, slots, HALF_UNIT)
 }
 
 /// Takes all steps over the first words of units.
 #[inline(never)]
-fn take_steps_of_parts(steps: &[Step], lines: &Lines, slots: &mut [Unit], words: usize)
+fn take_steps_of_parts(
+    steps: &[Step],
+    lines: &Lines,
+    slots: &mut [Unit; MAX_SLOTS],
+    words: usize,
+) -> usize
     requires { words ≤ UNIT }
-    ensures { (c : ℕ) → c < 64 * words → at_column c slots.new ≡ after_steps
-        (at_column c (map (λ line. line.now) lines.now)) steps.now (at_column c slots.old) }
+    ensures within { result ≤ MAX_SLOTS }
+    ensures slots { (c : ℕ) → c < 64 * words → at_column c (take result slots.new) ≡ after_steps
+        (at_column c (map (λ line. line.now) lines.now)) steps.now [] }
 {
-    take_in_turn(steps, lines, slots, words);
+    take_in_turn(steps, lines, slots, words)
 }
 
+/// Takes all steps, one after the other, over the first `words` words of units.
 #[inline(always)]
-fn take_in_turn(steps: &[Step], lines: &Lines, slots: &mut [Unit], words: usize)
+fn take_in_turn(steps: &[Step], lines: &Lines, slots: &mut [Unit; MAX_SLOTS], words: usize) -> usize
     requires { words ≤ UNIT }
-    ensures { (c : ℕ) → c < 64 * words → at_column c slots.new ≡ after_steps
-        (at_column c (map (λ line. line.now) lines.now)) steps.now (at_column c slots.old) }
+    ensures within { result ≤ MAX_SLOTS }
+    ensures slots { (c : ℕ) → c < 64 * words → at_column c (take result slots.new) ≡ after_steps
+        (at_column c (map (λ line. line.now) lines.now)) steps.now [] }
 {
+    let mut written = 0;
     for k in 0..steps.len() {
-        take_step(steps[k], lines, slots, words);
+        written = take_step(steps[k], lines, slots, written, words);
     }
+    written
 }
 
 /// Writes what a source reads after the last step. A level that is kept has no source.

@@ -1,7 +1,7 @@
 //! The steps of a program.
 
 /// What a step reads: a constant bit, what an address line shows, or what a slot holds. Past the
-/// last line and the last slot it reads 0.
+/// last line, and past the last slot that a step has written, it reads 0.
 #[derive(Clone, Copy, Debug, PartialEq, Eq)]
 pub enum Source {
     Constant(bool),
@@ -27,7 +27,8 @@ pub enum Operation {
     Xor(Source, Source),
 }
 
-/// A step empties the slot that it writes, and then puts there what its operation makes.
+/// A step empties the slot that it writes, and then puts there what its operation makes. It writes
+/// a slot that an earlier step wrote, or the next one. What it puts past that is lost.
 #[derive(Clone, Copy, Debug, PartialEq, Eq)]
 pub struct Step {
     pub into: u8,

@@ -16,6 +16,7 @@ ghost use Rattle.cam6_program.specs.Programs.{keeps, number};
 ghost use Rattle.cam6_program.specs.Running.{MakesAtAddresses};
 
 use crate::programs::Program;
+use crate::slots::Slots;
 use cam6_lines::{UNIT, Unit};
 use cam6_wiring::{LINES, Level};
 
@@ -80,7 +81,8 @@ fn made_at_addresses(program: &Program) -> (Unit, Unit)
     let mut lower = [0; UNIT];
     let mut upper = [0; UNIT];
     let lines = asked_lines(program.asked());
-    program.run(&lines.each_ref(), UNIT, &mut lower, &mut upper);
+    let mut slots = Slots::blank();
+    program.run(&lines.each_ref(), UNIT, &mut slots, &mut lower, &mut upper);
     (
         kept_or(program, Level::Lower, lower),
         kept_or(program, Level::Upper, upper),

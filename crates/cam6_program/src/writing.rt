@@ -5,6 +5,7 @@ ghost use Rattle.cam6_program.specs.declared.nodes.TheConstants.{NODES};
 ghost use Rattle.cam6_program.specs.declared.programs.TheConstants.{MAX_STEPS};
 
 use crate::building::Diagram;
+use crate::counting::{COUNTERS, counter};
 use crate::inverses::Inverses;
 use crate::nodes::{NODES, Node};
 use crate::programs::{MAX_SLOTS, MAX_STEPS, Program};
@@ -41,6 +42,7 @@ pub(crate) fn written(diagram: &Diagram) -> Option<Program>
     writer.expect_level(lower);
     writer.expect_level(upper);
     writer.expect_reads(diagram.count);
+    writer.write_counters(diagram.counters);
     let lower = writer.write_level(lower);
     let upper = writer.write_level(upper);
     writer.program(lower, upper)
@@ -59,7 +61,11 @@ fn operations(diagram: &Diagram) -> [Operation; NODES]
     let inverses = Inverses::of(diagram);
     let mut operations = [NO_STEP.operation; NODES];
     for place in 0..diagram.count {
-        operations[place] = inverses.operation(diagram.choices[place]);
+        operations[place] = if place < diagram.counters {
+            counter(place)
+        } else {
+            inverses.operation(diagram.choices[place])
+        };
     }
     operations
 }
@@ -113,6 +119,18 @@ impl Writer {
         if let Source::Slot(place) = source {
             let place = usize::from(place);
             self.reads[place] = self.reads[place].saturating_add(1);
+        }
+    }
+
+    /// Writes the operations that count lines in their order, which needs the fewest slots.
+    fn write_counters(&mut self, counters: usize)
+        requires { self.old.count ≤ MAX_STEPS }
+        ensures { self.new.count ≤ MAX_STEPS }
+    {
+        for place in 0..COUNTERS {
+            if place < counters && self.reads[place] > 0 && self.count < MAX_STEPS {
+                self.put_step(place, self.operations[place]);
+            }
         }
     }
 
@@ -231,7 +249,8 @@ impl Writer {
         }
     }
 
-    /// Returns the program with these sources of both levels, or `None` if it has too many slots.
+    /// Returns the program whose levels are read from these sources, or `None` if it needs more
+    /// than `MAX_SLOTS` slots. A level without a source keeps the bits of its plane.
     fn program(self, lower: Option<Source>, upper: Option<Source>) -> Option<Program>
         requires { self.count ≤ MAX_STEPS }
     {
@@ -244,13 +263,8 @@ impl Writer {
                 asked |= asked_by(Some(source));
             }
         }
-        let Writer {
-            steps,
-            count,
-            slots,
-            ..
-        } = self;
-        Some(Program::new(steps, count, slots, asked, lower, upper))
+        let Writer { steps, count, .. } = self;
+        Some(Program::new(steps, count, asked, lower, upper))
     }
 }
 

@@ -23,8 +23,9 @@ use std::marker::Model;
 pub struct Tables {
     /// A table for each use of a rule.
     by_use: Vec<Table>,
-    /// Room to try a rule, and for a table that is inverted.
-    trial: Table,
+    /// Room to try a rule, and for a table that is inverted. It lies apart, so that tables are moved
+    /// without it.
+    trial: Box<Table>,
     /// The way along the cycle for which they are filled.
     filled: Option<Direction>,
 }
@@ -53,9 +54,10 @@ impl Tables {
         for _use in 0..MAX_TABLES {
             by_use.push(Table::blank(alloc)?)?;
         }
+        let trial = Box::new(alloc, Table::blank(alloc)?)?;
         Ok(Tables {
             by_use,
-            trial: Table::blank(alloc)?,
+            trial,
             filled: None,
         })
     }

@@ -44,7 +44,7 @@ impl<'a, R: Handle> Terms<'a, R> {
         })
     }
 
-    /// What the client has.
+    /// Whether the client has a seat, waits for one, or waits with a long first line.
     pub fn standing(&self) -> Standing {
         self.standing.get()
     }

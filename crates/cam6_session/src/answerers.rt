@@ -3,6 +3,7 @@ ghost use Rattle.std.specs.Prelude.{◌≡◌, List, ℕ, Ok, Err, string_bytes}
 ghost use Rattle.cam6_model.specs.Machine.{Machine};
 ghost use Rattle.cam6_wire.specs.declared.faults.LineFault.TheVariants.{NoMemory};
 ghost use Rattle.cam6_wire.specs.Commands.{command as what_is_said, IsFaultOf, IsSaid};
+ghost use Rattle.cam6_wire.specs.Replies.{reply_bytes};
 ghost use Rattle.cam6_session.specs.Answers.{by_machine};
 ghost use Rattle.cam6_session.specs.Held.{Holds};
 ghost use Rattle.cam6_session.specs.Responding.{Responds, TakesMemory, TellsText, TellsFault};
@@ -11,8 +12,8 @@ use crate::desks::Ask;
 use crate::line_buffer::LineBuf;
 use crate::sessions::Stop;
 use crate::writers::send;
-use cam6_commands::Command;
-use cam6_wire::{LineFault, fault_line, read_command, reply_text};
+use cam6_commands::{Command, Reply};
+use cam6_wire::{LineFault, fault_line, fixed_line, read_command, reply_text};
 use std::alloc::Global;
 use std::io::Write;
 
@@ -111,7 +112,19 @@ fn respond_to<W: Write, D: Ask>(
     let Ok(reply) = desk.ask(command) else {
         return Err(Stop::NoMemory { done: false });
     };
-    let Ok(text) = reply_text(alloc, &reply) else {
+    tell_reply(alloc, &reply, writer)
+}
+
+/// Writes a reply as a line. Allocates nothing for a reply that only says what was done.
+fn tell_reply<W: Write>(alloc: Global, reply: &Reply, writer: &mut W) -> Result<(), Stop>
+    ensures { TellsText result (reply_bytes reply.now)
+        (W.contents writer.old) (W.contents writer.new) }
+{
+    if let Some(fixed) = fixed_line(reply) {
+        send(writer, fixed.as_bytes())?;
+        return Ok(());
+    }
+    let Ok(text) = reply_text(alloc, reply) else {
         return Err(Stop::NoMemory { done: true });
     };
     tell(writer, text)

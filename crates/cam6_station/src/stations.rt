@@ -3,6 +3,7 @@ ghost use Rattle.std.specs.Prelude.{◌≡◌, ◌<◌, ℕ, true};
 ghost use Rattle.cam6_board.specs.Images.{is_rest};
 ghost use Rattle.cam6_station.specs.Internal.Posts.{HasLease};
 
+use crate::users::User;
 use cam6_band::AtRest;
 use cam6_board::{Board, Image, Job, SoftBoard, Tables};
 use cam6_slot::{Finished, Lease, Queued};
@@ -14,7 +15,7 @@ use std::mem;
 enum Post {
     Idle,
     /// The user and the lease whose job the board holds.
-    Loaded(usize, Lease),
+    Loaded(User, Lease),
     Dead,
 }
 
@@ -24,18 +25,18 @@ pub enum Banded {
     /// So many bands are left.
     More(u64),
     /// The user's command is done, and the board is free.
-    Last(usize, Finished),
+    Last(User, Finished),
     /// The board failed, and the user's command waits again with what is at its home.
-    Lost(usize, Queued),
+    Lost(User, Queued),
 }
 
 /// What it comes to that a command is taken off its board.
 #[derive(Drop)]
 pub enum Preempted {
     /// The user's command waits again with the bands that are done, and the board is free.
-    Back(usize, Queued),
+    Back(User, Queued),
     /// The board failed, and the user's command waits again with what is at its home.
-    Lost(usize, Queued),
+    Lost(User, Queued),
 }
 
 /// A board that is idle, holds the job of a user's lease, or has failed.
@@ -141,7 +142,7 @@ impl<B: Board> Station<B> {
     /// what is at its home.
     pub fn load(
         &mut self,
-        user: usize,
+        user: User,
         lease: Lease,
         job: Job,
         tables: &Tables,
@@ -225,7 +226,7 @@ impl<B: Board> Station<B> {
 
     /// The board fails, and with it is lost what it holds: the user's command, if there is one, waits
     /// again with what is at its home.
-    pub fn fail(&mut self) -> Option<(usize, Queued)>
+    pub fn fail(&mut self) -> Option<(User, Queued)>
         requires { IsAlive self.old.at }
         ensures back { FailGives self.old.at result }
         ensures dead { self.new.at ≡ dead }
@@ -251,7 +252,7 @@ impl<B: Board> Station<B> {
 }
 
 /// Puts `after` in the place of a post that has a lease. Returns the user and the lease.
-fn taken(post: &mut Post, after: Post) -> (usize, Lease)
+fn taken(post: &mut Post, after: Post) -> (User, Lease)
     requires { HasLease post.old }
     ensures was { post.old ≡ Post.Loaded result.0 result.1 }
     ensures after { post.new ≡ after }

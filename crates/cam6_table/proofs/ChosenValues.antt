@@ -1,7 +1,7 @@
 -- Masks of 16 bits, of which all are 1 or all are 0, choose values.
-use Rattle.std.proofs.Common.{◌≡◌, ◌∙◌, ◌<◌, ◌-◌, ◌^◌, ℕ, Bool, true, false, if◌then◌else◌}
+use Rattle.std.proofs.Common.{◌≡◌, ◌∙◌, ◌<◌, ◌≤◌, ◌-◌, ◌^◌, ℕ, Bool, true, false, if◌then◌else◌}
 use Rattle.std.proofs.Common.{bit_and, bit_or, arith}
-use Rattle.std.proofs.lemmas.Nat.{and_le_r, and_mask, or_disjoint, or_comm}
+use Rattle.std.proofs.lemmas.Nat.{and_le_l, and_le_r, and_mask, le_or_r, or_disjoint, or_comm}
 
 none : (v : ℕ) → bit_and v 0 ≡ 0
 none v = let least = and_le_r v 0 in omega arith
@@ -36,3 +36,24 @@ pub kept_unless : (v mask : ℕ) (test : Bool) → v < 2 ^ 16 →
     mask ≡ (if test then 65535 else 0) → bit_and v (65535 - mask) ≡ (if test then 0 else v)
 kept_unless v mask true fits is = rw is (none v)
 kept_unless v mask false fits is = rw is (all v fits)
+
+-- both of two masks
+module _ (a b : ℕ) where
+  pub both_in : a ≡ 65535 → b ≡ 65535 → bit_and a b ≡ 65535
+  both_in first second = rw (first, second) (all 65535 (omega arith))
+
+  pub first_none : a ≡ 0 → bit_and a b ≡ 0
+  first_none first = rw first (let least = and_le_l 0 b in omega arith)
+
+  pub second_none : b ≡ 0 → bit_and a b ≡ 0
+  second_none second = rw second (none a)
+
+-- a mask lets a value be, and lets it be 0
+pub value_in : (v set : ℕ) → v < 2 ^ 16 → set ≡ 65535 → bit_and v set ≡ v
+value_in v set fits is = rw is (all v fits)
+
+pub value_out : (v set : ℕ) → set ≡ 0 → bit_and v set ≡ 0
+value_out v set is = rw is (none v)
+
+pub limit_out : (v set : ℕ) → set ≡ 0 → 65535 ≤ bit_or v (65535 - set)
+limit_out v set is = rw is (le_or_r v 65535)

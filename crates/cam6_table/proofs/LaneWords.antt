@@ -1,21 +1,16 @@
 -- What a stack word leaves of a lane's stack.
-use Rattle.std.proofs.Common.{◌≡◌, ◌∙◌, ◌<◌, ◌≤◌, ◌+◌, ◌-◌, ◌==◌, ℕ, zero, suc, List, ◌∷◌}
-use Rattle.std.proofs.Common.{Ok, length, ap, sym, refl}
+use Rattle.std.proofs.Common.{◌≡◌, ◌∙◌, ◌<◌, ◌≤◌, ◌+◌, ◌-◌, ◌==◌, ℕ, List, ◌∷◌}
+use Rattle.std.proofs.Common.{Ok, length, ap, sym}
 use Rattle.std.proofs.Common.{arith}
 use Rattle.std.proofs.lemmas.Bool.Decides.{nat_tests}
 use Rattle.cam6_planes.specs.Row.{bit_number}
 use Rattle.cam6_forth.specs.declared.words.StackWord.TheVariants as word
 use Rattle.cam6_table.specs.Words.{Values, with_room, on_stack}
-use Rattle.cam6_table.specs.Internal.Lanes.{column, value_at, values_from}
-use Rattle.cam6_table.proofs.Columns.{column_at}
-
-length_values : (lane floor count : ℕ) (rows : List (List ℕ)) →
-    length (values_from lane rows floor count) ≡ count
-length_values lane floor zero rows = refl
-length_values lane floor (suc count) rows = ap suc (length_values lane floor count rows)
+use Rattle.cam6_table.specs.Internal.Lanes.{column, value_at}
+use Rattle.cam6_table.proofs.Columns.{column_at, length_values}
 
 -- a stack that is low enough has room
-in_room : (values : Values) → length values ≤ 32 → with_room values ≡ Ok values
+pub in_room : (values : Values) → length values ≤ 32 → with_room values ≡ Ok values
 in_room values low = grind (arith, nat_tests)
 
 pub room_for_one : (lane v floor top : ℕ) (rows : List (List ℕ)) → top < floor + 32 →

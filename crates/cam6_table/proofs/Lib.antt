@@ -38,16 +38,22 @@ pub mod EachLane
 pub mod ChosenValues
 -- What a lane's stack is, after a row was written.
 pub mod Columns
+-- What a stack with a gap is, after rows were written.
+pub mod Gaps
 -- Lanes whose stacks were moved have their states.
 pub mod Moving
 -- What a stack word leaves of a lane's stack.
 pub mod LaneWords
+-- What a stack word leaves of a stack, whatever is below the part that it reads.
+pub mod DeeperStacks
 -- What an output word makes of a lane's state.
 pub mod LaneOutputs
 -- A table is filled: an entry that is put where it is the result makes no other wrong.
 pub mod RightEntries
 -- In a lane there is left to do the same after its next instruction.
 pub mod Outcomes
+-- Lanes do instructions in the same way: what is left in each of them.
+pub mod StepByStep
 -- Lanes part at an IF and at a case: which of them are where afterwards.
 pub mod Parting
 -- A flow takes others along: what is left in each of their lanes.

@@ -5,12 +5,12 @@ use Rattle.cam6_wiring.specs.Seen.{shown}
 use Rattle.cam6_table.specs.declared.codes.Instruction.{Instruction}
 use Rattle.cam6_table.specs.declared.lanes.Lanes.{Lanes}
 use Rattle.cam6_table.specs.Codes.{act, go}
-use Rattle.cam6_table.specs.Internal.Lanes.{state_at, floor_of, Stands, IsNext, LeadsTo, IsLeft}
+use Rattle.cam6_table.specs.Internal.Lanes.{state_at, Stands, IsNext, LeadsTo, IsLeft}
 use Rattle.cam6_table.proofs.Jumps.{exec-goes_on}
 
 module _ (address : ℕ) (code : List Instruction) (i : Instruction) (behind to top after : ℕ)
     (lanes new : Lanes) (lane : ℕ) (some : 0 < behind) (next : IsNext code behind i)
-    (stands : Stands (floor_of lane new) after) where
+    (stands : Stands lane after new.floors) where
   -- after an instruction
   pub still_left : (passed : ℕ) → to ≡ behind - 1 - passed →
       act (shown address) None i (state_at lane top lanes)

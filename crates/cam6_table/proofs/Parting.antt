@@ -1,7 +1,7 @@
 -- Lanes part at an IF and at a case: what is left in each of them.
 use Rattle.std.proofs.Common.{◌≡◌, ◌≢◌, ◌∙◌, ◌⊎◌, ◌<◌, ◌≤◌, ◌+◌, ◌-◌, ◌==◌, ℕ, zero, suc}
-use Rattle.std.proofs.Common.{None, Some, Ok, Err, slice_index, ap, sym, subst, refl, arith, inl, inr}
-use Rattle.std.proofs.Common.{◌&&◌, IsTrue, if◌then◌else◌, nat_lt, Result, Bool, true, false, List, ◌∷◌, length}
+use Rattle.std.proofs.Common.{None, Some, Ok, Err, ap, sym, subst, refl, arith, inl, inr}
+use Rattle.std.proofs.Common.{◌&&◌, IsTrue, if◌then◌else◌, nat_lt, Result, Bool, true, false, List, ◌∷◌, ◌++◌, length}
 use Rattle.std.proofs.lemmas.Bool.{cases_eq}
 use Rattle.std.proofs.lemmas.Bool.Decides.{nat_tests}
 use Rattle.cam6_wiring.specs.Seen.{shown}
@@ -16,9 +16,10 @@ use Rattle.cam6_table.specs.declared.outputs.State.{State}
 use Rattle.cam6_table.specs.Words.{Values}
 use Rattle.cam6_table.specs.Meaning.{at_zero, with_top}
 use Rattle.cam6_table.specs.Codes.{act, go}
-use Rattle.cam6_table.specs.Internal.Lanes.{column, value_at, floor_of, state_at}
+use Rattle.cam6_table.specs.Internal.Lanes.{value_at, end_of, below_gap, stack_at, state_at}
 use Rattle.cam6_table.specs.Internal.Lanes.{outcome_from, IsNext, LeadsTo, IsLeft, IsKept}
-use Rattle.cam6_table.specs.Internal.Lanes.{Stands, Holds, IsFor}
+use Rattle.cam6_table.specs.Internal.Lanes.{Stands, Holds, IsFor, IsSpanned}
+use Rattle.cam6_table.specs.Internal.Sets.{IsInOnePart}
 use Rattle.cam6_table.specs.declared.floors.Floors.{Floors}
 use Rattle.cam6_table.specs.declared.spans.Span.{Span}
 use Rattle.cam6_table.proofs.Columns.{column_at}
@@ -40,35 +41,33 @@ module _ (set top zeros others : ℕ) (zeros_are : zeros ≡ (if top == 0 then s
   pub value_of_others : others ≡ 65535 → top ≢ 0
   value_of_others inside = grind (arith, nat_tests)
 
-  pub all_zero : top ≡ 0 → zeros ≡ set
-  all_zero same = grind (arith, nat_tests)
-
-  pub none_of_none : set ≡ 0 → zeros ≡ 0
-  none_of_none none = grind (arith, nat_tests)
-
-  pub each_other : (set ≡ 65535) ⊎ (set ≡ 0) → (others ≡ 65535) ⊎ (others ≡ 0)
-  each_other each =
-      elim (cases_eq top 0) [
-        | inl same ↦ inr (grind (arith, nat_tests))
-        | inr other ↦ (let is : others ≡ set = grind (arith, nat_tests) in
-            elim each [
-              | inl inside ↦ inl (is ∙ inside)
-              | inr outside ↦ inr (is ∙ outside)
-            ])
-      ]
-
 abbrev done_so : State → Next → Result (State × Next) RuleFault
 done_so s next = Ok (s, next)
 
 -- a stack of a span that ends at a row
-pub stands_in : (span : Span) (len floor : ℕ) → Holds span len → IsFor span floor → Stands floor len
-stands_in span len floor holds is =
+pub stands_in : (span : Span) (len lane : ℕ) (floors : Floors) → Holds span len →
+    IsSpanned span lane floors → Stands lane len floors
+stands_in span len lane floors holds is =
     let low = holds.low in
     let high = holds.high in
     let within = holds.within in
-    let under = is.low in
+    let under = is.in_place in
     let full = is.full in
-    record { low = omega arith; high = omega arith; within = omega arith }
+    record {
+      deep = is.deep;
+      begins = is.begins;
+      in_place = omega arith;
+      high = omega arith;
+      within = omega arith;
+    }
+
+-- the values of such a stack that are in place
+pub is_for : (span : Span) (lane : ℕ) (floors : Floors) → IsSpanned span lane floors →
+    IsFor span (end_of lane floors)
+is_for span lane floors is =
+    let begins = is.begins in
+    let full = is.full in
+    record { low = is.in_place; full = omega arith }
 
 -- what is left to a lane stays if its state is kept
 pub kept_left : (address : ℕ) (code : List Instruction) (behind top : ℕ) (lanes : Lanes)
@@ -87,7 +86,7 @@ pub same_left : (address : ℕ) (code : List Instruction) (behind top : ℕ) (la
     IsLeft address code behind top lanes lane → IsLeft address code behind top new lane
 same_left address code behind top lanes new lane floors same left = record {
   place = left.place;
-  stands = subst (λ (f : Floors). Stands (slice_index f.rows lane) top) (sym floors) left.stands;
+  stands = subst (λ (f : Floors). Stands lane top f) (sym floors) left.stands;
   left = ap (outcome_from address code (record { behind = behind; word = None })) same ∙ left.left;
 }
 
@@ -111,22 +110,30 @@ goes_past zero distance is = refl
 goes_past (suc v) distance is = cc is
 
 module _ (address : ℕ) (code : List Instruction) (behind to len : ℕ) (lanes new : Lanes)
-    (lane : ℕ) (some : 0 < behind) (full : 1 + floor_of lane lanes ≤ len)
+    (lane : ℕ) (some : 0 < behind) (full : 1 + end_of lane lanes.floors ≤ len)
     (floors : new.floors ≡ lanes.floors)
     (same : state_at lane (len - 1) new ≡ state_at lane (len - 1) lanes)
     (left : IsLeft address code behind len lanes lane) where
-  top : column lane lanes.stacks.rows (floor_of lane lanes) len
+  top : stack_at lane lanes.stacks.rows lanes.floors len
       ≡ value_at lane lanes.stacks.rows (len - 1) ∷
-      column lane lanes.stacks.rows (floor_of lane lanes) (len - 1)
+      stack_at lane lanes.stacks.rows lanes.floors (len - 1)
   top =
-      column_at lane lanes.stacks.rows (floor_of lane lanes) len (len - 1) (omega arith) (omega arith)
+      ap (λ (c : Values). c ++ below_gap lane lanes.stacks.rows lanes.floors)
+      (column_at lane lanes.stacks.rows (end_of lane lanes.floors) len (len - 1) (omega arith)
+      (omega arith))
 
-  stands : Stands (floor_of lane new) (len - 1)
+  stands : Stands lane (len - 1) new.floors
   stands =
       let high = left.stands.high in
       let within = left.stands.within in
-      subst (λ (f : Floors). Stands (slice_index f.rows lane) (len - 1)) (sym floors)
-      (record { low = omega arith; high = omega arith; within = omega arith })
+      subst (λ (f : Floors). Stands lane (len - 1) f) (sym floors)
+      (record {
+        deep = left.stands.deep;
+        begins = left.stands.begins;
+        in_place = omega arith;
+        high = omega arith;
+        within = omega arith;
+      })
 
   -- after an IF
   pub left_after_if : (distance passed : ℕ) → IsNext code behind (SkipIfZero distance) →
@@ -195,3 +202,49 @@ module _ (b t behind top : ℕ) (is : IsTrue (b == behind && t == top)) where
 
   pub top_there : t ≡ top
   top_there = grind (arith, nat_tests)
+
+-- the parts of a set in which a value is 0 and in which it is not
+pub one_part : (set top zeros others : ℕ) → zeros ≡ (if top == 0 then set else 0) →
+    others ≡ (if top == 0 then 0 else set) → (set ≡ 65535) ⊎ (set ≡ 0) →
+    IsInOnePart set zeros others
+one_part set top zeros others zeros_are others_are each =
+    elim (cases_eq top 0) [
+      | inl same ↦ (let zeros_is : zeros ≡ set = grind (arith, nat_tests) in
+          let others_is : others ≡ 0 = grind (arith, nat_tests) in
+          record {
+            each = each;
+            each_first = elim each [
+              | inl inside ↦ inl (zeros_is ∙ inside)
+              | inr none ↦ inr (zeros_is ∙ none)
+            ];
+            each_second = inr others_is;
+            one = λ inside. inl (zeros_is ∙ inside);
+            first_in = λ is. sym zeros_is ∙ is;
+            first_only = λ is. others_is;
+            second_in = λ is. absurd (omega (arith, is, others_is));
+            second_only = λ is. absurd (omega (arith, is, others_is));
+            none_first = λ none. zeros_is ∙ none;
+            none_second = λ none. others_is;
+          })
+      | inr other ↦ (let zeros_is : zeros ≡ 0 = grind (arith, nat_tests) in
+          let others_is : others ≡ set = grind (arith, nat_tests) in
+          record {
+            each = each;
+            each_first = inr zeros_is;
+            each_second = elim each [
+              | inl inside ↦ inl (others_is ∙ inside)
+              | inr none ↦ inr (others_is ∙ none)
+            ];
+            one = λ inside. inr (others_is ∙ inside);
+            first_in = λ is. absurd (omega (arith, is, zeros_is));
+            first_only = λ is. absurd (omega (arith, is, zeros_is));
+            second_in = λ is. sym others_is ∙ is;
+            second_only = λ is. zeros_is;
+            none_first = λ none. zeros_is;
+            none_second = λ none. others_is ∙ none;
+          })
+    ]
+
+pub value_of_zeros : (set top first : ℕ) → first ≡ (if top == 0 then set else 0) →
+    first ≡ 65535 → top ≡ 0
+value_of_zeros set top first first_is inside = grind (arith, nat_tests)

@@ -1,11 +1,11 @@
 -- What is left in each lane where flows meet.
-use Rattle.std.proofs.Common.{◌≡◌, ◌∙◌, ◌⊎◌, ◌==◌, ◌&&◌, ◌<◌, ℕ, List, slice_index, ap, sym, subst, inl, inr, arith, None}
+use Rattle.std.proofs.Common.{◌≡◌, ◌∙◌, ◌⊎◌, ◌==◌, ◌&&◌, ◌<◌, ℕ, List, slice_index, ap, sym, inl, inr, arith, None}
 use Rattle.cam6_table.specs.declared.codes.Instruction.{Instruction}
 use Rattle.cam6_table.specs.declared.flows.Flow.{Flow}
 use Rattle.cam6_table.specs.declared.flows.Places.{Places}
 use Rattle.cam6_table.specs.declared.lanes.Lanes.{Lanes}
 use Rattle.cam6_table.specs.declared.lane_values.TheConstants.{LANES}
-use Rattle.cam6_table.specs.Internal.Lanes.{outcome_from, Stands, IsLeft, IsUntouched, AreLeft, AreLeftWith}
+use Rattle.cam6_table.specs.Internal.Lanes.{outcome_from, IsLeft, IsUntouched, AreLeft, AreLeftWith}
 use Rattle.cam6_table.specs.Internal.Sets.{IsIn, IsOut, IsOther}
 use Rattle.cam6_table.proofs.Parting.{left_there, behind_there, top_there}
 
@@ -15,7 +15,7 @@ pub untouched_left : (address : ℕ) (code : List Instruction) (behind top : ℕ
     IsLeft address code behind top lanes lane → IsLeft address code behind top new lane
 untouched_left address code behind top lanes new lane same left = record {
   place = left.place;
-  stands = subst (λ floor. Stands floor top) (sym same.floor) left.stands;
+  stands = same.stands top left.stands;
   left = ap (outcome_from address code (record { behind = behind; word = None })) (same.state top) ∙
       left.left;
 }
@@ -99,22 +99,3 @@ module _ (addresses : List ℕ) (code : List Instruction) (flow : Flow) (places 
       let end = top_there b t behind top is in
       left_there (slice_index addresses lane) code b t _ _ lanes lane (omega arith) (omega arith)
       (left.outside lane below (other.outside inside))
-
-  -- it stays wherever the flow stops
-  pub until_left : (until : ℕ) → AreLeftWith addresses code
-      (record {
-        set = flow.set;
-        behind = flow.behind;
-        until = until;
-        span = flow.span;
-        lost = flow.lost;
-        was_parted = flow.was_parted;
-      }) places lanes
-  until_left until = record {
-    within = left.within;
-    holds = left.holds;
-    floors = left.floors;
-    each = left.each;
-    inside = left.inside;
-    outside = left.outside;
-  }

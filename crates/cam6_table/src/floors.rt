@@ -1,24 +1,29 @@
-//! The rows at which the stacks of all lanes begin.
-ghost use Rattle.std.specs.Prelude.{◌≡◌, ◌<◌, ℕ, slice_index, true};
+//! Where the stacks of all lanes lie.
+ghost use Rattle.std.specs.Prelude.{◌≡◌, ◌<◌, ℕ, slice_index};
 ghost use Rattle.cam6_table.specs.declared.lane_values.TheConstants.{LANES};
 
 use crate::lane_values::{LaneValues, in_all};
 
-/// The row at which each lane's stack begins, and whether all are known to begin at the first one.
+/// Where each lane's stack lies. Its values from row `ends` on are in place. Those below lie
+/// `widths` rows below their place, so that a stack can move without them.
 #[derive(Drop)]
 pub struct Floors {
+    /// The row at which a stack begins if all of its values are in place.
     pub rows: LaneValues,
-    pub are_low: bool,
-    ghost low: { are_low ≡ true → (lane : ℕ) → lane < LANES → slice_index rows lane ≡ 0 },
+    pub ends: LaneValues,
+    pub widths: LaneValues,
 }
 
-/// Each stack begins at the first row.
+/// Each stack begins at the first row, with all values in place.
 #[inline(always)]
 pub fn all_low() -> Floors
-    ensures { (lane : ℕ) → lane < LANES → slice_index result.rows lane ≡ 0 }
+    ensures rows { (lane : ℕ) → lane < LANES → slice_index result.rows lane ≡ 0 }
+    ensures ends { (lane : ℕ) → lane < LANES → slice_index result.ends lane ≡ 0 }
+    ensures widths { (lane : ℕ) → lane < LANES → slice_index result.widths lane ≡ 0 }
 {
     Floors {
         rows: in_all(0),
-        are_low: true,
+        ends: in_all(0),
+        widths: in_all(0),
     }
 }

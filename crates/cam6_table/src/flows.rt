@@ -1,20 +1,22 @@
 //! Where each lane is in the code, and which lanes go on together.
-ghost use Rattle.std.specs.Prelude.{◌≡◌, ◌==◌, ◌&&◌, ◌<◌, ◌≤◌, ℕ, List, OnOk, IfOk, length, slice_index};
+ghost use Rattle.std.specs.Prelude.{◌≡◌, ◌==◌, ◌&&◌, ◌⊎◌, ◌<◌, ◌≤◌, ℕ, List, OnOk, IfOk, length, slice_index};
 ghost use Rattle.cam6_table.specs.declared.lane_values.TheConstants.{LANES};
 ghost use Rattle.cam6_table.specs.declared.codes.Instruction.{Instruction};
 ghost use Rattle.cam6_table.specs.declared.codes.Instruction.TheVariants.{SkipIfZero, Case};
 ghost use Rattle.cam6_table.specs.Limits.{max_turns};
 ghost use Rattle.cam6_table.specs.declared.lane_stacks.TheConstants.{ROWS};
-ghost use Rattle.cam6_table.specs.Internal.Sets.{IsIn, IsOut, IsOther};
-ghost use Rattle.cam6_table.specs.Internal.Lanes.{IsNext, AreFound, Holds};
+ghost use Rattle.cam6_table.specs.Internal.Sets.{IsIn, IsOut, IsOther, IsInOnePart};
+ghost use Rattle.cam6_table.specs.Internal.Lanes.{IsNext, AreFound, Holds, IsSpanned, AreParted};
 ghost use Rattle.cam6_table.specs.Internal.Lanes.{AreLeft, AreLeftAt, AreLeftWith};
 
 use crate::codes::{Instruction, Instructions};
 use crate::lane_stacks::{Apart, ROWS};
 use crate::lane_values::{LANES, LaneValues, in_all};
 use crate::lanes::Lanes;
-use crate::sets::{IN, LaneMask, LaneSet, greatest_in, is_none, put_in, those_with, those_without};
+use crate::levels::level;
+use crate::sets::{IN, LaneMask, LaneSet, Parts, greatest_in, is_none, put_in, those_with};
 use crate::spans::{Span, span_of};
+use crate::straight::run_straight;
 use crate::waiting::{LaneQueue, LanesWaiting, waiting_at};
 
 /// Where each lane waits: so many instructions are left to it, and its stack ends at a row.
@@ -32,8 +34,6 @@ pub struct Flow {
     pub behind: usize,
     pub until: usize,
     pub span: Span,
-    /// More than 0 if the lanes passed instructions apart from others at the same place.
-    pub lost: u16,
     /// Whether lanes left it after its span was made. If so, those that are left may have more
     /// values and more room than the span says.
     pub was_parted: bool,
@@ -66,7 +66,6 @@ pub fn flow_of(set: LaneMask, behind: usize, until: usize, lanes: &Lanes) -> Flo
         set: LaneSet::of(set),
         behind,
         until,
-        lost: 0,
         was_parted: false,
     }
 }
@@ -87,11 +86,7 @@ pub fn resume(
     let those = others_at(&in_all(0), places, waiting.behind, top);
     lanes.stacks.len = usize::from(top);
     let behind = usize::from(waiting.behind).min(code.len());
-    let flow = flow_of(those, behind, until, lanes);
-    Flow {
-        lost: waiting.lost,
-        ..flow
-    }
+    flow_of(those, behind, until, lanes)
 }
 
 /// Returns `IN` for a lane that waits at the place and is not in the other set, and 0 for any other
@@ -141,6 +136,8 @@ pub fn wait(places: &mut Places, set: &LaneMask, behind: usize, top: usize)
 /// Takes the top values off. Lanes in which it is 0 pass so many instructions.
 #[inline(always)]
 pub fn part_at_if(
+    code: &Instructions,
+    addresses: &LaneValues,
     distance: usize,
     flow: &mut Flow,
     queue: &mut LaneQueue,
@@ -148,13 +145,17 @@ pub fn part_at_if(
     lanes: &mut Lanes,
 ) -> Result<(), Apart>
     requires some { 0 < flow.old.behind }
-    requires within { flow.old.behind ≤ max_turns }
+    requires within { flow.old.behind ≤ length code.now }
+    requires code { length code.now ≤ max_turns }
     requires holds { Holds flow.old.span lanes.old.stacks.len }
+    requires floors { (lane : ℕ) → lane < LANES → IsIn flow.old.set.mask lane →
+        IsSpanned flow.old.span lane lanes.old.floors }
+    requires each { (lane : ℕ) → lane < LANES →
+        IsIn flow.old.set.mask lane ⊎ IsOut flow.old.set.mask lane }
     ensures falls { OnOk result (flow.new.behind < flow.old.behind) }
-    ensures left { (addresses : List ℕ) (code : List Instruction) →
-        IsNext code flow.old.behind (SkipIfZero distance) →
-        AreLeftWith addresses code flow.old places.old lanes.old →
-        AreLeftWith addresses code flow.new places.new lanes.new }
+    ensures left { IsNext code.now flow.old.behind (SkipIfZero distance) →
+        AreLeftWith addresses.now code.now flow.old places.old lanes.old →
+        AreLeftWith addresses.now code.now flow.new places.new lanes.new }
 {
     lanes.stacks.need(flow.span, 1)?;
     let behind = flow.behind - 1;
@@ -165,27 +166,69 @@ pub fn part_at_if(
         return Ok(());
     }
     let top = lanes.stacks.at_depth(1);
-    let zeros = those_with(&flow.set.mask, top, 0);
-    let others = those_without(&flow.set.mask, top, 0);
+    let parts = flow.set.parted(top);
     lanes.stacks.len -= 1;
-    if is_none(&zeros) {
+    if parts.some_zeros == 0 {
         flow.behind = behind;
         return Ok(());
     }
-    if is_none(&others) {
+    if parts.some_others == 0 {
         flow.behind = target;
         return Ok(());
     }
-    wait(places, &zeros, target, lanes.stacks.len);
-    queue.put(waiting_at(target, lanes.stacks.len, 0));
-    flow.set = LaneSet {
-        mask: others,
+    flow.behind = behind;
+    go_apart(code, addresses, parts, target, flow, queue, places, lanes);
+    Ok(())
+}
+
+/// Lanes of a flow go on while the others stand at a place further on. They meet there if they come
+/// to it without parting anew. If not, the others wait.
+fn go_apart(
+    code: &Instructions,
+    addresses: &LaneValues,
+    parts: Parts,
+    target: usize,
+    flow: &mut Flow,
+    queue: &mut LaneQueue,
+    places: &mut Places,
+    lanes: &mut Lanes,
+)
+    requires within { flow.old.behind ≤ length code.now }
+    requires code { length code.now ≤ max_turns }
+    requires target { target ≤ flow.old.behind }
+    requires holds { Holds flow.old.span lanes.old.stacks.len }
+    requires floors { (lane : ℕ) → lane < LANES → IsIn flow.old.set.mask lane →
+        IsSpanned flow.old.span lane lanes.old.floors }
+    requires parts { (lane : ℕ) → lane < LANES → IsInOnePart (slice_index flow.old.set.mask lane)
+        (slice_index parts.zeros lane) (slice_index parts.others lane) }
+    ensures falls { flow.new.behind ≤ flow.old.behind }
+    ensures left { AreParted addresses.now code.now flow.old parts.zeros parts.others
+        flow.old.behind target places.old lanes.old →
+        AreLeftWith addresses.now code.now flow.new places.new lanes.new }
+{
+    let there = lanes.stacks.len;
+    let set = LaneSet {
+        mask: parts.others,
         is_all: false,
     };
-    flow.was_parted = true;
+    let mut span = flow.span;
+    let behind = run_straight(code, addresses, &set, flow.behind, target, &mut span, lanes);
     flow.behind = behind;
-    flow.until = flow.until.max(target);
-    Ok(())
+    if behind != target {
+        wait(places, &parts.zeros, target, there);
+        queue.put(waiting_at(target, there));
+        flow.set = set;
+        flow.span = span;
+        flow.was_parted = true;
+        flow.until = flow.until.max(target);
+        return;
+    }
+    if lanes.stacks.len != there {
+        let top = level(&set.mask, &parts.zeros, lanes.stacks.len, there, lanes);
+        lanes.stacks.len = top;
+        flow.span = span_of(&lanes.floors, &flow.set.mask, top);
+        flow.was_parted = false;
+    }
 }
 
 /// Takes the indices off. Each lane waits at that word of the case, and none is left in the flow.
@@ -266,7 +309,7 @@ fn words_found(
         };
         let those = those_with(set, indices, index as u16);
         if !is_none(&those) {
-            words.push(waiting_at(behind, top, 0));
+            words.push(waiting_at(behind, top));
         }
         behinds = put_in(&those, behind as u16, &behinds);
         behind = behind.saturating_sub(length);

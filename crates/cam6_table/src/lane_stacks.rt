@@ -1,15 +1,17 @@
 //! The stacks of all lanes. A word is done in some lanes, and in the others every stack stays.
 ghost use Rattle.std.specs.Prelude.{◌≡◌, ◌≢◌, ◌<◌, ◌≤◌, ◌+◌, ◌-◌, OnOk, OnErr, IfOk};
-ghost use Rattle.std.specs.Prelude.{slice_index_or, [], ℕ};
+ghost use Rattle.std.specs.Prelude.{◌++◌, length, slice_index, slice_index_or, [], ℕ};
 ghost use Rattle.cam6_table.specs.declared.lane_values.TheConstants.{LANES};
 ghost use Rattle.cam6_table.specs.declared.lane_stacks.TheConstants.{ROWS};
 ghost use Rattle.cam6_table.specs.Internal.LaneValues.{stack_word};
-ghost use Rattle.cam6_table.specs.Internal.Lanes.{column, value_at, Stands, Holds};
-ghost use Rattle.cam6_table.specs.Internal.Lanes.{Pushes, StayOut, LeavesIn};
+ghost use Rattle.cam6_table.specs.Limits.{max_values};
+ghost use Rattle.cam6_table.specs.Internal.Lanes.{column, value_at, stack_at, Stands, Holds};
+ghost use Rattle.cam6_table.specs.Internal.Lanes.{Pushes, StayOut, StayBelow, LeavesIn};
 ghost use Rattle.cam6_table.specs.Internal.Sets.{IsIn, IsOut};
 
-use crate::lane_values::{LANES, LaneValues, Merge, zeros};
-use crate::sets::{LaneMask, LaneSet, chosen};
+use crate::floors::Floors;
+use crate::lane_values::{LANES, LaneValues, Merge, put_value, zeros};
+use crate::sets::{LaneMask, LaneSet, chosen, chosen_from};
 use crate::spans::Span;
 use crate::stacks::Stack;
 use cam6_forth::StackWord;
@@ -22,7 +24,7 @@ pub struct Apart;
 pub const ROWS: usize = 64;
 
 /// Rows of values, the lowest first, and the row at which the stacks of the lanes at work end.
-/// What a row has below or above a lane's stack doesn't matter.
+/// What a row has below or above a lane's stack, or in its gap, doesn't matter.
 #[derive(Drop)]
 pub struct Stacks {
     pub rows: [LaneValues; ROWS],
@@ -37,17 +39,33 @@ impl Stacks {
         }
     }
 
-    /// The stack of a lane, between two rows.
-    pub fn of_lane(&self, lane: usize, floor: usize, top: usize) -> Stack
+    /// The stack of a lane that ends before row `top`.
+    pub fn of_lane(&self, floors: &Floors, lane: usize, top: usize) -> Stack
         requires lane { lane < LANES }
-        requires stands { Stands floor top }
-        ensures { result ≡ column lane self.now.rows floor top }
+        requires stands { Stands lane top floors.now }
+        ensures { result ≡ stack_at lane self.now.rows floors.now top }
     {
+        let floor = usize::from(floors.rows[lane]);
+        let end = usize::from(floors.ends[lane]);
+        let width = usize::from(floors.widths[lane]);
         let mut stack = Stack::new();
-        for k in floor..top {
+        self.put_rows(lane, floor - width, end - width, &mut stack);
+        self.put_rows(lane, end, top, &mut stack);
+        stack
+    }
+
+    /// Puts a lane's values in some rows on a stack.
+    fn put_rows(&self, lane: usize, from: usize, to: usize, stack: &mut Stack)
+        requires lane { lane < LANES }
+        requires up { from ≤ to }
+        requires within { to ≤ ROWS }
+        requires room { length stack.old + to ≤ from + max_values }
+        ensures values { stack.new ≡ column lane self.now.rows from to ++ stack.old }
+        ensures length { length stack.new + from ≡ length stack.old + to }
+    {
+        for k in from..to {
             stack.put(self.rows[k][lane]);
         }
-        stack
     }
 
     /// Returns `Apart` unless each lane has `count` values.
@@ -94,26 +112,69 @@ impl Stacks {
         ensures high { self.new.len ≡ self.old.len + 1 }
         ensures put { Pushes set.now.mask values.now self.old self.new }
         ensures others { StayOut set.now.mask self.old self.new }
+        ensures below { StayBelow self.old.len self.old self.new }
     {
         self.rows[self.len] = set.chosen(values, &self.rows[self.len]);
         self.len += 1;
     }
 
-    /// Copies a row over another one in the lanes of a set.
+    /// Copies a row over another one in those lanes of a set in which its value is in place: in all
+    /// of them from row `highest` on.
     #[inline(always)]
-    pub fn copy(&mut self, set: &LaneMask, from: usize, to: usize)
+    pub fn copy(
+        &mut self,
+        set: &LaneMask,
+        ends: &LaneValues,
+        highest: usize,
+        from: usize,
+        to: usize,
+    )
+        requires highest { (lane : ℕ) → lane < LANES → IsIn set.now lane →
+            slice_index ends.now lane ≤ highest }
         requires from { from < ROWS }
         requires to { to < ROWS }
         ensures len { self.new.len ≡ self.old.len }
         ensures inside { (lane : ℕ) → lane < LANES → IsIn set.now lane →
+            slice_index ends.now lane ≤ from →
             value_at lane self.new.rows to ≡ value_at lane self.old.rows from }
+        ensures under { (lane : ℕ) → lane < LANES → IsIn set.now lane →
+            from < slice_index ends.now lane →
+            value_at lane self.new.rows to ≡ value_at lane self.old.rows to }
         ensures others { (lane row : ℕ) → row ≢ to →
             value_at lane self.new.rows row ≡ value_at lane self.old.rows row }
         ensures outside { (lane : ℕ) → lane < LANES → IsOut set.now lane →
             value_at lane self.new.rows to ≡ value_at lane self.old.rows to }
     {
         let row = self.rows[from];
-        self.rows[to] = chosen(set, &row, &self.rows[to]);
+        self.rows[to] = if from >= highest {
+            chosen(set, &row, &self.rows[to])
+        } else {
+            chosen_from(set, ends, from as u16, &row, &self.rows[to])
+        };
+    }
+
+    /// Brings the values of a lane to their places from row `from` on. They lie so many rows below.
+    pub fn fill(&mut self, lane: usize, width: usize, from: usize, to: usize)
+        requires lane { lane < LANES }
+        requires low { width ≤ from }
+        requires up { from ≤ to }
+        requires within { to ≤ ROWS }
+        ensures len { self.new.len ≡ self.old.len }
+        ensures filled { (row : ℕ) → from ≤ row → row < to →
+            value_at lane self.new.rows row ≡ value_at lane self.old.rows (row - width) }
+        ensures below { (row : ℕ) → row < from →
+            value_at lane self.new.rows row ≡ value_at lane self.old.rows row }
+        ensures above { (row : ℕ) → to ≤ row →
+            value_at lane self.new.rows row ≡ value_at lane self.old.rows row }
+        ensures others { (other row : ℕ) → other ≢ lane →
+            value_at other self.new.rows row ≡ value_at other self.old.rows row }
+    {
+        let mut next = to;
+        while next > from {
+            next -= 1;
+            let value = self.rows[next - width][lane];
+            put_value(&mut self.rows[next], lane, value);
+        }
     }
 
     /// Puts values on top, if there is room.
@@ -124,6 +185,7 @@ impl Stacks {
         ensures ok { OnOk result (Pushes set.now.mask values.now self.old self.new) }
         ensures holds { Holds span self.new.len }
         ensures others { StayOut set.now.mask self.old self.new }
+        ensures below { StayBelow span.floor self.old self.new }
         ensures err { OnErr result (self.new ≡ self.old) }
     {
         self.need_room(span)?;

@@ -1,5 +1,5 @@
 //! One value for each lane, and what a word makes of two of them in every lane at once.
-ghost use Rattle.std.specs.Prelude.{◌≡◌, ◌==◌, ◌<◌, ◌∷◌, ◌/◌, ◌%◌, ℕ, List, Ok, IsTrue};
+ghost use Rattle.std.specs.Prelude.{◌≡◌, ◌≢◌, ◌==◌, ◌<◌, ◌∷◌, ◌/◌, ◌%◌, ℕ, List, Ok, IsTrue};
 ghost use Rattle.std.specs.Prelude.{slice_index};
 ghost use Rattle.cam6_planes.specs.Row.{bit_number};
 ghost use Rattle.cam6_wiring.specs.Seen.{shown};
@@ -100,6 +100,17 @@ pub fn in_all(value: u16) -> LaneValues
     ensures { (lane : ℕ) → lane < LANES → slice_index result lane ≡ value }
 {
     [value; LANES]
+}
+
+/// Puts a value into one lane.
+#[inline(always)]
+pub fn put_value(values: &mut LaneValues, lane: usize, value: u16)
+    requires lane { lane < LANES }
+    ensures here { slice_index values.new lane ≡ value }
+    ensures others { (other : ℕ) → other ≢ lane →
+        slice_index values.new other ≡ slice_index values.old other }
+{
+    values[lane] = value;
 }
 
 /// 1 in the lanes in which the value is 0, and 0 in the others.

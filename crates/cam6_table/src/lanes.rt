@@ -4,8 +4,8 @@ ghost use Rattle.cam6_table.specs.declared.lane_values.TheConstants.{LANES};
 ghost use Rattle.cam6_table.specs.Limits.{max_values};
 ghost use Rattle.cam6_entries.specs.NewBits.{is_odd};
 ghost use Rattle.cam6_table.specs.Outputs.{untouched, entry_of};
-ghost use Rattle.cam6_table.specs.Internal.Lanes.{bit_written, state_at, floor_of, WritesIn};
-ghost use Rattle.cam6_table.specs.Internal.Lanes.{Stands, Holds, IsFor};
+ghost use Rattle.cam6_table.specs.Internal.Lanes.{bit_written, state_at, WritesIn};
+ghost use Rattle.cam6_table.specs.Internal.Lanes.{Stands, Holds, IsSpanned};
 ghost use Rattle.cam6_table.specs.Internal.Sets.{IsIn};
 
 use crate::floors::{Floors, all_low};
@@ -20,7 +20,7 @@ use cam6_forth::Target;
 /// What stands for a plane to which a lane wrote nothing. A bit that it wrote is 0 or 1.
 const NOT_WRITTEN: u16 = 2;
 
-/// The stacks of all lanes and the rows at which they begin. For each plane of the half, the bits
+/// The stacks of all lanes and where they lie. For each plane of the half, the bits
 /// that the lanes wrote to it last.
 #[derive(Drop)]
 pub struct Lanes {
@@ -43,7 +43,7 @@ pub fn all_untouched() -> Lanes {
 /// Resets all lanes to the state in which a rule begins.
 pub fn clear(lanes: &mut Lanes)
     ensures limit { lanes.new.stacks.len ≤ max_values }
-    ensures low { (lane : ℕ) → lane < LANES → floor_of lane lanes.new ≡ 0 }
+    ensures stands { (lane : ℕ) → lane < LANES → Stands lane 0 lanes.new.floors }
     ensures cleared { (lane : ℕ) → lane < LANES → state_at lane 0 lanes.new ≡ untouched }
 {
     lanes.stacks.len = 0;
@@ -55,13 +55,11 @@ pub fn clear(lanes: &mut Lanes)
 /// The state of a lane with a stack that ends at row `top`.
 pub fn state_of(lanes: &Lanes, lane: usize, top: usize) -> State
     requires lane { lane < LANES }
-    requires stands { Stands (floor_of lane lanes.now) top }
+    requires stands { Stands lane top lanes.now.floors }
     ensures { result ≡ state_at lane top lanes.now }
 {
     State {
-        stack: lanes
-            .stacks
-            .of_lane(lane, usize::from(lanes.floors.rows[lane]), top),
+        stack: lanes.stacks.of_lane(&lanes.floors, lane, top),
         lower: bit_written(lanes.lower[lane]),
         upper: bit_written(lanes.upper[lane]),
     }
@@ -98,7 +96,7 @@ pub fn entry_at_end(lanes: &Lanes, lane: usize, address: u16) -> u8
 pub fn write_in(lanes: &mut Lanes, set: &LaneSet, span: Span, target: Target) -> Result<(), Apart>
     requires holds { Holds span lanes.old.stacks.len }
     requires floors { (lane : ℕ) → lane < LANES → IsIn set.now.mask lane →
-        IsFor span (floor_of lane lanes.old) }
+        IsSpanned span lane lanes.old.floors }
     ensures { WritesIn set.now.mask span target lanes.old lanes.new result }
 {
     lanes.stacks.need(span, 1)?;

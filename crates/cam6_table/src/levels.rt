@@ -1,114 +1,240 @@
-//! Stacks of lanes are moved, so that they end at another row.
-ghost use Rattle.std.specs.Prelude.{◌≡◌, ◌<◌, ◌≤◌, ◌+◌, ◌-◌, ◌⊎◌, ℕ, slice_index};
+//! Stacks of lanes move, so that they end at another row. Values below a gap stay where they are.
+ghost use Rattle.std.specs.Prelude.{◌≡◌, ◌≢◌, ◌<◌, ◌≤◌, ◌+◌, ◌-◌, ◌⊎◌, ℕ, slice_index};
 ghost use Rattle.cam6_table.specs.declared.lane_values.TheConstants.{LANES};
 ghost use Rattle.cam6_table.specs.declared.lane_stacks.TheConstants.{ROWS};
-ghost use Rattle.cam6_table.specs.Internal.Lanes.{value_at, floor_of, Stands, IsKept, IsUntouched};
+ghost use Rattle.cam6_table.specs.Internal.Lanes.{value_at, width_of};
+ghost use Rattle.cam6_table.specs.Internal.Lanes.{Stands, IsKept, IsUntouched};
 ghost use Rattle.cam6_table.specs.Internal.Sets.{IsIn, IsOut};
 
 use crate::floors::Floors;
-use crate::lane_stacks::Stacks;
+use crate::lane_stacks::{ROWS, Stacks};
 use crate::lane_values::{LANES, LaneValues};
 use crate::lanes::Lanes;
-use crate::sets::{LaneMask, chosen};
+use crate::sets::{LaneMask, greatest_in, least_in, lowered, put_in, raised, those_equal};
 
-/// Moves the stacks of the lanes of a set, which end at one row and begin at `lowest` or above, so
-/// that they end at another row.
-pub fn move_stacks(set: &LaneMask, lowest: usize, from: usize, to: usize, lanes: &mut Lanes)
-    requires set { (lane : ℕ) → lane < LANES → IsIn set.now lane ⊎ IsOut set.now lane }
-    requires lowest { (lane : ℕ) → lane < LANES → IsIn set.now lane →
-        lowest ≤ floor_of lane lanes.old }
-    requires from { from ≤ ROWS }
-    requires to { to ≤ ROWS }
-    requires room { from ≤ lowest + to }
+/// Brings the stacks of two sets of lanes, which end at two rows, to one of the two. Returns it.
+pub fn level(
+    first: &LaneMask,
+    second: &LaneMask,
+    here: usize,
+    there: usize,
+    lanes: &mut Lanes,
+) -> usize
+    requires each_first { (lane : ℕ) → lane < LANES → IsIn first.now lane ⊎ IsOut first.now lane }
+    requires each_second { (lane : ℕ) → lane < LANES →
+        IsIn second.now lane ⊎ IsOut second.now lane }
+    requires apart { (lane : ℕ) → lane < LANES → IsIn first.now lane → IsOut second.now lane }
+    requires here { here ≤ ROWS }
+    requires there { there ≤ ROWS }
+    ensures top { result ≤ ROWS }
     ensures len { lanes.new.stacks.len ≡ lanes.old.stacks.len }
-    ensures inside { (lane : ℕ) → lane < LANES → IsIn set.now lane →
-        Stands (floor_of lane lanes.old) from → IsKept from lanes.old to lanes.new lane }
-    ensures outside { (lane : ℕ) → lane < LANES → IsOut set.now lane →
+    ensures first { (lane : ℕ) → lane < LANES → IsIn first.now lane →
+        Stands lane here lanes.old.floors → IsKept here lanes.old result lanes.new lane }
+    ensures second { (lane : ℕ) → lane < LANES → IsIn second.now lane →
+        Stands lane there lanes.old.floors → IsKept there lanes.old result lanes.new lane }
+    ensures others { (lane : ℕ) → lane < LANES → IsOut first.now lane → IsOut second.now lane →
+        IsUntouched lanes.old lanes.new lane }
+{
+    if here < there {
+        join(second, first, there, here, lanes)
+    } else {
+        join(first, second, here, there, lanes)
+    }
+}
+
+/// Lowers the stacks of the lanes that end at the higher row, if each has a gap that is wide enough.
+/// If not, it raises the others.
+fn join(high: &LaneMask, low: &LaneMask, from: usize, to: usize, lanes: &mut Lanes) -> usize
+    requires each_high { (lane : ℕ) → lane < LANES → IsIn high.now lane ⊎ IsOut high.now lane }
+    requires each_low { (lane : ℕ) → lane < LANES → IsIn low.now lane ⊎ IsOut low.now lane }
+    requires apart { (lane : ℕ) → lane < LANES → IsIn low.now lane → IsOut high.now lane }
+    requires under { (lane : ℕ) → lane < LANES → IsIn high.now lane → IsOut low.now lane }
+    requires down { to ≤ from }
+    requires limit { from ≤ ROWS }
+    ensures top { result ≤ ROWS }
+    ensures len { lanes.new.stacks.len ≡ lanes.old.stacks.len }
+    ensures high { (lane : ℕ) → lane < LANES → IsIn high.now lane →
+        Stands lane from lanes.old.floors → IsKept from lanes.old result lanes.new lane }
+    ensures low { (lane : ℕ) → lane < LANES → IsIn low.now lane →
+        Stands lane to lanes.old.floors → IsKept to lanes.old result lanes.new lane }
+    ensures others { (lane : ℕ) → lane < LANES → IsOut high.now lane → IsOut low.now lane →
         IsUntouched lanes.old lanes.new lane }
 {
     if from == to {
-        return;
+        return from;
     }
-    move_rows(&mut lanes.stacks, set, lowest, from, to);
-    lanes.floors = Floors {
-        rows: moved(set, from as u16, to as u16, &lanes.floors.rows),
-        are_low: false,
-    };
-}
-
-/// The row at which a stack begins that was moved.
-#[inline(always)]
-fn moved_row(row: u16, from: u16, to: u16) -> u16
-    ensures { row + to < 65536 → from ≤ row + to → result + from ≡ row + to }
-{
-    row.wrapping_add(to).saturating_sub(from)
-}
-
-/// The rows at which stacks begin that were moved in the lanes of a set.
-#[inline(always)]
-fn moved(set: &LaneMask, from: u16, to: u16, rows: &LaneValues) -> LaneValues
-    ensures inside { (lane : ℕ) → lane < LANES → IsIn set.now lane →
-        slice_index rows.now lane + to < 65536 → from ≤ slice_index rows.now lane + to →
-        slice_index result lane + from ≡ slice_index rows.now lane + to }
-    ensures outside { (lane : ℕ) → lane < LANES → IsOut set.now lane →
-        slice_index result lane ≡ slice_index rows.now lane }
-{
-    let mut sums = [0; LANES];
-    for lane in 0..LANES {
-        sums[lane] = moved_row(rows[lane], from, to);
-    }
-    chosen(set, &sums, rows)
-}
-
-/// Copies the rows from `lowest` to `from` in the lanes of a set, so that they end at another row.
-fn move_rows(stacks: &mut Stacks, set: &LaneMask, lowest: usize, from: usize, to: usize)
-    requires set { (lane : ℕ) → lane < LANES → IsIn set.now lane ⊎ IsOut set.now lane }
-    requires from { from ≤ ROWS }
-    requires to { to ≤ ROWS }
-    requires room { from ≤ lowest + to }
-    ensures len { stacks.new.len ≡ stacks.old.len }
-    ensures inside { (lane row there : ℕ) → lane < LANES → IsIn set.now lane →
-        lowest ≤ row → row < from → there + from ≡ row + to →
-        value_at lane stacks.new.rows there ≡ value_at lane stacks.old.rows row }
-    ensures outside { (lane row : ℕ) → lane < LANES → IsOut set.now lane →
-        value_at lane stacks.new.rows row ≡ value_at lane stacks.old.rows row }
-{
-    if from <= to {
-        move_up(stacks, set, to - from, lowest, from);
+    if from - to <= usize::from(least_in(high, &lanes.floors.widths)) {
+        lower(high, from, to, lanes);
+        to
     } else {
-        move_down(stacks, set, from - to, lowest, from);
+        raise(low, to, from, lanes);
+        from
     }
 }
 
-/// Copies rows so far up, the last one first, in the lanes of a set.
-fn move_up(stacks: &mut Stacks, set: &LaneMask, by: usize, from: usize, to: usize)
+/// Raises the stacks of the lanes of a set, which end at one row, so that they end at another one.
+/// Values below a gap stay where they are. So does a stack without a gap, of which all is below it
+/// then.
+pub fn raise(set: &LaneMask, from: usize, to: usize, lanes: &mut Lanes)
+    requires set { (lane : ℕ) → lane < LANES → IsIn set.now lane ⊎ IsOut set.now lane }
+    requires up { from ≤ to }
+    requires to { to ≤ ROWS }
+    ensures len { lanes.new.stacks.len ≡ lanes.old.stacks.len }
+    ensures inside { (lane : ℕ) → lane < LANES → IsIn set.now lane →
+        Stands lane from lanes.old.floors → IsKept from lanes.old to lanes.new lane }
+    ensures outside { (lane : ℕ) → lane < LANES → IsOut set.now lane →
+        IsUntouched lanes.old lanes.new lane }
+{
+    let by = (to - from) as u16;
+    cut(set, from, lanes);
+    let floors = &lanes.floors;
+    move_up(&mut lanes.stacks, set, &floors.ends, to - from, from);
+    let rows = raised(set, by, &floors.rows);
+    let ends = raised(set, by, &floors.ends);
+    let widths = raised(set, by, &floors.widths);
+    lanes.floors = Floors { rows, ends, widths };
+}
+
+/// Begins a gap of no width at the top of each stack of a set that has all values in place.
+fn cut(set: &LaneMask, top: usize, lanes: &mut Lanes)
+    requires set { (lane : ℕ) → lane < LANES → IsIn set.now lane ⊎ IsOut set.now lane }
+    requires top { top ≤ ROWS }
+    ensures len { lanes.new.stacks.len ≡ lanes.old.stacks.len }
+    ensures inside { (lane : ℕ) → lane < LANES → IsIn set.now lane →
+        Stands lane top lanes.old.floors → IsKept top lanes.old top lanes.new lane }
+    ensures outside { (lane : ℕ) → lane < LANES → IsOut set.now lane →
+        IsUntouched lanes.old lanes.new lane }
+{
+    let floors = &lanes.floors;
+    let those = those_equal(set, &floors.rows, &floors.ends);
+    let ends = put_in(&those, top as u16, &floors.ends);
+    let widths = put_in(&those, 0, &floors.widths);
+    lanes.floors.ends = ends;
+    lanes.floors.widths = widths;
+}
+
+/// Lowers the stacks of the lanes of a set, which end at one row, so that they end at another one.
+/// Each has a gap that is wide enough, and its values below that gap stay where they are.
+pub fn lower(set: &LaneMask, from: usize, to: usize, lanes: &mut Lanes)
+    requires set { (lane : ℕ) → lane < LANES → IsIn set.now lane ⊎ IsOut set.now lane }
+    requires down { to ≤ from }
+    requires from { from ≤ ROWS }
+    requires wide { (lane : ℕ) → lane < LANES → IsIn set.now lane →
+        from ≤ width_of lane lanes.old.floors + to }
+    ensures len { lanes.new.stacks.len ≡ lanes.old.stacks.len }
+    ensures inside { (lane : ℕ) → lane < LANES → IsIn set.now lane →
+        Stands lane from lanes.old.floors → IsKept from lanes.old to lanes.new lane }
+    ensures outside { (lane : ℕ) → lane < LANES → IsOut set.now lane →
+        IsUntouched lanes.old lanes.new lane }
+{
+    let by = (from - to) as u16;
+    let floors = &lanes.floors;
+    move_down(&mut lanes.stacks, set, &floors.ends, from - to, from);
+    let rows = lowered(set, by, &floors.rows);
+    let ends = lowered(set, by, &floors.ends);
+    let widths = lowered(set, by, &floors.widths);
+    lanes.floors = Floors { rows, ends, widths };
+}
+
+/// Copies rows so far up, the last one first, in those lanes of a set in which they are in place.
+fn move_up(stacks: &mut Stacks, set: &LaneMask, ends: &LaneValues, by: usize, to: usize)
     requires set { (lane : ℕ) → lane < LANES → IsIn set.now lane ⊎ IsOut set.now lane }
     requires within { to + by ≤ ROWS }
     ensures len { stacks.new.len ≡ stacks.old.len }
-    ensures inside { (lane row : ℕ) → lane < LANES → IsIn set.now lane → from ≤ row → row < to →
+    ensures inside { (lane row : ℕ) → lane < LANES → IsIn set.now lane →
+        slice_index ends.now lane ≤ row → row < to →
         value_at lane stacks.new.rows (row + by) ≡ value_at lane stacks.old.rows row }
+    ensures below { (lane row : ℕ) → lane < LANES → IsIn set.now lane →
+        row < slice_index ends.now lane + by →
+        value_at lane stacks.new.rows row ≡ value_at lane stacks.old.rows row }
     ensures outside { (lane row : ℕ) → lane < LANES → IsOut set.now lane →
         value_at lane stacks.new.rows row ≡ value_at lane stacks.old.rows row }
 {
+    let lowest = usize::from(least_in(set, ends));
+    let highest = usize::from(greatest_in(set, ends));
     let mut next = to;
-    while next > from {
+    while next > lowest {
         next -= 1;
-        stacks.copy(set, next, next + by);
+        stacks.copy(set, ends, highest, next, next + by);
     }
 }
 
-/// Copies rows so far down, the first one first, in the lanes of a set.
-fn move_down(stacks: &mut Stacks, set: &LaneMask, by: usize, from: usize, to: usize)
+/// Copies rows so far down, the first one first, in those lanes of a set in which they are in place.
+fn move_down(stacks: &mut Stacks, set: &LaneMask, ends: &LaneValues, by: usize, to: usize)
     requires set { (lane : ℕ) → lane < LANES → IsIn set.now lane ⊎ IsOut set.now lane }
-    requires low { by ≤ from }
     requires within { to ≤ ROWS }
     ensures len { stacks.new.len ≡ stacks.old.len }
-    ensures inside { (lane row : ℕ) → lane < LANES → IsIn set.now lane → from ≤ row → row < to →
+    ensures inside { (lane row : ℕ) → lane < LANES → IsIn set.now lane →
+        slice_index ends.now lane ≤ row → by ≤ row → row < to →
         value_at lane stacks.new.rows (row - by) ≡ value_at lane stacks.old.rows row }
+    ensures below { (lane row : ℕ) → lane < LANES → IsIn set.now lane →
+        row + by < slice_index ends.now lane →
+        value_at lane stacks.new.rows row ≡ value_at lane stacks.old.rows row }
     ensures outside { (lane row : ℕ) → lane < LANES → IsOut set.now lane →
         value_at lane stacks.new.rows row ≡ value_at lane stacks.old.rows row }
 {
-    for next in from..to {
-        stacks.copy(set, next, next - by);
+    let lowest = usize::from(least_in(set, ends)).max(by);
+    let highest = usize::from(greatest_in(set, ends));
+    for next in lowest..to {
+        stacks.copy(set, ends, highest, next, next - by);
+    }
+}
+
+/// Brings the values of the lanes of a set to their places, from a row on.
+pub fn dig(set: &LaneMask, low: usize, lanes: &mut Lanes)
+    ensures len { lanes.new.stacks.len ≡ lanes.old.stacks.len }
+    ensures inside { (lane top : ℕ) → lane < LANES → IsIn set.now lane →
+        Stands lane top lanes.old.floors → IsKept top lanes.old top lanes.new lane }
+    ensures outside { (lane : ℕ) → lane < LANES → IsOut set.now lane →
+        IsUntouched lanes.old lanes.new lane }
+{
+    for lane in 0..LANES {
+        if set[lane] != 0 {
+            dig_in(lane, low, lanes);
+        }
+    }
+}
+
+/// Brings the values of a lane to their places, from a row on. A stack that is dug to the first row
+/// can be lowered to it.
+fn dig_in(lane: usize, low: usize, lanes: &mut Lanes)
+    requires lane { lane < LANES }
+    ensures len { lanes.new.stacks.len ≡ lanes.old.stacks.len }
+    ensures here { (top : ℕ) → Stands lane top lanes.old.floors →
+        IsKept top lanes.old top lanes.new lane }
+    ensures others { (other : ℕ) → other < LANES → other ≢ lane →
+        IsUntouched lanes.old lanes.new other }
+{
+    let floor = lanes.floors.rows[lane];
+    let end = lanes.floors.ends[lane];
+    let width = lanes.floors.widths[lane];
+    let from = floor.max(low.min(ROWS) as u16);
+    if end < from || usize::from(end) > ROWS || width > floor {
+        return;
+    }
+    lanes.stacks.fill(
+        lane,
+        usize::from(width),
+        usize::from(from),
+        usize::from(end),
+    );
+    lanes.floors.ends[lane] = from;
+    lanes.floors.widths[lane] = width_after(width, floor, from, low);
+}
+
+/// The width of a gap above which values were brought to their places from row `from` on. A stack
+/// with all values in place has any.
+#[inline(always)]
+fn width_after(width: u16, floor: u16, from: u16, low: usize) -> u16
+    requires { width ≤ floor }
+    ensures low { result ≤ floor }
+    ensures same { from ≢ floor → result ≡ width }
+{
+    if from != floor {
+        width
+    } else if low == 0 {
+        floor
+    } else {
+        0
     }
 }

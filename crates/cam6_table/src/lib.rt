@@ -19,7 +19,7 @@
 //!
 //! Read next: `stacks`, what a word does; `outputs`; `codes`, the instructions; `emitter`, how a
 //! rule becomes code; `evaluation`; `lane_values`, `sets`, `floors`, `spans`, `lane_stacks`, `lanes`,
-//! `levels`, `waiting`, `flows`, `meeting` and `together`, how code runs at many addresses at
+//! `levels`, `waiting`, `straight`, `flows`, `meeting` and `together`, how code runs at many addresses at
 //! once; `lines_read`, the lines that its results depend on; `least_read`, those that differ between
 //! lanes; `filling` and `faults`; `compiling`;
 //! then `laws`.
@@ -45,6 +45,7 @@ mod outputs;
 mod sets;
 mod spans;
 mod stacks;
+mod straight;
 mod together;
 mod waiting;
 

@@ -1,25 +1,27 @@
 //! What a flow does where others wait: it takes them along, or waits itself.
-ghost use Rattle.std.specs.Prelude.{◌≡◌, ◌<◌, ◌≤◌, ◌+◌, ◌⊎◌, ℕ, List, length, slice_index};
+ghost use Rattle.std.specs.Prelude.{◌≡◌, ◌<◌, ◌≤◌, ◌⊎◌, ℕ, List, length};
 ghost use Rattle.cam6_table.specs.declared.codes.Instruction.{Instruction};
 ghost use Rattle.cam6_table.specs.declared.flows.Places.{Places};
 ghost use Rattle.cam6_table.specs.declared.lanes.Lanes.{Lanes};
-ghost use Rattle.cam6_table.specs.declared.lane_stacks.TheConstants.{ROWS};
 ghost use Rattle.cam6_table.specs.declared.lane_values.TheConstants.{LANES};
 ghost use Rattle.cam6_table.specs.Limits.{max_turns};
-ghost use Rattle.cam6_table.specs.Internal.Lanes.{floor_of, Holds, IsLeft, AreLeftWith};
+ghost use Rattle.cam6_table.specs.Internal.Lanes.{Holds, AreLeftWith};
 ghost use Rattle.cam6_table.specs.Internal.Sets.{IsIn, IsOut};
 
 use crate::codes::Instructions;
 use crate::flows::{Flow, Places, flow_of, others_at, resume, wait};
 use crate::lane_stacks::{Apart, ROWS};
 use crate::lanes::Lanes;
-use crate::levels::move_stacks;
-use crate::sets::{IN, LaneMask, least_in, put_in};
+use crate::levels::{dig, level, lower};
+use crate::sets::{IN, least_in, put_in};
+use crate::spans::span_of;
 use crate::waiting::{LaneQueue, LanesWaiting, waiting_at};
 
-/// If more rows would have to be moved, a flow first passes as many instructions apart from the
-/// others. Nothing has to be moved if their stacks then end at one row.
-const CHEAP: usize = 20;
+/// So many of the top values are brought to their places at once.
+const DUG: usize = 5;
+
+/// No word reads more values than this.
+const READ: usize = 3;
 
 /// Decides how a flow goes on after it stopped. Returns false if it can't.
 pub fn go_on(
@@ -73,7 +75,7 @@ fn exchange(
         AreLeftWith addresses code.now flow.new places.new lanes.new }
 {
     wait(places, &flow.set.mask, flow.behind, lanes.stacks.len);
-    queue.put(waiting_at(flow.behind, lanes.stacks.len, flow.lost));
+    queue.put(waiting_at(flow.behind, lanes.stacks.len));
     *flow = resume(code, next, queue.until(), places, lanes);
 }
 
@@ -93,88 +95,19 @@ fn meet(
         AreLeftWith addresses code flow.old places.now lanes.old →
         AreLeftWith addresses code flow.new places.now lanes.new }
 {
-    let those = others_at(&flow.set.mask, places, next.behind, next.top);
-    let lowest = usize::from(least_in(&those, &lanes.floors.rows));
-    let top = lanes.stacks.len;
     let there = usize::from(next.top);
-    let rows = there.saturating_sub(lowest);
     if there > ROWS {
         return;
     }
-    if there != top && rows > CHEAP && flow.lost == 0 && next.lost == 0 {
-        pass_by(next, rows, flow, queue);
-    } else if there <= lowest.saturating_add(top) {
-        bring(&those, lowest, there, flow, lanes);
-        flow.until = queue.until();
-    } else {
-        follow(&those, there, flow, lanes);
-        flow.until = queue.until();
-    }
+    let those = others_at(&flow.set.mask, places, next.behind, next.top);
+    let top = level(&flow.set.mask, &those, lanes.stacks.len, there, lanes);
+    lanes.stacks.len = top;
+    let both = put_in(&flow.set.mask, IN, &those);
+    *flow = flow_of(both, flow.behind, queue.until(), lanes);
 }
 
-/// The flow passes some instructions while others at the same place wait.
-fn pass_by(next: LanesWaiting, rows: usize, flow: &mut Flow, queue: &mut LaneQueue)
-    ensures left { (addresses : List ℕ) (code : List Instruction) (places : Places)
-        (lanes : Lanes) → AreLeftWith addresses code flow.old places lanes →
-        AreLeftWith addresses code flow.new places lanes }
-{
-    let until = queue.until().max(flow.behind.saturating_sub(rows));
-    let lost = rows.min(ROWS) as u16;
-    flow.until = until.min(flow.behind.saturating_sub(1));
-    flow.lost = lost;
-    queue.put(LanesWaiting { lost, ..next });
-}
-
-/// Moves the stacks of others at the same place, and takes them along.
-#[inline(always)]
-fn bring(those: &LaneMask, lowest: usize, there: usize, flow: &mut Flow, lanes: &mut Lanes)
-    requires holds { Holds flow.old.span lanes.old.stacks.len }
-    requires each { (lane : ℕ) → lane < LANES →
-        IsIn flow.old.set.mask lane ⊎ IsOut flow.old.set.mask lane }
-    requires those { (lane : ℕ) → lane < LANES → IsIn those.now lane ⊎ IsOut those.now lane }
-    requires others { (lane : ℕ) → lane < LANES → IsIn those.now lane →
-        IsOut flow.old.set.mask lane }
-    requires lowest { (lane : ℕ) → lane < LANES → IsIn those.now lane →
-        lowest ≤ floor_of lane lanes.old }
-    requires limit { there ≤ ROWS }
-    requires room { there ≤ lowest + lanes.old.stacks.len }
-    ensures left { (addresses : List ℕ) (code : List Instruction) (places : Places) →
-        ((lane : ℕ) → lane < LANES → IsIn those.now lane →
-        IsLeft (slice_index addresses lane) code flow.old.behind there lanes.old lane) →
-        AreLeftWith addresses code flow.old places lanes.old →
-        AreLeftWith addresses code flow.new places lanes.new }
-{
-    move_stacks(those, lowest, there, lanes.stacks.len, lanes);
-    let both = put_in(&flow.set.mask, IN, those);
-    *flow = flow_of(both, flow.behind, flow.until, lanes);
-}
-
-/// Moves the stacks of a flow up to where those of others at the same place end, and takes them
-/// along.
-fn follow(those: &LaneMask, there: usize, flow: &mut Flow, lanes: &mut Lanes)
-    requires holds { Holds flow.old.span lanes.old.stacks.len }
-    requires each { (lane : ℕ) → lane < LANES →
-        IsIn flow.old.set.mask lane ⊎ IsOut flow.old.set.mask lane }
-    requires those { (lane : ℕ) → lane < LANES → IsIn those.now lane ⊎ IsOut those.now lane }
-    requires others { (lane : ℕ) → lane < LANES → IsIn those.now lane →
-        IsOut flow.old.set.mask lane }
-    requires limit { there ≤ ROWS }
-    requires up { lanes.old.stacks.len ≤ there }
-    ensures left { (addresses : List ℕ) (code : List Instruction) (places : Places) →
-        ((lane : ℕ) → lane < LANES → IsIn those.now lane →
-        IsLeft (slice_index addresses lane) code flow.old.behind there lanes.old lane) →
-        AreLeftWith addresses code flow.old places lanes.old →
-        AreLeftWith addresses code flow.new places lanes.new }
-{
-    let lowest = usize::from(least_in(&flow.set.mask, &lanes.floors.rows));
-    move_stacks(&flow.set.mask, lowest, lanes.stacks.len, there, lanes);
-    lanes.stacks.len = there;
-    let both = put_in(&flow.set.mask, IN, those);
-    *flow = flow_of(both, flow.behind, flow.until, lanes);
-}
-
-/// Moves the stacks of a flow down and makes its span anew, after an instruction that can't be done
-/// in all of its lanes. Returns false if nothing would change.
+/// Makes the span of a flow anew, or brings values to their places, after an instruction that can't
+/// be done in all of its lanes. Returns false if nothing would change.
 fn settle(flow: &mut Flow, lanes: &mut Lanes) -> bool
     requires holds { Holds flow.old.span lanes.old.stacks.len }
     requires each { (lane : ℕ) → lane < LANES →
@@ -184,13 +117,36 @@ fn settle(flow: &mut Flow, lanes: &mut Lanes) -> bool
         AreLeftWith addresses code flow.new places lanes.new }
 {
     let top = lanes.stacks.len;
-    let lowest = usize::from(least_in(&flow.set.mask, &lanes.floors.rows));
-    if lowest > top || lowest == 0 && !flow.was_parted {
+    let span = span_of(&lanes.floors, &flow.set.mask, top);
+    if flow.was_parted && span != flow.span {
+        *flow = flow_of(flow.set.mask, flow.behind, flow.until, lanes);
+        return true;
+    }
+    if span.bottom < span.floor && top < span.floor + READ {
+        dig(&flow.set.mask, top.saturating_sub(DUG), lanes);
+        *flow = flow_of(flow.set.mask, flow.behind, flow.until, lanes);
+        return true;
+    }
+    make_room(flow, lanes)
+}
+
+/// Lowers the stacks of a flow as far as the first row. Returns false if none can be lowered.
+fn make_room(flow: &mut Flow, lanes: &mut Lanes) -> bool
+    requires holds { Holds flow.old.span lanes.old.stacks.len }
+    requires each { (lane : ℕ) → lane < LANES →
+        IsIn flow.old.set.mask lane ⊎ IsOut flow.old.set.mask lane }
+    ensures left { (addresses : List ℕ) (code : List Instruction) (places : Places) →
+        AreLeftWith addresses code flow.old places lanes.old →
+        AreLeftWith addresses code flow.new places lanes.new }
+{
+    let top = lanes.stacks.len;
+    if least_in(&flow.set.mask, &lanes.floors.rows) == 0 {
         return false;
     }
-    let to = top - lowest;
-    move_stacks(&flow.set.mask, lowest, top, to, lanes);
-    lanes.stacks.len = to;
+    dig(&flow.set.mask, 0, lanes);
+    let by = usize::from(least_in(&flow.set.mask, &lanes.floors.widths)).min(top);
+    lower(&flow.set.mask, top, top - by, lanes);
+    lanes.stacks.len = top - by;
     *flow = flow_of(flow.set.mask, flow.behind, flow.until, lanes);
-    true
+    by > 0
 }

@@ -1,11 +1,11 @@
 //! Sets of lanes, and values that are chosen by them.
-ghost use Rattle.std.specs.Prelude.{◌≡◌, ◌==◌, ◌<◌, ◌≤◌, ◌⊎◌, ℕ, IsTrue, slice_index};
+ghost use Rattle.std.specs.Prelude.{◌≡◌, ◌==◌, ◌<◌, ◌≤◌, ◌+◌, ◌⊎◌, ℕ, IsTrue, slice_index};
 ghost use Rattle.std.specs.Prelude.{if◌then◌else◌, true};
 ghost use Rattle.cam6_table.specs.declared.lane_values.TheConstants.{LANES};
 ghost use Rattle.cam6_table.specs.declared.sets.TheConstants.{IN};
 ghost use Rattle.cam6_table.specs.Internal.Sets.{IsIn, IsOut};
 
-use crate::lane_values::{LANES, LaneValues};
+use crate::lane_values::{LANES, LaneValues, in_all};
 
 /// Some lanes: `IN` stands for each of them, and 0 for each of the others.
 pub type LaneMask = LaneValues;
@@ -43,6 +43,25 @@ impl LaneSet {
             *new
         } else {
             chosen(&self.mask, new, old)
+        }
+    }
+
+    /// Parts the set by where the value is 0.
+    #[inline(always)]
+    pub fn parted(&self, values: &LaneValues) -> Parts
+        ensures zeros { (lane : ℕ) → lane < LANES → slice_index result.zeros lane ≡
+            (if slice_index values.now lane == 0 then slice_index self.now.mask lane else 0) }
+        ensures others { (lane : ℕ) → lane < LANES → slice_index result.others lane ≡
+            (if slice_index values.now lane == 0 then 0 else slice_index self.now.mask lane) }
+        ensures none_zero { result.some_zeros ≡ 0 →
+            (lane : ℕ) → lane < LANES → slice_index result.zeros lane ≡ 0 }
+        ensures none_other { result.some_others ≡ 0 →
+            (lane : ℕ) → lane < LANES → slice_index result.others lane ≡ 0 }
+    {
+        if self.is_all {
+            parted(&in_all(IN), values)
+        } else {
+            parted(&self.mask, values)
         }
     }
 }
@@ -100,6 +119,141 @@ pub fn chosen(set: &LaneMask, new: &LaneValues, old: &LaneValues) -> LaneValues
     values
 }
 
+/// What stands for a lane in the set of those in which a row is not below an end.
+#[inline(always)]
+fn in_if_from(end: u16, row: u16) -> u16
+    ensures inside { end ≤ row → result ≡ IN }
+    ensures outside { row < end → result ≡ 0 }
+{
+    if end <= row { IN } else { 0 }
+}
+
+/// The new value in a lane of a set whose end is not above a row, and otherwise the old one.
+#[inline(always)]
+fn choose_from(set: u16, end: u16, row: u16, new: u16, old: u16) -> u16
+    ensures inside { set ≡ IN → end ≤ row → result ≡ new }
+    ensures under { set ≡ IN → row < end → result ≡ old }
+    ensures outside { set ≡ 0 → result ≡ old }
+{
+    choose(set & in_if_from(end, row), new, old)
+}
+
+/// The new values in the lanes of a set whose ends are not above a row, and the old ones in the
+/// others.
+#[inline(always)]
+pub fn chosen_from(
+    set: &LaneMask,
+    ends: &LaneValues,
+    row: u16,
+    new: &LaneValues,
+    old: &LaneValues,
+) -> LaneValues
+    ensures inside { (lane : ℕ) → lane < LANES → IsIn set.now lane →
+        slice_index ends.now lane ≤ row → slice_index result lane ≡ slice_index new.now lane }
+    ensures under { (lane : ℕ) → lane < LANES → IsIn set.now lane →
+        row < slice_index ends.now lane → slice_index result lane ≡ slice_index old.now lane }
+    ensures outside { (lane : ℕ) → lane < LANES → IsOut set.now lane →
+        slice_index result lane ≡ slice_index old.now lane }
+{
+    let mut values = [0; LANES];
+    for lane in 0..LANES {
+        values[lane] = choose_from(set[lane], ends[lane], row, new[lane], old[lane]);
+    }
+    values
+}
+
+/// A value that is raised in a lane of a set.
+#[inline(always)]
+fn raise_in(set: u16, by: u16, value: u16) -> u16
+    ensures inside { set ≡ IN → value + by < 65536 → result ≡ value + by }
+    ensures outside { set ≡ 0 → result ≡ value }
+{
+    value.wrapping_add(by & set)
+}
+
+/// The values, raised in the lanes of a set.
+#[inline(always)]
+pub fn raised(set: &LaneMask, by: u16, values: &LaneValues) -> LaneValues
+    ensures inside { (lane : ℕ) → lane < LANES → IsIn set.now lane →
+        slice_index values.now lane + by < 65536 →
+        slice_index result lane ≡ slice_index values.now lane + by }
+    ensures outside { (lane : ℕ) → lane < LANES → IsOut set.now lane →
+        slice_index result lane ≡ slice_index values.now lane }
+{
+    let mut sums = [0; LANES];
+    for lane in 0..LANES {
+        sums[lane] = raise_in(set[lane], by, values[lane]);
+    }
+    sums
+}
+
+/// A value that is lowered in a lane of a set.
+#[inline(always)]
+fn lower_in(set: u16, by: u16, value: u16) -> u16
+    ensures inside { set ≡ IN → by ≤ value → result + by ≡ value }
+    ensures outside { set ≡ 0 → result ≡ value }
+{
+    value.wrapping_sub(by & set)
+}
+
+/// The values, lowered in the lanes of a set.
+#[inline(always)]
+pub fn lowered(set: &LaneMask, by: u16, values: &LaneValues) -> LaneValues
+    ensures inside { (lane : ℕ) → lane < LANES → IsIn set.now lane →
+        by ≤ slice_index values.now lane →
+        slice_index result lane + by ≡ slice_index values.now lane }
+    ensures outside { (lane : ℕ) → lane < LANES → IsOut set.now lane →
+        slice_index result lane ≡ slice_index values.now lane }
+{
+    let mut rests = [0; LANES];
+    for lane in 0..LANES {
+        rests[lane] = lower_in(set[lane], by, values[lane]);
+    }
+    rests
+}
+
+/// A value that is at most a limit in a lane of a set.
+#[inline(always)]
+fn limit_in(set: u16, limit: u16, value: u16) -> u16
+    ensures low { set ≡ IN → value ≤ limit → result ≡ value }
+    ensures high { set ≡ IN → limit ≤ value → result ≡ limit }
+    ensures outside { set ≡ 0 → result ≡ value }
+{
+    value.min(limit | !set)
+}
+
+/// The values, each at most a limit in the lanes of a set.
+#[inline(always)]
+pub fn limited(set: &LaneMask, limit: u16, values: &LaneValues) -> LaneValues
+    ensures low { (lane : ℕ) → lane < LANES → IsIn set.now lane →
+        slice_index values.now lane ≤ limit →
+        slice_index result lane ≡ slice_index values.now lane }
+    ensures high { (lane : ℕ) → lane < LANES → IsIn set.now lane →
+        limit ≤ slice_index values.now lane → slice_index result lane ≡ limit }
+    ensures outside { (lane : ℕ) → lane < LANES → IsOut set.now lane →
+        slice_index result lane ≡ slice_index values.now lane }
+{
+    let mut least = [0; LANES];
+    for lane in 0..LANES {
+        least[lane] = limit_in(set[lane], limit, values[lane]);
+    }
+    least
+}
+
+/// The lanes of a set in which two values are equal.
+#[inline(always)]
+pub fn those_equal(set: &LaneMask, values: &LaneValues, others: &LaneValues) -> LaneMask
+    ensures { (lane : ℕ) → lane < LANES → slice_index result lane ≡
+        (if slice_index values.now lane == slice_index others.now lane
+        then slice_index set.now lane else 0) }
+{
+    let mut those = [0; LANES];
+    for lane in 0..LANES {
+        those[lane] = set[lane] & in_if_equal(values[lane], others[lane]);
+    }
+    those
+}
+
 /// One new value in the lanes of a set, and the old ones in the others.
 #[inline(always)]
 pub fn put_in(set: &LaneMask, new: u16, old: &LaneValues) -> LaneValues
@@ -128,17 +282,48 @@ pub fn those_with(set: &LaneMask, values: &LaneValues, value: u16) -> LaneMask
     those
 }
 
-/// The lanes of a set in which the value is another one.
+/// The lanes of a set in which a value is 0, and the others of the set.
+#[derive(Drop)]
+pub struct Parts {
+    pub zeros: LaneMask,
+    pub others: LaneMask,
+    /// 0 if there is none of the first.
+    pub some_zeros: u16,
+    /// 0 if there is none of the second.
+    pub some_others: u16,
+}
+
+/// Parts a set by where the value is 0.
 #[inline(always)]
-pub fn those_without(set: &LaneMask, values: &LaneValues, value: u16) -> LaneMask
-    ensures { (lane : ℕ) → lane < LANES → slice_index result lane ≡
-        (if slice_index values.now lane == value then 0 else slice_index set.now lane) }
+fn parted(set: &LaneMask, values: &LaneValues) -> Parts
+    ensures zeros { (lane : ℕ) → lane < LANES → slice_index result.zeros lane ≡
+        (if slice_index values.now lane == 0 then slice_index set.now lane else 0) }
+    ensures others { (lane : ℕ) → lane < LANES → slice_index result.others lane ≡
+        (if slice_index values.now lane == 0 then 0 else slice_index set.now lane) }
+    ensures none_zero { result.some_zeros ≡ 0 →
+        (lane : ℕ) → lane < LANES → slice_index result.zeros lane ≡ 0 }
+    ensures none_other { result.some_others ≡ 0 →
+        (lane : ℕ) → lane < LANES → slice_index result.others lane ≡ 0 }
 {
-    let mut those = [0; LANES];
+    let mut zeros = [0; LANES];
+    let mut others = [0; LANES];
+    let mut some_zeros = 0;
+    let mut some_others = 0;
     for lane in 0..LANES {
-        those[lane] = set[lane] & !in_if_equal(values[lane], value);
+        let here = in_if_equal(values[lane], 0);
+        let zero = set[lane] & here;
+        let other = set[lane] & !here;
+        zeros[lane] = zero;
+        others[lane] = other;
+        some_zeros |= zero;
+        some_others |= other;
     }
-    those
+    Parts {
+        zeros,
+        others,
+        some_zeros,
+        some_others,
+    }
 }
 
 /// Whether a set has no lane.

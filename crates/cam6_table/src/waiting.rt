@@ -12,17 +12,14 @@ const MOST_BEHIND: usize = 4096;
 pub struct LanesWaiting {
     pub behind: u16,
     pub top: u16,
-    /// More than 0 if the lanes passed instructions apart from others at the same place.
-    pub lost: u16,
 }
 
 /// A place. No code has more instructions, and no stack ends above the last row.
 #[inline(always)]
-pub fn waiting_at(behind: usize, top: usize, lost: u16) -> LanesWaiting {
+pub fn waiting_at(behind: usize, top: usize) -> LanesWaiting {
     LanesWaiting {
         behind: behind.min(MOST_BEHIND) as u16,
         top: top.min(ROWS) as u16,
-        lost,
     }
 }
 
@@ -37,7 +34,7 @@ impl LaneQueue {
     /// No place.
     pub fn new() -> LaneQueue {
         LaneQueue {
-            waiting: [waiting_at(0, 0, 0); LANES],
+            waiting: [waiting_at(0, 0); LANES],
             len: 0,
         }
     }

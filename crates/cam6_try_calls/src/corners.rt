@@ -208,8 +208,9 @@ fn check_blank(
     }
 }
 
-// By hand: HORZ is 1 in a block's right column, VERT in its lower row; PHASE is the low bit.
+/// Checks what all cells of blank planes see under HORZ, VERT and PHASE, on both grids.
 fn check_blank_names(rt: &impl Abort, planes: &Planes) {
+    // By hand: HORZ is 1 in a block's right column, VERT in its lower row; PHASE is the low bit.
     let horz = [Name::Horz, Name::MinorHorz];
     let vert = [Name::Vert, Name::MinorVert];
     for phase in [Phase::P0, Phase::P3] {

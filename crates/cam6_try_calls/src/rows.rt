@@ -64,7 +64,7 @@ const FIRST_BYTES: [u8; 16] = [
     0x01, 0x23, 0x45, 0x67, 0x89, 0xAB, 0xCD, 0xEF, 0xFE, 0xDC, 0xBA, 0x98, 0x76, 0x54, 0x32, 0x10,
 ];
 
-/// The bytes of that row.
+/// The bytes of `ROW`. The first one has columns 0 to 7.
 fn row_bytes() -> [u8; 32] {
     let mut bytes = [0; 32];
     for (byte, first) in bytes.iter_mut().zip(FIRST_BYTES) {

@@ -1,5 +1,6 @@
 //! Replies and the faults of lines as lines of JSON.
-ghost use Rattle.std.specs.Prelude.{◌≡◌, ◌≢◌, ◌≤◌, [], ◌∷◌, ◌++◌, Some, IfOk, string_bytes, length};
+ghost use Rattle.std.specs.Prelude.{◌≡◌, ◌≢◌, ◌≤◌, [], ◌∷◌, ◌++◌, Some, IfOk, IfSome, string_bytes};
+ghost use Rattle.std.specs.Prelude.{length};
 ghost use Rattle.std.specs.Prelude.{map, take};
 ghost use Rattle.std.specs.Prelude.{codes};
 ghost use Rattle.std.specs.List.{AllByRecursion};
@@ -35,6 +36,33 @@ pub fn reply_text(alloc: Global, reply: &Reply) -> Result<String, NoMemory>
     ensures value { IfOk result (λ text. read (string_bytes text) ≡ Some (reply_data reply.now)) }
 {
     Ok(reply_value(alloc, reply)?.to_string(alloc)?)
+}
+
+/// Returns the line of a reply that only says what was done, with its LF, and `None` for any other
+/// reply. Does not allocate.
+pub fn fixed_line(reply: &Reply) -> Option<&'static str>
+    ensures { IfSome result (λ line. line.now ≡ reply_bytes reply.now ++ 10 ∷ []) }
+{
+    match reply {
+        Reply::Done(done) => fixed_line_of(done),
+        Reply::Refused(_) => None,
+    }
+}
+
+fn fixed_line_of(done: &Done) -> Option<&'static str>
+    ensures { IfSome result (λ line. line.now ≡ reply_bytes (Reply.Done done.now) ++ 10 ∷ []) }
+{
+    match done {
+        Done::Set => Some("{\"ok\":\"set\"}\n"),
+        Done::Clear => Some("{\"ok\":\"clear\"}\n"),
+        Done::Rule => Some("{\"ok\":\"rule\"}\n"),
+        Done::Drop => Some("{\"ok\":\"drop\"}\n"),
+        Done::Cycle => Some("{\"ok\":\"cycle\"}\n"),
+        Done::Side => Some("{\"ok\":\"side\"}\n"),
+        Done::Map => Some("{\"ok\":\"map\"}\n"),
+        Done::Load => Some("{\"ok\":\"load\"}\n"),
+        _ => None,
+    }
 }
 
 /// Returns the line that reports a line's fault, without its LF. Does not allocate.

@@ -1,7 +1,8 @@
 -- The rows that a half gets for a band.
-use Rattle.std.specs.Prelude.{ℕ, ◌+◌, Bool, [], slice_index_or, if◌then◌else◌}
+use Rattle.std.specs.Prelude.{ℕ, ◌+◌, Bool, if◌then◌else◌}
 use Rattle.cam6_planes.specs.Cells.{Cells}
-use Rattle.cam6_planes.specs.Row.{column_bit}
+use Rattle.cam6_planes.specs.declared.sides.Side.{Side}
+use Rattle.cam6_lines.specs.Units.{bit_in}
 use Rattle.cam6_wiring.specs.declared.names.Level.{Level}
 use Rattle.cam6_wiring.specs.declared.names.Level.TheVariants.{Lower, Upper}
 use Rattle.cam6_band.specs.declared.half_rows.HalfRows.{HalfRows}
@@ -14,6 +15,6 @@ rows_of Upper half = half.upper
 
 -- the bit of plane p at column x of row r of the band from row y on, after the rows are put into
 -- planes g
-abbrev pub bit_put : PlaneRows → Cells → ℕ → ℕ → ℕ → ℕ → Bool
-bit_put plane g p x y r =
-    if plane.is_written then column_bit (slice_index_or plane.rows r []) x else g p x (y + r)
+abbrev pub bit_put : Side → PlaneRows → Cells → ℕ → ℕ → ℕ → ℕ → Bool
+bit_put side plane g p x y r =
+    if plane.is_written then bit_in side plane.rows r x else g p x (y + r)

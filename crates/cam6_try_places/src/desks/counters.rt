@@ -8,7 +8,7 @@ use cam6_board::SoftBoard;
 use cam6_cache::TableCache;
 use cam6_handoff::BoardSeat;
 use cam6_planes::NoMemory;
-use cam6_station::{Banded, Preempted, Station};
+use cam6_station::{Banded, Preempted, Station, User};
 use std::alloc::Global;
 use std::marker::Model;
 
@@ -72,9 +72,12 @@ impl Counter {
         requires a_user { 0 < user }
         requires user { user ≤ self.old.users }
     {
+        // There are at most 32 users.
+        let _users = self.seat.users();
         let Some((lease, job)) = self.seat.try_take(user) else {
             return DeskAnswer::Nothing;
         };
+        let user = User::numbered(user);
         let left = lease.left();
         self.seat.fill(&lease, cache);
         match self.station.load(user, lease, job, self.seat.tables()) {

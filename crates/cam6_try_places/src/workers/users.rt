@@ -242,7 +242,8 @@ fn start<R: Handle + Send + Sync + 'static>(
     thread
 }
 
-/// What a thread that asks at a desk does.
+/// Has a user's command done in a thread of its own, unless the desk still waits for another one.
+/// Returns the desk with the reply.
 fn speak<R: Handle>(house: &WorkerHouse<R>, errand: Errand) -> Spoken {
     let Errand {
         user,

@@ -31,7 +31,7 @@ returns-in-None-clause-new c = λ f old p x r h l k.
     both_halves s tables f new y within
     (λ level x l.
     subst (λ (setting : Setting). new (plane_of (other_half setting.half) level) x y
-    ≡ cells c.args.image.now (plane_of (other_half setting.half) level) x y) c.setting.ensures
+    ≡ cells c.args.image.now (plane_of (other_half setting.half) level) x y) c.setting-b.ensures
     (c.step_half.ensures.other_half level x y l within) ∙
     old.rows (plane_of A level) x y (plane-lt A level) l (omega arith) within ∙
     sym (torus_at s f (plane_of A level) x y (plane-lt A level) l within) ∙
@@ -39,5 +39,5 @@ returns-in-None-clause-new c = λ f old p x r h l k.
     (sym c.in-None.is))
     (λ level x l.
     subst (λ (setting : Setting). new (plane_of setting.half level) x y
-    ≡ bit_by_table s (torus s f) setting tables.b level x y) c.setting.ensures
+    ≡ bit_by_table s (torus s f) setting tables.b level x y) c.setting-b.ensures
     (c.step_half.ensures.new f old level x r l k)) p x h l

@@ -1,4 +1,5 @@
-use Rattle.std.proofs.Common.{◌+◌, arith}
+use Rattle.std.proofs.Common.{◌+◌, ap, arith}
+use Rattle.cam6_planes.specs.Side.{side_number}
 use Rattle.cam6_planes.specs.Cells.{cells}
 use Rattle.cam6_planes.specs.Stored.{width}
 use Rattle.cam6_wiring.specs.Name.{plane_of}
@@ -13,8 +14,9 @@ returns-clause-new c = λ f old level x r h k.
     let s = width a.image.now in
     let band = c.old_rows-old in
     are_new s f (cells a.image.now) (cells c.put.new.image) a.by.now.table.now a.setting
-    a.by.now.hood a.by.now.minor level a.y band.result (rows_of level c.make.new.self) x r
-    band.ensures.side band.ensures.first h k (c.make.ensures f (band.ensures.rows f old) level)
+    a.by.now.hood a.by.now.minor level a.y band.result a.image.now.side
+    (rows_of level c.make.new.self) x r (ap side_number band.ensures.side) band.ensures.side
+    band.ensures.first h k (c.make.ensures f (band.ensures.rows f old) level)
     (c.put.ensures.half level x r h k)
     (old.rows (plane_of a.setting.half level) x (a.y + r) (plane-lt a.setting.half level) h
     (omega arith) (omega (arith, k, c.requires)))

@@ -1,25 +1,21 @@
-use Rattle.std.proofs.Common.{◌≡◌, ap, arith, inl, inr}
-use Rattle.cam6_lines.specs.Units.{columns}
-use Rattle.cam6_entries.proofs.UnitRows.{two_here, two_before, four_here, four_before}
+use Rattle.std.proofs.Common.{◌+◌, ◌∙◌, refl, arith, get_or, length-set}
+use Rattle.cam6_planes.proofs.WordByWord.{column_bit-set_other, column_bit-set_past}
+use Rattle.cam6_entries.proofs.UnitRows.{word_more}
 use Rattle.cam6_entries.proofs.bands.put_words.Goals as goal
 
-pub returns-in-S128 : goal.returns-in-S128
-returns-in-S128 c =
+pub loop-k-preserved : goal.loop-k-preserved
+loop-k-preserved c =
     let a = c.args in
-    let wide : columns a.side ≡ 128 = ap columns c.in-S128.is in
+    let now = c.loop-k in
+    let word = get_or a.row.now (a.from + now.k) 0 in
     record {
-      unit = λ i h. two_here a.row.now a.unit.now a.from a.at
-          (omega (arith, c.requires.row, c.told-row, wide)) i (omega (arith, h, wide));
-      before = two_before a.row.now a.unit.now a.from a.at;
-    }
-
-pub returns-in-S256 : goal.returns-in-S256
-returns-in-S256 c =
-    let a = c.args in
-    let wide : columns a.side ≡ 256 =
-    elim c.in-S256.is [ inl e ↦ ap columns e | inr e ↦ ap columns e ] in
-    record {
-      unit = λ i h. four_here a.row.now a.unit.now a.from a.at
-          (omega (arith, c.requires.row, c.told-row, wide)) i (omega (arith, h, wide));
-      before = four_before a.row.now a.unit.now a.from a.at;
+      long = length-set _ _ _ ∙ now.invariant.long;
+      words = word_more now.unit a.row.now a.at a.from now.k (a.at + now.k) (a.from + now.k) refl
+          refl (omega (arith, now.invariant.long, c.requires.unit, c.loop-k-test.true))
+          now.invariant.words;
+      before = λ c h. column_bit-set_other now.unit (a.at + now.k) word c (omega (arith, h)) ∙
+          now.invariant.before c h;
+      after = λ x h.
+          column_bit-set_past now.unit (a.at + now.k) word x
+          (omega (arith, h, c.loop-k-test.true)) ∙ now.invariant.after x h;
     }

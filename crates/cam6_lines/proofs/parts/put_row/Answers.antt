@@ -4,7 +4,7 @@ use Rattle.cam6_lines.proofs.WrittenRows.{word_more}
 use Rattle.cam6_lines.proofs.parts.put_row.Goals as goal
 
 pub loop-k-preserved : goal.loop-k-preserved
-loop-k-preserved c =
+loop-k-preserved g c =
     let a = c.args in
     let now = c.loop-k in
     record {

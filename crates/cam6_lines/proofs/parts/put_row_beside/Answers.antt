@@ -1,4 +1,4 @@
-use Rattle.std.proofs.Common.{◌+◌, ◌*◌, ◌∙◌, ap}
+use Rattle.std.proofs.Common.{◌+◌, ◌*◌}
 use Rattle.cam6_planes.specs.Cells.{torus}
 use Rattle.cam6_wiring.specs.Seen.{seen_beside}
 use Rattle.cam6_lines.specs.Bands.{side_of}
@@ -8,12 +8,12 @@ use Rattle.cam6_lines.proofs.WrittenRows.{rows_more}
 use Rattle.cam6_lines.proofs.parts.put_row_beside.Goals as goal
 
 pub returns : goal.returns
-returns c = λ f of done.
+returns g c = λ f of done.
     let a = c.args in
     let band = a.band.now in
     let s = side_of band in
     let side = band.planes.now.side in
     rows_more side (λ r i. seen_beside s (torus s f) a.compass a.p (columns side * a.unit + i)
-    (row_above band r)) a.part.now c.put_row.new.part c.seen_beside.result c.words_of_row.result 0
-    a.j (c.words_of_row.ensures.value ∙ ap columns c.requires.side)
+    (row_above band r)) a.part.now c.put_row.new.part c.seen_beside.result g.row.W 0
+    a.j c.requires.words
     c.put_row.ensures.row c.put_row.ensures.before (c.seen_beside.ensures f of) done

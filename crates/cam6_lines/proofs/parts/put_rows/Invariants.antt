@@ -8,7 +8,7 @@ use Rattle.cam6_lines.specs.Internal.Parts.{first_row, row_above}
 use Rattle.cam6_lines.proofs.parts.put_rows.Given as goal
 
 abbrev pub invariant-loop-j : goal.invariant-loop-j
-invariant-loop-j l =
+invariant-loop-j g l =
     let side = l.band.planes.now.side in
     (f : Cells) → IsBandOf f l.band → (r i : ℕ) → first_row l.name ≤ r → r < l.j →
     i < columns side → column_bit l.part (place side r i) ≡ sees_at (side_of l.band) f l.setting

@@ -1,11 +1,23 @@
-use Rattle.std.proofs.Common.{◌∙◌, arith}
-use Rattle.cam6_program.proofs.Columns.{step_taken}
+use Rattle.std.proofs.Common.{◌≡◌, ◌∙◌, List, Bool, length, ap, sym, take, map, arith}
+use Rattle.std.proofs.lemmas.List.{length-take-le}
+use Rattle.std.proofs.lemmas.Slice.{take-put_mid}
+use Rattle.cam6_wiring.specs.Lines.{at_column}
+use Rattle.cam6_program.specs.Meaning.{put_into}
+use Rattle.cam6_program.specs.Running.{written_after}
+use Rattle.cam6_program.proofs.Columns.{step_in_order}
 use Rattle.cam6_program.proofs.running.take_step.Goals as goal
 
-pub returns-then-into-slots-clause-step : goal.returns-then-into-slots-clause-step
-returns-then-into-slots-clause-step c = λ x h.
-    let split = c.split_at_mut-before in
-    step_taken _ c.args.step c.args.slots.now split.result.0.now split.result.1.now
-    c.write_first.new.slots x (split.ensures.front_len ∙ c.from-into.ensures)
-    (omega (arith, split.ensures.back_len, c.if-into-slots.true)) split.ensures.value
-    (c.write_first.ensures.first x h)
+pub returns-clause-step : goal.returns-clause-step
+returns-clause-step c = λ x h.
+    let a = c.args in
+    let after = c.written_after-written in
+    let units = c.write_slot.new.slots in
+    let lines : List Bool = at_column x (map (λ line. line.now) a.lines.now) in
+    let long : length units ≡ after.result =
+    c.write_slot.ensures.count ∙
+    length-take-le after.result a.slots.now (omega (arith, c.told-slots, after.ensures.within)) in
+    ap (at_column x) (take-put_mid 0 after.result a.slots.now units after.result (omega (arith, long)) (omega arith)) ∙
+    c.write_slot.ensures.step x h ∙
+    ap (λ n. put_into lines a.step (at_column x (take n a.slots.now)))
+    (after.ensures.value ∙ ap (written_after a.written) c.from.ensures) ∙
+    step_in_order lines a.step a.written x a.slots.now c.told-slots c.requires.written

@@ -7,9 +7,9 @@ use Rattle.cam6_session.proofs.answerers.respond_to.Goals as goal
 
 pub returns-clause-responds : goal.returns-clause-responds
 returns-clause-responds g c l said =
-    let written =
-    c.in-Ok-reply_text.ensures.text ∙ ap reply_bytes c.in-Ok.ensures.reply in
-    reply_told _ l _ _ c.args.command _ _ _ c.tell.ensures said written c.in-Ok.ensures.machine
+    let written = ap reply_bytes c.in-Ok.ensures.reply in
+    reply_told _ l _ _ c.args.command _ _ _ c.tell_reply.ensures said written
+    c.in-Ok.ensures.machine
 
 pub returns-in_default-clause-responds : goal.returns-in_default-clause-responds
 returns-in_default-clause-responds g c l said =

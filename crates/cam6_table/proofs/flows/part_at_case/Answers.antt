@@ -26,7 +26,7 @@ returns-clause-left c = λ addresses left.
           elim (left.each lane below) [
             | inl inside ↦ (
                 let index = found.below lane below inside in
-                let low = (left.floors lane below inside).low in
+                let low = (left.floors lane below inside).in_place in
                 left_there address code (slice_index c.in_ok-behinds.behinds lane) (len - 1) _ _ _ lane refl
                 (c.put_in-places.ensures.inside lane below inside)
                 (left_in_case address code flow.behind (slice_index c.in_ok-behinds.behinds lane) len lanes _ lane (omega arith)

@@ -9,7 +9,7 @@ returns c = record {
       let places = c.args.places.now in
       let lanes = c.args.lanes.now in
       let those = c.others_at-those.ensures in
-      let flow = c.flow_of-flow.ensures.left addresses code places (record {
+      c.flow_of.ensures.left addresses code places (record {
         within = let least = c.min-behind in omega arith;
         each = λ lane below. (those lane below).each;
         inside = λ lane below inside.
@@ -26,13 +26,5 @@ returns c = record {
             (same_left _ _ _ _ lanes _ lane refl refl (left lane below));
         outside = λ lane below outside.
             same_left _ _ _ _ lanes _ lane refl refl (left lane below);
-      }) in
-      record {
-        within = flow.within;
-        holds = flow.holds;
-        floors = flow.floors;
-        each = flow.each;
-        inside = flow.inside;
-        outside = flow.outside;
-      };
+      });
 }

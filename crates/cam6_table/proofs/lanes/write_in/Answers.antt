@@ -4,7 +4,7 @@ use Rattle.cam6_forth.specs.declared.words.Target.TheVariants.{Both, Lower, Uppe
 use Rattle.cam6_table.specs.declared.faults.RuleFault.{RuleFault}
 use Rattle.cam6_table.specs.declared.outputs.State.{State}
 use Rattle.cam6_entries.specs.NewBits.{is_odd}
-use Rattle.cam6_table.specs.Internal.Lanes.{column, value_at, floor_of, bit_written}
+use Rattle.cam6_table.specs.Internal.Lanes.{value_at, stack_at, bit_written}
 use Rattle.cam6_table.proofs.LaneOutputs.{kept_bit, state_of, top_written}
 use Rattle.cam6_table.proofs.lanes.write_in.Goals as goal
 
@@ -23,7 +23,7 @@ returns-in-Both c =
       floors = refl;
       each = λ lane below inside.
           let v = value_at lane rows (len - 1) in
-          let stack = column lane rows (floor_of lane old) (len - 1) in
+          let stack = stack_at lane rows old.floors (len - 1) in
           let values = ap (λ (row : List ℕ). slice_index row lane) c.at_depth.ensures in
           let low_is : slice_index low.result lane ≡ v % 2 =
           (low.ensures.inside lane below inside ∙ c.lowest_bits-low.ensures lane below ∙
@@ -32,14 +32,14 @@ returns-in-Both c =
           (high.ensures.inside lane below inside ∙ c.lowest_bits-high.ensures lane below ∙
           ap (λ u. u % 2) (c.halves.ensures lane below) ∙ ap (λ u. u / 2 % 2) values) in
           rw c.in-Both.is
-          (top_written Both lane len old (let low = (c.requires.floors lane below inside).low in omega arith) ∙
+          (top_written Both lane len old (let low = (c.requires.floors lane below inside).in_place in omega arith) ∙
           ap (λ (b : Option Bool). ok_state (state_of stack b (Some (is_odd (v / 2)))))
           (sym (kept_bit v (slice_index low.result lane) low_is)) ∙
           ap (λ (b : Option Bool).
           ok_state (state_of stack (bit_written (slice_index low.result lane)) b))
           (sym (kept_bit (v / 2) (slice_index high.result lane) high_is)));
       others = λ lane below outside top.
-          let stack = column lane rows (floor_of lane old) top in
+          let stack = stack_at lane rows old.floors top in
           ap (λ v. state_of stack (bit_written v) (bit_written (slice_index high.result lane)))
           (low.ensures.outside lane below outside) ∙
           ap (λ v. state_of stack (bit_written (slice_index old.lower lane)) (bit_written v))
@@ -57,18 +57,18 @@ returns-in-Lower c =
       floors = refl;
       each = λ lane below inside.
           let v = value_at lane rows (len - 1) in
-          let stack = column lane rows (floor_of lane old) (len - 1) in
+          let stack = stack_at lane rows old.floors (len - 1) in
           let values = ap (λ (row : List ℕ). slice_index row lane) c.at_depth.ensures in
           let low_is : slice_index low.result lane ≡ v % 2 =
           (low.ensures.inside lane below inside ∙ c.lowest_bits-low.ensures lane below ∙
           ap (λ u. u % 2) values) in
           rw c.in-Lower.is
           (top_written Lower lane len old
-          (let under = (c.requires.floors lane below inside).low in omega arith) ∙
+          (let under = (c.requires.floors lane below inside).in_place in omega arith) ∙
           ap (λ (b : Option Bool). ok_state (state_of stack b (bit_written (slice_index old.upper lane))))
           (sym (kept_bit v (slice_index low.result lane) low_is)));
       others = λ lane below outside top.
-          let stack = column lane rows (floor_of lane old) top in
+          let stack = stack_at lane rows old.floors top in
           ap (λ v. state_of stack (bit_written v) (bit_written (slice_index old.upper lane)))
           (low.ensures.outside lane below outside);
     }
@@ -84,18 +84,18 @@ returns-in-Upper c =
       floors = refl;
       each = λ lane below inside.
           let v = value_at lane rows (len - 1) in
-          let stack = column lane rows (floor_of lane old) (len - 1) in
+          let stack = stack_at lane rows old.floors (len - 1) in
           let values = ap (λ (row : List ℕ). slice_index row lane) c.at_depth.ensures in
           let low_is : slice_index low.result lane ≡ v % 2 =
           (low.ensures.inside lane below inside ∙ c.lowest_bits-low.ensures lane below ∙
           ap (λ u. u % 2) values) in
           rw c.in-Upper.is
           (top_written Upper lane len old
-          (let under = (c.requires.floors lane below inside).low in omega arith) ∙
+          (let under = (c.requires.floors lane below inside).in_place in omega arith) ∙
           ap (λ (b : Option Bool). ok_state (state_of stack (bit_written (slice_index old.lower lane)) b))
           (sym (kept_bit v (slice_index low.result lane) low_is)));
       others = λ lane below outside top.
-          let stack = column lane rows (floor_of lane old) top in
+          let stack = stack_at lane rows old.floors top in
           ap (λ v. state_of stack (bit_written (slice_index old.lower lane)) (bit_written v))
           (low.ensures.outside lane below outside);
     }

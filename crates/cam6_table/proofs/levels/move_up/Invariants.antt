@@ -1,4 +1,4 @@
-use Rattle.std.proofs.Common.{◌≡◌, ◌<◌, ◌≤◌, ◌+◌, ℕ}
+use Rattle.std.proofs.Common.{◌≡◌, ◌<◌, ◌≤◌, ◌+◌, ℕ, slice_index}
 use Rattle.cam6_table.specs.declared.lane_values.TheConstants.{LANES}
 use Rattle.cam6_table.specs.Internal.Lanes.{value_at}
 use Rattle.cam6_table.specs.Internal.Sets.{IsIn, IsOut}
@@ -9,9 +9,13 @@ abbrev pub invariant-loop-next : goal.invariant-loop-next
 invariant-loop-next l = record {
   last : l.next ≤ l.to;
   len : l.stacks.len ≡ l.fn.stacks.len;
-  moved : (lane row : ℕ) → lane < LANES → IsIn l.set lane → l.next ≤ row → row < l.to →
+  moved : (lane row : ℕ) → lane < LANES → IsIn l.set lane → slice_index l.ends lane ≤ row →
+      l.next ≤ row → row < l.to →
       value_at lane l.stacks.rows (row + l.by) ≡ value_at lane l.fn.stacks.rows row;
   kept : (lane row : ℕ) → row < l.next + l.by →
+      value_at lane l.stacks.rows row ≡ value_at lane l.fn.stacks.rows row;
+  below : (lane row : ℕ) → lane < LANES → IsIn l.set lane →
+      row < slice_index l.ends lane + l.by →
       value_at lane l.stacks.rows row ≡ value_at lane l.fn.stacks.rows row;
   outside : (lane row : ℕ) → lane < LANES → IsOut l.set lane →
       value_at lane l.stacks.rows row ≡ value_at lane l.fn.stacks.rows row;

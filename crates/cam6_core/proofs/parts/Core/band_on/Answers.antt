@@ -27,6 +27,7 @@ invariant_of-self c =
           (c.self.invariant.0 b (board_of s b) there) gives).0
           (within bs b (board_of s b) there),
       omega (arith, c.self.invariant.1, length-set bs b c.band.new.self),
+      c.self.invariant.2,
     )
 
 pub returns-clause-gives : goal.returns-clause-gives

@@ -26,8 +26,8 @@ pub returns-clause-takes : goal.returns-clause-takes
 returns-clause-takes c =
     let s = c.args.self.now in
     let b = c.args.board in
-    let u = c.in-Some.user in
-    let q = c.in-Some.queued in
+    let u = c.in-Some.back.0 in
+    let q = c.in-Some.back.1 in
     let is = c.set_user.ensures ∙
     ap (λ (z : State). with_user z u (whereabouts.Queued q)) c.in-Some.ensures.dead in
     subst (Moves s (event.Fail b) (outcome.Failed (Some c.left-left.result))) (sym is)
@@ -39,8 +39,8 @@ pub returns-clause-others : goal.returns-clause-others
 returns-clause-others c =
     let s = c.args.self.now in
     let b = c.args.board in
-    let u = c.in-Some.user in
-    let q = c.in-Some.queued in
+    let u = c.in-Some.back.0 in
+    let q = c.in-Some.back.1 in
     let is = c.set_user.ensures ∙
     ap (λ (z : State). with_user z u (whereabouts.Queued q)) c.in-Some.ensures.dead in
     subst (Spares (event.Fail b) s) (sym is) (

@@ -23,6 +23,7 @@ invariant_of-self c =
       held_with n bs b c.load.new.self c.self.invariant.0
           (subst (IsHeldWithin n) (sym c.load.ensures) user) (within bs b idle there),
       omega (arith, c.self.invariant.1, length-set bs b c.load.new.self),
+      c.self.invariant.2,
     )
 
 pub returns-clause-board : goal.returns-clause-board

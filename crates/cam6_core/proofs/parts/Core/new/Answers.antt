@@ -14,5 +14,8 @@ returns-clause-good c =
 pub invariant_of-result : goal.invariant_of-result
 invariant_of-result c =
     let idle = idle_hold_none (length c.in_ok-users.users.items) c.args.boards
-    c.in_ok-boards.boards.items c.in_ok-boards.ensures in
-    (idle.0, omega (arith, idle.1, c.requires.boards))
+    c.in_ok-boards.boards.items c.in_ok-boards.ensures in (
+      idle.0,
+      omega (arith, idle.1, c.requires.boards),
+      omega (arith, c.in_ok-users.ensures.long, c.requires.limits, c.requires.users),
+    )

@@ -23,6 +23,7 @@ invariant_of-self c =
           (subst (IsHeldWithin (length c.self.inside.users.items)) (sym c.preempt.ensures.idle) tt)
           (within bs b (board_of s b) there),
       omega (arith, c.self.invariant.1, length-set bs b c.preempt.new.self),
+      c.self.invariant.2,
     )
 
 pub returns-clause-back : goal.returns-clause-back

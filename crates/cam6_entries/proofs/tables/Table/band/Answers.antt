@@ -18,8 +18,9 @@ returns-in-Some-clause-lower c = λ f of r x h l.
     let band = a.band.now in
     c.by_program.ensures.lower f of r x h l ∙
     computed_by a.self.now c.in-Some.program (own_program _ a.self.now _ c.in-Some.program c.self.view_is
-    c.in-Some.is c.self.invariant.1) Lower (side_of band) f a.setting a.hood a.minor _ x
-    (band.first + r) c.in-Some-plan.plan (c.is_for.ensures c.if-is_for.true)
+    c.in-Some.is c.self.invariant.1) Lower (side_of band) f a.setting a.hood a.minor x
+    (band.first + r) c.in-Some-plan.plan (c.is_for.ensures.hood c.if-is_for.true)
+    (c.is_for.ensures.minor c.if-is_for.true)
 
 pub returns-in-Some-clause-upper : goal.returns-in-Some-clause-upper
 returns-in-Some-clause-upper c = λ f of r x h l.
@@ -27,8 +28,9 @@ returns-in-Some-clause-upper c = λ f of r x h l.
     let band = a.band.now in
     c.by_program.ensures.upper f of r x h l ∙
     computed_by a.self.now c.in-Some.program (own_program _ a.self.now _ c.in-Some.program c.self.view_is
-    c.in-Some.is c.self.invariant.1) Upper (side_of band) f a.setting a.hood a.minor _ x
-    (band.first + r) c.in-Some-plan.plan (c.is_for.ensures c.if-is_for.true)
+    c.in-Some.is c.self.invariant.1) Upper (side_of band) f a.setting a.hood a.minor x
+    (band.first + r) c.in-Some-plan.plan (c.is_for.ensures.hood c.if-is_for.true)
+    (c.is_for.ensures.minor c.if-is_for.true)
 
 pub returns-in-Some-2-clause-lower : goal.returns-in-Some-2-clause-lower
 returns-in-Some-2-clause-lower c = λ f of r x h l.
@@ -36,8 +38,8 @@ returns-in-Some-2-clause-lower c = λ f of r x h l.
     let band = a.band.now in
     c.by_program-in-Some.ensures.lower f of r x h l ∙
     computed_by a.self.now c.in-Some.program (own_program _ a.self.now _ c.in-Some.program c.self.view_is
-    c.in-Some.is c.self.invariant.1) Lower (side_of band) f a.setting a.hood a.minor _ x
-    (band.first + r) c.of-plan.result c.of-plan.ensures
+    c.in-Some.is c.self.invariant.1) Lower (side_of band) f a.setting a.hood a.minor x
+    (band.first + r) c.of-plan.result c.of-plan.ensures.hood c.of-plan.ensures.minor
 
 pub returns-in-Some-2-clause-upper : goal.returns-in-Some-2-clause-upper
 returns-in-Some-2-clause-upper c = λ f of r x h l.
@@ -45,5 +47,5 @@ returns-in-Some-2-clause-upper c = λ f of r x h l.
     let band = a.band.now in
     c.by_program-in-Some.ensures.upper f of r x h l ∙
     computed_by a.self.now c.in-Some.program (own_program _ a.self.now _ c.in-Some.program c.self.view_is
-    c.in-Some.is c.self.invariant.1) Upper (side_of band) f a.setting a.hood a.minor _ x
-    (band.first + r) c.of-plan.result c.of-plan.ensures
+    c.in-Some.is c.self.invariant.1) Upper (side_of band) f a.setting a.hood a.minor x
+    (band.first + r) c.of-plan.result c.of-plan.ensures.hood c.of-plan.ensures.minor

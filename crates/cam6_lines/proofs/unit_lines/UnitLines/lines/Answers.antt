@@ -20,5 +20,5 @@ returns c =
       c.unit_of-11.ensures,
       c.unit_of-12.ensures,
     )
-    (ap (map (unit_of inside.parts)) (items_all 12 inside.views None c.self.invariant.0) ∙
+    (ap (map (unit_of inside.parts inside.words)) (items_all 12 inside.views None c.self.invariant.0) ∙
     c.self.view_is)

@@ -1,8 +1,7 @@
-use Rattle.std.proofs.Common.{◌≡◌, ℕ, ◌+◌, ◌*◌, ◌<◌, ◌==◌, ◌∙◌, ap, sym, subst, arith}
-use Rattle.std.proofs.Common.{map, get_or, [], Some, None, true, length}
+use Rattle.std.proofs.Common.{◌≡◌, ℕ, ◌+◌, ◌*◌, ◌≤◌, ◌==◌, ◌∙◌, ap, sym, subst, arith}
+use Rattle.std.proofs.Common.{map, get_or, [], None}
 use Rattle.std.specs.Int.{bit_at}
 use Rattle.std.specs.Option.{IfSome}
-use Rattle.std.proofs.lemmas.Bool.{eqb-true}
 use Rattle.std.proofs.lemmas.List.{get_or_past}
 use Rattle.std.proofs.lemmas.Simd.{map-map}
 use native.Mathlib.Decide.{dec_lt}
@@ -12,32 +11,32 @@ use Rattle.cam6_wiring.specs.Seen.{line_shows}
 use Rattle.cam6_wiring.specs.declared.names.Name.{Name}
 use Rattle.cam6_wiring.proofs.Numbers.{length-names_of}
 use Rattle.cam6_wiring.specs.Wiring.{names_of}
+use Rattle.cam6_wiring.specs.declared.wirings.TheConstants.{LINES}
 use Rattle.cam6_lines.specs.Bands.{side_of}
 use Rattle.cam6_lines.specs.Plans.{Asked}
 use Rattle.cam6_lines.specs.Units.{columns, place, asked_for}
-use Rattle.cam6_lines.specs.Internal.Views.{view_of, unit_of, home_of, seen_from, IsInside, AreViews}
-use Rattle.cam6_lines.proofs.Homes.{home_name, home_named, home_below, rows_made}
-use Rattle.cam6_lines.proofs.Homes.{seen_home, view_inside}
+use Rattle.cam6_lines.specs.Internal.Views.{part_name, seen_from, unit_of, IsInside, IsPartFor}
+use Rattle.cam6_lines.proofs.SeenParts.{rows_made, seen_part, view_inside}
 use Rattle.cam6_lines.proofs.LineByLine.{map_asked}
 use Rattle.cam6_lines.proofs.UnitsSeen.{line_seen}
 use Rattle.cam6_lines.proofs.unit_lines.UnitLines.put.Goals as goal
 
 pub invariant_of-self : goal.invariant_of-self
-invariant_of-self c = (
-  c.views-self-inside.ensures.0,
-  λ k.
-      let views = c.views-self-inside.result in
-      let plan = c.args.plan.now in
-      elim (dec_lt k 12) [
-        | Prim.yes lt ↦
-            subst (λ view. IfSome view IsInside) (sym (c.views-self-inside.ensures.1 k lt))
-            (view_inside c.side.result (bit_at plan.lines k == 1)
-            (get_or (names_of plan.hood plan.minor) k None) k lt)
-        | Prim.no ge ↦
-            subst (λ view. IfSome view IsInside)
-            (sym (get_or_past views k None (omega (arith, ge, c.views-self-inside.ensures.0)))) tt
-      ],
-)
+invariant_of-self c =
+    let p = c.plan.inside in (
+      c.plan.invariant.0.0,
+      omega (arith, c.words_of_row-self-inside.ensures.most),
+      λ k.
+          elim (dec_lt k 12) [
+            | Prim.yes lt ↦
+                view_inside p.needed LINES (bit_at p.asked k == 1)
+                (get_or (names_of p.hood p.minor) k None) (get_or p.views k None) c.plan.invariant.1
+                (c.plan.invariant.0.1 k lt)
+            | Prim.no ge ↦
+                subst (λ view. IfSome view (IsInside LINES))
+                (sym (get_or_past p.views k None (omega (arith, ge, c.plan.invariant.0.0)))) tt
+          ],
+    )
 
 pub returns : goal.returns
 returns c = λ f of r i h l.
@@ -50,34 +49,21 @@ returns c = λ f of r i h l.
     let p = c.plan.inside in
     let names = names_of p.hood p.minor in
     let parts = c.put_parts.new.parts in
-    let views = c.views-self-inside.result in
+    let words = c.words_of_row-self-inside.result in
+    let begins : 64 * words ≡ columns side =
+    c.words_of_row-self-inside.ensures.value ∙ ap columns c.side.ensures.side in
     let sees = sees_at s f a.setting x y in
-    let seen : AreViews c.side.result p.asked names views =
-    subst (λ (q : Asked). AreViews c.side.result q.lines (names_of q.hood q.minor) views)
-    (sym c.plan.view_is) c.views-self-inside.ensures in
-    let part : (k : ℕ) → k < 12 → (name : Name) → (bit_at p.asked k == 1) ≡ true →
-    get_or names k None ≡ Some name →
-    column_bit (get_or parts (home_of name k) []) (place side (r + seen_from name) i)
-    ≡ sees name =
-    λ k below name asked is.
-    let home = home_below name k below in
-    let named : get_or p.names (home_of name k) None ≡ Some (home_name name) =
-    ap (λ ns. get_or ns (home_of name k) None) c.plan.invariant.0 ∙
-    home_named p.hood p.minor name k below is in
-    let needed = c.plan.invariant.1 k name below
-    (eqb-true (bit_at p.asked k) 1 asked)
-    (ap (λ ns. get_or ns k None) c.plan.invariant.0 ∙ is) in
+    let part : (name : Name) (at : ℕ) → IsPartFor p.needed (part_name name) at →
+    column_bit (get_or parts at []) (place side (r + seen_from name) i) ≡ sees name =
+    λ name at made.
     let rows = rows_made name r h in
-    c.put_parts.ensures f of (home_of name k) (home_name name) home needed named
-    (r + seen_from name) i rows.0 rows.1 l ∙
-    seen_home s f a.setting x band.first r name c.requires.within h in
-    subst (λ (q : Asked). map (λ line. column_bit line (place side r i)) (map (unit_of parts) views)
+    c.put_parts.ensures f of at (part_name name) made (r + seen_from name) i rows.0 rows.1 l ∙
+    seen_part s f a.setting x band.first r name c.requires.within h in
+    subst (λ (q : Asked). map (λ line. column_bit line (place side r i))
+    (map (unit_of parts words) p.views)
     ≡ asked_for q.lines (map (line_shows sees) (names_of q.hood q.minor))) c.plan.view_is
-    (map-map (λ line. column_bit line (place side r i)) (unit_of parts) views ∙
-    map_asked (λ view. column_bit (unit_of parts view) (place side r i)) (line_shows sees) p.asked
-    views names None None 12 seen.0 (length-names_of p.hood p.minor)
-    (λ k below. ap (λ view. column_bit (unit_of parts view) (place side r i)) (seen.1 k below) ∙
-    ap (λ q. column_bit (unit_of parts (view_of q (bit_at p.asked k == 1) (get_or names k None) k))
-    (place side r i)) c.side.ensures.side ∙
-    line_seen side parts (bit_at p.asked k == 1) (get_or names k None) k r i sees h l
-    (part k below)))
+    (map-map (λ line. column_bit line (place side r i)) (unit_of parts words) p.views ∙
+    map_asked (λ view. column_bit (unit_of parts words view) (place side r i)) (line_shows sees)
+    p.asked p.views names None None 12 c.plan.invariant.0.0 (length-names_of p.hood p.minor)
+    (λ k below. line_seen side parts p.needed (bit_at p.asked k == 1) (get_or names k None)
+    (get_or p.views k None) words r i sees begins h l (c.plan.invariant.0.1 k below) part))

@@ -13,4 +13,5 @@ returns c =
           let put = (let low = is.low in c.put.ensures.put lane below inside floor (omega arith)) in
           cc;
       others = c.put.ensures.others;
+      below = λ lane row low. c.put.ensures.below lane row (let under = c.requires.holds.low in omega (arith, low));
     }

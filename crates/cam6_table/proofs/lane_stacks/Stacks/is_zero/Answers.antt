@@ -13,4 +13,5 @@ returns c =
           let zero = c.zeros-zeros.ensures lane below in
           cc;
       others = c.put.ensures.others;
+      below = λ lane row low. c.put.ensures.below lane row (let under = c.requires.holds.low in omega (arith, low));
     }

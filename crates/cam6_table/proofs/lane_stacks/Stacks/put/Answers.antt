@@ -1,4 +1,5 @@
-use Rattle.std.proofs.Common.{◌+◌, slice_index, refl, arith}
+use Rattle.std.proofs.Common.{◌+◌, List, ℕ, [], slice_index, ap, refl, arith}
+use Rattle.std.proofs.lemmas.List.{get_or-set_other}
 use Rattle.cam6_table.proofs.Columns.{column_kept, column_more}
 use Rattle.cam6_table.proofs.lane_stacks.Stacks.put.Goals as goal
 
@@ -14,3 +15,9 @@ returns-clause-others c = λ lane below outside floor top.
     let s = c.args.self.now in
     column_kept lane s.rows s.len c.chosen.result (omega arith)
     (c.chosen.ensures.outside lane below outside) floor top
+
+pub returns-clause-below : goal.returns-clause-below
+returns-clause-below c = λ lane row low.
+    let s = c.args.self.now in
+    ap (λ (r : List ℕ). slice_index r lane)
+    (get_or-set_other s.rows s.len row c.chosen.result [] (omega (arith, low)))

@@ -17,4 +17,9 @@ returns c =
           c.put-3.ensures.others lane below outside floor top ∙
           c.put-2.ensures.others lane below outside floor top ∙
           c.put.ensures.others lane below outside floor top;
+      below = λ lane row low.
+          let under = c.requires.holds.low in
+          c.put-3.ensures.below lane row (omega (arith, low)) ∙
+          c.put-2.ensures.below lane row (omega (arith, low)) ∙
+          c.put.ensures.below lane row (omega (arith, low));
     }

@@ -1,0 +1,33 @@
+//! The room that is lent to bands.
+
+use crate::half_rows::HalfRows;
+use cam6_entries::TableRoom;
+
+/// Room for the bands of steps. It is made once and lent to each band. Nothing is promised of what it
+/// holds between bands.
+#[derive(Drop)]
+pub struct Room {
+    /// Half A's new rows, which are made before those of half B and written after them.
+    pub(crate) a: HalfRows,
+    pub(crate) half: HalfRoom,
+}
+
+/// Room for a half's new rows, and for what its table needs to make them.
+#[derive(Drop)]
+pub(crate) struct HalfRoom {
+    pub(crate) rows: HalfRows,
+    pub(crate) table: TableRoom,
+}
+
+impl Room {
+    /// Room for the bands of any step.
+    pub fn blank() -> Room {
+        Room {
+            a: HalfRows::blank(),
+            half: HalfRoom {
+                rows: HalfRows::blank(),
+                table: TableRoom::blank(),
+            },
+        }
+    }
+}

@@ -1,0 +1,22 @@
+//! The room in which a table makes the rows of a band.
+
+use cam6_lines::UnitLines;
+use cam6_program::Slots;
+
+/// Room for what the cells of a unit see, and for the slots of a program. It is made once and lent to
+/// each band. Nothing is promised of what it holds between bands.
+#[derive(Drop)]
+pub struct TableRoom {
+    pub(crate) lines: UnitLines,
+    pub(crate) slots: Slots,
+}
+
+impl TableRoom {
+    /// Room for the bands of any table.
+    pub fn blank() -> TableRoom {
+        TableRoom {
+            lines: UnitLines::blank(),
+            slots: Slots::blank(),
+        }
+    }
+}
