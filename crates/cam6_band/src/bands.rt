@@ -1,8 +1,8 @@
 //! An image in the middle of a step, and the bands that bring it on.
-ghost use Rattle.std.specs.Prelude.{◌≡◌, ◌<◌, ◌≤◌, ◌%◌};
+ghost use Rattle.std.specs.Prelude.{◌≡◌, ◌<◌, ◌≤◌, ◌+◌, ◌%◌, false, IsTrue};
 ghost use Rattle.cam6_planes.specs.Cells.{Cells, cells};
 ghost use Rattle.cam6_planes.specs.Side.{side_number};
-ghost use Rattle.cam6_planes.specs.Stored.{width};
+ghost use Rattle.cam6_planes.specs.Stored.{width, AreAlike};
 ghost use Rattle.cam6_band.specs.Limits.{band};
 ghost use Rattle.cam6_band.specs.ByTables.{step_by, values_of};
 ghost use Rattle.cam6_band.specs.Partway.{Partway};
@@ -93,7 +93,30 @@ impl MidStep {
             IsNext o (step_by s (values_of tables.now) o) result }
         ensures goes_on { GoesOn self.planes self.done result }
     {
-        let side = self.image.side();
+        if self.is_last() {
+            return Next::Whole(self.end(tables, room));
+        }
+        self.go_on(tables, room);
+        Next::More(self)
+    }
+
+    /// Whether the next band is the last one of the step.
+    pub fn is_last(&self) -> bool
+        ensures last { IsTrue result → self.now.done + band ≡ width self.now.planes }
+        ensures others { result ≡ false → self.now.done + band < width self.now.planes }
+    {
+        self.done + BAND == self.image.side().number()
+    }
+
+    /// As `band_in`, in place, if the band isn't the last one of the step.
+    pub fn go_on(&mut self, tables: &EntryTables, room: &mut Room)
+        requires { self.old.done + band < width self.old.planes }
+        ensures partway { let s = width self.old.planes in (o : Cells) →
+            Partway o (step_by s (values_of tables.now) o) self.old →
+            Partway o (step_by s (values_of tables.now) o) self.new }
+        ensures done { self.new.done ≡ self.old.done + band }
+        ensures alike { AreAlike self.old.planes self.new.planes }
+    {
         step_band(
             &mut self.image,
             &mut self.last,
@@ -102,18 +125,32 @@ impl MidStep {
             tables,
             room,
         );
-        let done = self.done + BAND;
-        if done == side.number() {
-            let MidStep {
-                image,
-                first: _,
-                last: _,
-                done: _,
-            } = self;
-            return Next::Whole(AtRest { planes: image });
-        }
-        self.done = done;
-        Next::More(self)
+        self.done += BAND;
+    }
+
+    /// As `band_in`, if the band is the last one of the step.
+    pub fn end(mut self, tables: &EntryTables, room: &mut Room) -> AtRest
+        requires { self.done + band ≡ width self.planes }
+        ensures planes { let s = width self.planes in (o : Cells) →
+            Partway o (step_by s (values_of tables.now) o) self →
+            cells result.planes ≡ step_by s (values_of tables.now) o }
+        ensures alike { AreAlike self.planes result.planes }
+    {
+        step_band(
+            &mut self.image,
+            &mut self.last,
+            &self.first,
+            self.done,
+            tables,
+            room,
+        );
+        let MidStep {
+            image,
+            first: _,
+            last: _,
+            done: _,
+        } = self;
+        AtRest { planes: image }
     }
 
     /// Moves the step to another image, to go on there. Its own image becomes spare.
@@ -153,22 +190,5 @@ impl MidStep {
             done: _,
         } = self;
         Spare { planes: image }
-    }
-}
-
-/// A step with no row made yet.
-pub(crate) fn begun(planes: Planes) -> MidStep
-    ensures partway { (p : Cells) → Partway (cells planes) p result }
-    ensures done { result.done ≡ 0 }
-    ensures side { result.planes.side ≡ planes.side }
-    ensures limit { result.planes.limit ≡ planes.limit }
-{
-    let first = *planes.row(0);
-    let last = *planes.row(planes.side().number() - 1);
-    MidStep {
-        image: planes,
-        first,
-        last,
-        done: 0,
     }
 }

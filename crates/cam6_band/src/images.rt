@@ -4,7 +4,7 @@ ghost use Rattle.std.specs.Borrow.{sem};
 ghost use Rattle.cam6_planes.specs.Cells.{Cells, cells};
 ghost use Rattle.cam6_band.specs.Partway.{Partway};
 
-use crate::bands::{MidStep, begun};
+use crate::bands::MidStep;
 use crate::tables::EntryTables;
 use cam6_planes::{Planes, Side};
 
@@ -58,7 +58,15 @@ impl AtRest {
         ensures side { result.planes.side ≡ self.planes.side }
         ensures limit { result.planes.limit ≡ self.planes.limit }
     {
-        begun(self.planes)
+        let AtRest { planes } = self;
+        let first = *planes.row(0);
+        let last = *planes.row(planes.side().number() - 1);
+        MidStep {
+            image: planes,
+            first,
+            last,
+            done: 0,
+        }
     }
 }
 

@@ -1,5 +1,5 @@
 //! An image that a board works on: at rest, or in the middle of a step.
-ghost use Rattle.std.specs.Prelude.{◌≡◌, ◌<◌, ◌%◌, IfOk, IfErr};
+ghost use Rattle.std.specs.Prelude.{◌≡◌, ◌<◌, ◌%◌, false, IsTrue, IfOk, IfErr};
 ghost use Rattle.cam6_planes.specs.Cells.{Cells};
 ghost use Rattle.cam6_planes.specs.Stored.{width, AreAlike};
 ghost use Rattle.cam6_band.specs.Limits.{band};
@@ -91,6 +91,25 @@ impl Image {
         match self.into_step(tables).band_in(tables, room) {
             Next::More(step) => Image::Mid(step),
             Next::Whole(image) => Image::Rest(image),
+        }
+    }
+
+    /// Goes on by one band in place, if it is in the middle of a step and the band isn't the step's
+    /// last. Returns whether it did. Otherwise nothing changes.
+    pub(crate) fn go_on(&mut self, tables: &EntryTables, room: &mut Room) -> bool
+        // From whatever planes the step began.
+        ensures planes { IsTrue result → let s = width (planes_in self.old) in (o : Cells) →
+            IsOnTheWay o (step_by s (values_of tables.now) o) self.old →
+            IsBehindBand o (step_by s (values_of tables.now) o) self.new }
+        ensures goes_on { IsTrue result → GoesOn self.old self.new }
+        ensures stays { result ≡ false → self.new ≡ self.old }
+    {
+        match self {
+            Image::Mid(step) if !step.is_last() => {
+                step.go_on(tables, room);
+                true
+            }
+            _ => false,
         }
     }
 

@@ -60,6 +60,12 @@ impl Worked {
             IsBehindBand o (step_by s (values_of tables.now) o) self.new }
         ensures goes_on { GoesOn self.old self.new }
     {
+        let Some(image) = &mut self.image else {
+            unreachable!()
+        };
+        if image.go_on(tables, room) {
+            return;
+        }
         let image = match self.image.take() {
             Some(image) => image,
             None => unreachable!(),

@@ -10,8 +10,9 @@ use crate::steps;
 use crate::steps::Chair;
 use atomic_table::Table;
 use cam6_commands::{Command, Reply};
+use cam6_machine::Now;
 use cam6_planes::NoMemory;
-use cam6_slot::{Asked, Place, Resting};
+use cam6_slot::{Place, Resting};
 use std::alloc::Global;
 use std::marker::Model;
 use std::sync::{Arc, Wait};
@@ -73,21 +74,16 @@ impl Desk {
         // It may run out of memory only if a private machine may need some.
         ensures memory { WantsNone self.old command → IsOk result }
     {
-        let resting = match self.resting.take() {
-            Some(resting) => resting,
-            None => unreachable!(),
+        let Some(resting) = &mut self.resting else {
+            unreachable!()
         };
-        match resting.ask(command) {
-            Asked::NoMemory(same) => {
-                self.resting.insert(same);
-                Err(NoMemory)
-            }
-            Asked::Finished(finished) => {
-                let (resting, reply) = finished.collect();
-                self.resting.insert(resting);
-                Ok(Put::Answered(reply))
-            }
-            Asked::Queued(queued) => {
+        match resting.now(command)? {
+            Now::Reply(reply) => Ok(Put::Answered(reply)),
+            Now::Work(steps, direction) => {
+                let Some(resting) = self.resting.take() else {
+                    unreachable!()
+                };
+                let queued = resting.queue(steps, direction);
                 steps::put(&self.table.shared, &mut self.seat, self.row, queued);
                 Ok(Put::Waiting)
             }

@@ -4,7 +4,7 @@ ghost use Rattle.cam6_planes.specs.Cells.{cells};
 ghost use Rattle.cam6_planes.specs.Stored.{width, AreAlike};
 ghost use Rattle.cam6_band.specs.ByTables.{step_by, values_of};
 
-use cam6_band::{AtRest, EntryTables, Next, Room};
+use cam6_band::{AtRest, EntryTables, Room};
 
 /// One step by tables, band by band, in room that is lent to each band. Each cell of both halves
 /// takes what its half's table makes of the planes.
@@ -14,10 +14,8 @@ pub(crate) fn step(image: AtRest, tables: &EntryTables, room: &mut Room) -> AtRe
     ensures alike { AreAlike image.planes result.planes }
 {
     let mut mid = image.begin(tables);
-    loop {
-        match mid.band_in(tables, room) {
-            Next::More(more) => mid = more,
-            Next::Whole(image) => return image,
-        }
+    while !mid.is_last() {
+        mid.go_on(tables, room);
     }
+    mid.end(tables, room)
 }

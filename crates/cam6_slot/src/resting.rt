@@ -1,19 +1,18 @@
 //! A machine at rest, and what comes of a command.
-ghost use Rattle.std.specs.Prelude.{◌≡◌, ◌<◌, false};
+ghost use Rattle.std.specs.Prelude.{◌≡◌, false, IfOk, IsOk, OnErr};
 ghost use Rattle.cam6_commands.specs.declared.commands.Command.{Command};
+ghost use Rattle.cam6_machine.specs.declared.replies.Now.{Now};
 ghost use Rattle.cam6_machine.specs.AtOnce.{CanWork};
-ghost use Rattle.cam6_machine.specs.Stored.{machine_of};
 ghost use Rattle.cam6_model.specs.Machine.{Machine as Alone};
-ghost use Rattle.cam6_slot.specs.Asked.{StandsFor, HasLeft, HasHome, Opens, HadMemory};
-ghost use Rattle.cam6_slot.specs.Internal.Saying.{IsSaid};
-ghost use Rattle.cam6_slot.specs.Lefts.{bands_of};
 
 use crate::finished::Finished;
 use crate::parked::Parked;
 use crate::queued::Queued;
 use crate::works::Work;
 use cam6_commands::Command;
+use cam6_cycle::Direction;
 use cam6_machine::{Machine, Now};
+use cam6_planes::NoMemory;
 use std::marker::Model;
 
 /// A machine with no command under way.
@@ -53,7 +52,10 @@ impl Resting {
     ghost use Rattle.cam6_model.specs.Memory.{may_want_memory};
     ghost use Rattle.cam6_slot.specs.Asked.{StandsFor, HasLeft, HasHome, Opens};
     ghost use Rattle.cam6_slot.specs.Asked.{IsBack, HadMemory};
-    ghost use Rattle.cam6_slot.specs.Lefts.{bands_of};
+    ghost use Rattle.cam6_slot.specs.AtOnce.{Says};
+    ghost use Rattle.cam6_slot.specs.Lefts.{bands_of, queued_left, queued_home};
+    ghost use Rattle.cam6_slot.specs.Stands.{Stands};
+    ghost use Rattle.cam6_slot.specs.Works.{machine_at_home, command_in};
 
     pub fn new(machine: Machine) -> Resting
         ensures { result ≡ machine }
@@ -67,9 +69,46 @@ impl Resting {
         self.machine
     }
 
+    /// Does a command without steps, and replies to it. Of any other says which steps are to be done,
+    /// and does nothing. `queue` hands them out. Allocates all memory of the command.
+    pub fn now(&mut self, command: Command) -> Result<Now, NoMemory>
+        ensures says { IfOk result (λ now.
+            Says (machine_of self.old) command now (machine_of self.new)) }
+        ensures ready { IfOk result (λ now. CanWork now (machine_of self.new)) }
+        ensures err { OnErr result (self.new ≡ self.old) }
+        // It may run out of memory only if a private machine may.
+        ensures memory { may_want_memory (machine_of self.old) command ≡ false → IsOk result }
+    {
+        self.machine.now(command)
+    }
+
+    /// Hands out the steps of a command, to wait for a board, with the machine's image at home.
+    pub fn queue(self, steps: u16, direction: Direction) -> Queued
+        requires { CanWork (Now.Work steps direction) (machine_of self) }
+        // For whatever machine and command they are said of.
+        ensures stands { (m : Alone) (c : Command) →
+            Says m c (Now.Work steps direction) (machine_of self) → Stands result m c }
+        ensures left { (m : Alone) (c : Command) →
+            Says m c (Now.Work steps direction) (machine_of self) →
+            queued_left result ≡ bands_of m c }
+        ensures home { (m : Alone) (c : Command) →
+            Says m c (Now.Work steps direction) (machine_of self) →
+            queued_home result ≡ bands_of m c }
+        ensures opens { (m : Alone) (c : Command) →
+            Says m c (Now.Work steps direction) (machine_of self) →
+            (machine_at_home result.work ≡ m) × (command_in result.work ≡ c) }
+    {
+        let Resting { machine } = self;
+        // `limit` gives the proof the machine's invariant.
+        let _limit = machine.limit();
+        let (kept, home, spare) = machine.part();
+        let work = Work::begin(kept, direction, steps, home);
+        Queued::new(work, Parked::Spare(spare))
+    }
+
     /// Gives the machine a command. A command without steps is done at once. The steps of any other
     /// wait for a board. Allocates all memory of the command.
-    pub fn ask(self, command: Command) -> Asked
+    pub fn ask(mut self, command: Command) -> Asked
         ensures stands { StandsFor (machine_of self) command result }
         ensures left { HasLeft (bands_of (machine_of self) command) result }
         ensures home { HasHome (bands_of (machine_of self) command) result }
@@ -78,37 +117,10 @@ impl Resting {
         // It may run out of memory only if a private machine may.
         ensures memory { may_want_memory (machine_of self) command ≡ false → HadMemory result }
     {
-        let Resting { mut machine } = self;
-        match machine.now(command) {
-            Ok(now) => answered(machine, now),
-            Err(_) => Asked::NoMemory(Resting { machine }),
-        }
-    }
-}
-
-/// Finishes the command with the machine's reply, or queues its steps, with the machine's image at
-/// home.
-fn answered(machine: Machine, now: Now) -> Asked
-    requires { CanWork now (machine_of machine) }
-    // For whatever machine and command it is said.
-    ensures stands { (m : Alone) (c : Command) →
-        IsSaid m c now (machine_of machine) → StandsFor m c result }
-    ensures left { (m : Alone) (c : Command) →
-        IsSaid m c now (machine_of machine) → HasLeft (bands_of m c) result }
-    ensures home { (m : Alone) (c : Command) →
-        IsSaid m c now (machine_of machine) → HasHome (bands_of m c) result }
-    ensures opens { (m : Alone) (c : Command) →
-        IsSaid m c now (machine_of machine) → Opens m c result }
-    ensures memory { HadMemory result }
-{
-    match now {
-        Now::Reply(reply) => Asked::Finished(Finished::new(machine, reply)),
-        Now::Work(steps, direction) => {
-            // `limit` gives the proof the machine's invariant.
-            let _limit = machine.limit();
-            let (kept, home, spare) = machine.part();
-            let work = Work::begin(kept, direction, steps, home);
-            Asked::Queued(Queued::new(work, Parked::Spare(spare)))
+        match self.now(command) {
+            Ok(Now::Reply(reply)) => Asked::Finished(Finished::new(self.machine, reply)),
+            Ok(Now::Work(steps, direction)) => Asked::Queued(self.queue(steps, direction)),
+            Err(_) => Asked::NoMemory(self),
         }
     }
 }

@@ -32,22 +32,12 @@ pub fn read_command(alloc: Global, line: &[u8]) -> Result<Command, LineFault>
         (0 < length line.now) × (length line.now ≤ limit_of line.now) }
     ensures texts { IfOk result (λ command. HasText command) }
 {
-    let command = command_said(alloc, line)?;
+    let value = line_value(alloc, line)?;
+    let command = command_in(alloc, &value)?.ok_or(LineFault::NoCommand)?;
     if !is_spelled(alloc, line, &command)? {
         return Err(LineFault::OtherSpelling);
     }
     Ok(command)
-}
-
-/// The command that a line says, in any spelling, or its fault.
-fn command_said(alloc: Global, line: &[u8]) -> Result<Command, LineFault>
-    ensures said { IsSaid result (said_by command_in line.now) }
-    ensures memory { result ≡ Err NoMemory →
-        (0 < length line.now) × (length line.now ≤ limit_of line.now) }
-    ensures texts { IfOk result (λ command. HasText command) }
-{
-    let value = line_value(alloc, line)?;
-    command_in(alloc, &value)?.ok_or(LineFault::NoCommand)
 }
 
 /// Whether a line that says this command has a spelling that the command may have.
@@ -81,21 +71,14 @@ pub(crate) fn line_value(alloc: Global, line: &[u8]) -> Result<Value, LineFault>
     }
 }
 
-/// The command that a line's JSON value shows.
+/// Returns the command that a line's JSON value shows, a load or any other. Returns `None` if there is
+/// no such word, or the value's other members are not those of the word.
 fn command_in(alloc: Global, value: &Value) -> Result<Option<Command>, AllocError>
     ensures { IfOk result (λ command. command ≡ command_in (view value.now)) }
 {
-    match text_at(value, "do") {
-        Some(word) => line_by_word(alloc, word, value),
-        None => Ok(None),
-    }
-}
-
-/// Returns the command of this word, a load or any other. Returns `None` if there is no such word,
-/// or the value's other members are not those of the word.
-fn line_by_word(alloc: Global, word: &str, value: &Value) -> Result<Option<Command>, AllocError>
-    ensures { IfOk result (λ command. command ≡ line_by_word word.now (view value.now)) }
-{
+    let Some(word) = text_at(value, "do") else {
+        return Ok(None);
+    };
     if word == "load" {
         return load_of(alloc, value);
     }
@@ -132,7 +115,7 @@ pub fn command_shown(alloc: Global, value: &Value) -> Result<Option<Command>, Al
     }
 }
 
-/// Returns the command of this word as `line_by_word` does, but `None` for a load.
+/// Returns the command of this word, unless it is `load`.
 fn by_word(alloc: Global, word: &str, value: &Value) -> Result<Option<Command>, AllocError>
     ensures command { IfOk result (λ command. command ≡ by_word word.now (view value.now)) }
     ensures memory { option_map_or keeps_text (by_word word.now (view value.now)) false ≡ false

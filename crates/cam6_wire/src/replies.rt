@@ -43,15 +43,9 @@ pub fn reply_text(alloc: Global, reply: &Reply) -> Result<String, NoMemory>
 pub fn fixed_line(reply: &Reply) -> Option<&'static str>
     ensures { IfSome result (λ line. line.now ≡ reply_bytes reply.now ++ 10 ∷ []) }
 {
-    match reply {
-        Reply::Done(done) => fixed_line_of(done),
-        Reply::Refused(_) => None,
-    }
-}
-
-fn fixed_line_of(done: &Done) -> Option<&'static str>
-    ensures { IfSome result (λ line. line.now ≡ reply_bytes (Reply.Done done.now) ++ 10 ∷ []) }
-{
+    let Reply::Done(done) = reply else {
+        return None;
+    };
     match done {
         Done::Set => Some("{\"ok\":\"set\"}\n"),
         Done::Clear => Some("{\"ok\":\"clear\"}\n"),

@@ -5,12 +5,12 @@ use Rattle.cam6_band.specs.ByTables.{step_by, values_of}
 use Rattle.cam6_band.specs.Partway.{Partway}
 use Rattle.cam6_machine.proofs.steps.step.Given as goal
 
-abbrev pub invariant-loop-more : goal.invariant-loop-more
-invariant-loop-more l = record {
+abbrev pub invariant-loop-mid : goal.invariant-loop-mid
+invariant-loop-mid l = record {
   alike : AreAlike l.fn.image.planes l.mid.planes;
   partway : let old = l.fn.image.planes in
       Partway (cells old) (step_by (width old) (values_of l.tables) (cells old)) l.mid;
 }
 
-abbrev pub decreases-loop-more : goal.decreases-loop-more
-decreases-loop-more l = width l.mid.planes - l.mid.done
+abbrev pub decreases-loop-mid : goal.decreases-loop-mid
+decreases-loop-mid l = width l.mid.planes - l.mid.done

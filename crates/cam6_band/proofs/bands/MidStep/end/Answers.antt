@@ -6,10 +6,10 @@ use Rattle.cam6_band.specs.ByTables.{values_of}
 use Rattle.cam6_band.specs.Partway.{Mid}
 use Rattle.cam6_band.proofs.Further.{a_band, band_made}
 use Rattle.cam6_band.proofs.HalfPlanes.{all_stepped}
-use Rattle.cam6_band.proofs.bands.MidStep.band_in.Goals as goal
+use Rattle.cam6_band.proofs.bands.MidStep.end.Goals as goal
 
-pub returns-then-done-number-clause-next : goal.returns-then-done-number-clause-next
-returns-then-done-number-clause-next c = λ o start.
+pub returns-clause-planes : goal.returns-clause-planes
+returns-clause-planes c = λ o start.
     let m = c.self.inside in
     let s = width c.args.self.planes in
     let tables = values_of c.args.tables.now in
@@ -18,22 +18,7 @@ returns-then-done-number-clause-next c = λ o start.
     m.done c.self.view_is (a_band m.image.side m.done c.self.invariant.0 c.self.invariant.1)
     made.ensures.side made.ensures.new made.ensures.others made.ensures.saved o start in
     let shown : width m.image ≡ s = ap (λ (mid : Mid). width mid.planes) c.self.view_is in
+    let done : m.done ≡ c.args.self.done = ap (λ (mid : Mid). mid.done) c.self.view_is in
     let side : width made.new.image ≡ s = ap side_number made.ensures.side ∙ shown in
     all_stepped s tables o made.new.image (omega (arith, side_least c.args.self.planes.side)) side
-    (λ p x y h k l. part.new p x y h (omega (arith, k, side)) (omega (
-      arith,
-      l,
-      c.if-done-number.true,
-      c.number.ensures.value,
-      ap side_number c.side-side.ensures.side,
-      shown,
-    )))
-
-pub returns-clause-next : goal.returns-clause-next
-returns-clause-next c =
-    let m = c.self.inside in
-    let made = c.step_band in
-    band_made (values_of c.args.tables.now) c.args.self m.image made.new.image m.first m.last
-    made.new.last m.done c.self.view_is
-    (a_band m.image.side m.done c.self.invariant.0 c.self.invariant.1) made.ensures.side
-    made.ensures.new made.ensures.others made.ensures.saved
+    (λ p x y h k l. part.new p x y h (omega (arith, k, side)) (omega (arith, l, done, c.requires)))

@@ -1,2 +1,0 @@
--- How the code goes about it: no public contract says it.
-pub mod Saying
