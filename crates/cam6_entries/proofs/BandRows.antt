@@ -1,5 +1,5 @@
--- Rows of a band in its units, written one by one.
-use Rattle.std.proofs.Common.{◌≡◌, ◌≢◌, ℕ, ◌+◌, ◌*◌, ◌/◌, ◌%◌, ◌<◌, ◌≤◌, ◌∙◌, ap, sym, arith, Bool}
+-- Rows of a band in its units.
+use Rattle.std.proofs.Common.{◌≡◌, ℕ, ◌+◌, ◌*◌, ◌/◌, ◌%◌, ◌<◌, ◌≤◌, ◌∙◌, ap, sym, arith, Bool}
 use Rattle.std.proofs.Common.{List, [], length, get_or, set, get_or-set_same, get_or-set_other}
 use native.Mathlib.Decide.{dec_lt}
 use Rattle.cam6_planes.specs.Row.{column_bit}
@@ -21,22 +21,6 @@ pub words_begin : (side : Side) (w n : ℕ) → 64 * w ≡ columns side → 64 *
 words_begin S128 w n e = let two : w ≡ 2 = omega (arith, e) in rw two (omega arith)
 words_begin S256 w n e = let four : w ≡ 4 = omega (arith, e) in rw four (omega arith)
 words_begin S512 w n e = let four : w ≡ 4 = omega (arith, e) in rw four (omega arith)
-
--- a row lies within its unit
-pub row_fits : (side : Side) (w r : ℕ) → 64 * w ≡ columns side → r < 16 → w * r + w ≤ 64
-row_fits S128 w r e h = let two : w ≡ 2 = omega (arith, e) in rw two (omega (arith, h))
-row_fits S256 w r e h = let four : w ≡ 4 = omega (arith, e) in rw four (omega (arith, h))
-row_fits S512 w r e h = let four : w ≡ 4 = omega (arith, e) in rw four (omega (arith, h))
-
--- a unit's part of a row lies within the row
-pub unit_fits : (side : Side) (w unit units : ℕ) → 64 * w ≡ columns side →
-    columns side * units ≡ side_number side → unit < units → w * unit + w ≤ 8
-unit_fits S128 w unit units e all h =
-    let two : w ≡ 2 = omega (arith, e) in rw two (omega (arith, all, h))
-unit_fits S256 w unit units e all h =
-    let four : w ≡ 4 = omega (arith, e) in rw four (omega (arith, all, h))
-unit_fits S512 w unit units e all h =
-    let four : w ≡ 4 = omega (arith, e) in rw four (omega (arith, all, h))
 
 -- there are up to two units
 pub two_units : (side : Side) (units : ℕ) → columns side * units ≡ side_number side → units ≤ 2
@@ -87,66 +71,6 @@ unit_more g old unit side n r within made below x h =
           (get_or-set_same old n unit [] within) ∙
           made (x % columns side) (column_within side x) ∙
           ap (λ m. g (columns side * m + x % columns side)) (sym e) ∙ ap g (column_there side x)
-    ]
-
--- one more row, where g says the bit of each at a column
-pub row_more : (new old g : ℕ → Bool) (k : ℕ) → k < 16 → new k ≡ g k →
-    ((v : ℕ) → v < 16 → v ≢ k → new v ≡ old v) → ((r : ℕ) → r < k → old r ≡ g r) → (r : ℕ) →
-    r < k + 1 → new r ≡ g r
-row_more new old g k within here others below r h =
-    elim (dec_lt r k) [
-      | Prim.yes lt ↦ others r (omega (arith, lt, within)) (omega (arith, lt)) ∙ below r lt
-      | Prim.no ge ↦
-          let e : r ≡ k = omega (arith, ge, h) in ap new e ∙ here ∙ ap g (sym e)
-    ]
-
--- where a row's places lie beside those of another row
-pub place_outside : (side : Side) (w v r i c : ℕ) → 64 * w ≡ columns side → i < columns side →
-    v ≢ r → 64 * (w * r) ≤ place side v i → 64 * (w * r + w) ≤ place side v i
-place_outside S128 w v r i c e h other from =
-    let two : w ≡ 2 = omega (arith, e) in
-    let begins : 64 * (w * r) ≡ 128 * r = words_begin S128 w r e in
-    omega (arith, two, begins, h, other, from)
-place_outside S256 w v r i c e h other from =
-    let four : w ≡ 4 = omega (arith, e) in
-    let begins : 64 * (w * r) ≡ 256 * r = words_begin S256 w r e in
-    omega (arith, four, begins, h, other, from)
-place_outside S512 w v r i c e h other from =
-    let four : w ≡ 4 = omega (arith, e) in
-    let begins : 64 * (w * r) ≡ 256 * r = words_begin S512 w r e in
-    omega (arith, four, begins, h, other, from)
-
--- row v stays, where a unit has another row written
-pub unit_stays : (units : List (List ℕ)) (unit : List ℕ) (side : Side) (w n r v x : ℕ) →
-    n < length units → 64 * w ≡ columns side → v ≢ r →
-    ((c : ℕ) → c < 64 * (w * r) → column_bit unit c ≡ column_bit (get_or units n []) c) →
-    ((c : ℕ) → 64 * (w * r + w) ≤ c → column_bit unit c ≡ column_bit (get_or units n []) c) →
-    bit_in side (set units n unit) v x ≡ bit_in side units v x
-unit_stays units unit side w n r v x within e other before after =
-    let i : ℕ = x % columns side in
-    let at : ℕ = place side v (x % columns side) in
-    let small : x % columns side < columns side = column_within side x in
-    let stays : column_bit unit at ≡ column_bit (get_or units n []) at =
-    elim (dec_lt at (64 * (w * r))) [
-      | Prim.yes lt ↦ before at lt
-      | Prim.no ge ↦
-          after at (place_outside side w v r i 0 e small other (omega (arith, ge)))
-    ] in
-    elim (dec_lt (x / columns side) n) [
-      | Prim.yes lt ↦
-          ap (λ u. column_bit u at)
-          (get_or-set_other units n (x / columns side) unit [] (omega (arith, lt)))
-      | Prim.no ge ↦
-          elim (dec_lt n (x / columns side)) [
-            | Prim.yes gt ↦
-                ap (λ u. column_bit u at)
-                (get_or-set_other units n (x / columns side) unit [] (omega (arith, gt)))
-            | Prim.no le ↦
-                let same : x / columns side ≡ n = omega (arith, ge, le) in
-                ap (λ m. column_bit (get_or (set units n unit) m []) at) same ∙
-                ap (λ u. column_bit u at) (get_or-set_same units n unit [] within) ∙ stays ∙
-                ap (λ m. column_bit (get_or units m []) at) (sym same)
-          ]
     ]
 
 -- a row of a band that lies in one unit

@@ -13,7 +13,6 @@ use Rattle.cam6_wiring.specs.declared.neighbours.Setting.{Setting}
 use Rattle.cam6_wiring.specs.declared.wirings.Hood.{Hood}
 use Rattle.cam6_wiring.specs.declared.wirings.Minor.{Minor}
 use Rattle.cam6_wiring.proofs.Numbers.{length-names_of}
-use Rattle.cam6_lines.specs.Plans.{Asked}
 use Rattle.cam6_program.specs.Computing.{Computes}
 use Rattle.cam6_program.specs.Meaning.{bit_by}
 use Rattle.cam6_program.specs.Programs.{Steps}
@@ -32,13 +31,11 @@ computed entries program computes Upper s f setting hood minor x y =
     let bits : List Bool = map (line_shows (sees_at s f setting x y)) (names_of hood minor) in
     computes Upper bits (length-map _ _ ∙ length-names_of hood minor)
 
--- the same by the names of a plan that is for this wiring
-pub computed_by : (entries : List ℕ) (program : Steps) → Computes entries program →
-    (level : Level) (s : ℕ) (f : Cells) (setting : Setting) (hood : Hood) (minor : Minor)
-    (x y : ℕ) (plan : Asked) → plan.hood ≡ hood → plan.minor ≡ minor →
-    bit_by level program (map (line_shows (sees_at s f setting x y)) (names_of plan.hood plan.minor))
-    ≡ new_bit entries s f setting hood minor level x y
-computed_by entries program computes level s f setting hood minor x y plan e d =
-    computed entries program computes level s f setting plan.hood plan.minor x y ∙
-    ap (λ h. new_bit entries s f setting h plan.minor level x y) e ∙
-    ap (λ m. new_bit entries s f setting hood m level x y) d
+-- the new bit by equal entries and an equal wiring
+pub same_bit : {held entries : List ℕ} {own hood : Hood} {kept minor : Minor} → held ≡ entries →
+    own ≡ hood → kept ≡ minor → (level : Level) (s : ℕ) (f : Cells) (setting : Setting) (x y : ℕ) →
+    new_bit held s f setting own kept level x y ≡ new_bit entries s f setting hood minor level x y
+same_bit {held} {entries} {own} {hood} {kept} {minor} e h m level s f setting x y =
+    ap (λ list. new_bit list s f setting own kept level x y) e ∙
+    ap (λ known. new_bit entries s f setting known kept level x y) h ∙
+    ap (λ known. new_bit entries s f setting hood known level x y) m

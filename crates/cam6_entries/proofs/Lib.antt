@@ -2,9 +2,11 @@
 
 -- Rows of a band, word by word.
 pub mod UnitRows
--- Rows of a band in its units, written one by one.
+-- Rows of a band in its units.
 pub mod BandRows
 -- In planes that are kept every cell keeps its bit.
 pub mod KeptPlanes
 -- A program that computes the entries makes the new bits.
 pub mod ComputedBits
+-- So do look-ups, if all twelve lines are asked for.
+pub mod LookedUp

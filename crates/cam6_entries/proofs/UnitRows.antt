@@ -1,30 +1,8 @@
 -- Rows of a band, word by word.
-use Rattle.std.proofs.Common.{◌≡◌, ℕ, zero, suc, ◌+◌, ◌-◌, ◌*◌, ◌<◌, ◌∙◌, ap, sym, arith}
-use Rattle.std.proofs.Common.{List, length, get_or, set, ◌/◌, ◌%◌}
-use native.Mathlib.Decide.{dec_lt}
+use Rattle.std.proofs.Common.{◌≡◌, ℕ, zero, suc, ◌+◌, ◌*◌, ◌<◌, ◌∙◌, ap, sym, arith}
+use Rattle.std.proofs.Common.{List, get_or, ◌/◌, ◌%◌}
 use Rattle.cam6_planes.specs.Row.{word_column, column_bit}
-use Rattle.cam6_planes.proofs.WordByWord.{column_bit-at, column_bit-set_other, column_bit-set_same}
-
--- one more word, at place j of the row and u of the unit
-pub word_more : (row unit : List ℕ) (from at k j u : ℕ) → j ≡ from + k → u ≡ at + k →
-    j < length row →
-    ((i : ℕ) → i < 64 * k → column_bit row (64 * from + i) ≡ column_bit unit (64 * at + i)) →
-    (i : ℕ) → i < 64 * (k + 1) →
-    column_bit (set row j (get_or unit u 0)) (64 * from + i) ≡ column_bit unit (64 * at + i)
-word_more row unit from at k j u e d within below i h =
-    elim (dec_lt i (64 * k)) [
-      | Prim.yes lt ↦
-          column_bit-set_other row j (get_or unit u 0) (64 * from + i) (omega (arith, e, lt)) ∙
-          below i lt
-      | Prim.no ge ↦
-          let c : ℕ = i - 64 * k in
-          let small : c < 64 = omega arith in
-          let there : 64 * from + i ≡ 64 * j + c = omega (arith, e) in
-          let here : 64 * u + c ≡ 64 * at + i = omega (arith, d) in
-          ap (column_bit (set row j (get_or unit u 0))) there ∙
-          column_bit-set_same row j (get_or unit u 0) c within small ∙
-          sym (column_bit-at unit u c small) ∙ ap (column_bit unit) here
-    ]
+use Rattle.cam6_planes.proofs.WordByWord.{column_bit-at}
 
 -- so many words of a row are those of a unit
 pub same_words : (row unit : List ℕ) (from at m : ℕ) →

@@ -1,6 +1,6 @@
 -- What the cells of a band become by a table.
 use Rattle.std.specs.Prelude.{ℕ, ◌+◌, ◌<◌, ◌≡◌, Bool, false, List, map, slice_index}
-use Rattle.std.specs.Prelude.{if◌then◌else◌}
+use Rattle.std.specs.Prelude.{if◌then◌else◌, Option, Some, None}
 use Rattle.cam6_planes.specs.Cells.{Cells, torus}
 use Rattle.cam6_wiring.specs.Lines.{sees_at}
 use Rattle.cam6_wiring.specs.Name.{plane_of}
@@ -46,3 +46,13 @@ abbrev pub MakesRows : Steps → Asked → Setting → Cells → Band → Level 
 MakesRows program plan setting f band level rows =
     keeps level program ≡ false → (r x : ℕ) → r < height → x < side_of band →
     bit_in band.planes.now.side rows r x ≡ bit_by level program (seen_by plan setting f band r x)
+
+-- the mask of all twelve lines
+abbrev pub all_lines : ℕ
+all_lines = 4095
+
+-- the mask of the lines that new rows are made of: those for which the program asks, or all of them
+-- without a program
+abbrev pub asked_by : Option Steps → ℕ
+asked_by None = all_lines
+asked_by (Some program) = program.asked

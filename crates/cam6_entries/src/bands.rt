@@ -1,25 +1,27 @@
 //! The new rows of a half for a whole band: by the table's program, if it has one, and else by
 //! look-ups.
-ghost use Rattle.std.specs.Prelude.{◌≡◌, ◌≢◌, ◌<◌, ◌≤◌, ◌+◌, ◌*◌, ℕ, true, if◌then◌else◌};
+ghost use Rattle.std.specs.Prelude.{◌≡◌, ◌<◌, ◌≤◌, ◌+◌, ◌*◌, ℕ, true, if◌then◌else◌};
+ghost use Rattle.std.specs.Prelude.{IfSome, length};
 ghost use Rattle.cam6_planes.specs.Cells.{Cells};
 ghost use Rattle.cam6_planes.specs.Row.{column_bit};
 ghost use Rattle.cam6_planes.specs.Side.{side_number};
-ghost use Rattle.cam6_planes.specs.declared.row.TheConstants.{WORDS};
 ghost use Rattle.cam6_wiring.specs.Name.{plane_of};
 ghost use Rattle.cam6_wiring.specs.declared.names.Level.TheVariants.{Lower, Upper};
 ghost use Rattle.cam6_lines.specs.Bands.{IsBandOf, IsWithin, side_of};
 ghost use Rattle.cam6_lines.specs.Limits.{height};
 ghost use Rattle.cam6_lines.specs.Units.{bit_in};
-ghost use Rattle.cam6_lines.specs.declared.units.TheConstants.{UNIT};
+ghost use Rattle.cam6_program.specs.Computing.{Computes};
 ghost use Rattle.cam6_program.specs.Meaning.{bit_by};
-ghost use Rattle.cam6_entries.specs.Bands.{ShowNewBits, MakesRows, seen_by};
+ghost use Rattle.cam6_entries.specs.Bands.{ShowNewBits, MakesRows, seen_by, all_lines, asked_by};
+ghost use Rattle.cam6_entries.specs.Limits.{addresses};
 
 use crate::rooms::TableRoom;
 use crate::tables::Table;
-use cam6_lines::{Band, HEIGHT, Plan, UNIT, Unit, units_of_band, words_of_row};
-use cam6_planes::{Row, Side, WORDS};
+use cam6_lines::{Band, HEIGHT, Plan, UNIT, Unit, UnitLines, units_of_band, words_of_row};
+use cam6_lookup::look_up_words;
+use cam6_planes::{Row, Side};
 use cam6_program::Program;
-use cam6_wiring::{Hood, LINES, Level, Minor, Setting, put_lines};
+use cam6_wiring::{Hood, Level, Minor, Setting};
 
 /// A plane's rows of a band, unit by unit. At sides 128 and 256 the first unit has them all.
 pub type BandRows = [Unit; 2];
@@ -29,6 +31,20 @@ pub type BandRows = [Unit; 2];
 pub struct Written {
     pub lower: bool,
     pub upper: bool,
+}
+
+/// The mask of all twelve lines.
+const ALL_LINES: u16 = 4095;
+
+/// The mask of the lines that new rows are made of: those for which the program asks, or all of
+/// them without a program.
+pub(crate) fn asked_by(program: &Option<Program>) -> u16
+    ensures { result ≡ asked_by program.now }
+{
+    match program {
+        Some(program) => program.asked(),
+        None => ALL_LINES,
+    }
 }
 
 impl Table {
@@ -51,52 +67,97 @@ impl Table {
         ensures upper { (f : Cells) → IsBandOf f band.now →
             ShowNewBits self.now f band.now setting hood minor Upper result.upper upper.new }
     {
-        if let Some(program) = &self.program {
-            let asked = program.asked();
-            if let Some(plan) = &self.plan
-                && plan.is_for(asked, hood, minor)
-            {
-                return by_program(room, program, plan, lower, upper, setting, band);
-            }
-            let plan = Plan::of(asked, hood, minor);
-            return by_program(room, program, &plan, lower, upper, setting, band);
+        let asked = asked_by(&self.program);
+        if let Some(plan) = &self.plan
+            && plan.is_for(asked, hood, minor)
+        {
+            return by_plan(
+                room,
+                &self.entries,
+                &self.program,
+                plan,
+                lower,
+                upper,
+                setting,
+                band,
+            );
         }
-        self.band_by_rows(lower, upper, setting, hood, minor, band);
-        Written {
-            lower: true,
-            upper: true,
+        let plan = Plan::of(asked, hood, minor);
+        by_plan(
+            room,
+            &self.entries,
+            &self.program,
+            &plan,
+            lower,
+            upper,
+            setting,
+            band,
+        )
+    }
+}
+
+/// Makes the new rows under a plan's wiring: by the program, or by look-ups without a program.
+fn by_plan(
+    room: &mut TableRoom,
+    entries: &[u8],
+    program: &Option<Program>,
+    plan: &Plan,
+    lower: &mut BandRows,
+    upper: &mut BandRows,
+    setting: Setting,
+    band: &Band,
+) -> Written
+    requires within { IsWithin band.now }
+    requires entries { length entries.now ≡ addresses }
+    requires program { IfSome program.now (λ program. Computes entries.now program) }
+    requires plan { plan.now.lines ≡ asked_by program.now }
+    ensures lower { (f : Cells) → IsBandOf f band.now →
+        ShowNewBits entries.now f band.now setting plan.now.hood plan.now.minor
+        Lower result.lower lower.new }
+    ensures upper { (f : Cells) → IsBandOf f band.now →
+        ShowNewBits entries.now f band.now setting plan.now.hood plan.now.minor
+        Upper result.upper upper.new }
+{
+    match program {
+        Some(program) => by_program(room, program, plan, lower, upper, setting, band),
+        None => {
+            by_look_ups(&mut room.lines, entries, plan, lower, upper, setting, band);
+            Written {
+                lower: true,
+                upper: true,
+            }
         }
     }
+}
 
-    /// Makes the new rows one by one, by look-ups. It is not inlined: its own lines are emptied when
-    /// it is entered, and a program does not need them.
-    #[inline(never)]
-    fn band_by_rows(
-        &self,
-        lower: &mut BandRows,
-        upper: &mut BandRows,
-        setting: Setting,
-        hood: Hood,
-        minor: Minor,
-        band: &Band,
-    )
-        requires { IsWithin band.now }
-        ensures lower { (f : Cells) → IsBandOf f band.now →
-            ShowNewBits self.now f band.now setting hood minor Lower true lower.new }
-        ensures upper { (f : Cells) → IsBandOf f band.now →
-            ShowNewBits self.now f band.now setting hood minor Upper true upper.new }
-    {
-        let mut lines = [[0; WORDS]; LINES];
-        let mut below = [0; WORDS];
-        let mut above = [0; WORDS];
-        let side = band.planes.side();
-        for r in 0..HEIGHT {
-            let rows = band.around(r);
-            put_lines(&mut lines, setting, hood, minor, band.first + r, &rows);
-            self.look_up(&mut below, &mut above, &lines, side);
-            put_row(lower, &below, side, r);
-            put_row(upper, &above, side, r);
-        }
+/// Makes the new rows unit by unit, by look-ups. It is not inlined: its own room on the stack is
+/// emptied when it is entered, and a program does not need it.
+#[inline(never)]
+fn by_look_ups(
+    room: &mut UnitLines,
+    entries: &[u8],
+    plan: &Plan,
+    lower: &mut BandRows,
+    upper: &mut BandRows,
+    setting: Setting,
+    band: &Band,
+)
+    requires within { IsWithin band.now }
+    requires entries { length entries.now ≡ addresses }
+    requires plan { plan.now.lines ≡ all_lines }
+    ensures lower { (f : Cells) → IsBandOf f band.now →
+        ShowNewBits entries.now f band.now setting plan.now.hood plan.now.minor
+        Lower true lower.new }
+    ensures upper { (f : Cells) → IsBandOf f band.now →
+        ShowNewBits entries.now f band.now setting plan.now.hood plan.now.minor
+        Upper true upper.new }
+{
+    let side = band.planes.side();
+    let words = HEIGHT * words_of_row(side);
+    for unit in 0..units_of_band(side) {
+        room.put(plan, setting, band, unit);
+        let lines = room.lines();
+        look_up_words::<UNIT>(&mut lower[unit], &mut upper[unit], &lines, words, entries);
     }
 }
 
@@ -159,35 +220,6 @@ fn by_units(
             &mut lower[unit],
             &mut upper[unit],
         );
-    }
-}
-
-/// Writes row `r` of a band to its units.
-fn put_row(units: &mut BandRows, row: &Row, side: Side, r: usize)
-    requires { r < height }
-    ensures row { (x : ℕ) → x < side_number side →
-        bit_in side units.new r x ≡ column_bit row.now x }
-    ensures others { (v x : ℕ) → v < height → v ≢ r → x < side_number side →
-        bit_in side units.new v x ≡ bit_in side units.old v x }
-{
-    let words = words_of_row(side);
-    for unit in 0..units_of_band(side) {
-        put_words(&mut units[unit], row, words, words * r, words * unit);
-    }
-}
-
-/// Writes `words` words of a row, from word `from` on, to a unit from word `at` on.
-fn put_words(unit: &mut Unit, row: &Row, words: usize, at: usize, from: usize)
-    requires unit { at + words ≤ UNIT }
-    requires row { from + words ≤ WORDS }
-    ensures words { (i : ℕ) → i < 64 * words →
-        column_bit unit.new (64 * at + i) ≡ column_bit row.now (64 * from + i) }
-    ensures before { (c : ℕ) → c < 64 * at → column_bit unit.new c ≡ column_bit unit.old c }
-    ensures after { (c : ℕ) → 64 * (at + words) ≤ c →
-        column_bit unit.new c ≡ column_bit unit.old c }
-{
-    for k in 0..words {
-        unit[at + k] = row[from + k];
     }
 }
 

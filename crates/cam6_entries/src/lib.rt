@@ -3,9 +3,9 @@
 //! Contract: a table is seen as the list of its 4,096 entries alone. `Table::look_up` and
 //! `Table::band` give each cell the bits of the entry at the address that the cell shows
 //! (`specs/Bands.antt`). A table may have a program, which `Table::quicken` makes from its entries.
-//! A band by the program gives the same bits, only faster. An entry that is written takes the
-//! program away. A band is lent a `TableRoom`, which may hold anything before it and after it. Only
-//! `Table::blank` allocates.
+//! A band by the program gives the same bits as one by look-ups, only faster. An entry that is
+//! written takes the program away. A band is lent a `TableRoom`, which may hold anything before it
+//! and after it. Only `Table::blank` allocates.
 //!
 //! So, if entry 5 of a table is 2, each cell that shows address 5 gets 0 in the lower plane of the
 //! half and 1 in the upper plane.

@@ -3,6 +3,7 @@ ghost use Rattle.std.specs.Prelude.{◌≡◌, ◌<◌, ℕ, IfOk, length};
 ghost use Rattle.std.specs.Prelude.{slice_index, replicate};
 ghost use Rattle.cam6_entries.specs.declared.tables.TheConstants.{ENTRIES};
 
+use crate::bands::asked_by;
 use cam6_lines::Plan;
 use cam6_lookup::look_up_rows;
 use cam6_planes::{NoMemory, Row, Side};
@@ -21,7 +22,8 @@ pub struct Table {
     pub(crate) entries: Vec<u8>,
     /// A program that computes the entries, if the table was given one.
     pub(crate) program: Option<Program>,
-    /// How the program's lines are seen under the wiring for which it was given.
+    /// How the lines are seen under the wiring for which the table was quickened: those for which
+    /// the program asks, or all of them without a program.
     pub(crate) plan: Option<Plan>,
 }
 
@@ -99,17 +101,14 @@ impl Table {
         look_up_rows(lower, upper, lines, side, &self.entries);
     }
 
-    /// Gives the table a program, if its entries have a short one. It makes bands faster, and
-    /// fastest under this neighbourhood and minor assignment. Copies of the table get it too.
-    /// Writing an entry removes it. Does not allocate.
+    /// Gives the table a program, if its entries have a short one, and a plan of the lines for this
+    /// neighbourhood and minor assignment. Both make bands faster, the plan only under this wiring.
+    /// Copies of the table get them too. Writing an entry removes the program. Does not allocate.
     pub fn quicken(&mut self, hood: Hood, minor: Minor)
         ensures { self.new ≡ self.old }
     {
         self.program = Program::of(&self.entries);
-        self.plan = match &self.program {
-            Some(program) => Some(Plan::of(program.asked(), hood, minor)),
-            None => None,
-        };
+        self.plan = Some(Plan::of(asked_by(&self.program), hood, minor));
     }
 
     /// Makes the table a copy of another one. Does not allocate.

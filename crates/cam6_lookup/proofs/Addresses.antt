@@ -1,13 +1,12 @@
--- An address by its bits, and two more words of a row.
+-- An address by its bits, two more words of a plane, and the twelve rows of lines one by one.
 use Rattle.std.proofs.Common.{◌≡◌, ℕ, zero, suc, ◌+◌, ◌-◌, ◌*◌, ◌/◌, ◌%◌, ◌^◌, ◌<◌, ◌≤◌, Bool}
-use Rattle.std.proofs.Common.{false, List, [], length, set, get_or, nat_eq, refl, sym, ◌∙◌, ap}
+use Rattle.std.proofs.Common.{false, List, [], ◌∷◌, length, set, get_or, nat_eq, refl, sym, ◌∙◌, ap}
 use Rattle.std.proofs.Common.{arith, bit_and, length-set}
 use Rattle.std.proofs.lemmas.Nat.{and_le_r}
 use Rattle.std.specs.Int.{bit_at}
-use Rattle.std.proofs.lemmas.List.{get_or-map, length-map}
+use Rattle.std.proofs.lemmas.List.{ext_get_or, get_or-map, length-map}
 use Rattle.std.proofs.lemmas.Nat.Bits.{bit_at_and, bit_at_ones, bit_at-lt, same_from_bits_below}
 use Rattle.cam6_planes.specs.Row.{word_column, column_bit, bit_number}
-use Rattle.cam6_planes.specs.declared.row.TheConstants.{WORDS}
 use Rattle.cam6_planes.proofs.WordByWord.{row_more}
 use Rattle.cam6_wiring.specs.Seen.{number_of}
 use Rattle.cam6_wiring.proofs.Numbers.{bit_at-number_of, number_of-lt}
@@ -15,6 +14,7 @@ use Rattle.cam6_wiring.specs.Lines.{at_column, address_in}
 use Rattle.cam6_lookup.specs.Transposed.{cell, ShowAddresses, shown_at}
 use Rattle.cam6_lookup.specs.Entries.{entry_bit}
 use Rattle.cam6_lookup.proofs.Shifted.{bit_shr}
+use Rattle.cam6_lookup.proofs.Transposing.{below_three, below_four, by_fours}
 
 bit_number_of_bit : (n : ℕ) → n < 2 → bit_number (nat_eq n 1) ≡ n
 bit_number_of_bit zero h = refl
@@ -81,9 +81,9 @@ looked_up rows lines table w i bit word twelve two shows has c h =
     ap (λ n. nat_eq n 1) (has (63 - c) (omega arith) ∙
     ap (λ a. bit_at (get_or table a 0) bit) (shown_is rows lines w i c twelve two h shows))
 
--- two more words of a new row
-pub two_more : (rows lines : List (List ℕ)) (table out : List ℕ) (chunk bit a b : ℕ) →
-    length lines ≡ 12 → length out ≡ WORDS → 2 * chunk + 2 ≤ WORDS →
+-- two more words of a plane that has n
+pub two_more : (rows lines : List (List ℕ)) (table out : List ℕ) (n chunk bit a b : ℕ) →
+    length lines ≡ 12 → length out ≡ n → 2 * chunk + 2 ≤ n →
     ShowAddresses rows lines (2 * chunk) →
     ((x : ℕ) → x < 128 * chunk → column_bit out x ≡ entry_bit table (address_in lines x) bit) →
     ((p : ℕ) → p < 64 → bit_at a p ≡ bit_at (get_or table (shown_at rows 0 p) 0) bit) →
@@ -91,7 +91,7 @@ pub two_more : (rows lines : List (List ℕ)) (table out : List ℕ) (chunk bit 
     (x : ℕ) → x < 128 * (chunk + 1) →
     column_bit (set (set out (2 * chunk) a) (2 * chunk + 1) b) x
     ≡ entry_bit table (address_in lines x) bit
-two_more rows lines table out chunk bit a b twelve long h shows below first second x l =
+two_more rows lines table out n chunk bit a b twelve long h shows below first second x l =
     let g : ℕ → Bool = λ x. entry_bit table (address_in lines x) bit in
     let i : ℕ = 2 * chunk in
     let e : i + 0 ≡ i = omega arith in
@@ -101,3 +101,19 @@ two_more rows lines table out chunk bit a b twelve long h shows below first seco
     ap (λ n. g (64 * n + c)) e))
     (λ c k. looked_up rows lines table i 1 bit b twelve (omega arith) shows second c k)
     x (omega arith)
+
+abbrev rows_of : List (List ℕ) → List (List ℕ)
+rows_of lines =
+    get_or lines 0 [] ∷ get_or lines 1 [] ∷ get_or lines 2 [] ∷ get_or lines 3 []
+    ∷ get_or lines 4 [] ∷ get_or lines 5 [] ∷ get_or lines 6 [] ∷ get_or lines 7 []
+    ∷ get_or lines 8 [] ∷ get_or lines 9 [] ∷ get_or lines 10 [] ∷ get_or lines 11 [] ∷ []
+
+-- the rows of twelve lines, one by one, are the lines
+pub each_row : (lines : List (List ℕ)) → length lines ≡ 12 → rows_of lines ≡ lines
+each_row lines twelve =
+    let Same : ℕ → Type 0 = λ k. get_or (rows_of lines) k [] ≡ get_or lines k [] in
+    ext_get_or [] (rows_of lines) lines (sym twelve) (λ k h.
+    by_fours Same 3 (below_three (λ i. (j : ℕ) → j < 4 → Same (4 * i + j))
+    (below_four (λ j. Same (4 * 0 + j)) refl refl refl refl)
+    (below_four (λ j. Same (4 * 1 + j)) refl refl refl refl)
+    (below_four (λ j. Same (4 * 2 + j)) refl refl refl refl)) k h)

@@ -1,9 +1,10 @@
-//! Look-ups for a whole row of cells: the entries at the addresses that the row's twelve lines
-//! show, 128 columns at a time.
+//! Look-ups for many cells: the entries at the addresses that twelve lines show, 128 columns at a
+//! time.
 //!
-//! Contract: `look_up_rows` writes two rows. At each column they have the two lowest bits of the
-//! entry at the address that the lines show there (`specs/Entries.antt`). What the entries mean
-//! does not matter.
+//! Contract: `look_up_words` writes words of two planes. At each column they have the two lowest
+//! bits of the entry at the address that the lines show there (`specs/Entries.antt`). The lines and
+//! the planes are arrays of words, all of one length. `look_up_rows` does the same for a whole row
+//! of cells. What the entries mean does not matter.
 //!
 //! Stands on: `cam6_planes`, for rows; `cam6_wiring`, for lines.
 //!
@@ -19,4 +20,4 @@ mod digits;
 mod look_up;
 mod swap;
 
-pub use look_up::look_up_rows;
+pub use look_up::{look_up_rows, look_up_words};

@@ -1,5 +1,5 @@
-//! Two rows of the bits of entries.
-ghost use Rattle.std.specs.Prelude.{◌≡◌, ◌≢◌, ◌<◌, ◌+◌, ◌-◌, ◌*◌, ◌%◌, ◌^◌, ℕ, length};
+//! Two planes' words of the bits of entries.
+ghost use Rattle.std.specs.Prelude.{◌≡◌, ◌≢◌, ◌<◌, ◌≤◌, ◌+◌, ◌-◌, ◌*◌, ◌%◌, ◌^◌, ℕ, length, map};
 ghost use Rattle.std.specs.Prelude.{slice_index};
 ghost use Rattle.std.specs.Int.{bit_at};
 ghost use Rattle.cam6_planes.specs.Row.{column_bit};
@@ -10,8 +10,8 @@ ghost use Rattle.cam6_lookup.specs.Entries.{entry_bit};
 ghost use Rattle.cam6_lookup.specs.Transposed.{lane_address, shown_at};
 
 use crate::swap::{Sixteen, shown_addresses};
-use cam6_planes::{Row, Side};
-use cam6_wiring::Lines;
+use cam6_planes::{Row, Side, WORDS};
+use cam6_wiring::{LINES, Lines};
 
 /// Writes two rows: at each column the lowest bit, and the next, of the entry at the address that
 /// the lines show there. Words past the side may hold anything.
@@ -22,8 +22,32 @@ pub fn look_up_rows(lower: &mut Row, upper: &mut Row, lines: &Lines, side: Side,
     ensures upper { (x : ℕ) → x < side_number side →
         column_bit upper.new x ≡ entry_bit entries.now (address_in lines.now x) 1 }
 {
-    for chunk in 0..side.number() / 128 {
-        let rows = shown_addresses(lines, 2 * chunk);
+    let rows = [
+        &lines[0], &lines[1], &lines[2], &lines[3], &lines[4], &lines[5], &lines[6], &lines[7],
+        &lines[8], &lines[9], &lines[10], &lines[11],
+    ];
+    look_up_words::<WORDS>(lower, upper, &rows, side.number() / 64, entries);
+}
+
+/// Writes the first `count` words of two planes: at each column the lowest bit, and the next, of
+/// the entry at the address that the lines show there. Words past these may hold anything.
+pub fn look_up_words<const N: usize>(
+    lower: &mut [u64; N],
+    upper: &mut [u64; N],
+    lines: &[&[u64; N]; LINES],
+    count: usize,
+    entries: &[u8],
+)
+    requires even { count % 2 ≡ 0 }
+    requires within { count ≤ N }
+    requires entries { length entries.now ≡ 2 ^ LINES }
+    ensures lower { (c : ℕ) → c < 64 * count → column_bit lower.new c
+        ≡ entry_bit entries.now (address_in (map (λ line. line.now) lines.now) c) 0 }
+    ensures upper { (c : ℕ) → c < 64 * count → column_bit upper.new c
+        ≡ entry_bit entries.now (address_in (map (λ line. line.now) lines.now) c) 1 }
+{
+    for chunk in 0..count / 2 {
+        let rows = shown_addresses::<N>(lines, 2 * chunk);
         let (first_lower, first_upper) = words(&rows, 0, entries);
         let (second_lower, second_upper) = words(&rows, 1, entries);
         lower[2 * chunk] = first_lower;
@@ -33,7 +57,8 @@ pub fn look_up_rows(lower: &mut Row, upper: &mut Row, lines: &Lines, side: Side,
     }
 }
 
-/// Word i of both rows: at each position the bits of the entry at the address that is shown there.
+/// Word i of both planes: at each position the bits of the entry at the address that is shown
+/// there.
 fn words(rows: &Sixteen, i: usize, entries: &[u8]) -> (u64, u64)
     requires word { i < 2 }
     requires entries { length entries.now ≡ 2 ^ LINES }

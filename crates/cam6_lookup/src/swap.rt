@@ -1,26 +1,24 @@
 //! The addresses of 128 columns at once, by four rounds of swaps among sixteen rows.
-ghost use Rattle.std.specs.Prelude.{◌≡◌, ◌<◌, ◌≤◌, ◌+◌, ◌*◌, ◌/◌, ◌%◌, ℕ, slice_index};
+ghost use Rattle.std.specs.Prelude.{◌≡◌, ◌<◌, ◌≤◌, ◌+◌, ◌*◌, ◌/◌, ◌%◌, ℕ, slice_index, map};
 ghost use Rattle.std.specs.Int.{bit_at};
-ghost use Rattle.cam6_planes.specs.declared.row.TheConstants.{WORDS};
 ghost use Rattle.cam6_lookup.specs.Transposed.{ShowAddresses, cell, swapped_row, swapped_position};
 
 use crate::digits::Digit;
-use cam6_planes::Row;
-use cam6_wiring::Lines;
+use cam6_wiring::LINES;
 
-/// Two words of a row: 128 columns.
+/// Two words of a line: 128 columns.
 pub(crate) type Pair = [u64; 2];
 
 /// Sixteen rows of two words.
 pub(crate) type Sixteen = [Pair; 16];
 
-/// Returns the addresses of 128 columns, from a word on. In its lane l of sixteen bits, row k has
-/// the address of position 16 l + k of each word.
-pub(crate) fn shown_addresses(lines: &Lines, word: usize) -> Sixteen
-    requires { word + 2 ≤ WORDS }
-    ensures { ShowAddresses result lines.now word }
+/// Returns the addresses of 128 columns of the lines, from a word on. In its lane l of sixteen
+/// bits, row k has the address of position 16 l + k of each word.
+pub(crate) fn shown_addresses<const N: usize>(lines: &[&[u64; N]; LINES], word: usize) -> Sixteen
+    requires { word + 2 ≤ N }
+    ensures { ShowAddresses result (map (λ line. line.now) lines.now) word }
 {
-    transposed(&sixteen(lines, word))
+    transposed(&sixteen::<N>(lines, word))
 }
 
 /// The rows transposed over their diagonal, in each lane of sixteen bits.
@@ -80,24 +78,25 @@ fn row_after_round(rows: &Sixteen, k: usize, digit: Digit) -> Pair
 }
 
 /// Two words of each of the lines, from a word on, and four rows of zeros.
-fn sixteen(lines: &Lines, word: usize) -> Sixteen
-    requires { word + 2 ≤ WORDS }
-    ensures { (k i p : ℕ) → k < 12 → i < 2 → cell result k i p ≡ cell lines.now k (word + i) p }
+fn sixteen<const N: usize>(lines: &[&[u64; N]; LINES], word: usize) -> Sixteen
+    requires { word + 2 ≤ N }
+    ensures { (k i p : ℕ) → k < 12 → i < 2 →
+        cell result k i p ≡ cell (map (λ line. line.now) lines.now) k (word + i) p }
 {
     let zeros = [0; 2];
     [
-        pair(&lines[0], word),
-        pair(&lines[1], word),
-        pair(&lines[2], word),
-        pair(&lines[3], word),
-        pair(&lines[4], word),
-        pair(&lines[5], word),
-        pair(&lines[6], word),
-        pair(&lines[7], word),
-        pair(&lines[8], word),
-        pair(&lines[9], word),
-        pair(&lines[10], word),
-        pair(&lines[11], word),
+        pair::<N>(lines[0], word),
+        pair::<N>(lines[1], word),
+        pair::<N>(lines[2], word),
+        pair::<N>(lines[3], word),
+        pair::<N>(lines[4], word),
+        pair::<N>(lines[5], word),
+        pair::<N>(lines[6], word),
+        pair::<N>(lines[7], word),
+        pair::<N>(lines[8], word),
+        pair::<N>(lines[9], word),
+        pair::<N>(lines[10], word),
+        pair::<N>(lines[11], word),
         zeros,
         zeros,
         zeros,
@@ -105,10 +104,10 @@ fn sixteen(lines: &Lines, word: usize) -> Sixteen
     ]
 }
 
-/// Two words of a row, from this one on.
-fn pair(row: &Row, word: usize) -> Pair
-    requires { word + 2 ≤ WORDS }
-    ensures { (i : ℕ) → i < 2 → slice_index result i ≡ slice_index row.now (word + i) }
+/// Two words of a line, from this one on.
+fn pair<const N: usize>(line: &[u64; N], word: usize) -> Pair
+    requires { word + 2 ≤ N }
+    ensures { (i : ℕ) → i < 2 → slice_index result i ≡ slice_index line.now (word + i) }
 {
-    [row[word], row[word + 1]]
+    [line[word], line[word + 1]]
 }

@@ -1,28 +1,18 @@
-use Rattle.std.proofs.Common.{◌∙◌, arith, length-set}
-use Rattle.cam6_planes.proofs.SideNumbers.{side_words}
-use Rattle.cam6_lookup.proofs.Addresses.{two_more}
+use Rattle.std.proofs.Common.{◌∙◌, ap, arith}
+use Rattle.cam6_wiring.specs.Lines.{address_in}
+use Rattle.cam6_lookup.specs.Entries.{entry_bit}
+use Rattle.cam6_lookup.proofs.Addresses.{each_row}
 use Rattle.cam6_lookup.proofs.look_up.look_up_rows.Goals as goal
 
-pub loop-chunk-preserved : goal.loop-chunk-preserved
-loop-chunk-preserved c =
-    let a = c.args in
-    let now = c.loop-chunk in
-    let rows = c.shown_addresses-rows in
-    let first = c.words-first_lower in
-    let second = c.words-second_lower in
-    record {
-      lower_words = length-set _ _ _ ∙ length-set _ _ _ ∙ now.invariant.lower_words;
-      upper_words = length-set _ _ _ ∙ length-set _ _ _ ∙ now.invariant.upper_words;
-      lower = two_more rows.result a.lines.now a.entries.now now.lower now.chunk 0 first.result.0
-          second.result.0 c.told-lines now.invariant.lower_words (omega arith) rows.ensures
-          now.invariant.lower first.ensures.lower second.ensures.lower;
-      upper = two_more rows.result a.lines.now a.entries.now now.upper now.chunk 1 first.result.1
-          second.result.1 c.told-lines now.invariant.upper_words (omega arith) rows.ensures
-          now.invariant.upper first.ensures.upper second.ensures.upper;
-    }
-
 pub returns : goal.returns
-returns c = record {
-  lower = λ x h. c.loop-chunk.invariant.lower x (omega (arith, h, side_words c.args.side));
-  upper = λ x h. c.loop-chunk.invariant.upper x (omega (arith, h, side_words c.args.side));
-}
+returns c =
+    let a = c.args in
+    let same = each_row a.lines.now c.told-lines in
+    record {
+      lower = λ x h. c.look_up_words.ensures.lower x
+          (omega (arith, h, c.number.ensures.value, c.number.ensures.whole_words)) ∙
+          ap (λ lines. entry_bit a.entries.now (address_in lines x) 0) same;
+      upper = λ x h. c.look_up_words.ensures.upper x
+          (omega (arith, h, c.number.ensures.value, c.number.ensures.whole_words)) ∙
+          ap (λ lines. entry_bit a.entries.now (address_in lines x) 1) same;
+    }
