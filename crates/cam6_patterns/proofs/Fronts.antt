@@ -4,7 +4,8 @@ use Rattle.std.proofs.Common.{append-nil, append_assoc, Result, Ok, Err}
 use Rattle.std.specs.Prelude.{IsErr}
 use Rattle.std.proofs.KnownBytes.{Appends-trans, Appends-nil}
 use Rattle.std.specs.Io.KnownBytes.{Appends}
-use Rattle.cam6_show_frames.specs.Front.{WritesSome, WritesFront}
+use Rattle.cam6_writing.specs.Front.{WritesSome}
+use Rattle.cam6_show_frames.specs.Front.{WritesFront}
 use Rattle.cam6_show_frames.specs.declared.showing.Unshown.{Unshown}
 
 -- of these bytes all but a rest have been written

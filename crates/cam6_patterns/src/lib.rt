@@ -7,8 +7,8 @@
 //!
 //! The law: the text of rows is read as a pattern with their cells.
 //!
-//! Stands on: `cam6_planes`, for the digits of rows; `cam6_show_frames`, for frames of replies; `hex`;
-//! `arrayvec` and `itoa`, for numbers as they are written.
+//! Stands on: `cam6_planes`, for the digits of rows; `cam6_show_frames`, for frames of replies;
+//! `cam6_writing`; `hex`; `arrayvec` and `itoa`, for numbers as they are written.
 //!
 //! Read next: `patterns` and `faults`; `reading`, with `headers` and `bodies`; `writing`, with `lines`;
 //! `placing`; then `laws`.

@@ -12,8 +12,9 @@ use crate::desks::AtGate;
 use crate::free_desks::FreeDesk;
 use crate::halls::{Hall, Handle};
 use crate::streams::Connection;
-use cam6_session::{Ask, AtDesk, End, Line, LineBuf, answer_lines, next_line_within, send};
+use cam6_session::{Ask, AtDesk, End, Line, LineBuf, answer_lines, next_line_within};
 use cam6_wire::{LineFault, Seating, fault_line, read_seat, seating_line};
+use cam6_writing::send;
 use std::alloc::Global;
 use std::io::{BufRead, Write};
 

@@ -22,8 +22,8 @@
 //! connection begins with that line, the host replies `{"fault":80}`. To `{"seat":9}` it replies
 //! `{"fault":81}`. It closes both.
 //!
-//! Stands on: `cam6_session`, what is done for a line, and `cam6_wire`, the first line and its
-//! answers; `cam6_pool`, the workers and their gate; `cam6_handoff`, desks and seats; `cam6_board`,
+//! Stands on: `cam6_session`, what is done for a line, `cam6_wire`, the first line and its answers,
+//! and `cam6_writing`; `cam6_pool`, the workers and their gate; `cam6_handoff`, desks and seats; `cam6_board`,
 //! `cam6_cache`, `cam6_commands`, `cam6_model` and `cam6_planes`.
 //!
 //! Read next: `serving`, how much a host has; `hosts`, all of it; `halls`, what its threads share;

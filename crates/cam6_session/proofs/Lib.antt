@@ -20,7 +20,5 @@ pub mod Known
 pub mod Fronts
 -- Lines of events are answered by what comes of the events, one after another.
 pub mod Replaying
--- Writes one after another make one front.
-pub mod Writes
 -- A line is answered by what was told, or serving stops where the writer failed.
 pub mod Telling

@@ -8,7 +8,7 @@ use Rattle.cam6_wire.specs.Replies.{fault_bytes}
 use Rattle.cam6_wire.specs.declared.faults.LineFault.{LineFault}
 use Rattle.cam6_wire.specs.declared.faults.LineFault.TheVariants as fault
 use Rattle.cam6_session.specs.Answering.{Answering}
-use Rattle.cam6_session.specs.Front.{WritesSome}
+use Rattle.cam6_writing.specs.Front.{WritesSome}
 use Rattle.cam6_session.specs.declared.sessions.End.{End}
 use Rattle.cam6_session.specs.declared.sessions.End.TheVariants as end
 use Rattle.cam6_session.specs.declared.sessions.Stop.{Stop}

@@ -11,9 +11,9 @@ ghost use Rattle.cam6_session.specs.Responding.{Responds, TakesMemory, TellsText
 use crate::desks::Ask;
 use crate::line_buffer::LineBuf;
 use crate::sessions::Stop;
-use crate::writers::send;
 use cam6_commands::{Command, Reply};
 use cam6_wire::{LineFault, fault_line, fixed_line, read_command, reply_text};
+use cam6_writing::send;
 use std::alloc::Global;
 use std::io::Write;
 

@@ -28,10 +28,10 @@
 //! on from where the lines before left it.
 //!
 //! Stands on: `cam6_planes`, `cam6_commands`, `cam6_model`, `cam6_machine`, `cam6_core`,
-//! `cam6_handoff`, `cam6_wire`.
+//! `cam6_handoff`, `cam6_wire`, `cam6_writing`.
 //!
 //! Read next: `sessions` and `alone`, with `replays`; then their parts, `line_buffer`, `lines`,
-//! `answerers`, `desks` and `writers`; and `laws`.
+//! `answerers` and `desks`; and `laws`.
 #![tactic(auto)]
 
 mod alone;
@@ -42,7 +42,6 @@ mod line_buffer;
 mod lines;
 mod replays;
 mod sessions;
-mod writers;
 
 pub use alone::serve_alone;
 pub use answerers::Answerer;
@@ -51,4 +50,3 @@ pub use line_buffer::LineBuf;
 pub use lines::{Line, next_line, next_line_within};
 pub use replays::replay;
 pub use sessions::{End, Stop, answer_lines, serve};
-pub use writers::{WriteFault, send};

@@ -16,10 +16,10 @@ ghost use Rattle.cam6_session.specs.Spending.{SpendsItsTurns};
 use crate::answerers::{Answerer, tell, tell_fault};
 use crate::line_buffer::LineBuf;
 use crate::sessions::{End, Stop, answer_lines};
-use crate::writers::send;
 use cam6_commands::{Event, Outcome};
 use cam6_core::Core;
 use cam6_wire::{LineFault, outcome_text, read_event, undone_line};
+use cam6_writing::send;
 use std::alloc::Global;
 use std::io::{BufRead, Write};
 

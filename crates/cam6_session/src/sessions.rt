@@ -8,7 +8,7 @@ use crate::answerers::Answerer;
 use crate::desks::Ask;
 use crate::line_buffer::LineBuf;
 use crate::lines::{Line, next_line};
-use crate::writers::WriteFault;
+use cam6_writing::WriteFault;
 use std::alloc::Global;
 use std::io::{BufRead, Write};
 

@@ -12,7 +12,7 @@ use Rattle.cam6_show_frames.specs.Replies.{said}
 use Rattle.cam6_show_frames.specs.Run.{Taken, taken}
 use Rattle.cam6_show_frames.specs.Course.{Course, Verdict, whole, no_reply, breaks_off, over, after_frame}
 use Rattle.cam6_show_frames.specs.Course.{at_end, on_taken, on_said, course}
-use Rattle.cam6_show_frames.specs.Front.{WritesSome}
+use Rattle.cam6_writing.specs.Front.{WritesSome}
 use Rattle.cam6_show_frames.specs.Reading.{ReadsOf, Reads}
 use Rattle.cam6_show_frames.specs.Showing.{shown_in, EndsSo, ShowsFrames}
 use Rattle.cam6_show_frames.specs.Taking.{step, frames_of, BreaksAt, TakesLine, end_at, end_after}

@@ -1,4 +1,3 @@
-pub mod Writes
 pub mod Kept
 pub mod OneMore
 pub mod Filled

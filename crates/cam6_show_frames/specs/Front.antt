@@ -1,12 +1,8 @@
 -- What writing adds to a writer. Its bytes may not be known.
-use Rattle.std.specs.Prelude.{◌≡◌, ℕ, List, ◌++◌, Option, Result, Ok, Err}
+use Rattle.std.specs.Prelude.{ℕ, List, Option, Result, Ok, Err}
 use Rattle.std.specs.Io.KnownBytes.{Appends}
+use Rattle.cam6_writing.specs.Front.{WritesSome}
 use Rattle.cam6_show_frames.specs.declared.showing.Unshown.{Unshown}
-
--- a prefix of these bytes was written
-abbrev pub WritesSome : Option (List ℕ) → Option (List ℕ) → List ℕ → Type 0
-WritesSome old new bytes =
-    (part rest : List ℕ) × (bytes ≡ part ++ rest) × Appends old new part
 
 -- all of these bytes were written if it went well, or else a prefix of them
 abbrev pub WritesFront : Result (Unit {0}) Unshown → Option (List ℕ) → Option (List ℕ) → List ℕ

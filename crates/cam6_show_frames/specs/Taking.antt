@@ -6,7 +6,7 @@ use Rattle.std.specs.Io.KnownBytes.{Keeps, Appends}
 use Rattle.cam6_show_frames.specs.declared.replies.Said.{Said}
 use Rattle.cam6_show_frames.specs.Replies.{said}
 use Rattle.cam6_show_frames.specs.Run.{Taken, taken}
-use Rattle.cam6_show_frames.specs.Front.{WritesSome}
+use Rattle.cam6_writing.specs.Front.{WritesSome}
 use Rattle.cam6_show_frames.specs.declared.showing.End.{End}
 use Rattle.cam6_show_frames.specs.declared.showing.End.TheVariants as end
 use Rattle.cam6_show_frames.specs.declared.showing.Stop.{Stop}

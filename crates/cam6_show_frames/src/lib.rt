@@ -7,8 +7,8 @@
 //! is a row, and a run has as many rows as a row has columns. Other replies are skipped, but a run
 //! breaks off at them. Only the rows of one frame and one line are kept, however many frames come.
 //!
-//! Stands on: `cam6_planes`, for the sides and the digits of rows; `serde_json` with its grammar in
-//! `json`, and `hex`.
+//! Stands on: `cam6_planes`, for the sides and the digits of rows; `cam6_writing`; `serde_json` with
+//! its grammar in `json`, and `hex`.
 //!
 //! Read next: `frames`, rows and frames; `replies`, what a line says, with `rows`; `runs`, rows one
 //! after another; then `showing`, with `lines` and `writers`; then `laws`, what is read back.

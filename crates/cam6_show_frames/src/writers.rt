@@ -2,19 +2,15 @@
 ghost use Rattle.cam6_show_frames.specs.Front.{WritesFront};
 
 use crate::showing::Unshown;
+use cam6_writing::write_bytes as write_whole;
 use std::io::Write;
 
 /// Writes all bytes, in as many writes as it takes. A write that takes no byte is a fault.
 pub fn write_bytes<W: Write>(writer: &mut W, bytes: &[u8]) -> Result<(), Unshown>
     ensures { WritesFront result (W.contents writer.old) (W.contents writer.new) bytes.now }
 {
-    let mut rest = bytes;
-    while !rest.is_empty() {
-        match writer.write(rest) {
-            Ok(0) => return Err(Unshown::WriteFault),
-            Ok(n) => rest = &rest[n..],
-            Err(_) => return Err(Unshown::WriteFault),
-        }
+    match write_whole(writer, bytes) {
+        Ok(()) => Ok(()),
+        Err(_) => Err(Unshown::WriteFault),
     }
-    Ok(())
 }

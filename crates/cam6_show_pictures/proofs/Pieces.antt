@@ -7,7 +7,8 @@ use Rattle.std.specs.Prelude.{flat_map}
 use Rattle.std.specs.List.{range_with_len}
 use Rattle.std.specs.Io.KnownBytes.{Appends}
 use Rattle.cam6_show_frames.specs.declared.showing.Unshown.{Unshown}
-use Rattle.cam6_show_frames.specs.Front.{WritesSome, WritesFront}
+use Rattle.cam6_writing.specs.Front.{WritesSome}
+use Rattle.cam6_show_frames.specs.Front.{WritesFront}
 
 -- numbers from a on, one more
 numbers_more : (a n j : ℕ) → a + n ≡ j → range_with_len a (suc n) ≡ range_with_len a n ++ j ∷ []

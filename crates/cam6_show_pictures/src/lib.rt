@@ -4,7 +4,7 @@
 //! `specs/Terminal.antt`). Pixels come row by row, and each has the light of its cell's colour
 //! (`specs/Look.antt`). `palette_of` reads the lights of sixteen colours (`specs/Palette.antt`).
 //!
-//! Stands on: `cam6_show_frames`; `cam6_planes`, for the sides; `hex`.
+//! Stands on: `cam6_show_frames`; `cam6_planes`, for the sides; `cam6_writing`; `hex`.
 //!
 //! Read next: `looks`; `netpbm` and `terminal`; then `palettes`.
 #![tactic(auto)]

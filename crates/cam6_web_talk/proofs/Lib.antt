@@ -1,7 +1,5 @@
 -- Lemmas, in the order of reading.
 
--- Writes one after another make one prefix.
-pub mod Writes
 -- A talk goes on by a step, and ends.
 pub mod Steps
 -- A host at the other end of two streams answers a line, or fails to.

@@ -2,7 +2,7 @@
 use Rattle.std.specs.Prelude.{◌≡◌, ℕ, List, Option, IfSome, Result, Ok, Err}
 use Rattle.std.specs.Io.KnownBytes.{Appends, Consumes, Keeps}
 use Rattle.cam6_web_talk.specs.Lines.{HasNoLf}
-use Rattle.cam6_web_talk.specs.Writing.{WritesSome}
+use Rattle.cam6_writing.specs.Front.{WritesSome}
 use Rattle.cam6_web_talk.specs.Hosts.{HostWays}
 use Rattle.cam6_web_talk.specs.Lines.{sent_line}
 use Rattle.cam6_web_talk.specs.declared.hosts.Silence.{Silence}

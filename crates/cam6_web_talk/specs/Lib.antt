@@ -1,8 +1,7 @@
--- In the order of reading: texts that are one line, and how bytes are written; how a host answers lines, and one at the other
+-- In the order of reading: texts that are one line; how a host answers lines, and one at the other
 -- end of two streams; how a page speaks and is spoken to, and one on a WebSocket; a talk between the
 -- two, and its ends, also on a WebSocket; how the page is told of an end; and the laws.
 pub mod Lines
-pub mod Writing
 pub mod Hosts
 pub mod HostLines
 pub mod Pages

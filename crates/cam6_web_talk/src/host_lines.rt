@@ -4,7 +4,7 @@ ghost use Rattle.cam6_web_talk.specs.Lines.{sent_line};
 ghost use Rattle.cam6_web_talk.specs.HostLines.{Hands, Takes, Misses};
 
 use crate::hosts::{Host, Silence};
-use crate::writers::send;
+use cam6_writing::send;
 use std::alloc::{AllocError, Global};
 use std::io::{BufRead, Write};
 

@@ -14,9 +14,9 @@
 //! `carry` sends a ping each time the page was silent for a while. It ends after the third silence
 //! in a row. How long a silence is, the stream knows (`Paced`). No clause speaks of time.
 //!
-//! Stands on: `tungstenite`, `websocket` and `bytes`.
+//! Stands on: `cam6_writing`, `tungstenite`, `websocket` and `bytes`.
 //!
-//! Read next: `hosts`, `writers` and `host_lines`; `pages` and `sockets`; `carrying`, the talk;
+//! Read next: `hosts` and `host_lines`; `pages` and `sockets`; `carrying`, the talk;
 //! `partings`, how the page is told of its end; `talking`, all of it; and `laws`.
 #![tactic(auto)]
 
@@ -28,7 +28,6 @@ mod pages;
 mod partings;
 mod sockets;
 mod talking;
-mod writers;
 
 pub use carrying::{End, carry};
 pub use host_lines::HostLines;

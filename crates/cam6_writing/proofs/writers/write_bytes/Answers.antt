@@ -1,5 +1,5 @@
-use Rattle.cam6_session.proofs.Writes.{more_is_written}
-use Rattle.cam6_session.proofs.writers.write_bytes.Goals as goal
+use Rattle.cam6_writing.proofs.Writes.{more_is_written}
+use Rattle.cam6_writing.proofs.writers.write_bytes.Goals as goal
 
 pub loop-rest-preserved : goal.loop-rest-preserved
 loop-rest-preserved g c =

@@ -1,6 +1,6 @@
 use Rattle.std.proofs.KnownBytes.{Appends-kept}
-use Rattle.cam6_web_talk.proofs.Writes.{front_at_fault, whole_and_no_flush}
-use Rattle.cam6_web_talk.proofs.writers.send.Goals as goal
+use Rattle.cam6_writing.proofs.Writes.{front_at_fault, whole_and_no_flush}
+use Rattle.cam6_writing.proofs.writers.send.Goals as goal
 
 pub returns-in_err-write_bytes : goal.returns-in_err-write_bytes
 returns-in_err-write_bytes g c =

@@ -1,7 +1,7 @@
 -- What writing adds to a writer. Its bytes may be unknown.
 use Rattle.std.specs.Prelude.{◌≡◌, ℕ, List, ◌++◌, Option, Result, Ok, Err}
 use Rattle.std.specs.Io.KnownBytes.{Appends}
-use Rattle.cam6_web_talk.specs.declared.writers.WriteFault.{WriteFault}
+use Rattle.cam6_writing.specs.declared.writers.WriteFault.{WriteFault}
 
 -- some prefix of these bytes was written
 abbrev pub WritesSome : Option (List ℕ) → Option (List ℕ) → List ℕ → Type 0

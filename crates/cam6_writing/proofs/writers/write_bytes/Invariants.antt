@@ -1,6 +1,6 @@
 use Rattle.std.proofs.Common.{length}
-use Rattle.cam6_web_talk.proofs.Writes.{Written}
-use Rattle.cam6_web_talk.proofs.writers.write_bytes.Given as goal
+use Rattle.cam6_writing.proofs.Writes.{Written}
+use Rattle.cam6_writing.proofs.writers.write_bytes.Given as goal
 
 abbrev pub invariant-loop-rest : goal.invariant-loop-rest
 invariant-loop-rest g l =

@@ -1,5 +1,5 @@
-//! Answers as lines.
-ghost use Rattle.cam6_session.specs.Front.{WritesFront};
+//! Bytes, written whole.
+ghost use Rattle.cam6_writing.specs.Front.{WritesFront};
 
 use std::io::Write;
 
@@ -19,7 +19,7 @@ pub fn send<W: Write>(writer: &mut W, line: &[u8]) -> Result<(), WriteFault>
 }
 
 /// Writes the bytes, in as many writes as it takes. A write that takes none is a fault.
-fn write_bytes<W: Write>(writer: &mut W, bytes: &[u8]) -> Result<(), WriteFault>
+pub fn write_bytes<W: Write>(writer: &mut W, bytes: &[u8]) -> Result<(), WriteFault>
     ensures { WritesFront result (W.contents writer.old) (W.contents writer.new) bytes.now }
 {
     let mut rest = bytes;

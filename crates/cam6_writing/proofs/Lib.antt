@@ -1,0 +1,4 @@
+-- Lemmas.
+
+-- Writes one after another make one prefix.
+pub mod Writes

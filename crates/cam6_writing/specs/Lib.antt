@@ -1,0 +1,2 @@
+-- What writing adds to a writer.
+pub mod Front
