@@ -1,5 +1,5 @@
 -- What lines and slots show at a column.
-use Rattle.std.proofs.Common.{◌≡◌, ℕ, zero, suc, ◌≤◌, ◌<◌, Bool, false, List, [], ◌∷◌, ◌++◌}
+use Rattle.std.proofs.Common.{◌≡◌, ℕ, ◌≤◌, ◌<◌, Bool, false, List, [], ◌∷◌, ◌++◌}
 use Rattle.std.proofs.Common.{length, map, get_or, set, refl, sym, ◌∙◌, ap, arith}
 use Rattle.std.proofs.Common.{true, ◌+◌, ◌==◌, ◌&&◌, nat_lt}
 use Rattle.std.proofs.Common.{if◌then◌else◌, Bor, take}
@@ -10,7 +10,7 @@ use Rattle.std.proofs.lemmas.List.{map-append, take_more}
 use Rattle.cam6_planes.specs.Row.{column_bit}
 use Rattle.cam6_wiring.specs.Lines.{at_column}
 use Rattle.cam6_program.specs.Limits.{max_slots}
-use Rattle.cam6_program.specs.Meaning.{made, put_into, with_next, after_step}
+use Rattle.cam6_program.specs.Meaning.{made, put_into, after_step}
 use Rattle.cam6_program.specs.Running.{with_first, written_after}
 use Rattle.cam6_program.specs.declared.steps.Step.{Step}
 

@@ -10,7 +10,7 @@ use Rattle.cam6_program.specs.Programs.{Steps, number, source_of}
 use Rattle.cam6_program.specs.declared.steps.Source.{Source}
 use Rattle.cam6_program.specs.declared.steps.Source.TheVariants.{Constant, Line, Slot}
 use Rattle.cam6_program.specs.declared.steps.Operation.{Operation}
-use Rattle.cam6_program.specs.declared.steps.Operation.TheVariants.{Choice, And, AndNot}
+use Rattle.cam6_program.specs.declared.steps.Operation.TheVariants.{Choice, ChoiceNot, And, AndNot}
 use Rattle.cam6_program.specs.declared.steps.Operation.TheVariants.{Or, OrNot, Xor}
 use Rattle.cam6_program.specs.declared.steps.Step.{Step}
 
@@ -21,10 +21,13 @@ read lines slots (Constant bit) = bit
 read lines slots (Line line) = slice_index_or lines line false
 read lines slots (Slot slot) = slice_index_or slots slot false
 
--- what an operation makes of what it reads; a choice selects one of two bits by a third
+-- what an operation makes of what it reads; a choice selects one of two bits by a third, and
+-- `ChoiceNot` inverts the one that it selects by 1
 abbrev pub made : List Bool → List Bool → Operation → Bool
 made lines slots (Choice by low high) =
     if read lines slots by then read lines slots high else read lines slots low
+made lines slots (ChoiceNot by low high) =
+    if read lines slots by then not (read lines slots high) else read lines slots low
 made lines slots (And first second) = read lines slots first && read lines slots second
 made lines slots (AndNot first second) = read lines slots first && not (read lines slots second)
 made lines slots (Or first second) = read lines slots first || read lines slots second

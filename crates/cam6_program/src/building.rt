@@ -1,29 +1,32 @@
 //! Building: entries as a diagram of choices by the bits of their address.
 //!
 //! At first there is a node for each bit of each entry: the bit itself. Two that lie side by side
-//! differ in the lowest line alone, so that their choice by that line stands for both. Then there
-//! are half as many, and the next line's turn comes. After the last line two nodes are left, one
-//! for each level.
-ghost use Rattle.std.specs.Prelude.{◌≡◌, ◌<◌, ◌≤◌, ◌^◌, length, IfOk};
+//! differ in one line alone, so that their choice by that line stands for both. Then there are half
+//! as many, and the next line's turn comes. After the last line two nodes are left, one for each
+//! level.
+//!
+//! A choice and its inverse have one place. The one whose `low` is no inverse stands there.
+ghost use Rattle.std.specs.Prelude.{◌<◌, ◌≤◌, ◌+◌, ◌≡◌, ◌^◌, length, IfOk};
 ghost use Rattle.cam6_wiring.specs.declared.wirings.TheConstants.{LINES};
-ghost use Rattle.cam6_program.specs.declared.programs.TheConstants.{MAX_STEPS};
+ghost use Rattle.cam6_program.specs.declared.nodes.TheConstants.{PLACES};
 
-use crate::nodes::{Choice, Node, ONE, ZERO};
-use crate::programs::MAX_STEPS;
+use crate::nodes::{Choice, Node, ONE, PLACES, ZERO};
+use crate::orders::Order;
 use cam6_wiring::LINES;
 
 pub(crate) const ENTRIES: usize = 1 << LINES;
 
-/// There are more choices than a program has steps.
+/// There are more choices than places.
 #[derive(Drop)]
 pub(crate) struct TooLong;
 
-/// Choices, each after those among which it chooses, and the nodes of both levels.
+/// Choices, each after those among which it chooses, and the nodes of both levels. The choices of the
+/// first places stand for the lines.
 #[derive(Drop)]
 pub(crate) struct Diagram {
-    pub(crate) choices: [Choice; MAX_STEPS],
+    pub(crate) choices: [Choice; PLACES],
     pub(crate) count: usize,
-    /// How many of the first choices stand for operations that count lines.
+    /// How many of the choices after the lines stand for operations that count lines.
     pub(crate) counters: usize,
     /// The first choice by the line that is being joined.
     first: usize,
@@ -33,37 +36,47 @@ pub(crate) struct Diagram {
 
 impl Diagram {
     /// Returns the diagram of the lower and the upper bits of entries, or `TooLong`.
-    pub(crate) fn of(entries: &[u8]) -> Result<Diagram, TooLong>
+    pub(crate) fn of(entries: &[u8], order: Order) -> Result<Diagram, TooLong>
         requires { length entries.now ≡ 2 ^ LINES }
-        ensures { IfOk result (λ diagram. diagram.count ≤ MAX_STEPS) }
+        ensures { IfOk result (λ diagram. diagram.count ≤ PLACES) }
     {
         let mut nodes = [ZERO; 2 * ENTRIES];
-        for address in 0..ENTRIES {
-            nodes[address] = Node::lowest_bit(entries[address]);
-            nodes[ENTRIES + address] = Node::lowest_bit(entries[address] >> 1);
+        for k in 0..ENTRIES {
+            let entry = entries[order.address(k)];
+            nodes[k] = Node::lowest_bit(entry);
+            nodes[ENTRIES + k] = Node::lowest_bit(entry >> 1);
         }
         let mut diagram = Diagram::after(0);
-        for line in 0..LINES {
-            diagram.join_pairs(Node::line(line), &mut nodes[..2 * ENTRIES >> line])?;
+        for turn in 0..LINES {
+            let by = Node::line(order.line(turn));
+            diagram.join_pairs(by, &mut nodes[..2 * ENTRIES >> turn])?;
         }
         diagram.end(nodes[0], nodes[1]);
         Ok(diagram)
     }
 
-    /// A diagram with no choice yet, after operations that count lines.
+    /// A diagram with no choice yet but the lines, after operations that count lines.
     pub(crate) fn after(counters: usize) -> Diagram
-        requires { counters ≤ MAX_STEPS }
-        ensures { result.count ≡ counters }
+        requires { LINES + counters ≤ PLACES }
+        ensures { result.count ≤ PLACES }
     {
-        Diagram {
-            choices: [Choice {
-                by: ZERO,
+        let mut choices = [Choice {
+            by: ZERO,
+            low: ZERO,
+            high: ZERO,
+        }; PLACES];
+        for line in 0..LINES {
+            choices[line] = Choice {
+                by: Node::line(line),
                 low: ZERO,
-                high: ZERO,
-            }; MAX_STEPS],
-            count: counters,
+                high: ONE,
+            };
+        }
+        Diagram {
+            choices,
+            count: LINES + counters,
             counters,
-            first: counters,
+            first: LINES + counters,
             lower: ZERO,
             upper: ZERO,
         }
@@ -80,8 +93,8 @@ impl Diagram {
     /// Joins each pair of nodes to their choice by a line. Writes the choices to the first half of
     /// `nodes`.
     pub(crate) fn join_pairs(&mut self, by: Node, nodes: &mut [Node]) -> Result<(), TooLong>
-        requires { self.old.count ≤ MAX_STEPS }
-        ensures { self.new.count ≤ MAX_STEPS }
+        requires { self.old.count ≤ PLACES }
+        ensures { self.new.count ≤ PLACES }
     {
         self.first = self.count;
         // Equal pairs often follow each other.
@@ -108,25 +121,36 @@ impl Diagram {
 
     /// Returns the node of a choice by this line. Adds the choice if it is needed and new.
     fn node(&mut self, choice: Choice) -> Result<Node, TooLong>
-        requires { self.old.count ≤ MAX_STEPS }
-        ensures { self.new.count ≤ MAX_STEPS }
+        requires { self.old.count ≤ PLACES }
+        ensures { self.new.count ≤ PLACES }
     {
         if choice.low == choice.high {
             return Ok(choice.low);
         }
+        if choice.low.is_inverse() {
+            return Ok(self.placed(choice.inverse())?.inverse());
+        }
+        self.placed(choice)
+    }
+
+    /// Returns the node of a choice by this line whose `low` is no inverse. Adds it if it is new.
+    fn placed(&mut self, choice: Choice) -> Result<Node, TooLong>
+        requires { self.old.count ≤ PLACES }
+        ensures { self.new.count ≤ PLACES }
+    {
         if choice.low == ZERO && choice.high == ONE {
             return Ok(choice.by);
         }
         for place in self.first..self.count {
             if self.choices[place] == choice {
-                return Ok(Node::choice(place));
+                return Ok(Node::at(place));
             }
         }
-        if self.count == MAX_STEPS {
+        if self.count == PLACES {
             return Err(TooLong);
         }
         self.choices[self.count] = choice;
         self.count += 1;
-        Ok(Node::choice(self.count - 1))
+        Ok(Node::at(self.count - 1))
     }
 }

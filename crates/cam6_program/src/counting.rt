@@ -5,12 +5,13 @@
 //! is left is a choice by the four bits of their sum.
 ghost use Rattle.std.specs.Prelude.{◌≡◌, ◌<◌, ◌≤◌, ◌^◌, length, IfOk};
 ghost use Rattle.cam6_wiring.specs.declared.wirings.TheConstants.{LINES};
-ghost use Rattle.cam6_program.specs.declared.programs.TheConstants.{MAX_STEPS};
+ghost use Rattle.cam6_program.specs.declared.nodes.TheConstants.{PLACES};
 ghost use Rattle.cam6_program.specs.declared.building.TheConstants.{ENTRIES};
 
 use crate::building::{Diagram, ENTRIES, TooLong};
 use crate::nodes::{Node, ZERO};
 use crate::steps::{Operation, Source};
+use cam6_wiring::LINES;
 
 /// Operations that add the bits of the eight lines.
 pub(crate) const COUNTERS: usize = 18;
@@ -20,7 +21,7 @@ const COUNTED: usize = 1 << 8;
 
 /// Adds the bits of the eight lines. Each of four full adders is two exclusive ors and a choice, for
 /// the sum and the carry. Operations 9, 14, 16 and 17 make the bits of the whole sum, the lowest
-/// first. A slot is the place of another operation.
+/// first.
 pub(crate) fn counter(place: usize) -> Operation {
     match place {
         0 => xor(line(2), line(3)),
@@ -48,8 +49,18 @@ fn line(line: u8) -> Source {
     Source::Line(line)
 }
 
-fn slot(place: u8) -> Source {
-    Source::Slot(place)
+/// What another of these operations makes.
+fn slot(place: usize) -> Source
+    requires { place < COUNTERS }
+{
+    result_of(place).source()
+}
+
+/// The node of one of these operations, which stand after the lines.
+pub(crate) fn result_of(place: usize) -> Node
+    requires { place < COUNTERS }
+{
+    Node::at(LINES + place)
 }
 
 fn xor(first: Source, second: Source) -> Operation {
@@ -90,7 +101,7 @@ fn are_alike(entries: &[u8], bit: usize) -> bool
 /// Returns the diagram of entries that count the eight lines, or `TooLong`.
 pub(crate) fn counting(entries: &[u8]) -> Result<Diagram, TooLong>
     requires { length entries.now ≡ 2 ^ LINES }
-    ensures { IfOk result (λ diagram. diagram.count ≤ MAX_STEPS) }
+    ensures { IfOk result (λ diagram. diagram.count ≤ PLACES) }
 {
     let mut nodes = [ZERO; 2 * COUNTED];
     for k in 0..COUNTED {
@@ -113,10 +124,10 @@ fn chosen_by(k: usize) -> Node {
         1 => Node::line(1),
         2 => Node::line(10),
         3 => Node::line(11),
-        4 => Node::choice(9),
-        5 => Node::choice(14),
-        6 => Node::choice(16),
-        _ => Node::choice(17),
+        4 => result_of(9),
+        5 => result_of(14),
+        6 => result_of(16),
+        _ => result_of(17),
     }
 }
 

@@ -14,19 +14,21 @@
 //! once, and returns it only if it makes the bits of every entry.
 //!
 //! Read next: `steps` and `programs`; `slots`, `operations` and `running`, how a program is run;
-//! `validating`; then `nodes`, `building`, `counting`, `inverses` and `writing`, how one is built.
+//! `validating`; then `nodes`, `orders`, `building`, `counting`, `wanted` and `writing`, how one is
+//! built.
 #![tactic(auto)]
 
 mod building;
 mod counting;
-mod inverses;
 mod nodes;
 mod operations;
+mod orders;
 mod programs;
 mod running;
 mod slots;
 mod steps;
 mod validating;
+mod wanted;
 mod writing;
 
 pub use programs::{MAX_SLOTS, MAX_STEPS, Program};

@@ -1,28 +1,31 @@
 //! The bits that a diagram makes of an address, and its choices among them.
 ghost use Rattle.std.specs.Prelude.{◌<◌};
 ghost use Rattle.cam6_wiring.specs.declared.wirings.TheConstants.{LINES};
-ghost use Rattle.cam6_program.specs.declared.programs.TheConstants.{MAX_STEPS};
 
-use crate::programs::MAX_STEPS;
 use crate::steps::Source;
 use cam6_wiring::LINES;
 
-/// A bit that is made of an address: a constant, what a line shows, or what a choice selects. The
-/// number of a node fits into a byte, so an array of `NODES` has room for each.
+/// A bit that is made of an address: a constant, what a line shows, what a choice selects, or the
+/// inverse of one of these. The number of a node fits into a byte, so an array of `NODES` has room
+/// for each. A node and its inverse differ in the lowest bit of their numbers.
 #[derive(Clone, Copy, PartialEq, Eq)]
 pub(crate) struct Node(u8);
 
 /// The number of nodes that a byte can tell apart.
 pub(crate) const NODES: usize = 256;
 
+/// Places of a diagram. The lines stand first, then the choices.
+pub(crate) const PLACES: usize = 127;
+
 pub(crate) const ZERO: Node = Node(0);
 
 pub(crate) const ONE: Node = Node(1);
 
-/// The constants stand first, then the lines, then the choices.
-const FIRST_LINE: u8 = 2;
+/// The node at the first place. The constants stand before it.
+const FIRST: u8 = 2;
 
-const FIRST_CHOICE: u8 = 14;
+/// The node at the first place that has no line.
+const FIRST_CHOICE: u8 = 26;
 
 impl Node {
     /// The lowest bit of a byte, always.
@@ -34,14 +37,14 @@ impl Node {
     pub(crate) fn line(line: usize) -> Node
         requires { line < LINES }
     {
-        Node(FIRST_LINE + line as u8)
+        Node::at(line)
     }
 
-    /// What the choice at a place of the diagram selects.
-    pub(crate) fn choice(place: usize) -> Node
-        requires { place < MAX_STEPS }
+    /// What stands at a place of the diagram.
+    pub(crate) fn at(place: usize) -> Node
+        requires { place < PLACES }
     {
-        Node(FIRST_CHOICE + place as u8)
+        Node(FIRST + 2 * place as u8)
     }
 
     /// Its number among all nodes.
@@ -51,22 +54,43 @@ impl Node {
         usize::from(self.0)
     }
 
-    /// The node as a step reads it, if each choice had the slot of its own place.
+    /// The node that is 1 exactly where this one is 0.
+    pub(crate) fn inverse(self) -> Node {
+        Node(self.0 ^ 1)
+    }
+
+    /// Whether it is the inverse of a place, or the constant 1.
+    pub(crate) fn is_inverse(self) -> bool {
+        self.0 & 1 == 1
+    }
+
+    /// The node as a step reads it, if each node had the slot of its own number.
     pub(crate) fn source(self) -> Source {
-        if self.0 < FIRST_LINE {
+        if self.0 < FIRST {
             Source::Constant(self == ONE)
-        } else if self.0 < FIRST_CHOICE {
-            Source::Line(self.0 - FIRST_LINE)
+        } else if self.0 < FIRST_CHOICE && !self.is_inverse() {
+            Source::Line((self.0 - FIRST) / 2)
         } else {
-            Source::Slot(self.0 - FIRST_CHOICE)
+            Source::Slot(self.0)
         }
     }
 }
 
-/// `high` if the line `by` shows 1, and `low` if it shows 0.
+/// `high` if the node `by` is 1, and `low` if it is 0.
 #[derive(Clone, Copy, PartialEq, Eq)]
 pub(crate) struct Choice {
     pub(crate) by: Node,
     pub(crate) low: Node,
     pub(crate) high: Node,
+}
+
+impl Choice {
+    /// The choice that selects 1 exactly where this one selects 0.
+    pub(crate) fn inverse(self) -> Choice {
+        Choice {
+            by: self.by,
+            low: self.low.inverse(),
+            high: self.high.inverse(),
+        }
+    }
 }

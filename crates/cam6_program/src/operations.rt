@@ -18,6 +18,18 @@ pub(crate) fn put_choice(out: &mut Unit, by: &Unit, low: &Unit, high: &Unit, wor
     }
 }
 
+/// `high` inverted where `by` is 1, and `low` where it is 0.
+#[inline(always)]
+pub(crate) fn put_choice_not(out: &mut Unit, by: &Unit, low: &Unit, high: &Unit, words: usize)
+    requires { words ≤ UNIT }
+    ensures { (c : ℕ) → c < 64 * words → column_bit out.new c ≡
+        (if column_bit by.now c then not (column_bit high.now c) else column_bit low.now c) }
+{
+    for k in 0..words {
+        out[k] = low[k] ^ (by[k] & (low[k] ^ !high[k]));
+    }
+}
+
 /// 1 where both are 1.
 #[inline(always)]
 pub(crate) fn put_and(out: &mut Unit, first: &Unit, second: &Unit, words: usize)

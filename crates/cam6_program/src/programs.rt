@@ -9,9 +9,11 @@ ghost use Rattle.cam6_lines.specs.Units.{asked_for};
 ghost use Rattle.cam6_lines.specs.declared.units.TheConstants.{UNIT};
 ghost use Rattle.cam6_program.specs.Computing.{Computes};
 ghost use Rattle.cam6_program.specs.Programs.{keeps};
+ghost use Rattle.cam6_program.specs.declared.nodes.TheConstants.{PLACES};
 
 use crate::building::{Diagram, TooLong};
 use crate::counting::{counting, counts};
+use crate::orders::Order;
 use crate::running::{put_given, take_steps};
 use crate::slots::Slots;
 use crate::steps::{Operation, Source, Step};
@@ -78,7 +80,7 @@ impl Program {
         let mut work = 0usize;
         for step in self.steps[..self.count].iter() {
             work = work.saturating_add(match step.operation {
-                Operation::Choice { .. } => 5,
+                Operation::Choice { .. } | Operation::ChoiceNot { .. } => 5,
                 _ => 3,
             });
         }
@@ -158,21 +160,32 @@ impl Program {
 fn shortest(entries: &[u8]) -> Option<Program>
     requires { length entries.now ≡ 2 ^ LINES }
 {
-    let plain = program_of(Diagram::of(entries));
-    if !counts(entries) {
-        return plain;
+    let plain = program_of(Diagram::of(entries, Order::Rising));
+    if counts(entries) {
+        return lesser(program_of(counting(entries)), plain);
     }
-    let counted = program_of(counting(entries));
-    if work_of(&counted) < work_of(&plain) {
-        counted
+    // Entries without structure would take as long again.
+    if plain.is_none() {
+        return None;
+    }
+    lesser(
+        program_of(Diagram::of(entries, Order::OppositeFirst)),
+        plain,
+    )
+}
+
+/// The first program if it has less work, and else the second.
+fn lesser(first: Option<Program>, second: Option<Program>) -> Option<Program> {
+    if work_of(&first) < work_of(&second) {
+        first
     } else {
-        plain
+        second
     }
 }
 
 /// The program of a diagram, if there is one.
 fn program_of(diagram: Result<Diagram, TooLong>) -> Option<Program>
-    requires { IfOk diagram (λ diagram. diagram.count ≤ MAX_STEPS) }
+    requires { IfOk diagram (λ diagram. diagram.count ≤ PLACES) }
 {
     written(&diagram.ok()?)
 }

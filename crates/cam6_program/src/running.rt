@@ -9,7 +9,9 @@ ghost use Rattle.cam6_program.specs.Running.{lines_at, slots_at, with_first, wri
 ghost use Rattle.cam6_program.specs.declared.programs.TheConstants.{MAX_SLOTS};
 ghost use Rattle.cam6_program.specs.declared.running.TheConstants.{HALF_UNIT};
 
-use crate::operations::{put_and, put_and_not, put_choice, put_or, put_or_not, put_xor};
+use crate::operations::{
+    put_and, put_and_not, put_choice, put_choice_not, put_or, put_or_not, put_xor,
+};
 use crate::programs::MAX_SLOTS;
 use crate::steps::{Operation, Source, Step};
 use cam6_lines::{Lines, UNIT, Unit};
@@ -88,6 +90,9 @@ fn put_result(out: &mut Unit, operation: Operation, from: &Readable, words: usiz
     match operation {
         Operation::Choice { by, low, high } => {
             put_choice(out, from.read(by), from.read(low), from.read(high), words)
+        }
+        Operation::ChoiceNot { by, low, high } => {
+            put_choice_not(out, from.read(by), from.read(low), from.read(high), words)
         }
         Operation::And(first, second) => put_and(out, from.read(first), from.read(second), words),
         Operation::AndNot(first, second) => {

@@ -18,6 +18,12 @@ pub enum Operation {
         low: Source,
         high: Source,
     },
+    /// `high` inverted if `by` is 1, and `low` if it is 0.
+    ChoiceNot {
+        by: Source,
+        low: Source,
+        high: Source,
+    },
     And(Source, Source),
     /// The first, and not the second.
     AndNot(Source, Source),

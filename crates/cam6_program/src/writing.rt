@@ -1,15 +1,15 @@
-//! Writing: the choices of a diagram that are needed as steps, each after those that it reads, with
-//! few slots.
+//! Writing: the nodes of a diagram that are needed as steps, each after those that it reads, with few
+//! slots.
 ghost use Rattle.std.specs.Prelude.{◌≡◌, ◌<◌, ◌≤◌};
-ghost use Rattle.cam6_program.specs.declared.nodes.TheConstants.{NODES};
+ghost use Rattle.cam6_program.specs.declared.nodes.TheConstants.{NODES, PLACES};
 ghost use Rattle.cam6_program.specs.declared.programs.TheConstants.{MAX_STEPS};
 
 use crate::building::Diagram;
-use crate::counting::{COUNTERS, counter};
-use crate::inverses::Inverses;
+use crate::counting::{COUNTERS, counter, result_of};
 use crate::nodes::{NODES, Node};
 use crate::programs::{MAX_SLOTS, MAX_STEPS, Program};
 use crate::steps::{Operation, Source, Step};
+use crate::wanted::Wanted;
 
 /// A step that nobody needs.
 const NO_STEP: Step = Step {
@@ -17,14 +17,14 @@ const NO_STEP: Step = Step {
     operation: Operation::And(Source::Constant(false), Source::Constant(false)),
 };
 
-/// A program that is being written. A byte has the place of any choice, and any slot.
+/// A program that is being written. A byte has the number of any node, and any slot.
 #[derive(Drop)]
 struct Writer {
-    /// What each choice does. A slot that it reads is the place of another choice.
+    /// What makes each node. A slot that is read is the number of another node.
     operations: [Operation; NODES],
-    /// How often the result of each choice is still to be read.
+    /// How often each node is still to be read.
     reads: [u8; NODES],
-    /// The slot of each choice, once it is written.
+    /// The slot of each node, once it is written.
     slot_of: [Option<u8>; NODES],
     is_free: [bool; NODES],
     steps: [Step; MAX_STEPS],
@@ -34,14 +34,14 @@ struct Writer {
 
 /// Returns the program of a diagram, or `None` if it needs too many slots.
 pub(crate) fn written(diagram: &Diagram) -> Option<Program>
-    requires { diagram.now.count ≤ MAX_STEPS }
+    requires { diagram.now.count ≤ PLACES }
 {
     let lower = given(diagram.lower, Source::Line(0));
     let upper = given(diagram.upper, Source::Line(1));
     let mut writer = Writer::of(diagram);
     writer.expect_level(lower);
     writer.expect_level(upper);
-    writer.expect_reads(diagram.count);
+    writer.expect_reads();
     writer.write_counters(diagram.counters);
     let lower = writer.write_level(lower);
     let upper = writer.write_level(upper);
@@ -54,18 +54,22 @@ fn given(node: Node, own: Source) -> Option<Source> {
     if source == own { None } else { Some(source) }
 }
 
-/// What the choices of a diagram do.
+/// What makes each node of a diagram.
 fn operations(diagram: &Diagram) -> [Operation; NODES]
-    requires { diagram.now.count ≤ MAX_STEPS }
+    requires { diagram.now.count ≤ PLACES }
 {
-    let inverses = Inverses::of(diagram);
+    let wanted = Wanted::of(diagram);
     let mut operations = [NO_STEP.operation; NODES];
     for place in 0..diagram.count {
-        operations[place] = if place < diagram.counters {
-            counter(place)
-        } else {
-            inverses.operation(diagram.choices[place])
-        };
+        let node = Node::at(place);
+        let choice = diagram.choices[place];
+        operations[node.number()] = wanted.operation(choice);
+        operations[node.inverse().number()] = wanted.operation(choice.inverse());
+    }
+    for place in 0..COUNTERS {
+        if place < diagram.counters {
+            operations[result_of(place).number()] = counter(place);
+        }
     }
     operations
 }
@@ -73,7 +77,7 @@ fn operations(diagram: &Diagram) -> [Operation; NODES]
 impl Writer {
     /// A writer that has written no step, and expects no source to be read.
     fn of(diagram: &Diagram) -> Writer
-        requires { diagram.now.count ≤ MAX_STEPS }
+        requires { diagram.now.count ≤ PLACES }
         ensures { result.count ≤ MAX_STEPS }
     {
         Writer {
@@ -96,16 +100,15 @@ impl Writer {
         }
     }
 
-    /// Notes what the choices that are read will read, from the last one to the first. Each stands
+    /// Notes what the nodes that are read will read, from the last one to the first. Each stands
     /// after what it reads.
-    fn expect_reads(&mut self, choices: usize)
-        requires { choices ≤ MAX_STEPS }
+    fn expect_reads(&mut self)
         ensures { self.new.count ≡ self.old.count }
     {
-        for back in 0..choices {
-            let place = choices - 1 - back;
-            if self.reads[place] > 0 {
-                for source in sources(self.operations[place]) {
+        for back in 0..NODES {
+            let number = NODES - 1 - back;
+            if self.reads[number] > 0 {
+                for source in sources(self.operations[number]) {
                     self.expect(source);
                 }
             }
@@ -116,9 +119,9 @@ impl Writer {
     fn expect(&mut self, source: Source)
         ensures { self.new.count ≡ self.old.count }
     {
-        if let Source::Slot(place) = source {
-            let place = usize::from(place);
-            self.reads[place] = self.reads[place].saturating_add(1);
+        if let Source::Slot(number) = source {
+            let number = usize::from(number);
+            self.reads[number] = self.reads[number].saturating_add(1);
         }
     }
 
@@ -128,8 +131,9 @@ impl Writer {
         ensures { self.new.count ≤ MAX_STEPS }
     {
         for place in 0..COUNTERS {
-            if place < counters && self.reads[place] > 0 && self.count < MAX_STEPS {
-                self.put_step(place, self.operations[place]);
+            let number = result_of(place).number();
+            if place < counters && self.reads[number] > 0 && self.count < MAX_STEPS {
+                self.put_step(number, self.operations[number]);
             }
         }
     }
@@ -140,37 +144,37 @@ impl Writer {
         ensures { self.new.count ≤ MAX_STEPS }
     {
         let source = level?;
-        if let Source::Slot(place) = source {
-            self.write_choice(usize::from(place));
+        if let Source::Slot(number) = source {
+            self.write_node(usize::from(number));
         }
         Some(self.in_slot(source))
     }
 
-    /// Writes a choice, after all that it reads, unless it is written already.
-    fn write_choice(&mut self, place: usize)
-        requires place { place < NODES }
+    /// Writes the step of a node, after those of all that it reads, unless it is written already.
+    fn write_node(&mut self, number: usize)
+        requires number { number < NODES }
         requires count { self.old.count ≤ MAX_STEPS }
         ensures { self.new.count ≤ MAX_STEPS }
     {
-        if self.slot_of[place].is_some() {
+        if self.slot_of[number].is_some() {
             return;
         }
-        let operation = self.operations[place];
+        let operation = self.operations[number];
         for source in sources(operation) {
             if let Source::Slot(below) = source {
-                if usize::from(below) < place {
-                    self.write_choice(usize::from(below));
+                if usize::from(below) < number {
+                    self.write_node(usize::from(below));
                 }
             }
         }
         if self.count < MAX_STEPS {
-            self.put_step(place, operation);
+            self.put_step(number, operation);
         }
     }
 
-    /// Puts the step of a choice. The slots that it reads are not yet free for what it makes.
-    fn put_step(&mut self, place: usize, operation: Operation)
-        requires place { place < NODES }
+    /// Puts the step of a node. The slots that it reads are not yet free for what it makes.
+    fn put_step(&mut self, number: usize, operation: Operation)
+        requires number { number < NODES }
         requires count { self.old.count < MAX_STEPS }
         ensures { self.new.count ≤ MAX_STEPS }
     {
@@ -182,7 +186,7 @@ impl Writer {
             operation: self.in_slots(operation),
         };
         self.count += 1;
-        self.slot_of[place] = Some(into);
+        self.slot_of[number] = Some(into);
         for source in sources(operation) {
             self.note_read(source);
         }
@@ -202,21 +206,26 @@ impl Writer {
     fn note_read(&mut self, source: Source)
         ensures { self.new.count ≡ self.old.count }
     {
-        if let Source::Slot(place) = source {
-            let place = usize::from(place);
-            self.reads[place] = self.reads[place].saturating_sub(1);
-            if self.reads[place] == 0 {
-                if let Some(slot) = self.slot_of[place] {
+        if let Source::Slot(number) = source {
+            let number = usize::from(number);
+            self.reads[number] = self.reads[number].saturating_sub(1);
+            if self.reads[number] == 0 {
+                if let Some(slot) = self.slot_of[number] {
                     self.is_free[usize::from(slot)] = true;
                 }
             }
         }
     }
 
-    /// The operation with each choice that it reads replaced by its slot.
+    /// The operation with each node that it reads replaced by its slot.
     fn in_slots(&self, operation: Operation) -> Operation {
         match operation {
             Operation::Choice { by, low, high } => Operation::Choice {
+                by: self.in_slot(by),
+                low: self.in_slot(low),
+                high: self.in_slot(high),
+            },
+            Operation::ChoiceNot { by, low, high } => Operation::ChoiceNot {
                 by: self.in_slot(by),
                 low: self.in_slot(low),
                 high: self.in_slot(high),
@@ -239,11 +248,11 @@ impl Writer {
         }
     }
 
-    /// The source with a choice replaced by its slot.
+    /// The source with a node replaced by its slot.
     fn in_slot(&self, source: Source) -> Source {
         match source {
-            Source::Slot(place) => {
-                Source::Slot(self.slot_of[usize::from(place)].unwrap_or(u8::MAX))
+            Source::Slot(number) => {
+                Source::Slot(self.slot_of[usize::from(number)].unwrap_or(u8::MAX))
             }
             Source::Constant(_) | Source::Line(_) => source,
         }
@@ -279,7 +288,9 @@ fn asked_by(source: Option<Source>) -> u16 {
 /// What an operation reads, up to three sources.
 fn sources(operation: Operation) -> [Source; 3] {
     match operation {
-        Operation::Choice { by, low, high } => [by, low, high],
+        Operation::Choice { by, low, high } | Operation::ChoiceNot { by, low, high } => {
+            [by, low, high]
+        }
         Operation::And(first, second)
         | Operation::AndNot(first, second)
         | Operation::Or(first, second)

@@ -1,4 +1,4 @@
-use Rattle.std.proofs.Common.{◌≡◌, ◌∙◌, List, Bool, length, ap, sym, take, map, arith}
+use Rattle.std.proofs.Common.{◌≡◌, ◌∙◌, List, Bool, length, ap, take, map, arith}
 use Rattle.std.proofs.lemmas.List.{length-take-le}
 use Rattle.std.proofs.lemmas.Slice.{take-put_mid}
 use Rattle.cam6_wiring.specs.Lines.{at_column}

@@ -1,0 +1,47 @@
+//! The orders in which a diagram joins the lines.
+ghost use Rattle.std.specs.Prelude.{◌<◌};
+ghost use Rattle.cam6_wiring.specs.declared.wirings.TheConstants.{LINES};
+
+use crate::building::ENTRIES;
+use cam6_wiring::LINES;
+
+/// In which order the lines are joined.
+#[derive(Clone, Copy)]
+pub(crate) enum Order {
+    /// The lowest line first.
+    Rising,
+    /// Line 4 first, then the others by number. Under N/MARG lines 4 and 0 are the cell opposite and
+    /// the centre. Rules of blocks often ask whether both are equal, and get shorter programs so.
+    OppositeFirst,
+}
+
+impl Order {
+    /// The line that is joined at a turn.
+    pub(crate) fn line(self, turn: usize) -> usize
+        requires { turn < LINES }
+        ensures { result < LINES }
+    {
+        match self {
+            Order::Rising => turn,
+            Order::OppositeFirst => match turn {
+                0 => 4,
+                1 => 0,
+                2 => 1,
+                3 => 2,
+                4 => 3,
+                _ => turn,
+            },
+        }
+    }
+
+    /// The address whose lines show the bits of `k`. The line of turn 0 shows the lowest bit.
+    pub(crate) fn address(self, k: usize) -> usize
+        requires { k < ENTRIES }
+        ensures { result < ENTRIES }
+    {
+        match self {
+            Order::Rising => k,
+            Order::OppositeFirst => (k / 32 * 32 + k % 32 / 2 + k % 2 * 16) % ENTRIES,
+        }
+    }
+}
