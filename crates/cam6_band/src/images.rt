@@ -58,7 +58,7 @@ impl AtRest {
         ensures side { result.planes.side ≡ self.planes.side }
         ensures limit { result.planes.limit ≡ self.planes.limit }
     {
-        let AtRest { planes } = self;
+        let planes = self.planes;
         let first = *planes.row(0);
         let last = *planes.row(planes.side().number() - 1);
         MidStep {
