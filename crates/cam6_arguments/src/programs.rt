@@ -30,7 +30,7 @@ impl Program {
         }
     }
 
-    /// Returns the line for a failed allocation.
+    /// Returns the line that reports a failed allocation, with its LF.
     pub fn no_memory(self) -> &'static str
         ensures { result.now ≡ told self (codes "no memory\n") }
     {
@@ -42,7 +42,7 @@ impl Program {
         }
     }
 
-    /// Returns the line for a failed write.
+    /// Returns the line that reports a failed write, with its LF.
     pub fn write_failed(self) -> &'static str
         ensures { result.now ≡ told self (codes "write failed\n") }
     {
@@ -54,7 +54,7 @@ impl Program {
         }
     }
 
-    /// Returns the line for a failed allocation of the line that says why.
+    /// Returns the line, with its LF, if the line that says why can't be allocated.
     pub fn no_memory_to_say_why(self) -> &'static str
         ensures { result.now ≡ told self (codes "no memory to say why\n") }
     {
@@ -67,7 +67,7 @@ impl Program {
     }
 }
 
-/// Returns a text after the program's name.
+/// Returns the program's name, a colon, a space and the text.
 pub fn told(alloc: Global, program: Program, text: &str) -> Result<String, AllocError>
     ensures { IfOk result (λ line. string_bytes line ≡ told program text.now) }
 {

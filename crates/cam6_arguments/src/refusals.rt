@@ -67,7 +67,8 @@ pub fn refusal_of_kind(kind: ErrorKind, text: Result<String, AllocError>, hint: 
     }
 }
 
-/// Refuses arguments, with the hint after the text.
+/// Returns the refusal of arguments with this text and the hint after it. If there is no memory for
+/// the hint, returns `NoMemory`.
 fn with_hint(text: String, hint: &str) -> Refused
     ensures words { IsTold result (string_bytes text) hint.now }
 {
@@ -91,7 +92,8 @@ pub fn unasked(text: Result<String, AllocError>) -> Refused
     }
 }
 
-/// Returns why the arguments could not be read.
+/// Returns the refusal of arguments that could not be read. There was no memory, or else a word
+/// isn't UTF-8.
 pub fn refusal_of_read(alloc: Global, program: Program, kind: io::ErrorKind) -> Refused
     ensures { IsUnreadable program result kind }
 {

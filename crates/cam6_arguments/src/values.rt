@@ -32,14 +32,15 @@ pub fn number_at(matches: &ArgMatches<'_>, name: &str, least: u64, most: u64) ->
     number_of(text_at(matches, name)?, least, most)
 }
 
-/// Returns the side at `--side`.
+/// Returns the side at `--side`, or `None` if no side is given there.
 pub fn side_at(matches: &ArgMatches<'_>) -> Option<Side>
     ensures { result ≡ side_at (rows_of (found_of matches.now)) }
 {
     Side::named(text_at(matches, "side")?)
 }
 
-/// Returns the number that a word is, from `least` to `most`, or the default if there is no word.
+/// Returns the number that a word is, or the default if there is no word. Returns `None` if the
+/// word isn't a number from `least` to `most`.
 pub fn number_by(word: Option<&str>, least: u64, most: u64, default: u64) -> Option<u64>
     requires { (least ≤ default) × (default ≤ most) }
     ensures number { result

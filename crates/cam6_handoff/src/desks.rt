@@ -90,7 +90,8 @@ impl Desk {
         }
     }
 
-    /// Returns the reply to what was put, if it is there. Then the desk has the machine again.
+    /// Returns the reply to what was put, if it is finished. Then the desk has the machine again.
+    /// Returns `None` if it isn't finished, or if the desk doesn't wait.
     pub fn try_collect(&mut self) -> Option<Reply>
         ensures { CollectGives self.old result self.new }
     {
@@ -103,7 +104,8 @@ impl Desk {
         Some(reply)
     }
 
-    /// Returns the reply to a command. Waits if a board does its steps.
+    /// Does a command and returns its reply. Waits if a board does its steps. If an allocation
+    /// fails, the desk is as it was.
     pub fn ask<R: Wait>(&mut self, rt: &R, command: Command) -> Result<Reply, NoMemory>
         requires { IsResting self.old }
         ensures gives { IfOk result (λ reply. AskGives self.old command reply self.new) }

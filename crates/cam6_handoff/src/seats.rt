@@ -80,7 +80,8 @@ impl BoardSeat {
         Ok(queue_of(table, self.users, turns))
     }
 
-    /// Takes the command of `user`, counted from 1, onto this board, if it waits for one.
+    /// Takes the command of `user`, counted from 1, if it waits for a board, and returns it to be
+    /// loaded. If it doesn't wait, returns `None`, and the seat still holds nothing.
     pub fn try_take(&mut self, user: usize) -> Option<(Lease, Job)>
         requires idle { IsIdle self.old }
         requires a_user { 0 < user }
@@ -124,10 +125,10 @@ impl BoardSeat {
         self.filling.fill(cache, lease);
     }
 
-    /// Fills the tables that a lease needs, each under the cache's lock, which others may have in
-    /// between. Returns whether it did. Seats make many tables one after the other. If the command
-    /// needs more than two that aren't kept, and another seat has the turn, the rest is not filled:
-    /// the command is to wait again, and is held back until that seat is done.
+    /// Fills the tables that a lease needs, each under the cache's lock, and returns true. After
+    /// two that the cache lacked, the rest needs the turn, kept or not. All need it if the user's
+    /// last command made many. Returns false if another seat has the turn, or no command was taken.
+    /// The caller then puts the command back, and it is held back during that turn.
     pub fn fill_each<R: Wait>(&mut self, rt: &R, lease: &Lease, cache: &Mutex<TableCache>) -> bool
         ensures tables { IsTrue result → TablesFit lease.now.work self.new.tables }
         ensures others { self.new ≡ record self.old { tables = self.new.tables } }

@@ -41,7 +41,7 @@ impl Split<View> for BoardCut {
     ghost right = { new_board };
 }
 
-/// Cuts the next desk's seat, which takes its slot.
+/// Cuts the seat of a row's desk from the first seat, and returns the desk with this machine.
 fn cut_desk(table: Arc<HandTable>, first: &mut Chair, row: usize, resting: Resting) -> Desk
     requires of { IsFirstOf (arc_value table).shared.table_id
         (arc_value table).shared.key.users first.old.table_id }

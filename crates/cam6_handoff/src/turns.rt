@@ -38,18 +38,19 @@ impl Turns {
         self.taken.store(0, Ordering::SeqCst);
     }
 
-    /// Whether the last command of the row's user made many tables.
+    /// What `note` was told last of the row's user: whether a command makes many tables. False
+    /// before that.
     pub fn is_dear(&self, row: usize) -> bool {
         self.dear.load(Ordering::SeqCst) & bit_of(row) != 0
     }
 
-    /// Whether the command in a row must wait without a board: a seat has the turn, and the user's
-    /// last command made many tables too.
+    /// Whether the command in a row must wait without a board. It must if a seat has the turn, and
+    /// `is_dear` is true of the row.
     pub fn holds_back(&self, row: usize) -> bool {
         self.taken.load(Ordering::SeqCst) != 0 && self.is_dear(row)
     }
 
-    /// Notes whether a command of the row's user made many tables.
+    /// Notes whether a command of the row's user made many tables, or still has to.
     pub fn note(&self, row: usize, is_dear: bool) {
         let bit = bit_of(row);
         if is_dear {

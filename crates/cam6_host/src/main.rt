@@ -122,7 +122,7 @@ fn over_network<
     }
 }
 
-/// Ends as a host that can't go on.
+/// Prints why the host can't go on to standard error, and returns its exit status.
 fn closed(rt: &impl Eprint, fault: Fault) -> ExitCode
     ensures { exit_status result ≡ (fault_told fault).0 }
 {
@@ -130,7 +130,8 @@ fn closed(rt: &impl Eprint, fault: Fault) -> ExitCode
     failed(rt, status, text)
 }
 
-/// Ends as a session ended.
+/// Returns the exit status of a session, which is 0 if all lines were answered. If it failed,
+/// prints why to standard error.
 fn ended(rt: &impl Eprint, end: End) -> ExitCode
     ensures { MatchOption (failure end) (exit_status result ≡ 0)
         (λ told. exit_status result ≡ told.0) }

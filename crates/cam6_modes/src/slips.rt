@@ -16,7 +16,8 @@ pub enum Slip {
     FileAsWord,
 }
 
-/// What the words were meant to say, if it is one of these. The first is the program's name.
+/// Returns the slip that refused words show, or `None` if they show none. The first word is the
+/// program's name.
 pub fn slip_of(words: &[String]) -> Option<Slip>
     ensures { result ≡ slip (map string_bytes words.now) }
 {
@@ -27,6 +28,7 @@ pub fn slip_of(words: &[String]) -> Option<Slip>
     }
 }
 
+/// The slip that the first two words after the program's name show.
 fn slip_at_two(word: &str, next: &str) -> Option<Slip>
     ensures { result ≡ slip_at_two word.now next.now }
 {
@@ -36,6 +38,7 @@ fn slip_at_two(word: &str, next: &str) -> Option<Slip>
     slip_at(word)
 }
 
+/// The slip that the first word after the program's name shows.
 fn slip_at(word: &str) -> Option<Slip>
     ensures { result ≡ slip_at word.now }
 {
@@ -54,6 +57,7 @@ fn slip_at(word: &str) -> Option<Slip>
     None
 }
 
+/// Whether the word begins with `option`.
 fn begins(option: &str, word: &str) -> bool
     ensures { result ≡ begins option.now word.now }
 {
@@ -72,6 +76,7 @@ fn is_of_serving(word: &str) -> bool
     begins("--port", word) || begins("--connections", word) || begins("--idle", word)
 }
 
+/// Whether the word is no option.
 fn is_plain(word: &str) -> bool
     ensures { result ≡ is_plain word.now }
 {
@@ -90,7 +95,8 @@ fn is_mode(word: &str) -> bool
     reads_lines(word) || word == "serve" || word == "help"
 }
 
-/// Returns the hint about a slip, which stands after the reason why the words are refused.
+/// Returns the hint about a slip, which stands after the reason why the words are refused. It is
+/// empty if there is no slip.
 pub fn told_of(slip: Option<Slip>) -> &'static str
     ensures { result.now ≡ told_of slip }
 {

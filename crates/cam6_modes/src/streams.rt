@@ -17,7 +17,7 @@ use std::io::{BufRead, Write};
 const TURNS: u64 = 1_099_511_627_776;
 
 /// Answers each line of the reader by one line, as a blank machine of this limit that gets all
-/// commands among them.
+/// commands among them. Ends if the input ends or something fails.
 pub fn serve_streams<R: BufRead, W: Write>(
     alloc: Global,
     limit: Side,

@@ -83,7 +83,8 @@ A session to try, with one command, which lists the rules:
   cam6 serve &
   printf '{\"seat\":1}\\n{\"do\":\"rules\"}\\n' | nc -N 127.0.0.1 6006";
 
-/// Reads the words. The first is the program's name.
+/// Returns what the words of the command line ask for, or why they are refused. The first is the
+/// program's name.
 pub fn options(alloc: Global, words: &[String]) -> Result<Options, Refused>
     // For a simple command, clap's matches and the kinds of its errors are functions of the words.
     ensures mode { IfOk result (λ options. (app : App) × IsProgram app
@@ -104,7 +105,7 @@ pub fn options(alloc: Global, words: &[String]) -> Result<Options, Refused>
     }
 }
 
-/// What clap's matches ask for.
+/// What clap's matches ask for. Without a subcommand it is `alone` at side 256.
 fn mode_given(matches: &ArgMatches<'_>) -> Options
     requires { IsSome (mode_of (subcommand_rows_of matches.now)) }
     ensures { HasMode result (mode_of (subcommand_rows_of matches.now)) }
@@ -156,7 +157,7 @@ fn serve_given(matches: &ArgMatches<'_>) -> Options
     }
 }
 
-/// The largest side that a machine may have.
+/// Returns the side at `--side`, the largest that a machine may have.
 fn side_given(matches: &ArgMatches<'_>) -> Side
     requires { IsSome (side_told (rows_of (found_of matches.now))) }
     ensures { side_told (rows_of (found_of matches.now)) ≡ Some result }
@@ -195,7 +196,7 @@ pub fn program<'a>(alloc: Global) -> Result<Command<'a>, AllocError>
         .subcommand(serve(alloc)?)
 }
 
-/// `replay`.
+/// Makes the subcommand `replay` with its options.
 fn replay<'a>(alloc: Global) -> Result<Command<'a>, AllocError>
     ensures { IfOk result (λ command. (sides : TextsAt) × AreSides sides
         × (app_of command ≡ replay_of sides)) }
@@ -209,7 +210,7 @@ fn replay<'a>(alloc: Global) -> Result<Command<'a>, AllocError>
         .arg(side_option(alloc, SIDE_TEXT))
 }
 
-/// `serve`.
+/// Makes the subcommand `serve` with its options.
 fn serve<'a>(alloc: Global) -> Result<Command<'a>, AllocError>
     ensures { IfOk result (λ command. (sides : TextsAt) × AreSides sides
         × (app_of command ≡ serve_of sides)) }
@@ -228,7 +229,7 @@ fn serve<'a>(alloc: Global) -> Result<Command<'a>, AllocError>
         .arg(side_option(alloc, SIDE_TEXT))
 }
 
-/// `--users`.
+/// Makes `--users`, the number of users, 4 by default.
 fn users_option<'a>(alloc: Global) -> Arg<'a>
     ensures rule { rule_of result ≡ option_of_users }
     ensures global { result.global ≡ false }
@@ -236,7 +237,7 @@ fn users_option<'a>(alloc: Global) -> Arg<'a>
     number_option(alloc, "users", 1, MAX_USERS as u64, "4").help("Users, each with a machine")
 }
 
-/// `--boards`.
+/// Makes `--boards`, the number of boards, 2 by default.
 fn boards_option<'a>(alloc: Global) -> Arg<'a>
     ensures rule { rule_of result ≡ option_of_boards }
     ensures global { result.global ≡ false }
@@ -244,7 +245,7 @@ fn boards_option<'a>(alloc: Global) -> Arg<'a>
     number_option(alloc, "boards", 1, MAX_BOARDS as u64, "2").help("Boards that users share")
 }
 
-/// `--cache`.
+/// Makes `--cache`, the number of tables that are cached, 16 by default.
 fn cache_option<'a>(alloc: Global) -> Arg<'a>
     ensures rule { rule_of result ≡ option_of_tables }
     ensures global { result.global ≡ false }
@@ -254,7 +255,7 @@ fn cache_option<'a>(alloc: Global) -> Arg<'a>
     )
 }
 
-/// `--port`.
+/// Makes `--port`, the port of 127.0.0.1, 6006 by default.
 fn port_option<'a>(alloc: Global) -> Arg<'a>
     ensures rule { rule_of result ≡ option_of_ports }
     ensures global { result.global ≡ false }
@@ -262,7 +263,8 @@ fn port_option<'a>(alloc: Global) -> Arg<'a>
     number_option(alloc, "port", 1, MAX_PORT, "6006").help("The port of 127.0.0.1")
 }
 
-/// `--connections`.
+/// Makes `--connections`, the number of connections that are served. It is 0 by default, for no
+/// end.
 fn connections_option<'a>(alloc: Global) -> Arg<'a>
     ensures rule { rule_of result ≡ option_of_connections }
     ensures global { result.global ≡ false }
@@ -272,7 +274,8 @@ fn connections_option<'a>(alloc: Global) -> Arg<'a>
     )
 }
 
-/// `--idle`.
+/// Makes `--idle`, the seconds for which a seated client may be silent. It is 0 by default, for no
+/// limit.
 fn idle_option<'a>(alloc: Global) -> Arg<'a>
     ensures rule { rule_of result ≡ option_of_silence }
     ensures global { result.global ≡ false }

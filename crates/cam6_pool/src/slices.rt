@@ -45,10 +45,10 @@ impl Slice {
         }
     }
 
-    /// Notes that the worker asks for a band of a user's command. Returns whether the command has had
-    /// its time, in whole steps. If the worker asks for another user's command than before, its
-    /// tables were filled since it asked last. That is a part of the time, and the command may do
-    /// one step at least.
+    /// Notes that the worker asks for a band. Returns true at the first band of a step if the
+    /// user's command has had its time, or if the clock fails. Returns false if the user is another
+    /// one than before. The time then began when the worker asked last, since the tables were
+    /// filled after that.
     fn ask(&mut self, user: u8, band: u8, now: Option<Instant>) -> bool {
         let last = self.asked;
         self.asked = now;
@@ -61,7 +61,7 @@ impl Slice {
         band == 0 && between(self.began, now).is_none_or(|had| had >= slice)
     }
 
-    /// The board is free.
+    /// Notes that the board has no command. The time of the next one begins at `now`.
     fn free(&mut self, now: Option<Instant>) {
         self.user = None;
         self.asked = now;
@@ -99,14 +99,16 @@ impl<R: Wait + Clock + Drop> SlicingGate<R> {
         })
     }
 
-    /// Wakes a board, if one sleeps: a command was put.
+    /// Wakes one board that sleeps, since a command was put. A board that is awake doesn't sleep
+    /// when it is idle next.
     pub fn ring(&self) {
         let mut rings = self.bell.lock(&self.rt);
         *rings = rings.wrapping_add(1);
         self.rung.notify_one();
     }
 
-    /// From now on each worker that asks is stopped.
+    /// Stops each worker that asks from now on, and wakes those that sleep. Doesn't wait until they
+    /// have ended.
     pub fn stop(&self) {
         self.stopping.store(true, Ordering::SeqCst);
         let mut rings = self.bell.lock(&self.rt);
@@ -119,7 +121,8 @@ impl<R: Wait + Clock + Drop> SlicingGate<R> {
         Instant::now(&self.rt).ok()
     }
 
-    /// Sleeps until it is rung, or for a while, unless it was rung since the board was idle last.
+    /// Sleeps until the number of rings isn't `heard`, for 100 milliseconds at most. Returns the
+    /// number of rings.
     fn sleep_until_rung(&self, heard: u64) -> u64 {
         let poll = Duration::from_millis(POLL);
         let bell = self.bell.lock(&self.rt);

@@ -27,7 +27,7 @@ pub enum Ended {
     Dead,
 }
 
-/// The band of its step that a board does next. A step has 32 at most.
+/// The number of the band that the board does next in its step, counted from 0.
 fn next_band<B: Board>(station: &Station<B>) -> u8 {
     let rows = station.rows().unwrap_or(0);
     u8::try_from(rows / BAND as u16).unwrap_or(u8::MAX)
@@ -116,8 +116,8 @@ fn give_back(seat: &mut BoardSeat, lease: Lease, job: Job)
     seat.put_back(queued);
 }
 
-/// Takes a command that waits: that of the first user who has one, from the user of a row on. Rows
-/// are counted from 0.
+/// Takes the command of the first user who has one that waits and isn't held back. Begins at the
+/// user of `row`, counted from 0, and goes round all users. Returns `None` if there is none.
 fn take_next(seat: &mut BoardSeat, row: u8) -> Option<(User, Lease, Job)>
     requires { IsIdle seat.old }
     ensures { TakesNext seat.old result seat.new }

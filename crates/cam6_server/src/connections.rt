@@ -59,7 +59,8 @@ pub fn converse<H: Handle, R: BufRead, W: Write, C: Connection>(
     }
 }
 
-/// Returns what the first line says, or why nothing is answered.
+/// Reads the first line. Returns the number of the seat that it asks for or the line's fault, or
+/// `Err` with the reason why nothing is answered.
 fn first_line<R: BufRead>(alloc: Global, reader: &mut R) -> Result<Result<u64, LineFault>, End>
     ensures read { ReadsFirst result (R.remaining reader.old) (R.remaining reader.new) }
     ensures memory { result ≢ Ok (Err LineFault.NoMemory) }
@@ -77,7 +78,8 @@ fn first_line<R: BufRead>(alloc: Global, reader: &mut R) -> Result<Result<u64, L
     }
 }
 
-/// Returns what a line says of a seat, unless an allocation fails.
+/// Returns the number of the seat that a line asks for, or the line's fault. If an allocation
+/// fails, nothing is answered, and it returns `Err`.
 fn answerable(alloc: Global, line: &LineBuf) -> Result<Result<u64, LineFault>, End>
     ensures said { (l : List ℕ) → Holds line.now l → Tells result l }
     ensures memory { result ≢ Ok (Err LineFault.NoMemory) }
@@ -100,7 +102,8 @@ fn said(alloc: Global, line: &LineBuf) -> Result<u64, LineFault>
     read_seat(alloc, bytes)
 }
 
-/// Answers a first line that is refused.
+/// Writes the answer to a first line that is refused. Returns `Refused`, or `Unheard` if the answer
+/// can't be written whole.
 fn refuse<W: Write>(writer: &mut W, answer: &str) -> Visit
     ensures { AnswersOnly result answer.now (W.contents writer.old) (W.contents writer.new) }
 {
@@ -150,8 +153,8 @@ fn seated<H: Handle, R: BufRead, W: Write, C: Connection>(
     visit
 }
 
-/// Reports that the client has its seat, and answers the lines after the first one, by
-/// `answer_lines`.
+/// Writes to the client that it has its seat. Then answers the lines after the first one, by
+/// `answer_lines`. If the seat can't be told whole, answers none.
 fn sit_down<R: BufRead, W: Write, D: Ask>(
     alloc: Global,
     reader: &mut R,

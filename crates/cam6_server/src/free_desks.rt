@@ -20,7 +20,7 @@ impl FreeDesk {
         FreeDesk { desk }
     }
 
-    /// Sits down at the desk.
+    /// Returns the desk, at which somebody sits from here on.
     pub fn sit(self) -> Desk
         ensures desk { result ≡ self.desk }
         ensures rests { IsResting result }

@@ -88,7 +88,8 @@ impl Guests {
         true
     }
 
-    /// Gives a waiting client its seat.
+    /// Notes that a waiting client, which holds no long line, has its seat. It counts as seated and
+    /// no longer as waiting.
     pub fn sit(&mut self)
         ensures { Sits self.old self.new }
     {

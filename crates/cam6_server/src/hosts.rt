@@ -68,7 +68,7 @@ fn open<R: Handle>(rt: R, serving: &Serving) -> Result<(Arc<House<R>>, Vec<IdleB
     Ok((Arc::new(alloc, house)?, boards_at(alloc, seats)?))
 }
 
-/// How long a client with a seat may be silent.
+/// How long a client with a seat may be silent, or `None` for no limit.
 fn idle_of(serving: &Serving) -> Option<Duration> {
     match serving.idle {
         0 => None,
@@ -111,7 +111,8 @@ fn gate_of<R: Handle>(
     }
 }
 
-/// Starts a thread for each board.
+/// Starts a thread for each board, and adds it to `workers`. If one can't be started, returns why.
+/// Those before it run, and are in `workers`.
 fn employ<R: Handle + Send + Sync + 'static>(
     house: &Arc<House<R>>,
     boards: Vec<IdleBoard>,
@@ -144,7 +145,8 @@ fn start<R: Handle + Send + Sync + 'static>(
 }
 
 /// Accepts so many connections, or connections without end if the number is 0. Then closes the
-/// listener, and waits until no client is connected.
+/// listener, and waits until no client is connected. Fails if accepting fails for a second, and no
+/// client has ever had a seat.
 fn accept<R: Handle + Eprint + Send + Sync + 'static>(
     rt: R,
     house: &Arc<House<R>>,
@@ -187,7 +189,7 @@ struct Failures {
 }
 
 impl Failures {
-    /// Counts one more, and reports it unless one was reported within a minute.
+    /// Counts one more, and reports it unless one of the 3,000 before it was reported.
     fn one_more(&mut self, rt: &impl Eprint, error: &Error) {
         self.row = self.row.saturating_add(1);
         if self.quiet > 0 {

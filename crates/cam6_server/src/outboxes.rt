@@ -39,7 +39,8 @@ impl<W: Write + Drop> Outbox<W> {
         self.held.get_ref()
     }
 
-    /// Sends all that is held back.
+    /// Sends all that is held back. If that fails, the outbox is broken, and what wasn't sent is
+    /// still held back.
     pub fn release(&mut self) -> io::Result<()>
         // Each byte that was written has gone to the writer, in order, and once.
         ensures gone { OnOk result
@@ -89,7 +90,7 @@ impl<W: Write + Drop> Write for Outbox<W> {
         taken
     }
 
-    /// Answers go out as they are released, and not before.
+    /// Sends nothing: `release` sends what is held back. Fails if the outbox is broken.
     fn flush(&mut self) -> io::Result<()>
         ensures bytes { Keeps (written W.contents self.old) (written W.contents self.new) }
         ensures same { self.new ≡ self.old }

@@ -14,7 +14,7 @@ pub struct Places {
 }
 
 impl Places {
-    /// Places at which nobody sits.
+    /// Makes a place for each desk, at which nobody sits. The first desk is that of user 1.
     pub fn new(alloc: Global, desks: Vec<Desk>) -> Result<Places, AllocError>
         requires { AreResting desks.items }
         ensures { IfOk result (λ places. stances places.desks.items ≡ map Some desks.items) }

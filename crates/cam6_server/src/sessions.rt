@@ -11,8 +11,8 @@ use std::net::TcpStream;
 use std::sync::Arc;
 use std::thread::spawn;
 
-/// Serves a connection in a thread of its own. Closes it at once if too many clients wait for a seat,
-/// or if there is no thread or no memory for it.
+/// Starts a thread that serves a connection. Closes the connection at once if too many clients wait
+/// for a seat, or if there is no thread or no memory for it.
 pub fn receive<R: Handle + Send + Sync + 'static>(house: &Arc<House<R>>, stream: TcpStream) {
     if !house.enter() {
         return;
@@ -22,7 +22,8 @@ pub fn receive<R: Handle + Send + Sync + 'static>(house: &Arc<House<R>>, stream:
     }
 }
 
-/// Starts the thread of a connection. Nobody joins it.
+/// Starts the thread of a connection, which nobody joins. If there is no thread or no memory for
+/// it, closes the connection and returns `None`.
 fn begin<R: Handle + Send + Sync + 'static>(
     house: &Arc<House<R>>,
     stream: TcpStream,
@@ -34,7 +35,7 @@ fn begin<R: Handle + Send + Sync + 'static>(
     Some(())
 }
 
-/// Serves a connection, closes it, and then makes its place free.
+/// Serves a connection, closes it, and then counts its client as gone.
 fn attend<R: Handle>(house: &House<R>, stream: TcpStream) {
     let standing = visit(house, &stream).unwrap_or(Standing::Waiting);
     drop(stream);

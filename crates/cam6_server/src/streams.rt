@@ -28,10 +28,10 @@ const DRAIN_SECONDS: u64 = 2;
 
 /// What `converse` reports to the connection.
 pub trait Connection {
-    /// The client has its seat from now on.
+    /// Notes that the client has its seat from now on.
     fn sit(&self);
 
-    /// What is waited for may take a while, so answers that are held back are to be sent.
+    /// Sends the answers that are held back, because what is waited for next may take a while.
     fn release(&self);
 }
 
@@ -44,7 +44,8 @@ struct Socket<'a, R: Handle> {
 }
 
 impl<R: Handle> Socket<'_, R> {
-    /// Whether a write that failed so is made again.
+    /// Whether a write with this fault is made again. It is if it was interrupted, or if it has
+    /// waited and `until` isn't over.
     fn goes_on(&self, fault: &Error, until: Instant) -> bool {
         match fault.kind() {
             ErrorKind::Interrupted => true,
@@ -53,8 +54,8 @@ impl<R: Handle> Socket<'_, R> {
         }
     }
 
-    /// Reads and drops bytes until the client has shut its sending side, has sent 1 MiB, or the time is
-    /// over.
+    /// Reads and drops bytes until the client has shut its sending side, or has sent 1 MiB. Fails
+    /// if a read fails, or if the time is over before that.
     fn drain(mut self, until: Instant) -> io::Result<()> {
         let mut bytes = [0; 4_096];
         let mut drained = 0;
@@ -112,7 +113,8 @@ pub struct Link<'a, R: Handle> {
 }
 
 impl<'a, R: Handle> Link<'a, R> {
-    /// Allocates the room of the outbox, and sets how long a write may wait.
+    /// Makes the two sides of a new connection. From here on the client has ten seconds to take a
+    /// seat. Allocates the room of the outbox, and sets how long a write may wait.
     pub fn new(
         alloc: Global,
         house: &'a House<R>,
@@ -145,8 +147,9 @@ impl<'a, R: Handle> Link<'a, R> {
         }
     }
 
-    /// Shuts the sending side, and drops what the client still sends for a while. A socket that is
-    /// closed with unread bytes resets the connection, and the client may lose its last answer.
+    /// Sends what is held back, shuts the sending side, and drops what the client still sends for a
+    /// while. A socket that is closed with unread bytes resets the connection, and the client may
+    /// lose its last answer.
     pub fn part(&self) -> io::Result<()> {
         self.send()?;
         self.socket.stream.shutdown(Shutdown::Write)?;

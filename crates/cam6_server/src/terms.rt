@@ -49,13 +49,16 @@ impl<'a, R: Handle> Terms<'a, R> {
         self.standing.get()
     }
 
-    /// Gives the client its seat.
+    /// Notes that the client has its seat: it no longer counts as waiting, and the limits of a
+    /// seated client hold.
     pub fn sit(&self) {
         self.guests.lock(&self.rt).sit();
         self.standing.set(Standing::Seated);
     }
 
-    /// Sets how long the next read may wait. Fails if the client may send nothing more.
+    /// Sets how long the next read may wait: what is left of ten seconds, or the idle time of a
+    /// seated client. Fails if the ten seconds are over, or if too many clients hold a long first
+    /// line.
     pub fn allow(&self, stream: &TcpStream) -> io::Result<()> {
         if self.standing.get() == Standing::Seated {
             return self.allow_seated(stream);
@@ -74,8 +77,8 @@ impl<'a, R: Handle> Terms<'a, R> {
         stream.set_read_timeout(self.idle)
     }
 
-    /// Lets the first line go on although it is longer than any line but a load. Few clients may do
-    /// that at a time, because the host holds what each has sent.
+    /// Lets the first line go on although it is longer than any line but a load. Fails if 8 waiting
+    /// clients do that already, because the host holds what each has sent.
     fn lengthen(&self) -> io::Result<()> {
         if !self.guests.lock(&self.rt).lengthen() {
             return Err(Error::from(ErrorKind::OutOfMemory));

@@ -153,7 +153,8 @@ pub(crate) fn tell_fault<W: Write>(fault: LineFault, writer: &mut W) -> Result<(
     }
 }
 
-/// Writes an answer as a line.
+/// Writes the text and an LF. If there is no memory for the LF, writes nothing and stops with
+/// `done: true`.
 pub(crate) fn tell<W: Write>(writer: &mut W, text: String) -> Result<(), Stop>
     ensures { TellsText result (string_bytes text) (W.contents writer.old) (W.contents writer.new) }
 {

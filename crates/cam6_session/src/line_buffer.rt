@@ -54,8 +54,9 @@ impl LineBuf {
         self.is_long = false;
     }
 
-    /// Adds a part at the line's end. Allocates once, for a line that begins as a load and is
-    /// longer than any other may be. If that fails, the line stays as it was.
+    /// Adds a part at the line's end. If the line is then above its limit, keeps only that it is
+    /// too long. Allocates once, for a line that begins as a load and is longer than any other may
+    /// be. If that fails, the line stays as it was.
     pub fn add(&mut self, part: &[u8]) -> Result<(), NoMemory>
         ensures ok { OnOk result (Grows self.old self.new part.now) }
         ensures kept { OnErr result (self.new ≡ self.old) }

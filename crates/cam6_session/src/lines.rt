@@ -35,7 +35,8 @@ enum Part {
     NoMemory,
 }
 
-/// Reads one line. Each look at the reader takes a turn.
+/// Reads one line into `line`, without its LF, in place of what was there. Each look at the reader
+/// takes one of `turns`.
 pub fn next_line<R: BufRead>(reader: &mut R, line: &mut LineBuf, turns: &mut u64) -> Line
     ensures line { Reads result (R.remaining reader.old) (R.remaining reader.new) line.new }
     ensures turns { Turns result turns.old turns.new }
@@ -120,7 +121,7 @@ fn last(line: &LineBuf) -> Line
     }
 }
 
-/// Looks once at the reader, and takes what it shows up to the line's LF.
+/// Looks once at the reader, and takes what it shows up to the line's LF, and the LF too.
 fn take_part<R: BufRead>(reader: &mut R, line: &mut LineBuf) -> Part
     ensures { TakesPart result (R.remaining reader.old) (R.remaining reader.new) line.old line.new }
 {
@@ -144,7 +145,7 @@ fn take_part<R: BufRead>(reader: &mut R, line: &mut LineBuf) -> Part
     }
 }
 
-/// The number of bytes before the first LF.
+/// The number of bytes before the first LF, or of all bytes if there is none.
 fn line_len(bytes: &[u8]) -> usize
     ensures within { result ≤ length bytes.now }
     ensures before { HasNoLf (take result bytes.now) }

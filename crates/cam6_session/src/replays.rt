@@ -23,8 +23,8 @@ use cam6_writing::send;
 use std::alloc::Global;
 use std::io::{BufRead, Write};
 
-/// Does the event of each line of the reader, and writes its outcome as one line, until the input
-/// ends or something fails. Each look at the reader takes a turn.
+/// Does the event of each line of the reader, and writes its outcome as one line. Ends if the input
+/// ends, if something fails, or if the turns run out. Each look at the reader takes one of `turns`.
 pub fn replay<R: BufRead, W: Write>(
     alloc: Global,
     reader: &mut R,

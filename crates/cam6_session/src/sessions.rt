@@ -65,8 +65,9 @@ impl From<Stop> for End {
     }
 }
 
-/// Answers each line of the reader by one line, as a machine that gets all commands among them,
-/// until the input ends or something fails. Each look at the reader takes a turn.
+/// Answers each line of the reader by one line, as a machine that gets all commands among them.
+/// Ends if the input ends, if something fails, or if the turns run out. Each look at the reader
+/// takes one of `turns`.
 pub fn serve<R: BufRead, W: Write, D: Ask>(
     alloc: Global,
     reader: &mut R,
@@ -86,8 +87,8 @@ pub fn serve<R: BufRead, W: Write, D: Ask>(
     answer_lines(alloc, reader, writer, desk, turns)
 }
 
-/// Answers each line of the reader by one line, until the input ends or something fails. Each look
-/// at the reader takes a turn.
+/// Answers each line of the reader by one line. Ends if the input ends, if something fails, or if
+/// the turns run out. Each look at the reader takes one of `turns`.
 pub fn answer_lines<R: BufRead, W: Write, A: Answerer>(
     alloc: Global,
     reader: &mut R,

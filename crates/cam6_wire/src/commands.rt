@@ -40,7 +40,8 @@ pub fn read_command(alloc: Global, line: &[u8]) -> Result<Command, LineFault>
     Ok(command)
 }
 
-/// Whether a line that says this command has a spelling that the command may have.
+/// Whether a line that says this command is spelled as it may be. A load has one spelling in each
+/// version, and any other command has many.
 fn is_spelled(alloc: Global, line: &[u8], command: &Command) -> Result<bool, AllocError>
     ensures { IfOk result (λ is. is ≡ is_spelled line.now command.now) }
 {
@@ -101,8 +102,8 @@ fn load_of(alloc: Global, value: &Value) -> Result<Option<Command>, AllocError>
     }
 }
 
-/// Returns the command that a JSON value shows, unless it loads a machine. An ask holds such a
-/// command.
+/// Returns the command that a JSON value shows, as an ask holds it. Returns `None` if it shows
+/// none, or one that loads a machine.
 pub fn command_shown(alloc: Global, value: &Value) -> Result<Option<Command>, AllocError>
     ensures command { IfOk result (λ command. command ≡ shown_in (view value.now)) }
     // Only a rule, a name and entries take memory, after all of them were looked at.
@@ -115,7 +116,8 @@ pub fn command_shown(alloc: Global, value: &Value) -> Result<Option<Command>, Al
     }
 }
 
-/// Returns the command of this word, unless it is `load`.
+/// Returns the command of this word. Returns `None` if the word is `load` or no command's, or if
+/// the value's other members are not those of the word.
 fn by_word(alloc: Global, word: &str, value: &Value) -> Result<Option<Command>, AllocError>
     ensures command { IfOk result (λ command. command ≡ by_word word.now (view value.now)) }
     ensures memory { option_map_or keeps_text (by_word word.now (view value.now)) false ≡ false

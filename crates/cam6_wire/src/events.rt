@@ -47,7 +47,7 @@ fn plain_band(line: &[u8]) -> Option<u64>
     Some(u64::from(digit - b'0'))
 }
 
-/// Returns the event that a JSON value shows.
+/// Returns the event that a JSON value shows, or `None` if it shows none.
 pub fn event_shown(alloc: Global, value: &Value) -> Result<Option<Event>, AllocError>
     ensures event { IfOk result (λ event. event ≡ event_in (view value.now)) }
     // Only a rule, a name and entries of an ask take memory, after all of them were looked at.

@@ -23,7 +23,7 @@ pub(crate) fn number_at(value: &Value, key: &str) -> Option<u64>
     value.get(key).and_then(Value::as_u64)
 }
 
-/// Sixteen whole numbers, a colour for each state.
+/// The sixteen whole numbers at a key, a colour for each state, if it has a list of so many.
 pub(crate) fn colours_at(value: &Value, key: &str) -> Option<[u64; 16]>
     ensures { result ≡ colours_at key.now (view value.now) }
 {
@@ -50,7 +50,8 @@ pub(crate) fn text_at<'a>(value: &'a Value, key: &str) -> Option<&'a str>
     value.get(key).and_then(Value::as_str)
 }
 
-/// A plane's row, written as digits of either case, as many as a row of one of the sides has.
+/// The bits of a plane's row at a key, from hexadecimal digits of either case. Returns `None`
+/// unless there are as many digits as a row of one of the sides has.
 pub(crate) fn bits_at(value: &Value, key: &str) -> Option<Bits>
     ensures { result ≡ bits_at key.now (view value.now) }
 {

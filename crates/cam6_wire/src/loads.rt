@@ -14,7 +14,8 @@ use cam6_planes::{Bits, bits_of_digits};
 use serde_json::Value;
 use std::alloc::{AllocError, Global};
 
-/// The saved machine that a value shows, in either version.
+/// The saved machine that a value shows, in either version. Doesn't check its side, its position,
+/// or how many rows a plane has.
 #[tactic(auto, unfolding(crate::specs::Loads::saved_in))]
 pub(crate) fn saved_in(alloc: Global, value: &Value) -> Result<Option<SavedMachine>, AllocError>
     ensures { IfOk result (λ saved. saved ≡ saved_in (view value.now)) }
@@ -39,7 +40,8 @@ fn version_in(value: &Value) -> Option<Version>
     }
 }
 
-/// The side, which is 256 in the first version. Each version has its number of keys.
+/// The side, which is 256 in the first version. Returns `None` if the number of keys isn't that of
+/// the version, or if the second version has no side.
 fn side_in(version: Version, value: &Value) -> Option<u64>
     ensures { result ≡ side_in version (view value.now) }
 {

@@ -73,7 +73,7 @@ pub fn fault_text(fault: LineFault) -> &'static str
     }
 }
 
-/// Returns the same line with its LF.
+/// Returns the line that reports a line's fault, with its LF. Does not allocate.
 pub fn fault_line(fault: LineFault) -> &'static str
     requires fault { fault ≢ LineFault.NoMemory }
     ensures { result.now ≡ fault_bytes fault ++ 10 ∷ [] }
@@ -180,7 +180,7 @@ fn fault_value(alloc: Global, fault: u8, key: &str, told: Value) -> Result<Value
     json!(in alloc; {key: told, "fault": fault})
 }
 
-/// The reply to a command of steps.
+/// The reply to `run` or `back`, with the position after the steps.
 fn moved(alloc: Global, word: &str, position: usize) -> Result<Value, AllocError>
     ensures { IfOk result (λ value.
         view value ≡ done word.now (member (codes "position") (natural position) no_members)) }
@@ -188,7 +188,7 @@ fn moved(alloc: Global, word: &str, position: usize) -> Result<Value, AllocError
     told_value(alloc, word, "position", Value::from(position))
 }
 
-/// Why the blocks of a half's rule can't be undone.
+/// The refusal to undo a step of an entry, with the cause why the half's rule can't be undone.
 fn cause_value(
     alloc: Global,
     entry: usize,
@@ -266,14 +266,14 @@ fn meeting_value(
     Ok(Value::Object(members))
 }
 
-/// The reply to a command that is done, with no more members.
+/// The value of a command or an event that is done, with no more members.
 pub(crate) fn ok_value(alloc: Global, word: &str) -> Result<Value, AllocError>
     ensures { IfOk result (λ value. view value ≡ done word.now no_members) }
 {
     json!(in alloc; {"ok": word})
 }
 
-/// The reply to a command that is done, with one more member, at this key.
+/// The value of a command or an event that is done, with one more member, at this key.
 pub(crate) fn told_value(
     alloc: Global,
     word: &str,
@@ -330,6 +330,7 @@ fn colour_digits(colours: &[u8]) -> [u8; COLUMNS]
     text
 }
 
+/// The text of these bytes, which are ASCII.
 fn digits(row: &[u8]) -> &str
     requires row { IsAscii row.now }
     ensures { result.now ≡ row.now }

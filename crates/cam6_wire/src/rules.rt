@@ -44,7 +44,8 @@ impl<'a> ShownRule<'a> {
     }
 }
 
-/// The rule of the keys `half`, `hood`, `minor`, `name` and `text`. It takes no memory.
+/// The rule of the keys `half`, `hood`, `minor`, `name` and `text`, or `None` if one is missing or
+/// wrong. Doesn't look at other keys. It takes no memory.
 pub(crate) fn rule_fields(value: &Value) -> Option<ShownRule<'_>>
     ensures { result ≡ rule_fields (view value.now) }
 {

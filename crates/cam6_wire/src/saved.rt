@@ -59,7 +59,7 @@ fn is_load_line_in(
     Ok(line == text.as_bytes())
 }
 
-/// The line that loads a machine in a version.
+/// The line that loads a machine in a version, without its LF.
 fn load_text(alloc: Global, version: Version, saved: &SavedMachine) -> Result<String, AllocError>
     ensures { IfOk result (λ text. string_bytes text ≡ load_bytes version saved.now) }
 {
@@ -72,7 +72,8 @@ fn load_value(alloc: Global, version: Version, saved: &SavedMachine) -> Result<V
     json!(in alloc; {"do": "load", "machine": machine_value(alloc, version, saved)?})
 }
 
-/// A saved machine as a JSON value, in a version.
+/// A saved machine as a JSON value, in a version. The first version leaves out the side, whatever
+/// it is.
 pub fn machine_value(
     alloc: Global,
     version: Version,

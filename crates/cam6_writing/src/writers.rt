@@ -7,7 +7,8 @@ use std::io::Write;
 #[derive(Clone, Copy, Debug, PartialEq, Eq)]
 pub struct WriteFault;
 
-/// Writes a line with its LF, in one write if the writer takes it whole, and flushes.
+/// Writes a line that ends with its LF, in one write if the writer takes it whole, and flushes.
+/// Adds no LF.
 pub fn send<W: Write>(writer: &mut W, line: &[u8]) -> Result<(), WriteFault>
     ensures { WritesFront result (W.contents writer.old) (W.contents writer.new) line.now }
 {
