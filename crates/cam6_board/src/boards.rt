@@ -44,7 +44,8 @@ pub trait Board: Drop {
     fn rows(&self) -> Option<u16>
         ensures { result ≡ rows_held (held self.now) };
 
-    /// Loads an empty board with a job, and with the tables of its cycle's uses.
+    /// Loads an empty board with a job, and with the tables of its cycle's uses. If the board
+    /// fails, the job is lost, and the board holds nothing.
     fn load(&mut self, job: Job, tables: &Tables) -> Result<(), BoardFault>
         requires { held self.old ≡ empty }
         ensures count { fault_count self.old ≤ fault_count self.new }
@@ -54,7 +55,8 @@ pub trait Board: Drop {
         ensures spare { IfErr result (λ fault.
             fault.spare.planes.limit ≡ (planes_in job.image).limit) };
 
-    /// Does one band of the job.
+    /// Does one band of the job, and returns how it ends. If the board fails, it holds nothing
+    /// after that.
     fn band(&mut self) -> Result<BandEnd, BoardFault>
         requires { HasWork (held self.old) }
         ensures count { fault_count self.old ≤ fault_count self.new }
@@ -64,7 +66,8 @@ pub trait Board: Drop {
         ensures spare { IfErr result (λ fault.
             IsOfLimit (held self.old) fault.spare.planes.limit) };
 
-    /// Takes the job's image off the board, wherever the job has come to.
+    /// Takes the job's image off the board, wherever the job has come to. If the board fails, the
+    /// image is lost. The board holds nothing after it in both cases.
     fn unload(&mut self) -> Result<Image, BoardFault>
         requires { IsLoaded (held self.old) }
         ensures count { fault_count self.old ≤ fault_count self.new }

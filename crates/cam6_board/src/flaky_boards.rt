@@ -81,7 +81,7 @@ fn is_due(due: &[u64]) -> bool
     due.iter().any(|call| *call == 1)
 }
 
-/// Counts one more call.
+/// Counts one more call: each number of the list falls by one, and 0 stays.
 fn count_call(due: &mut Vec<u64>)
     ensures { due.new.items ≡ later due.old.items }
 {

@@ -80,7 +80,8 @@ impl Image {
         }
     }
 
-    /// Goes on by one band, or begins a step with it.
+    /// Goes on by one band, or begins a step with it. The image is at rest after a step's last
+    /// band.
     pub(crate) fn band(self, tables: &EntryTables, room: &mut Room) -> Image
         // From whatever planes the step began.
         ensures planes { let s = width (planes_in self) in (o : Cells) →

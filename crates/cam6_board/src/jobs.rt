@@ -37,7 +37,8 @@ impl Job {
     ghost use Rattle.cam6_board.specs.Bands.{Moves};
     ghost use Rattle.cam6_board.specs.Jobs.{stored_job};
 
-    /// Steps that are still to be done, from a position of the cycle.
+    /// A job of so many steps along a cycle, from a position counted from 0. If the image is in the
+    /// middle of a step, that step is one of them.
     pub fn new(image: Image, cycle: Cycle, position: usize, direction: Direction, steps: u16) -> Job
         requires { position < length cycle }
         ensures { result ≡ stored_job image cycle position direction steps }
@@ -86,7 +87,7 @@ impl Job {
         self.position
     }
 
-    /// The steps that are still to be done.
+    /// The steps that are still to be done. A step that is half done is one of them.
     pub fn steps(&self) -> u16
         ensures { result ≡ self.now.steps }
     {

@@ -131,7 +131,8 @@ fn fill_true(key: &NamedKey, code: &Code, straight: &mut Table, out: &mut Table)
     }
 }
 
-/// Keeps a copy of a table that wasn't cached, if there is memory.
+/// Keeps a copy of a table that wasn't cached, if there is memory. The table that was used longest
+/// ago leaves a full cache.
 fn keep(alloc: Global, tables: &mut LruCache<NamedKey, Table>, key: &NamedKey, table: &Table)
     requires absent { is_cached (key_of key.now) (tables_of tables.old.entries) ≡ false }
     ensures { (cached_of tables.new ≡ with_first (key_of key.now) table.now (cached_of tables.old))

@@ -89,7 +89,7 @@ impl Key {
     ghost use Rattle.cam6_cache.specs.Limits.{max_text};
     ghost use Rattle.cam6_cache.specs.Internal.Entries.{key_of};
 
-    /// A key of the empty text, with room for any text.
+    /// A key of the empty text, with room for any text of at most `MAX_TEXT` bytes.
     pub fn scratch(alloc: Global) -> Result<Key, NoMemory>
         ensures key { IfOk result (λ key. key.text ≡ []) }
         // The constant is the limit that contracts speak of.

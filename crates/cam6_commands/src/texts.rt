@@ -45,7 +45,8 @@ impl Text {
         self.text
     }
 
-    /// Whether it can be a rule's name: 1 to 24 printable bytes without `"` and `\`, and not `-`.
+    /// Whether it can be a rule's name: 1 to 24 bytes from `!` to `~`, without `"` and `\`, and not
+    /// `-`. A space can't be in it.
     pub fn is_rule_name(&self) -> bool
         ensures { result ≡ is_rule_name self.now }
     {

@@ -124,7 +124,7 @@ impl Core {
 }
 
 impl Core {
-    /// Returns the user of a number, counted from 1, if there is one.
+    /// Returns the whereabouts of a user, counted from 1, or `None` if there is no such user.
     fn user(&self, user: u64) -> Option<&Whereabouts>
         ensures { option_copied result ≡ at_number self.now.users user }
     {

@@ -103,8 +103,8 @@ impl SoftStation {
         }
     }
 
-    /// The board fails, and with it is lost what it holds: the user's command, if there is one, waits
-    /// again with what is at its home.
+    /// Makes the board fail, so that it is dead and loses what it holds. Returns the command that
+    /// it held with its user, or `None`. The command waits again with what is at its home.
     pub(crate) fn fail(&mut self) -> Option<(User, Queued)>
         requires { IsAlive self.old }
         ensures back { FailGives self.old result }

@@ -18,8 +18,8 @@ use cam6_station::Filling;
 use std::alloc::Global;
 
 impl Core {
-    /// So many users, each with a blank machine of their limit; idle boards; an empty cache of so
-    /// many tables.
+    /// A core of so many users and idle boards, with an empty cache for `cache` tables. Each user
+    /// has a blank machine, with the limit at its row of `limits`.
     pub fn new(
         alloc: Global,
         users: usize,
@@ -52,7 +52,7 @@ impl Core {
     }
 }
 
-/// A user at rest for each limit.
+/// So many users at rest, each with a blank machine that has the limit at its row of `limits`.
 fn newcomers(alloc: Global, users: usize, limits: &[Side]) -> Result<Vec<Whereabouts>, NoMemory>
     requires { length limits.now ≡ users }
     ensures { IfOk result (λ made. AreNewcomers limits.now made.items) }

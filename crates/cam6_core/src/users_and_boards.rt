@@ -76,7 +76,7 @@ impl Core {
         station.load(user, lease, job, self.filling.tables());
     }
 
-    /// A board does one band.
+    /// Does one band on a board that holds a command. Returns what the band comes to.
     pub(crate) fn band_on(&mut self, board: u64) -> Banded
         requires { IsLoaded (board_of self.old board) }
         ensures gives { BandGives (board_of self.old board) result (board_of self.new board) }

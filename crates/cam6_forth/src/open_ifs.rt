@@ -40,7 +40,7 @@ impl OpenIfs {
         self.len
     }
 
-    /// One more, inside the others.
+    /// Adds an open IF, inside the others. `has_else` is whether its ELSE has come.
     pub(crate) fn push(&mut self, has_else: bool)
         requires fits { length self.old < MAX_OPEN_IFS }
         ensures { self.new ≡ has_else ∷ self.old }

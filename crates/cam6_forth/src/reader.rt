@@ -78,7 +78,7 @@ impl Reader {
         }
     }
 
-    /// Reads one more token.
+    /// Reads one more token. Returns the token's fault, or `NoMemory` if an allocation fails.
     pub(crate) fn advance(&mut self, wiring: Wiring, token: &[u8]) -> Result<(), AdvanceFault>
         ensures state { Steps (advance wiring self.old token.now) self.new result }
         // Memory can run out only at a definition's name and in a body.
@@ -306,7 +306,8 @@ impl Reader {
     }
 }
 
-/// Returns the position of the first definition with this name, and its size.
+/// Returns the position of the first definition with this name, counted from 0, and its size.
+/// Returns `None` if there is none.
 fn definition_at(token: &[u8], definitions: &[Definition]) -> Option<(usize, u16)>
     ensures { result ≡ definition_at token.now definitions.now }
 {

@@ -29,7 +29,7 @@ impl Finished {
         Finished { machine, reply }
     }
 
-    /// The machine rests again, and its user has the reply.
+    /// Returns the machine, which rests again, and the reply for its user.
     pub fn collect(self) -> (Resting, Reply)
         ensures machine { result.0 ≡ self.machine }
         ensures reply { result.1 ≡ self.told }

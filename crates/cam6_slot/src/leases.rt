@@ -147,7 +147,9 @@ impl Lease {
         }
     }
 
-    /// The board has lost the image, at whatever band. All that isn't at home is to be done again.
+    /// Takes the command off a board that has lost the image, at whatever band. The command waits
+    /// again, and all that isn't at home is to be done again. The spare planes replace the lost
+    /// ones.
     pub fn lost(self, spare: Spare) -> Queued
         requires { spare.planes.limit ≡ self.work.home.limit }
         // For whatever machine and command.
@@ -182,7 +184,8 @@ impl Lease {
         self.work.needs()
     }
 
-    /// What is needed for the table of a use: entry by entry, half A's before half B's.
+    /// What is needed for a table, by its number from 0 to below `needs`. The order is entry by
+    /// entry, half A's before half B's.
     pub fn need(&self, index: u8) -> Need<'_>
         requires { index < needs_of self.now.work }
         ensures need { IsNeed self.now.work index result }

@@ -23,7 +23,7 @@ impl Drop for Parked {
 impl Parked {
     ghost use Rattle.cam6_slot.specs.Parking.{rows_parked, IsWithinStep, HasRoomFor, LeavesAs};
 
-    /// Returns how many rows of the parked step are done.
+    /// Returns how many rows of the parked step are done, or 0 if no step is parked.
     pub(crate) fn rows_done(&self) -> u16
         ensures rows { result ≡ rows_parked self.now }
         ensures within { IsWithinStep self.now }

@@ -52,8 +52,8 @@ impl Queued {
         self.work.left(self.parked.rows_done())
     }
 
-    /// Gives the command to a board. It goes on from the parked step, or a copy of the image at
-    /// home.
+    /// Returns the command's lease for a board, and the job that the board is to be loaded with.
+    /// The job goes on from the parked step, or a copy of the image at home.
     pub fn lease(self, board: u8) -> (Lease, Job)
         // For whatever machine and command.
         ensures stands { (m : Machine) (c : Command) →

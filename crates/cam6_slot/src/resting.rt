@@ -69,8 +69,9 @@ impl Resting {
         self.machine
     }
 
-    /// Does a command without steps, and replies to it. Of any other says which steps are to be done,
-    /// and does nothing. `queue` hands them out. Allocates all memory of the command.
+    /// Does a command without steps, and replies to it. Of any other says which steps are to be
+    /// done, and does nothing. `queue` hands them out. Allocates all memory of the command. If that
+    /// fails, the machine is as it was.
     pub fn now(&mut self, command: Command) -> Result<Now, NoMemory>
         ensures says { IfOk result (λ now.
             Says (machine_of self.old) command now (machine_of self.new)) }

@@ -169,7 +169,7 @@ impl Work {
         Spare::of(home.into_planes())
     }
 
-    /// Loses what isn't at home.
+    /// Counts only those steps as done that the image at home has.
     pub(crate) fn go_back(&mut self)
         ensures { self.new ≡ back_home self.old }
     {

@@ -31,7 +31,7 @@ impl Filling {
     ghost use Rattle.cam6_slot.specs.Needs.{needs_of};
     ghost use Rattle.cam6_station.specs.Loading.{FillsOne, LoadsOne, IsBehindLoads};
 
-    /// Tables with any entries.
+    /// Tables whose entries may be anything until they are filled.
     pub fn new(alloc: Global) -> Result<Filling, NoMemory> {
         Ok(Filling {
             key: Key::scratch(alloc)?,

@@ -138,8 +138,8 @@ impl<B: Board> Station<B> {
         self.board.rows()
     }
 
-    /// Loads an idle station with the lease of a user. If the board fails, the command waits again with
-    /// what is at its home.
+    /// Loads an idle station with the lease of a user. If the board fails, the station is dead.
+    /// Then returns the command, which waits again with what is at its home.
     pub fn load(
         &mut self,
         user: User,
@@ -173,8 +173,8 @@ impl<B: Board> Station<B> {
     }
 
     /// Does one band on the board, and counts it in the lease. After the last one the command is
-    /// finished, and the board is idle. If the board fails, the command waits again with what is at
-    /// its home.
+    /// finished, and the board is idle. If the board fails, the station is dead, and the command
+    /// waits again with what is at its home.
     pub fn band(&mut self) -> Banded
         requires { IsLoaded self.old.at }
         ensures gives { BandGives self.old.at result self.new.at }
@@ -206,7 +206,8 @@ impl<B: Board> Station<B> {
         }
     }
 
-    /// Takes the user's command off the board, which is idle after that, unless it fails.
+    /// Takes the user's command off the board, which is idle after that. If the board fails, it is
+    /// dead, and the command waits again with what is at its home.
     pub fn preempt(&mut self) -> Preempted
         requires { IsLoaded self.old.at }
         ensures gives { PreemptGives self.old.at result self.new.at }
@@ -224,8 +225,8 @@ impl<B: Board> Station<B> {
         }
     }
 
-    /// The board fails, and with it is lost what it holds: the user's command, if there is one, waits
-    /// again with what is at its home.
+    /// Makes the board fail, so that it is dead and loses what it holds. Returns the command that
+    /// it held with its user, or `None`. The command waits again with what is at its home.
     pub fn fail(&mut self) -> Option<(User, Queued)>
         requires { IsAlive self.old.at }
         ensures back { FailGives self.old.at result }

@@ -77,7 +77,7 @@ impl Instructions {
         Ok(())
     }
 
-    /// Puts other instructions in front.
+    /// Puts other instructions in front, in their own order.
     pub fn put_all(&mut self, others: &Instructions) -> Result<(), NoMemory>
         ensures new { OnOk result (self.new ≡ others.now ++ self.old) }
         ensures grows { length self.old ≤ length self.new }

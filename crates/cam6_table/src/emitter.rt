@@ -27,7 +27,7 @@ impl Code {
     }
 }
 
-/// The code of each definition, the rule's last.
+/// The code of each definition, in their order. The last one is the code of the rule.
 fn codes_of(
     alloc: Global,
     wiring: Wiring,

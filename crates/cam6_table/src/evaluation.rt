@@ -16,7 +16,8 @@ use crate::outputs::{State, entry_of, untouched, write_output};
 pub const MAX_TURNS: u32 = 4096;
 
 /// Returns the entry of the rule's table at an address, or the fault at which the rule stops there.
-/// Bit 0 is the new lower plane, bit 1 the new upper plane. Each turn does one instruction.
+/// Bit 0 is the new lower plane, bit 1 the new upper plane. `turns` is at least `MAX_TURNS`, and
+/// falls by one with each instruction that is done.
 pub fn eval(code: &Code, address: u16, turns: &mut u32) -> Result<u8, RuleFault>
     requires turns { max_turns ≤ turns.old }
     ensures value { result ≡ result_at code.now address }
@@ -48,7 +49,8 @@ pub fn start(code: &Instructions) -> Place
     }
 }
 
-/// Runs the instructions from a place and a state on.
+/// Runs the code from a place on to its end, and changes the state. Returns the fault if it stops
+/// before. `turns` falls by one with each instruction that is done.
 pub fn run(
     code: &Instructions,
     from: Place,
@@ -84,7 +86,7 @@ pub struct Next {
     pub word: Option<usize>,
 }
 
-/// Does one instruction.
+/// Does one instruction. Returns how the code goes on, or the fault at which it stops.
 #[inline(always)]
 fn act(
     word: Option<usize>,
@@ -117,14 +119,15 @@ fn act(
     Ok(go(0, None))
 }
 
-/// Goes on after so many instructions, and looks for that word of a case, if any.
+/// How code goes on that passes so many instructions, and looks for that word of a case, if any.
 pub fn go(passed: usize, word: Option<usize>) -> Next
     ensures { result ≡ record { passed = passed; word = word } }
 {
     Next { passed, word }
 }
 
-/// At the head of a case's word: the word is done if it is the one looked for.
+/// How code goes on at the head of a case's word. If the word is looked for, it is done. If a later
+/// one is, the word is passed. If none is, the rest of the case is passed.
 pub fn at_head(word: Option<usize>, length: usize, after: usize) -> Next
     ensures { result ≡ at_head word length after }
 {
@@ -135,7 +138,7 @@ pub fn at_head(word: Option<usize>, length: usize, after: usize) -> Next
     }
 }
 
-/// The bit of an address line.
+/// The bit of an address line, 0 or 1. It is 0 for a line above 15.
 pub fn bit_of(address: u16, line: u8) -> u16
     ensures { result ≡ bit_number (shown address line) }
 {

@@ -69,7 +69,7 @@ fn fill_where_lines_differ(
     fill_the_rest(code, mask, &mut room, table)
 }
 
-/// Writes to each address what is no entry.
+/// Marks the entry at each address as not filled.
 fn leave_unfilled(table: &mut Table)
     requires whole { length table.old ≡ addresses }
     ensures whole { length table.new ≡ addresses }
@@ -103,7 +103,7 @@ fn fill_in_groups(code: &Code, mask: u16, room: &mut Room, table: &mut Table)
     }
 }
 
-/// The addresses of a group: each has the group's lines and its own.
+/// The address of each lane in a group. It has the lines of the group and those of the lane.
 fn in_group(group: u16, own: &LaneValues) -> LaneValues
     ensures { (lane : ℕ) → lane < LANES → slice_index result lane < ENTRIES }
 {

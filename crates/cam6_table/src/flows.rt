@@ -70,7 +70,8 @@ pub fn flow_of(set: LaneMask, behind: usize, until: usize, lanes: &Lanes) -> Flo
     }
 }
 
-/// The lanes that wait at a place go on.
+/// Makes a flow of the lanes that wait at a place. It goes on until `until` instructions are left.
+/// The stacks of the lanes at work end at the row of that place then.
 #[inline(always)]
 pub fn resume(
     code: &Instructions,
@@ -133,7 +134,8 @@ pub fn wait(places: &mut Places, set: &LaneMask, behind: usize, top: usize)
     places.tops = put_in(set, top as u16, &places.tops);
 }
 
-/// Takes the top values off. Lanes in which it is 0 pass so many instructions.
+/// Takes the top values off. Lanes in which it is 0 pass `distance` instructions. If only some do,
+/// they may have to wait. Returns `Apart`, and changes nothing, if a value may not be in place.
 #[inline(always)]
 pub fn part_at_if(
     code: &Instructions,
@@ -181,8 +183,8 @@ pub fn part_at_if(
     Ok(())
 }
 
-/// Lanes of a flow go on while the others stand at a place further on. They meet there if they come
-/// to it without parting anew. If not, the others wait.
+/// The lanes of a flow whose value isn't 0 go on, while the others stand at `target`, further on.
+/// They meet there if the first come to it without parting anew. If not, the others wait there.
 fn go_apart(
     code: &Instructions,
     addresses: &LaneValues,
@@ -232,6 +234,8 @@ fn go_apart(
 }
 
 /// Takes the indices off. Each lane waits at that word of the case, and none is left in the flow.
+/// Returns `Apart`, and changes nothing, if a value may not be in place, or if an index is `count`
+/// or more.
 #[inline(always)]
 pub fn part_at_case(
     code: &Instructions,
@@ -278,7 +282,9 @@ pub fn part_at_case(
     Ok(())
 }
 
-/// How many instructions are left at each lane's word of a case whose first head is next.
+/// How many instructions are left at each lane's word of a case whose first head is next. Lanes
+/// outside the set keep `old`. Adds the places of the words to `words`. Returns `Apart` if an index
+/// is `count` or more.
 fn words_found(
     code: &Instructions,
     from: usize,

@@ -54,7 +54,7 @@ impl Stacks {
         stack
     }
 
-    /// Puts a lane's values in some rows on a stack.
+    /// Puts a lane's values from row `from` to before row `to` on a stack, the lowest first.
     fn put_rows(&self, lane: usize, from: usize, to: usize, stack: &mut Stack)
         requires lane { lane < LANES }
         requires up { from ≤ to }
@@ -68,7 +68,7 @@ impl Stacks {
         }
     }
 
-    /// Returns `Apart` unless each lane has `count` values.
+    /// Returns `Apart` unless, by the span, each lane has `count` values in place.
     #[inline(always)]
     pub fn need(&self, span: Span, count: usize) -> Result<(), Apart>
         requires few { count ≤ ROWS }
@@ -82,7 +82,7 @@ impl Stacks {
         }
     }
 
-    /// Returns `Apart` unless each lane has room for one more.
+    /// Returns `Apart` unless, by the span, each lane has room for one more.
     #[inline(always)]
     fn need_room(&self, span: Span) -> Result<(), Apart>
         ensures { IfOk result (λ _. self.now.len < span.room) }
@@ -105,7 +105,7 @@ impl Stacks {
         &self.rows[self.len - depth]
     }
 
-    /// Puts values on top.
+    /// Puts values on top in the lanes of a set. The row above the top stays as it was in others.
     #[inline(always)]
     fn put(&mut self, set: &LaneSet, values: &LaneValues)
         requires room { self.old.len < ROWS }
@@ -118,8 +118,8 @@ impl Stacks {
         self.len += 1;
     }
 
-    /// Copies a row over another one in those lanes of a set in which its value is in place: in all
-    /// of them from row `highest` on.
+    /// Copies row `from` over row `to` in those lanes of a set whose end is not above `from`. No
+    /// end in the set is above `highest`.
     #[inline(always)]
     pub fn copy(
         &mut self,
@@ -153,7 +153,8 @@ impl Stacks {
         };
     }
 
-    /// Brings the values of a lane to their places from row `from` on. They lie so many rows below.
+    /// Brings a lane's values to their places, from row `from` to before row `to`. They lie `width`
+    /// rows below.
     pub fn fill(&mut self, lane: usize, width: usize, from: usize, to: usize)
         requires lane { lane < LANES }
         requires low { width ≤ from }
@@ -177,7 +178,8 @@ impl Stacks {
         }
     }
 
-    /// Puts values on top, if there is room.
+    /// Puts values on top in the lanes of a set. Returns `Apart`, and changes nothing, if there is
+    /// no room by the span.
     #[inline(always)]
     pub fn push(&mut self, set: &LaneSet, span: Span, values: &LaneValues) -> Result<(), Apart>
         requires holds { Holds span self.old.len }
@@ -193,7 +195,8 @@ impl Stacks {
         Ok(())
     }
 
-    /// Does what a stack word says.
+    /// Does what a stack word says, in the lanes of a set. Returns `Apart`, and changes nothing, if
+    /// values or room are missing by the span. It does so too if a lane of the set would stop.
     pub fn apply(&mut self, set: &LaneSet, span: Span, word: StackWord) -> Result<(), Apart>
         requires holds { Holds span self.old.len }
         ensures { LeavesIn set.now.mask span word self.old self.new result }

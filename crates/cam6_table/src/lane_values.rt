@@ -32,7 +32,7 @@ pub enum Merge {
 }
 
 impl Merge {
-    /// Whether the word stops at neither bound of the range. `a` stands below `b`.
+    /// Whether the result is from 0 to 65,535, so that the word doesn't stop. `a` stands below `b`.
     #[inline(always)]
     fn fits(self, a: u16, b: u16) -> bool
         ensures { IsTrue result → Fits self a b }
@@ -46,7 +46,7 @@ impl Merge {
         }
     }
 
-    /// The value that the word leaves.
+    /// The value that the word leaves if it fits. `a` stands below `b`.
     #[inline(always)]
     fn of(self, a: u16, b: u16) -> u16
         ensures { (rest : List ℕ) → Fits self a b →
@@ -78,7 +78,7 @@ impl Merge {
         fits
     }
 
-    /// The values that the word leaves.
+    /// The value that the word leaves in each lane in which it fits. `a` stands below `b`.
     #[inline(always)]
     pub fn of_all(self, a: &LaneValues, b: &LaneValues) -> LaneValues
         ensures { (lane : ℕ) → lane < LANES → (rest : List ℕ) →

@@ -91,7 +91,8 @@ pub fn entry_at_end(lanes: &Lanes, lane: usize, address: u16) -> u8
     entry_of(&state, address)
 }
 
-/// Does what an output word says.
+/// Does what an output word says, in the lanes of a set, and takes the top values off. Returns
+/// `Apart`, and changes nothing, if values are missing by the span.
 #[inline(always)]
 pub fn write_in(lanes: &mut Lanes, set: &LaneSet, span: Span, target: Target) -> Result<(), Apart>
     requires holds { Holds span lanes.old.stacks.len }

@@ -12,7 +12,8 @@ use crate::lane_values::{LANES, LaneValues};
 use crate::lanes::Lanes;
 use crate::sets::{LaneMask, greatest_in, least_in, lowered, put_in, raised, those_equal};
 
-/// Brings the stacks of two sets of lanes, which end at two rows, to one of the two. Returns it.
+/// Brings the stacks of two sets of lanes to one row, `here` or `there`, and returns it. Before,
+/// the first set's stacks end at row `here`, and the second set's at row `there`.
 pub fn level(
     first: &LaneMask,
     second: &LaneMask,
@@ -42,8 +43,8 @@ pub fn level(
     }
 }
 
-/// Lowers the stacks of the lanes that end at the higher row, if each has a gap that is wide enough.
-/// If not, it raises the others.
+/// Lowers the stacks of the lanes that end at the higher row, if each has a gap that is wide
+/// enough. If not, it raises the others. Returns the row at which all of them end then.
 fn join(high: &LaneMask, low: &LaneMask, from: usize, to: usize, lanes: &mut Lanes) -> usize
     requires each_high { (lane : ℕ) → lane < LANES → IsIn high.now lane ⊎ IsOut high.now lane }
     requires each_low { (lane : ℕ) → lane < LANES → IsIn low.now lane ⊎ IsOut low.now lane }
@@ -72,9 +73,9 @@ fn join(high: &LaneMask, low: &LaneMask, from: usize, to: usize, lanes: &mut Lan
     }
 }
 
-/// Raises the stacks of the lanes of a set, which end at one row, so that they end at another one.
-/// Values below a gap stay where they are. So does a stack without a gap, of which all is below it
-/// then.
+/// Raises the stacks of the lanes of a set, which end at row `from`, so that they end at row `to`.
+/// Values below a gap stay where they are. A stack without a gap gets one at its top, so that all
+/// of its values stay.
 pub fn raise(set: &LaneMask, from: usize, to: usize, lanes: &mut Lanes)
     requires set { (lane : ℕ) → lane < LANES → IsIn set.now lane ⊎ IsOut set.now lane }
     requires up { from ≤ to }
@@ -113,7 +114,7 @@ fn cut(set: &LaneMask, top: usize, lanes: &mut Lanes)
     lanes.floors.widths = widths;
 }
 
-/// Lowers the stacks of the lanes of a set, which end at one row, so that they end at another one.
+/// Lowers the stacks of the lanes of a set, which end at row `from`, so that they end at row `to`.
 /// Each has a gap that is wide enough, and its values below that gap stay where they are.
 pub fn lower(set: &LaneMask, from: usize, to: usize, lanes: &mut Lanes)
     requires set { (lane : ℕ) → lane < LANES → IsIn set.now lane ⊎ IsOut set.now lane }
@@ -136,7 +137,8 @@ pub fn lower(set: &LaneMask, from: usize, to: usize, lanes: &mut Lanes)
     lanes.floors = Floors { rows, ends, widths };
 }
 
-/// Copies rows so far up, the last one first, in those lanes of a set in which they are in place.
+/// Copies rows below `to` up by `by` rows, the last one first, in those lanes of a set in which
+/// they are in place.
 fn move_up(stacks: &mut Stacks, set: &LaneMask, ends: &LaneValues, by: usize, to: usize)
     requires set { (lane : ℕ) → lane < LANES → IsIn set.now lane ⊎ IsOut set.now lane }
     requires within { to + by ≤ ROWS }
@@ -159,7 +161,8 @@ fn move_up(stacks: &mut Stacks, set: &LaneMask, ends: &LaneValues, by: usize, to
     }
 }
 
-/// Copies rows so far down, the first one first, in those lanes of a set in which they are in place.
+/// Copies rows below `to` down by `by` rows, the first one first, in those lanes of a set in which
+/// they are in place.
 fn move_down(stacks: &mut Stacks, set: &LaneMask, ends: &LaneValues, by: usize, to: usize)
     requires set { (lane : ℕ) → lane < LANES → IsIn set.now lane ⊎ IsOut set.now lane }
     requires within { to ≤ ROWS }
@@ -222,8 +225,10 @@ fn dig_in(lane: usize, low: usize, lanes: &mut Lanes)
     lanes.floors.widths[lane] = width_after(width, floor, from, low);
 }
 
-/// The width of a gap above which values were brought to their places from row `from` on. A stack
-/// with all values in place has any.
+/// The width of a gap after values from row `from` on were brought to their places. `low` is the
+/// row that was asked for. If values below `from` are left, it is the old width. If all are in
+/// place, any width is right. It is the floor if `low` is 0, so that `lower` can take the stack to
+/// the first row, and else 0.
 #[inline(always)]
 fn width_after(width: u16, floor: u16, from: u16, low: usize) -> u16
     requires { width ≤ floor }

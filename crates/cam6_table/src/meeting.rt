@@ -23,7 +23,9 @@ const DUG: usize = 5;
 /// No word reads more values than this.
 const READ: usize = 3;
 
-/// Decides how a flow goes on after it stopped. Returns false if it can't.
+/// Decides how a flow goes on after it stopped. After `Apart` it is settled. Otherwise it takes
+/// along the lanes that are next in the queue, or waits while they go on. Returns false if none are
+/// there, or if settling changes nothing.
 pub fn go_on(
     code: &Instructions,
     ran: Result<(), Apart>,
@@ -130,7 +132,8 @@ fn settle(flow: &mut Flow, lanes: &mut Lanes) -> bool
     make_room(flow, lanes)
 }
 
-/// Lowers the stacks of a flow as far as the first row. Returns false if none can be lowered.
+/// Lowers the stacks of a flow together, until the lowest begins at the first row. Returns false if
+/// one begins there already, or if they don't move.
 fn make_room(flow: &mut Flow, lanes: &mut Lanes) -> bool
     requires holds { Holds flow.old.span lanes.old.stacks.len }
     requires each { (lane : ℕ) → lane < LANES →

@@ -86,7 +86,7 @@ fn missing_bits(mask: u16) -> u16
     !mask
 }
 
-/// What stands for a lane in the set of those in which two values are equal.
+/// `IN` if two values are equal, and else 0.
 #[inline(always)]
 fn in_if_equal(a: u16, b: u16) -> u16
     ensures { result ≡ (if a == b then IN else 0) }
@@ -119,7 +119,7 @@ pub fn chosen(set: &LaneMask, new: &LaneValues, old: &LaneValues) -> LaneValues
     values
 }
 
-/// What stands for a lane in the set of those in which a row is not below an end.
+/// `IN` if a row is not below an end, and else 0.
 #[inline(always)]
 fn in_if_from(end: u16, row: u16) -> u16
     ensures inside { end ≤ row → result ≡ IN }
@@ -162,7 +162,7 @@ pub fn chosen_from(
     values
 }
 
-/// A value that is raised in a lane of a set.
+/// The value plus `by` in a lane of a set, and the value as it was in any other lane.
 #[inline(always)]
 fn raise_in(set: u16, by: u16, value: u16) -> u16
     ensures inside { set ≡ IN → value + by < 65536 → result ≡ value + by }
@@ -187,7 +187,7 @@ pub fn raised(set: &LaneMask, by: u16, values: &LaneValues) -> LaneValues
     sums
 }
 
-/// A value that is lowered in a lane of a set.
+/// The value minus `by` in a lane of a set, and the value as it was in any other lane.
 #[inline(always)]
 fn lower_in(set: u16, by: u16, value: u16) -> u16
     ensures inside { set ≡ IN → by ≤ value → result + by ≡ value }
@@ -212,7 +212,7 @@ pub fn lowered(set: &LaneMask, by: u16, values: &LaneValues) -> LaneValues
     rests
 }
 
-/// A value that is at most a limit in a lane of a set.
+/// The lesser of a value and a limit in a lane of a set, and the value in any other lane.
 #[inline(always)]
 fn limit_in(set: u16, limit: u16, value: u16) -> u16
     ensures low { set ≡ IN → value ≤ limit → result ≡ value }

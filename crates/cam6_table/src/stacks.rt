@@ -39,7 +39,7 @@ impl Stack {
         }
     }
 
-    /// Puts a value on top, if there is room.
+    /// Puts a value on top. Returns `FullStack`, and changes nothing, if there is no room.
     pub fn push(&mut self, value: u16) -> Result<(), RuleFault>
         ensures { IsOutcome (pushed value self.old) self.new result }
     {
@@ -50,7 +50,8 @@ impl Stack {
         Ok(())
     }
 
-    /// Takes the top value off, if there is one.
+    /// Takes the top value off and returns it. Returns `MissingValue`, and changes nothing, if the
+    /// stack is empty.
     pub fn pop(&mut self) -> Result<u16, RuleFault>
         ensures taken { Takes self.old self.new result }
         ensures room { OnOk result (length self.new < MAX_VALUES) }
@@ -157,7 +158,7 @@ impl Stack {
         Ok(())
     }
 
-    /// Subtracts the top value from the one below it. Below 0 the result is out of range.
+    /// Replaces the top two values by the second one minus the top one. Below 0 it is out of range.
     fn minus(&mut self) -> Result<(), RuleFault>
         ensures { IsOutcome (on_stack StackWord.Minus self.old) self.new result }
     {

@@ -47,8 +47,8 @@ pub fn run_straight(
     behind
 }
 
-/// Does one instruction in the lanes of a set, all of which go on in the same way. It says how many
-/// instructions they pass.
+/// Does one instruction in the lanes of a set, and returns how many instructions all of them pass.
+/// Returns `Apart`, with nothing done, if lanes can part there or it can't be done in all.
 #[inline(always)]
 fn step(
     instruction: Instruction,
@@ -72,7 +72,8 @@ fn step(
     }
 }
 
-/// Takes the top values off. They need not be in place.
+/// Takes the top values off, which need not be in place, and returns 0: no instruction is passed.
+/// Returns `Apart`, with nothing done, if a stack may be empty by the span.
 fn drop_top(set: &LaneSet, span: &mut Span, lanes: &mut Lanes) -> Result<usize, Apart>
     requires holds { Holds span.old lanes.old.stacks.len }
     requires floors { (lane : ℕ) → lane < LANES → IsIn set.now.mask lane →
@@ -93,8 +94,8 @@ fn drop_top(set: &LaneSet, span: &mut Span, lanes: &mut Lanes) -> Result<usize, 
     Ok(0)
 }
 
-/// Does one instruction in the lanes of a set, all of which go on in the same way. It says how many
-/// instructions they pass.
+/// Does one instruction in the lanes of a set, and returns how many instructions all of them pass.
+/// Returns `Apart`, with nothing done, if lanes can part there or it can't be done in all.
 #[inline(always)]
 fn act_in(
     instruction: Instruction,

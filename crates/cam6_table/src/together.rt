@@ -22,8 +22,9 @@ const FLOWS: u32 = 64 * 4096;
 /// many instructions in all they are sooner done one by one.
 const MOST_TURNS: usize = 12 * 4096;
 
-/// Runs the code in all lanes, each at its address, up to its end, or to where one of them would
-/// stop.
+/// Runs the code in all lanes, each at its address, as far as they go together. `places` has then
+/// where each lane is. That is the end of the code, or a place from which it can be run on by
+/// itself.
 pub fn run_together(
     code: &Instructions,
     addresses: &LaneValues,
@@ -88,7 +89,7 @@ fn run_flow(
 }
 
 /// Does instructions in the lanes of a flow up to where others wait, or up to where its lanes can
-/// part and past that.
+/// part and past that. Returns `Apart` at one that can't be done in all of them.
 #[inline(always)]
 fn advance(
     code: &Instructions,
@@ -137,7 +138,8 @@ fn go_straight(code: &Instructions, addresses: &LaneValues, flow: &mut Flow, lan
     flow.span = span;
 }
 
-/// Does an instruction at which the lanes of a flow can part.
+/// Does an instruction at which the lanes of a flow can part. Returns `Apart` if it is no such
+/// instruction, or can't be done in all of them.
 #[inline(always)]
 fn part(
     code: &Instructions,

@@ -14,7 +14,8 @@ pub struct LanesWaiting {
     pub top: u16,
 }
 
-/// A place. No code has more instructions, and no stack ends above the last row.
+/// A place with `behind` instructions left and stacks that end at row `top`. Numbers above 4,096
+/// and 64 become these, as no code is longer and no stack ends higher.
 #[inline(always)]
 pub fn waiting_at(behind: usize, top: usize) -> LanesWaiting {
     LanesWaiting {
@@ -31,7 +32,7 @@ pub struct LaneQueue {
 }
 
 impl LaneQueue {
-    /// No place.
+    /// A queue without a place.
     pub fn new() -> LaneQueue {
         LaneQueue {
             waiting: [waiting_at(0, 0); LANES],
@@ -39,7 +40,7 @@ impl LaneQueue {
         }
     }
 
-    /// How many instructions are left at the place that goes on next.
+    /// How many instructions are left at the place that goes on next, or 0 without a place.
     #[inline(always)]
     pub fn until(&self) -> usize {
         let len = self.len.min(LANES);
@@ -105,7 +106,7 @@ impl LaneQueue {
         false
     }
 
-    /// Adds the places of another queue, the last of them first.
+    /// Moves the places of another queue to this one, the last of them first.
     #[inline(always)]
     pub fn put_all(&mut self, others: &mut LaneQueue) {
         for _ in 0..LANES {
@@ -116,7 +117,7 @@ impl LaneQueue {
         }
     }
 
-    /// Adds a place at the end, without a look at the others.
+    /// Adds a place at the end, without a look at the others. Does nothing if there is no room.
     #[inline(always)]
     pub fn push(&mut self, new: LanesWaiting) {
         if self.len < LANES {
