@@ -59,8 +59,9 @@ impl Filling {
         }
     }
 
-    /// Fills the table of one use of a rule through the cache. Returns whether the cache had it.
-    /// Allocates only for a newly cached table. If that fails, the table is right all the same.
+    /// Fills the table of one use of a rule, counted from 0, through the cache. Returns whether the
+    /// cache had it. Allocates only for a newly cached table. If that fails, the table is right all
+    /// the same.
     pub fn fill_one(&mut self, cache: &mut TableCache, lease: &Lease, index: u8) -> bool
         requires { index < needs_of lease.now.work }
         ensures table { FillsOne lease.now.work index self.old self.new }

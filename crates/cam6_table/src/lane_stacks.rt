@@ -295,7 +295,8 @@ impl Stacks {
         Ok(())
     }
 
-    /// Does a word that leaves one value of two.
+    /// Does a word that leaves one value of two. Returns `Apart`, and changes nothing, if values
+    /// are missing by the span or the word would stop in a lane of the set.
     #[inline(always)]
     fn merge(&mut self, set: &LaneSet, span: Span, merge: Merge) -> Result<(), Apart>
         requires holds { Holds span self.old.len }

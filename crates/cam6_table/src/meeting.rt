@@ -108,8 +108,9 @@ fn meet(
     *flow = flow_of(both, flow.behind, queue.until(), lanes);
 }
 
-/// Makes the span of a flow anew, or brings values to their places, after an instruction that can't
-/// be done in all of its lanes. Returns false if nothing would change.
+/// Tries what may help after an instruction that can't be done in all lanes of a flow. Makes its
+/// span anew, brings values to their places or lowers its stacks. Returns false if none of these
+/// would change anything.
 fn settle(flow: &mut Flow, lanes: &mut Lanes) -> bool
     requires holds { Holds flow.old.span lanes.old.stacks.len }
     requires each { (lane : ℕ) → lane < LANES →

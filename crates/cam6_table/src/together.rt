@@ -41,7 +41,8 @@ pub fn run_together(
     wait(places, &flow.set.mask, flow.behind, lanes.stacks.len);
 }
 
-/// Runs the code in the lanes of a flow and in those that part from it.
+/// Runs the code in the lanes of a flow and in those that part from it. It ends early if
+/// `MOST_TURNS` are used up, or if a flow can't go on.
 fn run_flows(
     code: &Instructions,
     addresses: &LaneValues,
@@ -66,7 +67,8 @@ fn run_flows(
     }
 }
 
-/// Runs the code in the lanes of a flow up to where others wait, while there are turns.
+/// Runs the code in the lanes of a flow up to where others wait, while there are turns. Returns
+/// `Apart` at an instruction that can't be done in all of them.
 fn run_flow(
     code: &Instructions,
     addresses: &LaneValues,

@@ -51,7 +51,7 @@ impl LaneQueue {
         }
     }
 
-    /// Takes off the place that goes on next.
+    /// Takes off the place that goes on next and returns it, or returns `None` if there is none.
     #[inline(always)]
     pub fn pop(&mut self) -> Option<LanesWaiting> {
         let len = self.len.min(LANES);
@@ -76,7 +76,7 @@ impl LaneQueue {
         }
     }
 
-    /// Adds a place before those that go on earlier.
+    /// Adds a place before those that go on earlier, unless it is there already or finds no room.
     fn put_between(&mut self, new: LanesWaiting) {
         if self.len >= LANES || self.has_place(new) {
             return;
