@@ -74,7 +74,7 @@ impl MidStep {
         self.image.limit()
     }
 
-    /// As `band_in`, in room of its own, which is emptied first.
+    /// As `band_in`, in room that is made for this band alone.
     pub fn band(self, tables: &EntryTables) -> Next
         ensures next { let s = width self.planes in (o : Cells) →
             Partway o (step_by s (values_of tables.now) o) self →
@@ -85,8 +85,8 @@ impl MidStep {
         self.band_in(tables, &mut room)
     }
 
-    /// Makes the next sixteen rows, by the tables of the step. The room is lent for it, and may hold
-    /// anything before.
+    /// Makes the next sixteen rows, by the tables of the step. Returns the step, or the whole image
+    /// if these rows were the last. The room is lent for it, and may hold anything before.
     pub fn band_in(mut self, tables: &EntryTables, room: &mut Room) -> Next
         ensures next { let s = width self.planes in (o : Cells) →
             Partway o (step_by s (values_of tables.now) o) self →
@@ -179,7 +179,7 @@ impl MidStep {
         (moved, Spare { planes: image })
     }
 
-    /// Gives the step up. Its old planes are lost.
+    /// Gives the step up, and returns its image as a spare one. The planes that it had are lost.
     pub fn abandon(self) -> Spare
         ensures limit { result.planes.limit ≡ self.planes.limit }
     {

@@ -41,7 +41,8 @@ impl PlaneRows {
         }
     }
 
-    /// Puts the rows that were written in the place of those of plane `p` from row `y` on.
+    /// Puts the rows in the place of those of plane `p` from row `y` on. If they weren't written,
+    /// changes nothing.
     fn put(&self, image: &mut Planes, p: usize, y: usize)
         requires plane { p < 4 }
         requires rows { y + band ≤ width image.old }
@@ -90,7 +91,8 @@ impl HalfRows {
         self.upper.is_written = written.upper;
     }
 
-    /// Puts the rows that were written in the place of the half's from row `y` on.
+    /// Puts each plane's rows in the place of the half's from row `y` on. A plane whose rows
+    /// weren't written stays as it is.
     pub(crate) fn put(&self, image: &mut Planes, half: Half, y: usize)
         requires { y + band ≤ width image.old }
         ensures half { (level : Level) (x r : ℕ) → x < width image.old → r < band →
@@ -129,6 +131,7 @@ fn put_rows(image: &mut Planes, p: usize, y: usize, rows: &BandRows)
     }
 }
 
+/// As `put_rows`, at this side.
 #[inline(always)]
 fn put_rows_at(image: &mut Planes, side: Side, p: usize, y: usize, rows: &BandRows)
     requires side { side ≡ image.old.side }

@@ -51,7 +51,7 @@ impl AtRest {
         &mut self.planes
     }
 
-    /// Begins a step. Each of its bands has to use the same tables.
+    /// Begins a step, of which no row is new yet. Each of its bands has to use these tables.
     pub fn begin(self, _tables: &EntryTables) -> MidStep
         ensures partway { (p : Cells) → Partway (cells self.planes) p result }
         ensures done { result.done ≡ 0 }
@@ -71,7 +71,7 @@ impl AtRest {
 }
 
 impl Spare {
-    /// The image with these planes.
+    /// Makes an image of these planes that may be overwritten.
     pub fn of(planes: Planes) -> Spare
         ensures { result.planes ≡ planes }
     {

@@ -17,10 +17,10 @@ use cam6_lines::{Band, HEIGHT};
 use cam6_planes::{CellRow, Planes};
 use cam6_wiring::{Half, Setting};
 
-/// Writes the sixteen new rows from row `y` on over the old ones, and saves the last old one. The
-/// rows to the south of them are still old. To the south of the image's last row lies the old row
-/// 0. A half's new rows may depend on the other half's old ones. So both are made before any is
-/// written.
+/// Writes the sixteen new rows from row `y` on over the old ones. `last` has the old row to their
+/// north, and gets the last of the sixteen old ones. `first` is the old row 0, which the last row
+/// sees to its south. A half's new rows may depend on the other half's old ones, so both are made
+/// before any is written.
 pub(crate) fn step_band(
     image: &mut Planes,
     last: &mut CellRow,
@@ -82,7 +82,8 @@ fn step_halves(
     room.a.put(image, Half::A, y);
 }
 
-/// Writes a half's new rows, if it has a table, and saves the last of the old ones.
+/// Writes a half's new rows over the old ones, if it has a table. With or without one, copies the
+/// last of the old rows to `last`.
 fn step_half(
     image: &mut Planes,
     last: &mut CellRow,
@@ -158,7 +159,7 @@ fn old_rows<'a>(image: &'a Planes, last: &'a CellRow, first: &'a CellRow, y: usi
     }
 }
 
-/// The row to the south of row `y`. The first row is saved apart.
+/// The old row to the south of row `y`. For the image's last row it is `first`, the old row 0.
 fn row_to_the_south<'a>(image: &'a Planes, first: &'a CellRow, y: usize) -> &'a CellRow
     requires { y < width image.now }
     ensures within { y + 1 < width image.now →

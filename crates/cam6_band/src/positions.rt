@@ -34,7 +34,8 @@ pub fn go_by<'a>(
     (own, after)
 }
 
-/// An entry's tables: half A's at the index, and half B's after it, if they have rules.
+/// An entry's tables, which lie from the index on, half A's before half B's. A half without a rule
+/// has none, and takes no place.
 fn tables_from<'a>(entry: Entry, index: usize, tables: &'a [Table]) -> EntryTables<'a>
     requires room { index + 2 ≤ length tables.now }
     ensures { values_of result ≡ tables_from index entry tables.now }
@@ -48,7 +49,7 @@ fn tables_from<'a>(entry: Entry, index: usize, tables: &'a [Table]) -> EntryTabl
     }
 }
 
-/// The table at an index, for a half with this rule.
+/// The table at an index, for a half with this rule. Returns `None` for a half without a rule.
 fn half_table<'a>(
     rule: Option<HalfRule>,
     tables: &'a [Table],

@@ -30,7 +30,7 @@ pub(crate) fn corner_address(hood: Hood, minor: Minor, phase: Phase, state: u8, 
     first_eight + 256 * next_two + 1024 * last_two
 }
 
-/// A corner's two bits, as a table has them.
+/// A corner's two bits of a block's state, as an entry has them. Bit 0 is the lower plane's.
 #[tactic(auto, unfolding(crate::specs::Blocks::corner_bits))]
 pub(crate) fn corner_bits(state: u8, corner: u8) -> u8
     ensures bits { result ≡ corner_bits state corner }
@@ -39,7 +39,8 @@ pub(crate) fn corner_bits(state: u8, corner: u8) -> u8
     bit_at(state, Level::Lower, corner) + 2 * bit_at(state, Level::Upper, corner)
 }
 
-/// Lines 0 to 7: the corner's own bits, and those further clockwise.
+/// What a corner sees on lines 0 to 7, as a number. Its lowest bits are the corner's own two. Then
+/// come the other corners' lower bits, and then their upper ones.
 fn block_lines(state: u8, corner: u8) -> u8
     requires corner { corner < CORNERS }
     ensures { result ≡ number_of
@@ -54,7 +55,8 @@ fn block_lines(state: u8, corner: u8) -> u8
     corner_bits(state, corner) + 4 * lower + 32 * upper
 }
 
-/// The bits that a corner sees clockwise, counter-clockwise and opposite.
+/// The bits that a corner sees clockwise, counter-clockwise and opposite, as a number. The first of
+/// them is its lowest bit.
 fn bits_beside(state: u8, level: Level, corner: u8) -> u8
     requires corner { corner < CORNERS }
     ensures bits { result ≡ number_of

@@ -24,7 +24,7 @@ pub enum NotReversible {
 impl NotReversible {
     ghost use Rattle.cam6_block.specs.Refusals.{cause_number};
 
-    /// The fault's number in replies, one for every cause.
+    /// The fault's number in replies, which is the same for every cause.
     pub fn number(self) -> u8
         ensures { result ≡ cause_number self }
     {
@@ -39,7 +39,8 @@ pub(crate) struct Pair {
     pub(crate) b: u8,
 }
 
-/// The first state that has the successor of a smaller one, with that smaller one, if there is any.
+/// Returns the least state that has the successor of a smaller one, as `b`, and the smaller one as
+/// `a`. Returns `None` if no two states have one successor.
 pub(crate) fn meeting(table: &Table, hood: Hood, minor: Minor, phase: Phase) -> Option<Pair>
     requires margolus { is_margolus hood ≡ true }
     ensures some { IfSome result (λ pair.

@@ -15,9 +15,10 @@ use cam6_cycle::Direction;
 use cam6_table::{Code, ENTRIES, Table, fill};
 use cam6_wiring::Wiring;
 
-/// Fills `out`, the table of a rule's code. Forward it is the table of the rule's words. Backward
-/// it undoes the rule's blocks, and is made from `straight`. If no table undoes them, returns the
-/// reason. `out` gets its program here, and its copies have it too. Does not allocate.
+/// Fills `out` for a rule's code. Forward it becomes the table of the rule's words. Backward it
+/// first fills `straight`, which may hold anything, with that table, and inverts it into `out`. If
+/// no table undoes the rule's blocks, returns the reason, and `out` stays as it was. `out` gets its
+/// program here, and its copies have it too. Does not allocate.
 pub fn fill_by(
     code: &Code,
     wiring: Wiring,

@@ -12,7 +12,7 @@ use crate::corners::{CORNERS, corner_address};
 use cam6_table::Table;
 use cam6_wiring::{Hood, Minor, Phase};
 
-/// What becomes of a block's state.
+/// The state that a block gets from the table, at this phase, if it has `state`.
 #[tactic(auto, unfolding(crate::specs::BlockMaps::block_map, crate::specs::Blocks::state_of))]
 pub(crate) fn successor(table: &Table, hood: Hood, minor: Minor, phase: Phase, state: u8) -> u8
     requires margolus { is_margolus hood ≡ true }

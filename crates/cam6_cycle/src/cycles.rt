@@ -72,7 +72,7 @@ impl Cycle {
         self.entries.as_slice()
     }
 
-    /// The entry at a position, and the position after it.
+    /// The entry at a position, and the position after it. After the last position comes 0.
     pub fn forward(&self, position: usize) -> (Entry, usize)
         requires { position < length self.now }
         ensures entry { slice_get self.now position ≡ Some result.0 }
@@ -83,7 +83,8 @@ impl Cycle {
         (entries[position], (position + 1) % entries.len())
     }
 
-    /// The entry before a position, and its position.
+    /// The entry before a position, and that entry's own position. Before position 0 is the last
+    /// entry.
     pub fn backward(&self, position: usize) -> (Entry, usize)
         requires { position < length self.now }
         ensures entry { slice_get self.now result.1 ≡ Some result.0 }
@@ -128,7 +129,8 @@ impl Cycle {
         tables
     }
 
-    /// How many of these tables stand before those of the entry at a position.
+    /// How many tables of `tables_needed` stand before those of the entry at a position. They are
+    /// as many in both directions.
     pub fn tables_before(&self, position: usize) -> usize
         requires { position < length self.now }
         ensures before { (direction : Direction) →

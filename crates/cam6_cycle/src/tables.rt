@@ -45,7 +45,7 @@ impl Default for NeededTable {
     }
 }
 
-/// Adds the table of a half's rule, if it has one.
+/// Adds the table that a half needs for its rule. For a half without a rule adds nothing.
 pub(crate) fn add_table(
     tables: &mut ArrayVec<NeededTable, MAX_TABLES>,
     direction: Direction,

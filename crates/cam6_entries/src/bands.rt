@@ -161,7 +161,7 @@ fn by_look_ups(
     }
 }
 
-/// Makes the new rows by a program.
+/// Makes the new rows by a program. A plane in which the program keeps every bit is not written.
 fn by_program(
     room: &mut TableRoom,
     program: &Program,

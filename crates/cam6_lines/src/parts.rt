@@ -112,7 +112,7 @@ fn put_rows<const W: usize>(
     }
 }
 
-/// Writes the cells of the unit in plane `p`.
+/// Writes the bits of the unit's own cells in plane `p`.
 #[inline(always)]
 fn put_here<const W: usize>(part: &mut Part, side: Side, p: usize, band: &Band, unit: usize)
     requires words { 64 * W ≡ columns band.now.planes.now.side }
@@ -151,8 +151,8 @@ fn put_east<const W: usize>(part: &mut Part, side: Side, p: usize, band: &Band, 
     put_beside::<W>(part, side, Compass::East, p, band, unit);
 }
 
-/// Writes what lies in this direction in plane `p`. The first row and the last one lie elsewhere,
-/// so they are written apart from the others.
+/// Writes what lies in this direction in plane `p`. The direction is the centre, west or east. The
+/// first row and the last one lie elsewhere, so they are written apart from the others.
 #[inline(always)]
 fn put_beside<const W: usize>(
     part: &mut Part,
@@ -379,8 +379,8 @@ fn put_from_lower<const W: usize>(
     }
 }
 
-/// Writes row `j`, the upper one of its blocks, and their lower one, after the rows before. Both
-/// are made before the first is written, so that what they look at is fetched once.
+/// Writes rows `j` and `j + 1`, the upper and the lower one of the same blocks, after the rows
+/// before. Both are made before the first is written, so that what they look at is fetched once.
 #[inline(always)]
 fn put_pair<const W: usize>(
     part: &mut Part,
@@ -410,7 +410,7 @@ fn put_pair<const W: usize>(
     put_row::<W>(part, W * (j + 1), lower);
 }
 
-/// As `put_pair`, for row `j` alone.
+/// As `put_pair`, for row `j` alone. `lower` says whether it is the lower one of its blocks.
 #[inline(always)]
 fn put_row_in_block<const W: usize>(
     part: &mut Part,
@@ -442,7 +442,8 @@ fn put_row_in_block<const W: usize>(
     );
 }
 
-/// The first row of a part that is made for a name. As many rows are left out at its end.
+/// The first row of its part that is made for this name: 0 or 1. As many rows are left out at the
+/// part's end.
 #[inline(always)]
 fn first_row(name: Name) -> usize
     ensures value { result ≡ first_row name }
@@ -454,7 +455,8 @@ fn first_row(name: Name) -> usize
     }
 }
 
-/// Writes the first `W` words of a row from word `at` on.
+/// Writes the first `W` words of `row` to the part, from its word `at` on. The words before stay as
+/// they are.
 #[inline(always)]
 fn put_row<const W: usize>(part: &mut Part, at: usize, row: UnitRow)
     requires words { W ≤ ROW_WORDS }

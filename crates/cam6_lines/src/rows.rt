@@ -92,8 +92,9 @@ pub(crate) fn is_lower(grid: Grid, band: &Band, j: usize) -> bool
     side_in_block(grid, band.first + j - 1) == 1
 }
 
-/// What the unit's cells see of plane `p` in their blocks. The block's other row lies to the south
-/// of its upper row, and to the north of its lower one.
+/// What the unit's cells in row `j` of a part see of plane `p` in their blocks. `lower` says
+/// whether row `j` is the lower one of its blocks. The other row lies to the south of the upper
+/// one, and to the north of the lower one.
 #[inline(always)]
 pub(crate) fn seen_in_block(
     side: Side,
@@ -132,7 +133,8 @@ pub(crate) fn seen_in_block(
     }
 }
 
-/// The row of a part that lies in the same blocks as row `j`, their upper or lower one.
+/// The other row of the blocks in which row `j` of a part lies. `lower` says whether row `j` is
+/// their lower one.
 #[inline(always)]
 fn other_row(lower: bool, j: usize) -> usize
     requires first { 0 < j }
@@ -144,8 +146,9 @@ fn other_row(lower: bool, j: usize) -> usize
     if lower { j - 1 } else { j + 1 }
 }
 
-/// What lies in the cells' blocks one corner from them. The left columns look along their row and
-/// the right ones across to the other row, or the other way round.
+/// What lies in the cells' blocks one corner from them. If `left_along` is true, the left columns
+/// look along their row, and the right ones across to the other row. If not, it is the other way
+/// round.
 #[inline(always)]
 fn along_or_across(
     grid: Grid,
@@ -184,7 +187,7 @@ fn by_sides(grid: Grid, left: UnitRow, right: UnitRow) -> UnitRow
     ]
 }
 
-/// What the unit's cells see of plane `p` beside them.
+/// What the unit's cells in row `j` of a part see of plane `p` in this direction.
 #[inline(always)]
 pub(crate) fn seen_beside(
     side: Side,
@@ -317,7 +320,7 @@ fn words_east(row: &Row, words: usize, first: usize) -> UnitRow
     ]
 }
 
-/// The word to the west of word `i` of `words`, round the torus.
+/// The number of the word to the west of word `i`, round a row of `words` words.
 #[inline(always)]
 fn word_before(words: usize, i: usize) -> usize
     requires words { 0 < words }
@@ -329,7 +332,7 @@ fn word_before(words: usize, i: usize) -> usize
     if i == 0 { words - 1 } else { i - 1 }
 }
 
-/// The word to the east of word `i` of `words`, round the torus.
+/// The number of the word to the east of word `i`, round a row of `words` words.
 #[inline(always)]
 fn word_after(words: usize, i: usize) -> usize
     requires words { words ≤ WORDS }

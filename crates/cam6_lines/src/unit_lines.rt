@@ -74,7 +74,7 @@ impl UnitLines {
         self.words = words_of_row(band.planes.side());
     }
 
-    /// The twelve lines.
+    /// Lends the twelve lines of the unit for which `put` was called last, the lowest line first.
     pub fn lines<'a>(&'a self) -> Lines<'a>
         ensures { map (λ line. line.now) result ≡ self.now }
     {
@@ -115,6 +115,7 @@ fn put_parts(parts: &mut [Part], needed: &Needed, setting: Setting, band: &Band,
     }
 }
 
+/// As `put_parts`, at this side. A row of its units has `W` words.
 fn put_parts_at<const W: usize>(
     parts: &mut [Part],
     needed: &Needed,
@@ -138,7 +139,7 @@ fn put_parts_at<const W: usize>(
     }
 }
 
-/// Makes the part for a name.
+/// Makes the part for a name. Without a name the part stays as it was.
 #[inline(always)]
 fn put_named<const W: usize>(
     part: &mut Part,

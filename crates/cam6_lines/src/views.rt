@@ -44,7 +44,7 @@ pub(crate) fn unit_of(parts: &[Part], words: usize, view: Option<View>) -> &Unit
     }
 }
 
-/// The unit of words of a part, from word `start` on.
+/// The unit that begins at word `start` of the part at index `part`.
 #[inline]
 fn unit_at(parts: &[Part], part: usize, start: usize) -> &Unit
     requires part { part < length parts.now }
@@ -65,7 +65,8 @@ impl Needed {
         }
     }
 
-    /// How the lines that are asked for are seen. Their parts are added to these.
+    /// Returns how each line is seen, or `None` for a line that isn't asked for or has no name.
+    /// Adds the parts that they need.
     pub(crate) fn views_of(
         &mut self,
         asked: u16,
@@ -82,7 +83,8 @@ impl Needed {
         views
     }
 
-    /// How a line is seen, if it is asked for and has a name.
+    /// Returns how a line is seen, or `None` if it isn't asked for or has no name. Adds its part,
+    /// if that isn't there.
     fn view_of(&mut self, asked: bool, name: Option<Name>) -> Option<View>
         requires { self.old.count < LINES }
         ensures seen { IsSeen self.new asked name result }
@@ -120,7 +122,7 @@ impl Needed {
     }
 }
 
-/// Whether this is the name.
+/// Whether `known` is this name. Returns false for `None`.
 fn is_named(known: Option<Name>, name: Name) -> bool
     ensures { IsTrue result → known ≡ Some name }
 {
@@ -139,7 +141,8 @@ fn is_asked(asked: u16, line: usize) -> bool
     asked >> line & 1 == 1
 }
 
-/// The name for which the part is made in which a line with this name is seen.
+/// Returns the name whose part shows a line with this name. Names to the north and to the south are
+/// seen in the part of the name between them.
 fn part_name(name: Name) -> Name
     ensures { result ≡ part_name name }
 {
@@ -149,7 +152,7 @@ fn part_name(name: Name) -> Name
     }
 }
 
-/// Where the cells of the part look in which a line is seen that looks in this direction.
+/// Returns the direction without its north or south: the centre, west or east.
 fn part_beside(compass: Compass) -> Compass
     ensures { result ≡ part_beside compass }
 {

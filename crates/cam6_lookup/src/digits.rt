@@ -27,7 +27,7 @@ impl Digit {
         }
     }
 
-    /// The positions of a word that have this digit 0.
+    /// Returns a word with 1 at each position whose number has 0 as this digit.
     #[inline(always)]
     fn zeros(self) -> u64
         ensures { (p : ℕ) → p < 64 → bit_at result p ≡ 1 - digit_of self p }
@@ -40,7 +40,7 @@ impl Digit {
         }
     }
 
-    /// The positions of a word that have this digit 1.
+    /// Returns a word with 1 at each position whose number has 1 as this digit.
     #[inline(always)]
     fn ones(self) -> u64
         ensures { (p : ℕ) → p < 64 → bit_at result p ≡ digit_of self p }

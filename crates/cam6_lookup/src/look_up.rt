@@ -57,8 +57,8 @@ pub fn look_up_words<const N: usize>(
     }
 }
 
-/// Word i of both planes: at each position the bits of the entry at the address that is shown
-/// there.
+/// Returns word i of the lower plane, and that of the upper one. Each position has the bit of the
+/// entry at the address that is shown there.
 fn words(rows: &Sixteen, i: usize, entries: &[u8]) -> (u64, u64)
     requires word { i < 2 }
     requires entries { length entries.now ≡ 2 ^ LINES }
@@ -81,6 +81,7 @@ fn words(rows: &Sixteen, i: usize, entries: &[u8]) -> (u64, u64)
 const FIRST_POSITIONS: u64 = 0x0001_0001_0001_0001;
 
 /// Moves the bits of each lane one position further, and puts the first bit of `four`'s lane in.
+/// The last bit of each lane has to be 0, or it falls into the next lane.
 fn one_more(word: u64, four: u64) -> u64
     ensures first { (p : ℕ) → p < 64 → p % 16 ≡ 0 → (0 < p → bit_at word (p - 1) ≡ 0) →
         bit_at result p ≡ bit_at four p }

@@ -32,7 +32,8 @@ fn transposed(rows: &Sixteen) -> Sixteen
     round(&rows, Digit::One)
 }
 
-/// The rows with one digit of a row's number transposed for that digit of the position.
+/// Returns the rows after one round of the transposition. Each bit's row number and position have
+/// swapped this digit.
 #[inline(always)]
 fn round(rows: &Sixteen, digit: Digit) -> Sixteen
     ensures { (k i p : ℕ) → k < 16 → i < 2 → p < 64 →

@@ -6,7 +6,7 @@ use crate::replies::Now;
 use cam6_commands::{Done, Reply, StepCount};
 use cam6_cycle::Direction;
 
-/// Returns so many steps that are left to do, or with none the reply with the position.
+/// Returns so many steps as work to do. If there are none, returns the reply with the position.
 pub(crate) fn work_or_reply(steps: StepCount, direction: Direction, position: usize) -> Now
     ensures { result ≡ work_or_reply steps direction position }
 {
@@ -16,7 +16,7 @@ pub(crate) fn work_or_reply(steps: StepCount, direction: Direction, position: us
     }
 }
 
-/// The reply once a machine has come to a position.
+/// The reply to a command whose steps led to a position: to `run` forward, to `back` backward.
 pub(crate) fn reply_at(direction: Direction, position: usize) -> Reply
     ensures { result ≡ reply_at direction position }
 {

@@ -121,7 +121,7 @@ impl Held {
         put_planes(image.planes_mut(), side, rows);
     }
 
-    /// Goes so many steps one way along the cycle that is kept.
+    /// Does `n` steps one way along the cycle in `kept`, and sets the position there.
     pub(crate) fn go(&mut self, kept: &mut Kept, n: u16, direction: Direction)
         requires accepted { refusal (machine_over self.old kept.old) (command_of n direction)
             ≡ None }

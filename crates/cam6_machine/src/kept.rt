@@ -107,7 +107,7 @@ impl Kept {
         self.cycle.as_ref()
     }
 
-    /// The position in the cycle.
+    /// The position in the cycle, or 0 without a cycle.
     pub fn position(&self) -> usize
         ensures { result ≡ self.now.position }
     {
@@ -141,8 +141,8 @@ impl Kept {
         self.position = position;
     }
 
-    /// Defines a rule, in place of the one that has its name. If it is refused or an allocation
-    /// fails, all rules stay as they were.
+    /// Defines a rule, in place of the one that has its name, and replies. A refusal is a reply
+    /// too. If it is refused or an allocation fails, all rules stay as they were.
     pub(crate) fn define(
         &mut self,
         name: Text,
@@ -235,7 +235,8 @@ impl Kept {
         }
     }
 
-    /// Returns the steps that a run has to do, or the reply if there are none.
+    /// Returns the steps that a run has to do. If there are none or the run is refused, returns the
+    /// reply.
     pub(crate) fn work_of_run(&self, n: u64) -> Now
         ensures work { (planes : Stored) →
             work_in result ≡ work_of (machine_over planes self.now) (Command.Run n) }
@@ -251,8 +252,8 @@ impl Kept {
         }
     }
 
-    /// Returns the steps that have to be undone, or the reply if there are none. Fills the tables
-    /// for them, to see whether they can be undone.
+    /// Returns the steps that have to be undone. If there are none or they are refused, returns the
+    /// reply. Fills the tables for them, to see whether they can be undone.
     pub(crate) fn work_of_back(&mut self, n: u64) -> Now
         ensures work { (planes : Stored) →
             work_in result ≡ work_of (machine_over planes self.old) (Command.Back n) }
@@ -290,7 +291,8 @@ impl Kept {
     }
 
     /// Loads what was saved of a machine beside its planes, and returns its side and its planes. If
-    /// it is refused, returns why.
+    /// it is refused, returns the fault within `Ok`. If it is refused or an allocation fails, what
+    /// is kept stays as it was.
     pub(crate) fn load(
         &mut self,
         saved: SavedMachine,

@@ -32,7 +32,8 @@ pub(crate) struct Loaded {
     pub(crate) colours: [u8; 16],
 }
 
-/// Returns what was saved as it is loaded, or why it isn't. The tables have room to try its rules.
+/// Returns what was saved as it is loaded, or within `Ok` the fault for which it isn't. The tables
+/// have room to try its rules.
 pub(crate) fn tried_machine(
     alloc: Global,
     limit: Side,

@@ -84,8 +84,9 @@ impl Machine {
         (self.kept, self.image.into_image(), self.spare)
     }
 
-    /// Replies to a command, or returns how many steps are to be done for it. Allocates all memory
-    /// of the command.
+    /// Does a command and replies to it. If the command has steps to do, returns these instead, and
+    /// `work` does them. Allocates all memory of the command. If an allocation fails, nothing
+    /// changes.
     pub fn now(&mut self, command: Command) -> Result<Now, NoMemory>
         // Steps are left exactly if the command does some.
         ensures work { IfOk result (λ now. work_in now ≡ work_of (machine_of self.old) command) }
@@ -267,7 +268,7 @@ impl Machine {
         reply_at(direction, self.kept.position())
     }
 
-    /// Does a command with its steps, and replies to it.
+    /// Does a command with its steps, and replies to it. If an allocation fails, nothing changes.
     pub fn reply_to(&mut self, command: Command) -> Result<Reply, NoMemory>
         ensures reply { IfOk result (λ r. r ≡ reply (machine_of self.old) command) }
         ensures machine { IfOk result (λ r.

@@ -16,7 +16,8 @@ use cam6_commands::{Fault, MAX_COLOUR, PlaneNumber, RowNumber, StepCount};
 use cam6_cycle::Cycle;
 use cam6_planes::Side;
 
-/// A row of a plane, at this side.
+/// Returns the plane and the row of these numbers, or the fault if there is no such plane or row.
+/// The plane's fault comes first.
 pub(crate) fn accept_row(
     side: Side,
     plane: u64,
@@ -31,7 +32,7 @@ pub(crate) fn accept_row(
     Ok((plane, row))
 }
 
-/// A row of a plane that is to be set: it has a bit for each column.
+/// As `accept_row`, for a row that is to be set. Then refuses bits that aren't one for each column.
 pub(crate) fn accept_set(
     side: Side,
     plane: u64,
@@ -50,7 +51,7 @@ pub(crate) fn accept_set(
     Ok(at)
 }
 
-/// The side of a number: one of the three, and then not above the limit.
+/// Returns the side of a number. Refuses a number that is no side, and a side above the limit.
 pub(crate) fn accept_side(limit: Side, number: u64) -> Result<Side, Fault>
     ensures refusal { result_err result ≡ side_refusal limit number }
     ensures side { IfOk result (λ side. side_of number ≡ Some side) }
@@ -85,7 +86,7 @@ pub(crate) fn accept_run(cycle: &Option<Cycle>, n: u64) -> Result<(&Cycle, StepC
     }
 }
 
-/// The colours of the states as they are kept: each is at most 15.
+/// Returns the colours of the states as they are kept. Refuses them if one is above 15.
 pub(crate) fn accept_colours(colours: &[u64; 16]) -> Result<[u8; 16], Fault>
     ensures refusal { result_err result ≡ map_refusal colours.now }
     ensures colours { IfOk result (λ kept. kept ≡ colours.now) }
@@ -97,7 +98,7 @@ pub(crate) fn accept_colours(colours: &[u64; 16]) -> Result<[u8; 16], Fault>
     Ok(kept)
 }
 
-/// A colour, 0 to 15.
+/// Returns a colour as it is kept. Refuses one above 15.
 fn accept_colour(colour: u64) -> Result<u8, Fault>
     ensures refusal { result_err result ≡ unless (nat_le colour max_colour) OutOfRange }
     ensures colour { IfOk result (λ kept. kept ≡ colour) }

@@ -2,7 +2,7 @@
 ghost use Rattle.std.specs.Prelude.{◌≡◌, ◌<◌, ℕ, if◌then◌else◌};
 ghost use Rattle.cam6_planes.specs.Row.{word_column};
 
-/// The columns of one word where a mask has them, and those of another elsewhere.
+/// Returns the bits of `set` in the columns where `mask` has 1, and those of `unset` in the others.
 #[inline]
 pub fn chosen_word(mask: u64, unset: u64, set: u64) -> u64
     ensures { (c : ℕ) → c < 64 → word_column result c

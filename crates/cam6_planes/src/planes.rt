@@ -121,7 +121,8 @@ impl Planes {
         &self.rows[y]
     }
 
-    /// Writes row `y` of plane `p` as lower case hexadecimal digits, and returns how many.
+    /// Writes row `y` of plane `p` as lower case hexadecimal digits, and returns how many. What is
+    /// past these digits stays as it was.
     pub fn row_hex(&self, p: usize, y: usize, text: &mut [u8; DIGITS]) -> usize
         requires plane { p < 4 }
         requires row { y < width self.now }
@@ -213,7 +214,7 @@ fn clear(rows: &mut [CellRow])
     }
 }
 
-/// Clears the rows of plane `p`.
+/// Sets plane `p` to 0 in each row. The other planes stay as they are.
 fn clear_rows(rows: &mut [CellRow], p: usize)
     requires { p < 4 }
     ensures planes { (y : ℕ) → y < length rows.old → length (slice_index_or rows.old y []) ≡ 4 }

@@ -64,7 +64,8 @@ impl Side {
         TEXTS.as_slice()
     }
 
-    /// The side whose number a text is.
+    /// Returns the side that a text names: `128`, `256` or `512`. Returns `None` for any other
+    /// text.
     pub fn named(text: &str) -> Option<Side>
         ensures side { result ≡ side_named text.now }
         ensures number { IfSome result (λ side. text.now ≡ decimal (side_number side)) }
@@ -77,7 +78,7 @@ impl Side {
         }
     }
 
-    /// Words of a row.
+    /// How many words of 64 columns a row has.
     pub fn words(self) -> usize
         ensures value { 64 * result ≡ side_number self }
         ensures some { 2 ≤ result }

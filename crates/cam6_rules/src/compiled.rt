@@ -69,8 +69,9 @@ impl CompiledRule {
         &self.code
     }
 
-    /// Fills the rule's table for a way along a cycle, backward by way of the straight one. If
-    /// there is no such table, returns why.
+    /// Fills `table` for a way along a cycle: forward by the rule's words. Backward it first fills
+    /// `straight`, which may hold anything, and inverts that. If the rule can't be undone, returns
+    /// why.
     pub(crate) fn fill_by(
         &self,
         direction: Direction,
@@ -87,7 +88,8 @@ impl CompiledRule {
     }
 }
 
-/// Reads a rule's text and tries the rule at every address, in the tables' room for that.
+/// Reads a rule's text and tries the rule at every address, in the tables' room for that. Returns
+/// the rule, or why there is none.
 pub(crate) fn tried_rule(
     alloc: Global,
     wiring: Wiring,

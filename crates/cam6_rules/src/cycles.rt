@@ -14,7 +14,7 @@ use cam6_cycle::{Cycle, Entry, HalfRule, MAX_ENTRIES};
 use cam6_wiring::Phase;
 use indexmap::IndexMap;
 
-/// The entries of a cycle, if one is set.
+/// The entries of a cycle. The list is empty if no cycle is set.
 pub fn entries_of(cycle: &Option<Cycle>) -> &[Entry]
     ensures entries { result.now ≡ entries_of cycle.now }
     ensures few { length result.now ≤ max_entries }
@@ -44,7 +44,8 @@ pub(crate) fn numbered_cycle(
     }
 }
 
-/// The cycle once the rule at a number is dropped: the rules after it have closed up.
+/// The cycle after the rule at a number is dropped. Each later rule's number is one less. Returns
+/// `None` if there are no entries.
 pub(crate) fn closed_cycle(cycle: &[Entry], number: usize) -> Option<Cycle>
     requires { length cycle.now ≤ max_entries }
     ensures { entries_of result ≡ map (closed_entry number) cycle.now }
@@ -120,7 +121,7 @@ fn number_if_named(rules: &IndexMap<String, CompiledRule>, name: &Option<Text>) 
     }
 }
 
-/// The phase of a number 0 to 3.
+/// The phase of a number from 0 to 3. A larger number gives phase 3.
 fn phase_of(number: u64) -> Phase
     ensures { result ≡ phase_of number }
 {

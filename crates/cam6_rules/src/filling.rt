@@ -22,8 +22,8 @@ use cam6_table::Table;
 use cam6_wiring::Half;
 
 /// Fills the tables that a cycle needs to go one way along it. If rules have no table, returns why
-/// the first of them has none, by the order of the entries, and half A's before half B's. The
-/// straight table is room for a table that is inverted.
+/// the first of them has none, by the order of the entries, and half A's before half B's.
+/// `straight` is room for a table to invert, and may hold anything.
 pub(crate) fn fill_entries(
     rules: &Rules,
     cycle: &Cycle,
@@ -116,14 +116,15 @@ fn fill_use(
     }
 }
 
-/// The index of the first use of the rule at a number.
+/// The index of the first use of the rule at a number, or `None` if these tables have no use of it.
 fn first_use(needed: &[NeededTable], number: usize) -> Option<usize>
     ensures { IfSome result (λ first. IsUse number (slice_get needed.now first)) }
 {
     needed.iter().position(|table| table.rule.number == number)
 }
 
-/// Fills the table of the rule at this number, if there is one. If it has none, returns why.
+/// Fills `table` for the rule at this number. If the rule can't be undone, returns why. If there is
+/// no such rule, `table` stays as it was.
 fn fill_table(
     rules: &Rules,
     number: usize,

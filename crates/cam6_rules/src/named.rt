@@ -11,14 +11,14 @@ use cam6_wiring::Wiring;
 use indexmap::IndexMap;
 use std::alloc::Global;
 
-/// The number of the rule that has the name.
+/// The number of the rule that has the name, or `None` if there is none.
 pub(crate) fn rule_number(rules: &IndexMap<String, CompiledRule>, name: &Text) -> Option<usize>
     ensures { result ≡ rule_number name.now (rules_of rules.now.entries) }
 {
     rules.get_index_of(name.as_str())
 }
 
-/// What the rule that has the name is written for.
+/// What the rule that has the name is written for, or `None` if there is no such rule.
 pub(crate) fn wiring_of(rules: &IndexMap<String, CompiledRule>, name: &Text) -> Option<Wiring>
     ensures { result ≡ wiring_of name.now (rules_of rules.now.entries) }
 {
@@ -66,7 +66,8 @@ pub(crate) fn names_of(
     Ok(names)
 }
 
-/// Keeps a rule under a name, instead of the one that has it.
+/// Keeps a rule under a name, in the place of the one that has it, or after all others. If an
+/// allocation fails, nothing changes.
 pub(crate) fn put(
     rules: &mut IndexMap<String, CompiledRule>,
     name: Text,

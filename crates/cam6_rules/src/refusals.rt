@@ -119,7 +119,7 @@ fn have_phases(entries: &[NamedEntry]) -> bool
     entries.iter().all(|entry| entry.phase < 4)
 }
 
-/// The first fault of an entry, in the order of the entries.
+/// Accepts all entries, or returns the fault of the first one that is refused.
 fn accept_entries(
     rules: &IndexMap<String, CompiledRule>,
     entries: &[NamedEntry],
@@ -140,7 +140,7 @@ fn accept_entry(rules: &IndexMap<String, CompiledRule>, entry: &NamedEntry) -> R
     accept_half(rules, Half::B, &entry.b)
 }
 
-/// Accepts an entry's name for a half, if it has one, if it is that of a rule of this half.
+/// Accepts an entry's name for a half if a rule of this half has it. Accepts a half without a name.
 fn accept_half(
     rules: &IndexMap<String, CompiledRule>,
     half: Half,

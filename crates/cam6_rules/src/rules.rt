@@ -142,7 +142,7 @@ impl Rules {
         self.by_name.is_empty()
     }
 
-    /// The rule at a number.
+    /// The rule at a number, counted from 0, or `None` if there is none.
     pub fn at(&self, number: usize) -> Option<&CompiledRule>
         ensures { IsKeptAs (slice_get self.now number) (option_copied result) }
     {
@@ -174,7 +174,8 @@ impl Rules {
     }
 
     /// Keeps a rule under a name, instead of the one that has it, unless it is refused: a rule that
-    /// the cycle uses stays. Tries its text in the room that the tables have for it.
+    /// the cycle uses stays. Tries its text in the room that the tables have for it. If it isn't
+    /// defined, nothing changes.
     pub fn define(
         &mut self,
         cycle: &[Entry],
@@ -219,8 +220,8 @@ impl Rules {
         }
     }
 
-    /// Drops the rule that has the name, unless there is none or the cycle uses it. The rules after
-    /// it close up, and the cycle with them.
+    /// Drops the rule that has the name. Each later rule's number is one less, also in the cycle.
+    /// If there is no such rule or the cycle uses it, returns the fault, and nothing changes.
     pub fn remove(&mut self, cycle: &mut Option<Cycle>, name: &Text) -> Result<(), Fault>
         ensures refusal { result_err result
             ≡ drop_refusal self.old (named_entries self.old (entries_of cycle.old)) name.now }
@@ -244,7 +245,8 @@ impl Rules {
         Ok(())
     }
 
-    /// The cycle of these entries, by the numbers of the rules that they name.
+    /// Returns the cycle of these entries, by the numbers of the rules that they name, or the fault
+    /// for which they are refused.
     pub fn cycle_of(&self, entries: &NamedEntries) -> Result<Cycle, Fault>
         ensures refusal { result_err result ≡ cycle_refusal self.now entries.now }
         ensures named { IfOk result (λ cycle. named_entries self.now cycle ≡ entries.now) }

@@ -10,7 +10,7 @@ use cam6_planes::NoMemory;
 use indexmap::IndexMap;
 use std::alloc::Global;
 
-/// The rules, in their order.
+/// Copies of the rules as they are saved, in their order.
 pub(crate) fn saved_rules(
     alloc: Global,
     rules: &IndexMap<String, CompiledRule>,

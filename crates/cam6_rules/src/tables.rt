@@ -62,7 +62,8 @@ impl Tables {
         })
     }
 
-    /// The tables, one for each use of a rule.
+    /// All tables, as many as the longest cycle needs, in the order of `tables_needed`. Those that
+    /// aren't filled may hold anything.
     pub fn by_use(&self) -> &[Table]
         ensures entries { result.now ≡ self.now.entries }
         ensures room { length result.now ≡ max_tables }
@@ -79,7 +80,8 @@ impl Tables {
     }
 
     /// Fills the tables that a cycle needs to go one way along it, unless they are filled for it.
-    /// If a rule has none, returns which and why. Does not allocate.
+    /// If a rule has none, returns which and why, and the tables count as not filled. Does not
+    /// allocate.
     pub fn fill(
         &mut self,
         rules: &Rules,

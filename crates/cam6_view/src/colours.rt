@@ -13,8 +13,8 @@ use cam6_planes::{COLUMNS, CellRow, Row};
 /// Colours of a row of the largest side.
 pub const COLOURS: usize = COLUMNS;
 
-/// Writes the colour of each cell of row `y`, from column 0 on, and returns how many. `map` has the
-/// colour of each state.
+/// Writes the colour of each cell of row `y` to `colours`, from column 0 on, and returns how many.
+/// What is past these stays as it was. `map` has the colour of each state.
 pub fn colour_row(rest: &AtRest, map: &[u8; 16], y: usize, colours: &mut [u8; COLOURS]) -> usize
     requires row { y < width rest.now.planes }
     ensures count { result ≡ width rest.now.planes }

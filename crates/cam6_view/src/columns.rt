@@ -19,7 +19,7 @@ pub(crate) fn spread(mask: u16) -> [u64; 16]
     sets
 }
 
-/// Every column, or none.
+/// Every column if the state is in the set that the mask names, and none if it isn't.
 fn spread_bit(mask: u16, state: u16) -> u64
     requires { state < 16 }
     ensures { (c : ℕ) → c < 64 → word_column result c ≡ is_in mask state }
@@ -49,7 +49,7 @@ pub(crate) fn by_state(words: &[u64; 4], sets: &[u64; 16]) -> u64
     chosen_word(words[3], below_8, from_8)
 }
 
-/// As `by_state`, by the planes 0 and 1 alone, among four states.
+/// As `by_state`, among the four states from `first` on. Planes 0 and 1 choose one of them.
 fn by_lower(words: &[u64; 4], sets: &[u64; 16], first: usize) -> u64
     requires { first + 4 ≤ 16 }
     ensures { (c : ℕ) → c < 64 → word_column result c

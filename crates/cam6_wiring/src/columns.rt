@@ -21,7 +21,7 @@ pub(crate) fn row_of(bit: bool) -> Row
     if bit { [u64::MAX; WORDS] } else { [0; WORDS] }
 }
 
-/// The right columns of the grid's blocks.
+/// Returns 1 in the right columns of the grid's blocks, and 0 in the left ones.
 pub(crate) fn right_columns(grid: Grid) -> Row
     ensures { (x : ℕ) → x < 64 * WORDS → column_bit result x ≡ (side_in_block grid x == 1) }
 {
@@ -31,7 +31,7 @@ pub(crate) fn right_columns(grid: Grid) -> Row
     }
 }
 
-/// Writes the odd columns, and keeps the even ones.
+/// Copies the odd columns of `odd` to `row`, whose even columns stay as they are.
 pub(crate) fn put_odd_columns(row: &mut Row, odd: &Row)
     ensures { (x : ℕ) → x < 64 * WORDS → column_bit row.new x
         ≡ (if x % 2 == 1 then column_bit odd.now x else column_bit row.old x) }

@@ -18,7 +18,7 @@ use cam6_planes::{Row, WORDS};
 pub type Lines = [Row; LINES];
 
 /// Returns the twelve address lines of row `y`. At each column they show what the cell there sees
-/// under the lines' names, and 0 on a line without a name.
+/// under the lines' names, and 0 on a line without a name. Words past the side may hold anything.
 pub fn lines_of_row(
     half: Half,
     hood: Hood,

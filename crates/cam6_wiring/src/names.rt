@@ -94,7 +94,7 @@ impl Half {
 }
 
 impl Phase {
-    /// The phase's number.
+    /// The phase's number, from 0 to 3.
     pub fn number(self) -> u8
         ensures { result ≡ phase_number self }
     {
@@ -106,7 +106,7 @@ impl Phase {
         }
     }
 
-    /// The phase's low bit, or its high bit.
+    /// The low bit of the phase at the lower level, and the high bit at the upper one.
     pub fn bit(self, level: Level) -> bool
         ensures { result ≡ phase_bit self level }
     {

@@ -89,7 +89,8 @@ pub fn seen(planes: &Planes, setting: Setting, name: Name, x: usize, y: usize) -
     }
 }
 
-/// The bit of plane `p` that the cell sees beside it.
+/// The bit of plane `p` in the cell that lies in this direction. At the centre it is the cell's
+/// own.
 fn seen_beside(planes: &Planes, compass: Compass, p: usize, x: usize, y: usize) -> bool
     requires plane { p < 4 }
     requires column { x < width planes.now }
@@ -104,7 +105,7 @@ fn seen_beside(planes: &Planes, compass: Compass, p: usize, x: usize, y: usize) 
     )
 }
 
-/// The column of the cell that lies there, seen from column `x`.
+/// The column that lies in this direction from column `x`, round the torus.
 fn column_beside(side: Side, compass: Compass, x: usize) -> usize
     requires { x < side_number side }
     ensures column { result ≡ column_beside (side_number side) compass x }
@@ -117,7 +118,8 @@ fn column_beside(side: Side, compass: Compass, x: usize) -> usize
     }
 }
 
-/// Its row, seen from row `y`. North is the row before, as west is the column before.
+/// The row that lies in this direction from row `y`, round the torus. North is the row before, as
+/// west is the column before.
 fn row_beside(side: Side, compass: Compass, y: usize) -> usize
     requires { y < side_number side }
     ensures row { result ≡ row_beside (side_number side) compass y }

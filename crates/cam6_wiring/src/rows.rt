@@ -83,7 +83,8 @@ fn put_in_block(line: &mut Row, grid: Grid, rotation: Rotation, p: usize, y: usi
     put_odd_columns(line, &odd);
 }
 
-/// Writes what the cells of a row see of plane `p` beside them.
+/// Writes the bits of plane `p` in the cells that lie in this direction from those of the middle
+/// row.
 fn put_beside(line: &mut Row, compass: Compass, p: usize, rows: &Rows)
     requires plane { p < 4 }
     ensures { (f : Cells) (y : ℕ) → AreRowsAround f y rows.now → y < side_number rows.now.side →

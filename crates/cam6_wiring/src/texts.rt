@@ -8,7 +8,7 @@ impl Half {
     ghost use Rattle.std.specs.Prelude.{◌≡◌};
     ghost use Rattle.cam6_wiring.specs.Texts.{half_text, half_named};
 
-    /// The text of a half.
+    /// The text of a half: `A` or `B`.
     pub fn text(self) -> &'static str
         ensures { result.now ≡ half_text self }
     {
@@ -34,7 +34,7 @@ impl Hood {
     ghost use Rattle.std.specs.Prelude.{◌≡◌};
     ghost use Rattle.cam6_wiring.specs.Texts.{hood_text, hood_named};
 
-    /// The text of a neighbourhood.
+    /// The text of a neighbourhood, for example `N/VONN`.
     pub fn text(self) -> &'static str
         ensures { result.now ≡ hood_text self }
     {
@@ -66,7 +66,7 @@ impl Minor {
     ghost use Rattle.std.specs.Prelude.{◌≡◌};
     ghost use Rattle.cam6_wiring.specs.Texts.{minor_text, minor_named};
 
-    /// The text of a minor assignment.
+    /// The text of a minor assignment, for example `&/CENTERS`.
     pub fn text(self) -> &'static str
         ensures { result.now ≡ minor_text self }
     {
@@ -94,7 +94,7 @@ impl Grid {
     ghost use Rattle.std.specs.Prelude.{◌≡◌};
     ghost use Rattle.cam6_wiring.specs.Texts.{grid_text, grid_named};
 
-    /// The text of a grid.
+    /// The text of a grid: `EVEN` or `ODD`.
     pub fn text(self) -> &'static str
         ensures { result.now ≡ grid_text self }
     {
