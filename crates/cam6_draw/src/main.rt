@@ -58,7 +58,7 @@ fn drawn<R: Input + Print + Eprint + AllocGlobal + Clock>(
     ended(rt, Program::Draw, end)
 }
 
-/// How long a picture stays if there are at most so many a second.
+/// How long a picture stays if there are at most so many a second. Without a rate it is `None`.
 fn pause_of(rate: Option<usize>) -> Option<Duration> {
     match rate {
         Some(rate) => Some(Duration::from_micros(1_000_000 / rate.max(1) as u64)),

@@ -80,7 +80,8 @@ impl Cells {
         Ok(rows)
     }
 
-    /// Reads the line of this number. The line's end counts as a blank.
+    /// Reads a line of cells, with this number counted from 1. The line's end counts as a blank.
+    /// Returns `Over` after a `!`, and what stands behind that isn't read.
     pub(crate) fn read_line(
         &mut self,
         bounds: &Bounds,
@@ -131,7 +132,7 @@ impl Cells {
         }
     }
 
-    /// Adds a digit to the number that was read last.
+    /// Puts a digit behind the number that is being read. A number above 512 is a fault.
     fn with_digit(&mut self, line: usize, column: usize, digit: u8) -> Result<Going, Unread>
         ensures { StepsTo (with_digit line column self.old digit) self.new result }
     {
@@ -143,7 +144,8 @@ impl Cells {
         Ok(Going::More)
     }
 
-    /// Adds the counted cells of this state to the row.
+    /// Adds cells of this state to the row: as many as the number before says, or one without a
+    /// number. It is a fault if they don't fit, or if there is no such state.
     fn with_cells(
         &mut self,
         bounds: &Bounds,
@@ -169,7 +171,8 @@ impl Cells {
         Ok(Going::More)
     }
 
-    /// Ends as many rows as are counted: this one, and then rows without a cell.
+    /// Ends as many rows as the number before says, or one without a number: this one, and then
+    /// rows without a cell. It is a fault if there are too many rows then.
     fn with_row_ends(
         &mut self,
         bounds: &Bounds,
@@ -192,7 +195,7 @@ impl Cells {
         Ok(Going::More)
     }
 
-    /// The number that was read last, or 0.
+    /// The number that is being read, or 0 if there is none.
     fn counted(&self) -> u16
         ensures { result
             ≡ (if is_counting self.now.count then times self.now.count else 0) }
@@ -203,7 +206,7 @@ impl Cells {
         }
     }
 
-    /// The number that was read last, or 1.
+    /// The number that was just read, or 1 if there is none.
     fn times(&self) -> usize
         ensures { result ≡ times self.now.count }
     {

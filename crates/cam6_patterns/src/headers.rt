@@ -35,7 +35,8 @@ pub(crate) enum Head {
     Within(Extent),
 }
 
-/// Reads a line before the cells: a remark, a blank line, or the header.
+/// Reads a line before the cells: a remark, a blank line, or the header. `number` is the line's
+/// number, counted from 1, and `corner` is what remarks before it said.
 pub(crate) fn read_head(
     side: Side,
     number: usize,
@@ -57,8 +58,8 @@ pub(crate) fn read_head(
     header(side, number, corner, extents_in(line))
 }
 
-/// Returns the box of a header. The pattern is no wider and no higher than the torus, or it is a
-/// fault.
+/// Returns the box of a header with this width and height. It is a fault if there are none, or if
+/// the pattern is wider or higher than the torus.
 fn header(
     side: Side,
     number: usize,
@@ -151,7 +152,8 @@ fn past_blanks(bytes: &[u8]) -> &[u8]
     rest
 }
 
-/// A number of one digit at least, and what comes after it.
+/// The number at the front, and what comes after it. A large number is lowered. Returns `None` if
+/// no digit stands at the front.
 fn number_at_front(bytes: &[u8]) -> Option<(usize, &[u8])>
     ensures { MatchOption result (number_at_front bytes.now ≡ None)
         (λ r. (n : ℕ) × (number_at_front bytes.now ≡ Some (n, r.1.now)) × StandsFor n r.0) }
@@ -163,7 +165,8 @@ fn number_at_front(bytes: &[u8]) -> Option<(usize, &[u8])>
     Some(number_behind(usize::from(*first - b'0'), later))
 }
 
-/// The number of a first digit and the digits at the front, and what comes after them.
+/// The number of a first digit and the digits at the front, and what comes after them. A large
+/// number is lowered.
 fn number_behind(first: usize, bytes: &[u8]) -> (usize, &[u8])
     requires { first < 10 }
     ensures { (n : ℕ) × (number_behind first bytes.now ≡ (n, result.1.now))
@@ -181,7 +184,8 @@ fn number_behind(first: usize, bytes: &[u8]) -> (usize, &[u8])
     (number, rest)
 }
 
-/// A small number that stands for this one.
+/// A number below 1,024 as it is. A larger one becomes one from 1,024 to 1,535 that is the same
+/// modulo 512.
 fn lowered(number: usize) -> usize
     ensures same { StandsFor number result }
     ensures small { result < 3 * most_cells }
@@ -240,7 +244,8 @@ fn ends_header(bytes: &[u8]) -> bool
     }
 }
 
-/// The width and the height that a header says.
+/// The width and the height that a header says, lowered if they are large. Returns `None` if the
+/// line is no header.
 fn extents_in(line: &[u8]) -> Option<(usize, usize)>
     ensures { AreExtents (extents_in line.now) result }
 {
@@ -254,7 +259,7 @@ fn extents_in(line: &[u8]) -> Option<(usize, usize)>
     }
 }
 
-/// A whole number modulo 512, and what comes after it.
+/// The whole number at the front modulo 512, and what comes after it. A minus may stand before it.
 fn turn_at_front(bytes: &[u8]) -> Option<(usize, &[u8])>
     ensures { MatchOption result (turn_at_front bytes.now ≡ None)
         (λ r. turn_at_front bytes.now ≡ Some (r.0, r.1.now)) }
@@ -269,7 +274,7 @@ fn turn_at_front(bytes: &[u8]) -> Option<(usize, &[u8])>
     }
 }
 
-/// Two such numbers with this byte between them.
+/// The column and the row at the front, each modulo 512, with this byte between them.
 fn corner_at_front(between: u8, bytes: &[u8]) -> Option<(usize, usize)>
     ensures { result ≡ corner_at_front between bytes.now }
 {

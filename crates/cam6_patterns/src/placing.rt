@@ -48,7 +48,7 @@ impl ChosenPlanes {
         ChosenPlanes { count, planes }
     }
 
-    /// Returns how many states their bits have.
+    /// Returns how many states the planes can hold: 2, 4, 8 or 16.
     pub fn states(&self) -> u8
         ensures value { result ≡ 2 ^ length self.now }
         ensures few { result ≤ 16 }
@@ -113,7 +113,7 @@ impl Placement<'_> {
     ghost use Rattle.cam6_patterns.specs.Placing.{bit_placed, set_line};
     ghost use Rattle.cam6_patterns.specs.Outcome.{lines_of_row};
 
-    /// Writes the lines of the pattern's row y.
+    /// Writes the lines that set the pattern's row y, counted from 0: one for each plane.
     fn write_row<W: Write>(
         &self,
         writer: &mut W,
@@ -181,7 +181,7 @@ impl Placement<'_> {
         bytes
     }
 
-    /// The eight columns from x on as a number.
+    /// The eight columns from x on as a number. Column x is its highest bit.
     fn eight_columns(&self, k: usize, y: usize, x: usize) -> u8
         requires { x + 8 ≤ most_cells }
         ensures { result ≡ eight_columns
@@ -190,7 +190,7 @@ impl Placement<'_> {
         16 * self.four_columns(k, y, x) + self.four_columns(k, y, x + 4)
     }
 
-    /// The four columns from x on as a number.
+    /// The four columns from x on as a number. Column x is its highest bit.
     fn four_columns(&self, k: usize, y: usize, x: usize) -> u8
         requires { x + 4 ≤ most_cells }
         ensures columns { result ≡ four_columns
@@ -203,7 +203,8 @@ impl Placement<'_> {
             + self.bit(k, y, x + 3)
     }
 
-    /// Bit k of the state that lies at column x, in the pattern's row y.
+    /// Bit k of the state that lies at the torus's column x, in the pattern's row y. It is 0 beside
+    /// the pattern.
     fn bit(&self, k: usize, y: usize, x: usize) -> u8
         requires { x < most_cells }
         ensures bit { result ≡ bit_number (bit_placed (side_number self.now.side) self.now.first

@@ -128,7 +128,7 @@ fn push_row(
     Ok((used, 1))
 }
 
-/// The ends of so many rows.
+/// Pushes the ends of so many rows, or nothing for 0. Returns how many bytes the last line has.
 fn push_row_ends(text: &mut Vec<u8>, used: usize, ends: usize) -> Result<usize, AllocError>
     ensures { IfOk result (λ after.
         Fills text.old.items used (row_ends ends) text.new.items after) }
@@ -139,7 +139,7 @@ fn push_row_ends(text: &mut Vec<u8>, used: usize, ends: usize) -> Result<usize, 
     push_part(text, used, counted(ends, b'$').as_slice())
 }
 
-/// The runs of a row.
+/// Pushes the runs of a row's cells. Returns how many bytes the last line has.
 fn push_runs(text: &mut Vec<u8>, used: usize, states: u8, cells: &[u8]) -> Result<usize, AllocError>
     requires { AllByRecursion (λ cell. cell < most_states) cells.now }
     ensures { IfOk result (λ after.
@@ -199,7 +199,8 @@ fn counted(count: usize, letter: u8) -> Part
     part
 }
 
-/// A state's letter.
+/// A state's letter: `b` or `o` if there are two states, or else `.` for 0 and `A` to `O` for 1 to
+/// 15.
 fn letter(states: u8, state: u8) -> u8
     requires { state < most_states }
     ensures { result ≡ letter states state }

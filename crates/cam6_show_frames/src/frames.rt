@@ -70,7 +70,7 @@ impl Model for Frame {
 impl Frame {
     ghost use Rattle.cam6_show_frames.specs.Frame.{IsFrame};
 
-    /// Rows that are a frame.
+    /// The frame of these rows, from the top one on. There are as many as each has columns.
     pub(crate) fn new(rows: Vec<RowInColours>) -> Frame
         requires { IsFrame rows.items }
         ensures { result ≡ rows.items }
@@ -86,7 +86,8 @@ impl Frame {
         self.rows[0].side
     }
 
-    /// Returns the colour at a column and a row, round the torus.
+    /// Returns the colour, from 0 to 15, at a column and a row counted from 0. Numbers past the
+    /// last go on round the torus.
     pub fn colour(&self, column: usize, row: usize) -> u8
         ensures value { result ≡ colour_at self.now column row }
         ensures few { result < colours }

@@ -18,7 +18,7 @@ pub(crate) enum Reading {
     NoMemory,
 }
 
-/// Reads a line, without its LF, in place of what is there.
+/// Replaces what is in the vector by the next line, without its LF. The last line may have none.
 pub(crate) fn read_line<R: BufRead>(reader: &mut R, line: &mut Vec<u8>) -> Reading
     ensures { Reads result (R.remaining reader.old) (R.remaining reader.new) line.new.items }
 {

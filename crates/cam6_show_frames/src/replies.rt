@@ -33,7 +33,8 @@ pub enum Unsaid {
     NoMemory,
 }
 
-/// Returns what a line says of cells, or why it says nothing.
+/// Returns what a reply's line says of cells, which is `Other` if it says nothing of them. Returns
+/// an error if the line is no reply, or if an allocation fails.
 #[tactic(auto, using(crate::proofs::Saying::said_by_value, crate::proofs::Saying::not_empty))]
 pub fn read_reply(alloc: Global, line: &[u8]) -> Result<Said, Unsaid>
     ensures said { IfOk result (λ reply. said line.now ≡ Some reply) }
@@ -72,7 +73,8 @@ fn line_value(alloc: Global, line: &[u8]) -> Result<Value, Unsaid>
     }
 }
 
-/// What a value says, or the reply in it.
+/// What the reply at the key `reply` says, or the value itself if it has no such key. Returns
+/// `None` if that is no reply.
 fn said_in(alloc: Global, value: &Value) -> Result<Option<Said>, AllocError>
     ensures { IfOk result (λ reply. reply ≡ said_in (view value.now)) }
 {
@@ -82,7 +84,8 @@ fn said_in(alloc: Global, value: &Value) -> Result<Option<Said>, AllocError>
     }
 }
 
-/// What an object says.
+/// What a reply says. It is `Other` if no text is at `ok`. Returns `None` if the value is no
+/// object, or if what it has of cells is no row or no plane.
 fn reply_in(alloc: Global, value: &Value) -> Result<Option<Said>, AllocError>
     ensures { IfOk result (λ reply. reply ≡ reply_in (view value.now)) }
 {
@@ -137,14 +140,14 @@ fn plane_of_rows(rows: Vec<RowInColours>) -> Option<Said>
     Some(Said::Plane(frame))
 }
 
-/// The text at a key.
+/// The text at a key of an object, or `None` if no text is there.
 fn text_at<'a>(value: &'a Value, key: &str) -> Option<&'a str>
     ensures { option_map (λ text. text.now) result ≡ text_at key.now (view value.now) }
 {
     value.get(key).and_then(Value::as_str)
 }
 
-/// The rows of a plane's texts.
+/// The rows of a plane's texts, or `None` if one of them isn't the digits of a row.
 fn rows_of_texts(alloc: Global, texts: &[Value]) -> Result<Option<Vec<RowInColours>>, AllocError>
     ensures { IfOk result
         (λ rows. option_map (λ v. v.items) rows ≡ rows_of_texts (items_view texts.now)) }
@@ -159,7 +162,7 @@ fn rows_of_texts(alloc: Global, texts: &[Value]) -> Result<Option<Vec<RowInColou
     Ok(Some(rows))
 }
 
-/// The row of a plane that a value says.
+/// The row of a plane that a value says, or `None` if it isn't a text of the row's digits.
 fn row_in(value: &Value) -> Option<RowInColours>
     ensures { result ≡ option_and_then bits_of_text (as_str (view value.now)) }
 {

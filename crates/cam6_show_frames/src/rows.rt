@@ -9,7 +9,8 @@ ghost use Rattle.cam6_show_frames.specs.Replies.{digit_column, colours_of_text, 
 use crate::frames::RowInColours;
 use cam6_planes::{COLUMNS, Side, bits_of_digits};
 
-/// A row of colours, a hexadecimal digit of either case for each column.
+/// The row of colours that a text says, a hexadecimal digit of either case for each column. Returns
+/// `None` if the text is another one, or if no torus has so many columns.
 pub(crate) fn colours_of_text(text: &[u8]) -> Option<RowInColours>
     ensures { result ≡ colours_of_text text.now }
 {
@@ -32,7 +33,7 @@ fn row_of_digits(side: Side, bytes: &[u8]) -> RowInColours
     RowInColours::new(side, colours)
 }
 
-/// The digit of a column.
+/// The colour of a column. A byte has two, the first in its upper four bits.
 fn digit_column(bytes: &[u8], x: usize) -> u8
     requires { x / 2 < length bytes.now }
     ensures digit { result ≡ digit_column bytes.now x }
@@ -42,7 +43,8 @@ fn digit_column(bytes: &[u8], x: usize) -> u8
     if x % 2 == 0 { byte / 16 } else { byte % 16 }
 }
 
-/// A row of one plane, four columns to a hexadecimal digit of either case.
+/// The row of one plane that a text says, four columns to a hexadecimal digit of either case. Its
+/// colours are 0 and 1. Returns `None` if the text is no such row.
 pub(crate) fn bits_of_text(text: &[u8]) -> Option<RowInColours>
     ensures { result ≡ bits_of_text text.now }
 {
@@ -65,7 +67,7 @@ fn row_of_bits(side: Side, bytes: &[u8]) -> RowInColours
     RowInColours::new(side, colours)
 }
 
-/// The bit of a column, as a colour.
+/// 1 if the bit of a column is set, or else 0. A byte's highest bit is its first column.
 fn bit_column(bytes: &[u8], x: usize) -> u8
     requires { x / 8 < length bytes.now }
     ensures bit { result ≡ bit_number (byte_column bytes.now x) }

@@ -50,7 +50,8 @@ pub trait Screen {
     /// What was written, if that is known.
     ghost contents: { Self → Option (List ℕ) };
 
-    /// Shows a frame.
+    /// Writes the picture of a frame. If it fails, a part of the picture from its beginning may
+    /// have been written.
     fn show(&mut self, frame: &Frame) -> Result<(), Unshown>
         ensures written { WritesFront result (contents self.old) (contents self.new)
             (picture self.old frame.now) }
@@ -139,7 +140,7 @@ fn show_frame<S: Screen>(screen: &mut S, frame: &Frame) -> Result<(), Stop>
     }
 }
 
-/// How showing ends if line n isn't taken.
+/// How showing ends if line n, counted from 1, isn't taken.
 fn end_at(n: u64, stop: Stop) -> End
     ensures { result ≡ end_at n stop }
 {

@@ -92,7 +92,7 @@ impl Look {
         self.scale * self.window_of(frame).width
     }
 
-    /// Returns how many pixels it is high.
+    /// Returns how many pixels the picture of a frame is high.
     pub fn height(&self, frame: &Frame) -> usize
         ensures value { result ≡ pixels_high self.now frame.now }
         ensures some { 0 < result }
@@ -101,8 +101,8 @@ impl Look {
         self.scale * self.window_of(frame).height
     }
 
-    /// Returns the light of the cell that pixel (i, j) shows, counted from the left and from the
-    /// top.
+    /// Returns the light of the cell that pixel (i, j) shows. Column i is counted from the left and
+    /// row j from the top, both from 0.
     pub fn light(&self, frame: &Frame, i: usize, j: usize) -> Light
         requires column { i < most_pixels }
         requires row { j < most_pixels }

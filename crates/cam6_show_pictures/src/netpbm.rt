@@ -96,7 +96,7 @@ fn write_rows<W: Write>(
     Ok(())
 }
 
-/// Replaces what is in the vector by a row of pixels.
+/// Replaces what is in the vector by row j of pixels, counted from 0 and from the top.
 fn pixel_row(pixels: &mut Vec<u8>, look: &Look, frame: &Frame, j: usize) -> Result<(), AllocError>
     requires row { j < most_pixels }
     ensures { IfOk result (λ _. pixels.new.items ≡ pixel_row_of look.now frame.now j) }

@@ -90,14 +90,15 @@ pub const PALETTE: [Light; 16] = [
     },
 ];
 
-/// Returns the lights that a word says: sixteen groups of six digits, with commas between them.
+/// Returns the lights of the colours 0 to 15 that a word says: sixteen groups of six hexadecimal
+/// digits, with commas between them. Returns `None` for any other word.
 pub fn palette_of(word: &str) -> Option<[Light; 16]>
     ensures { result ≡ palette_said word.now }
 {
     lights_of(word.as_bytes())
 }
 
-/// The lights that a word's bytes say.
+/// The lights that a word's bytes say, or `None` if they say none.
 fn lights_of(text: &[u8]) -> Option<[Light; 16]>
     ensures { result ≡ palette_said text.now }
 {
@@ -114,7 +115,8 @@ fn lights_of(text: &[u8]) -> Option<[Light; 16]>
     Some(palette)
 }
 
-/// The light of a colour.
+/// The light of colour n. Returns `None` if its six digits are none, or if no comma parts it from
+/// the light before.
 fn light_at(text: &[u8], n: usize) -> Option<Light>
     requires colour { n < 16 }
     requires word { length text.now ≡ 111 }
@@ -127,7 +129,7 @@ fn light_at(text: &[u8], n: usize) -> Option<Light>
     }
 }
 
-/// Whether a comma stands before the light, if it isn't the first.
+/// Whether a comma stands before the light of colour n. It is true for the first, which needs none.
 fn is_parted(text: &[u8], n: usize) -> bool
     requires colour { n < 16 }
     requires word { length text.now ≡ 111 }
@@ -136,7 +138,7 @@ fn is_parted(text: &[u8], n: usize) -> bool
     n == 0 || text[7 * n - 1] == b','
 }
 
-/// The light of six digits.
+/// The light of six hexadecimal digits, or `None` for any other bytes.
 fn light_of(digits: &[u8]) -> Option<Light>
     ensures { result ≡ light_said digits.now }
 {

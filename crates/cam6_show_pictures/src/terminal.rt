@@ -33,7 +33,8 @@ pub struct Terminal<C, W> {
 impl<C: Clock, W: Write> Terminal<C, W> {
     ghost use Rattle.std.specs.Prelude.{◌≡◌};
 
-    /// A terminal on which each picture stays at least for the pause, by the clock.
+    /// A terminal on which each picture stays at least for the pause, by the clock. Without a pause
+    /// the next one may follow at once.
     pub fn new(
         alloc: Global,
         clock: C,
@@ -109,7 +110,8 @@ fn write_lines<W: Write>(
     Ok(())
 }
 
-/// Replaces what is in the vector by a line of characters.
+/// Replaces what is in the vector by line k of characters, counted from 0, and its LF. It shows the
+/// pixels of the rows 2k and 2k + 1.
 fn character_line(
     line: &mut Vec<u8>,
     look: &Look,
@@ -126,7 +128,8 @@ fn character_line(
     line.extend_from_slice(b"\x1b[0m\x1b[K\n")
 }
 
-/// Pushes the character of two pixels.
+/// Pushes the character that shows the pixels at column i of the rows 2k and 2k + 1, after the
+/// orders for its two colours.
 fn push_character(
     line: &mut Vec<u8>,
     look: &Look,
@@ -144,7 +147,8 @@ fn push_character(
     line.extend_from_slice(UPPER_HALF)
 }
 
-/// Pushes the order for the colour behind a character: that of the pixel, if there is one.
+/// Pushes the order for the colour behind a character: that of pixel (i, j), or the terminal's own
+/// if the picture has no row j.
 fn push_behind(
     line: &mut Vec<u8>,
     look: &Look,
@@ -164,7 +168,7 @@ fn push_behind(
     }
 }
 
-/// Pushes an order that ends with a number.
+/// Pushes these bytes of an order, the number in decimal, and the `m` at its end.
 fn push_order(line: &mut Vec<u8>, order: &[u8], number: u8) -> Result<(), AllocError>
     ensures { IfOk result (λ _. line.new.items
         ≡ line.old.items ++ (order.now ++ decimal number ++ codes "m")) }
@@ -187,14 +191,14 @@ fn push_decimal(line: &mut Vec<u8>, n: u8) -> Result<(), AllocError>
     }
 }
 
-/// The terminal's number for a light.
+/// The number of a light among the terminal's 256 colours, from 16 to 231.
 fn hue(light: Light) -> u8
     ensures { result ≡ hue_of light }
 {
     16 + 36 * step_of(light.red) + 6 * step_of(light.green) + step_of(light.blue)
 }
 
-/// How much of a light, in six steps.
+/// The level of an amount of light, from 0 to 5.
 fn step_of(amount: u8) -> u8
     ensures step { result ≡ step_told amount }
     ensures few { result ≤ 5 }

@@ -88,7 +88,7 @@ fn asked(matches: &ArgMatches<'_>) -> Result<DrawOptions, Unsaid>
     )
 }
 
-/// All that is asked for.
+/// The options with these four values, or the first error among them.
 fn all(
     way: Result<Way, Unsaid>,
     palette: Result<[Light; 16], Unsaid>,
@@ -149,7 +149,8 @@ fn way_of(ppm: bool, text: bool, frames: Option<&str>) -> Result<Way, Unsaid>
     }
 }
 
-/// A terminal, with as many pictures a second as the word says.
+/// A terminal, with at most as many pictures a second as the word says. Returns an error if that
+/// isn't a whole number from 1 to 1000.
 fn terminal_at(word: &str) -> Result<Way, Unsaid>
     ensures { result_ok result ≡ way_said false true (Some word.now) }
 {
@@ -159,7 +160,7 @@ fn terminal_at(word: &str) -> Result<Way, Unsaid>
     }
 }
 
-/// Whether a flag is among the words, by its value.
+/// Whether the word at a flag is `true`. It is false if there is no word.
 fn is_true(word: Option<&str>) -> bool
     ensures { result ≡ is_true_told (option_map (λ word. word.now) word.entry) }
 {
@@ -169,7 +170,7 @@ fn is_true(word: Option<&str>) -> bool
     }
 }
 
-/// The light of each colour.
+/// The light of each colour, as the word at `--palette` says, or `PALETTE` without a word.
 fn palette_by(word: Option<&str>) -> Result<[Light; 16], Unsaid>
     ensures { result_ok result ≡ palette_told (option_map (λ word. word.now) word.entry) }
 {
@@ -182,7 +183,7 @@ fn palette_by(word: Option<&str>) -> Result<[Light; 16], Unsaid>
     }
 }
 
-/// The part that is shown, or none for the whole torus.
+/// The part that the words at `--crop` say. Without words it is `None`, the whole torus.
 fn window_by(words: Option<&[&str]>) -> Result<Option<Window>, Unsaid>
     ensures { result_ok result ≡ window_told (option_map (λ words. texts words.now) words.entry) }
 {
@@ -195,7 +196,7 @@ fn window_by(words: Option<&[&str]>) -> Result<Option<Window>, Unsaid>
     }
 }
 
-/// The part that words say.
+/// The part that four words say. Returns `None` if they are no part, or not four.
 fn window_of(words: &[&str]) -> Option<Window>
     ensures { result ≡ window_of_words (texts words.now) }
 {
@@ -206,7 +207,7 @@ fn window_of(words: &[&str]) -> Option<Window>
     }
 }
 
-/// The part that four words say.
+/// The part that four words say, or `None` if one of them is no number within its bounds.
 fn window_said(x: &str, y: &str, w: &str, h: &str) -> Option<Window>
     ensures { result ≡ window_said x.now y.now w.now h.now }
 {
@@ -230,7 +231,7 @@ fn window_said(x: &str, y: &str, w: &str, h: &str) -> Option<Window>
     })
 }
 
-/// How many pixels a cell is wide and high.
+/// How many pixels a cell is wide and high, as the word at `--scale` says, or 1 without a word.
 fn scale_by(word: Option<&str>) -> Result<usize, Unsaid>
     ensures scale { result_ok result ≡ scale_told (option_map (λ word. word.now) word.entry) }
     ensures within { IfOk result (λ scale. (1 ≤ scale) × (scale ≤ 16)) }
@@ -241,7 +242,7 @@ fn scale_by(word: Option<&str>) -> Result<usize, Unsaid>
     }
 }
 
-/// The command line.
+/// The program's name, help and options, as clap takes them.
 fn program<'a>(alloc: Global) -> Result<Command<'a>, AllocError>
     ensures { IfOk result (λ command. app_of command ≡ program_of) }
 {

@@ -92,7 +92,7 @@ fn names_rule(matches: &ArgMatches<'_>) -> bool
     text_at(matches, "rule").is_some()
 }
 
-/// Where a pattern is set.
+/// The task of setting a pattern where clap's matches say. Returns `None` if a value is wrong.
 fn place_given(matches: &ArgMatches<'_>) -> Option<RleOptions>
     ensures { MayHaveTask result (place_at (rows_of (found_of matches.now))) }
 {
@@ -123,7 +123,7 @@ fn placed(
     }))
 }
 
-/// The columns, or rows, that an option says.
+/// The columns, or rows, that an option says, or `None` if it says no number from 0 to 511.
 fn move_given(matches: &ArgMatches<'_>, name: &str) -> Option<usize>
     ensures value { result ≡ move_at name.now (rows_of (found_of matches.now)) }
     ensures within { IfSome result (λ cells. cells ≤ last_move) }
@@ -132,14 +132,15 @@ fn move_given(matches: &ArgMatches<'_>, name: &str) -> Option<usize>
     Some(cells as usize)
 }
 
-/// The planes that `--planes` says.
+/// The planes that `--planes` says, or `None` if it says none.
 fn planes_given(matches: &ArgMatches<'_>) -> Option<ChosenPlanes>
     ensures { result ≡ planes_at (rows_of (found_of matches.now)) }
 {
     planes_of_word(text_at(matches, "planes")?)
 }
 
-/// The name of a rule that texts are written with.
+/// The task of writing texts with the name of the rule at `--rule`, or with none if that isn't
+/// said. It is refused if the name has an LF.
 fn gather_given(alloc: Global, matches: &ArgMatches<'_>) -> Result<RleOptions, Refused>
     ensures task { IfOk result (λ options. HasTask options (gather_at (rows_of (found_of matches.now)))) }
     ensures refused { IfErr result (λ refused. IsRefusal refused
@@ -155,7 +156,7 @@ fn gather_given(alloc: Global, matches: &ArgMatches<'_>) -> Result<RleOptions, R
     }
 }
 
-/// Whether a text is one line.
+/// Whether a text has no LF.
 fn is_one_line(bytes: &[u8]) -> bool
     ensures { result ≡ is_one_line bytes.now }
 {
@@ -169,14 +170,14 @@ fn is_one_line(bytes: &[u8]) -> bool
     true
 }
 
-/// Arguments that ask for no task.
+/// The refusal of arguments that ask for no task.
 fn no_task(alloc: Global) -> Refused
     ensures { IsRefusal result }
 {
     unasked(String::from_str(alloc, NO_TASK_TEXT))
 }
 
-/// The planes of a word's one to four different digits.
+/// The planes of a word's one to four different digits, or `None` for any other word.
 fn planes_of_word(word: &str) -> Option<ChosenPlanes>
     ensures { result ≡ planes_said word.now }
 {
@@ -235,7 +236,7 @@ fn are_different(bytes: &[u8]) -> bool
     true
 }
 
-/// The planes of such digits.
+/// The planes of one to four different digits, in their order.
 fn planes_of_digits(digits: &[u8]) -> ChosenPlanes
     requires { says_planes digits.now ≡ true }
     ensures { result ≡ map (λ b. b - 48) digits.now }
@@ -250,7 +251,7 @@ fn planes_of_digits(digits: &[u8]) -> ChosenPlanes
     ChosenPlanes::new(count, planes)
 }
 
-/// The command line.
+/// The program's name, help and options, as clap takes them.
 fn program<'a>(alloc: Global) -> Result<Command<'a>, AllocError>
     ensures { IfOk result (λ command. IsProgram (app_of command)) }
 {

@@ -15,8 +15,8 @@ pub const BAD_INPUT: u8 = 3;
 /// More lines than can be counted.
 pub const TOO_MANY_LINES: u8 = 6;
 
-/// Returns the exit status of an end that is a failure, and its line for standard error, unless an
-/// allocation for the line failed.
+/// Returns the exit status of an end that is a failure, and its line for standard error. In place
+/// of the line is an error if an allocation for it failed. Returns `None` for any other end.
 pub fn failure_of(
     alloc: Global,
     program: Program,
@@ -66,7 +66,7 @@ fn at_column(alloc: Global, column: usize, text: &str) -> Result<String, AllocEr
     format!(in alloc; ", column {column}{text}")
 }
 
-/// The text of a cause.
+/// Why a text isn't a pattern: the last part of the line that says so, with its LF.
 fn cause_text(alloc: Global, cause: Cause) -> Result<String, AllocError>
     ensures { IfOk result (λ told. string_bytes told ≡ cause_told cause) }
 {

@@ -162,7 +162,7 @@ fn is_its_reply(number: usize, reply: &Reply) -> bool {
     }
 }
 
-/// The commands of these numbers, in order.
+/// The commands of the numbers 0 to 6, in order.
 fn commands(alloc: Global) -> Result<Vec<Command>, AllocError> {
     let mut commands = Vec::new(alloc);
     for number in 0..7 {
@@ -262,7 +262,7 @@ fn sessions_are_served(rt: HostRuntime) {
     assert_eq!(rt; writer.as_slice(), REFUSED);
 }
 
-/// A user asks for this, and collects what comes of it.
+/// The events by which user 1 asks for a command, and collects what comes of it.
 fn asked_for(alloc: Global, command: Command) -> Result<Vec<Event>, AllocError> {
     let mut events = Vec::new(alloc);
     events.push(Event::Ask(1, command))?;

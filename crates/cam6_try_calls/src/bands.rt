@@ -77,7 +77,7 @@ fn last_band(rt: &impl Abort, mid: MidStep, tables: &EntryTables) -> AtRest {
     }
 }
 
-/// The step says how far it is, on which torus, and with which limit.
+/// Checks that so many bands of the step are done, on a torus of this side, which is its limit too.
 fn check_mid(rt: &impl Abort, mid: &MidStep, side: Side, bands: u16) {
     same(rt, &(mid.rows() / 16), &bands);
     same(rt, &mid.side(), &side);
@@ -88,7 +88,8 @@ fn check_limit(rt: &impl Abort, spare: &Spare, limit: Side) {
     assert_eq!(rt; spare.limit(), limit);
 }
 
-/// Goes on in another image, which has to have room for the step.
+/// Moves a step to another image, which has to have room for it. Returns the step, and the image
+/// that it left.
 fn moved(rt: &impl Abort, mid: MidStep, spare: Spare) -> (MidStep, Spare) {
     assert!(rt; mid.side().number() <= spare.limit().number());
     mid.move_into(spare)
@@ -109,7 +110,7 @@ fn check_ball(rt: &impl Abort, planes: &Planes) {
 }
 
 /// Does so many bands of a step in its own image, and the others in the spare one, which has the
-/// same limit.
+/// same limit. Then checks where the ball is.
 fn check_step(rt: &impl Abort, image: AtRest, spare: Spare, tables: &EntryTables, bands: u16) {
     let side = image.planes().side();
     let mid = after_bands(rt, image.begin(tables), tables, bands);

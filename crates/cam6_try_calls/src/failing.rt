@@ -85,7 +85,8 @@ pub(crate) struct Ones {
 }
 
 impl Ones {
-    /// Whether this call is one of those that go well.
+    /// Returns true for so many calls. Any later one fails, or returns false if nothing more is
+    /// taken.
     fn goes_well(&mut self) -> io::Result<bool> {
         if self.calls > 0 {
             self.calls -= 1;
@@ -122,7 +123,7 @@ pub(crate) struct Once {
 }
 
 impl Once {
-    /// Fails if this call is the one.
+    /// Fails if this call is the one, after as many others as `calls` says.
     fn goes_well(&mut self) -> io::Result<()> {
         let is_due = self.calls == 0;
         self.calls = self.calls.wrapping_sub(1);

@@ -29,6 +29,7 @@ fn next(number: u64) -> u64 {
         .wrapping_add(1_442_695_040_888_963_407)
 }
 
+/// Planes with random cells, which are the same ones each time.
 fn without_a_pattern(rt: &impl Abort, alloc: Global, side: Side) -> Result<Planes, NoMemory> {
     let mut planes = Planes::blank(alloc, side)?;
     let mut number = 1;

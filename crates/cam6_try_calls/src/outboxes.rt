@@ -17,8 +17,8 @@ fn goes(outbox: &mut Outbox<Once>, answer: &[u8]) -> bool {
     outbox.release().is_ok() && is_taken
 }
 
-/// Which answers go to a writer that fails at this call and at no other, and whether it gets these
-/// bytes of them.
+/// Which answers go to a writer that fails at this call, counted from 0, and at no other. And
+/// whether it gets these bytes of them.
 fn sent(alloc: Global, calls: usize, want: &[u8]) -> io::Result<(bool, bool, bool)> {
     let writer = Once {
         bytes: Vec::new(alloc),

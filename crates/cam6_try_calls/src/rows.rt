@@ -86,7 +86,7 @@ fn digits_bytes_and_words(rt: HostRuntime) -> Result<(), Fail> {
     Ok(())
 }
 
-/// The words and the digits of a row.
+/// Checks that a row has the words of `ROW` and the digits of `TEXT`.
 fn check_row(rt: &impl Abort, planes: &Planes, plane: usize, row: usize) {
     assert!(rt; planes.side().number() == 256 && plane < 4 && row < 256);
     same(rt, &planes.row_words(plane, row), &ROW);

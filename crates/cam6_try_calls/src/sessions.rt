@@ -35,8 +35,8 @@ fn reached(marks: &[usize], n: usize) -> usize {
     marks.iter().filter(|mark| **mark <= n).count()
 }
 
-/// Whether the machine after so many lines of the session is the one that answers. The third sets
-/// its cycle.
+/// Whether a machine answers a run of no steps as it does after so many lines of the session. The
+/// third line sets the cycle.
 fn stands_after(alloc: Global, lines: usize, machine: &mut Machine) -> bool {
     let want = if lines < 3 {
         b"{\"fault\":63}\n".as_slice()
@@ -117,7 +117,7 @@ fn readers_fail_at_each_call(rt: HostRuntime) -> Result<(), Fail> {
     Ok(())
 }
 
-/// The bytes that so many calls write, each byte by a call of its own and each answer flushed by
+/// How many bytes so many calls write, each byte by a call of its own and each answer flushed by
 /// one.
 fn bytes_of(calls: usize) -> usize {
     match calls {

@@ -49,7 +49,7 @@ fn left(machine: &mut Machine, command: Command) -> Result<Option<u16>, NoMemory
     }
 }
 
-/// The machine is to set that cycle at once.
+/// Has the machine set the cycle of three entries, and checks that it does so at once.
 fn set_cycle(rt: &impl Abort, alloc: Global, machine: &mut Machine) -> Result<(), NoMemory> {
     let left = left(machine, cycle(alloc)?)?;
     assert_eq!(rt; left, None, "a cycle is set at once");
@@ -114,7 +114,7 @@ fn machines_come_apart(rt: HostRuntime) -> Result<(), NoMemory> {
     Ok(())
 }
 
-/// The machine is to set that cycle, and does one step of it.
+/// Has the machine set the cycle of three entries, and do one step of it.
 fn take_a_step(rt: &impl Abort, alloc: Global, machine: &mut Machine) -> Result<(), NoMemory> {
     set_cycle(rt, alloc, machine)?;
     let _reply = machine.reply_to(Command::Run { n: 1 })?;

@@ -133,7 +133,7 @@ impl<W: Way> Reading<W> {
         Ok(self.parts.push(part)?)
     }
 
-    /// The part that is being read.
+    /// The part that is being read. If there is none, begins one with the way of a session.
     fn part(&mut self, alloc: Global) -> Result<&mut Part<W>, Unplayable> {
         if self.parts.is_empty() {
             self.begin_part(alloc, UNSAID)?;
@@ -146,6 +146,7 @@ impl<W: Way> Reading<W> {
         Ok(())
     }
 
+    /// Reads `NAME TEXT`, and keeps the text under the name.
     fn name(&mut self, alloc: Global, rest: &str) -> Result<(), Unplayable> {
         let (name, text) = rest.split_once(' ').ok_or(Unplayable::Unread)?;
         let bytes = written_out(alloc, text, self.named.as_slice())?;
@@ -153,6 +154,8 @@ impl<W: Way> Reading<W> {
         Ok(self.named.push(Named { name, bytes })?)
     }
 
+    /// Reads what stands after `>`, and adds the line to those that are sent. What stands behind `
+    /// => ` must come back. `rows PLANE` begins rows in place of that.
     fn send(&mut self, alloc: Global, rest: &str) -> Result<(), Unplayable> {
         if let Some(plane) = rest.strip_prefix("rows ") {
             let plane = String::from_str(alloc, plane)?;
@@ -173,6 +176,8 @@ impl<W: Way> Reading<W> {
         Ok(self.part(alloc)?.sent.push(Sent { bytes, has_end })?)
     }
 
+    /// Reads what stands after `<`, and adds the line to those that must come back. `plane` begins
+    /// rows in place of that.
     fn want(&mut self, alloc: Global, text: &str) -> Result<(), Unplayable> {
         if text == "plane" {
             self.pending = Pending::Wanted(Rows::blank(alloc, self.side)?);

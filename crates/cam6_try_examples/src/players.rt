@@ -137,7 +137,8 @@ fn write_lines<R: Print + AllocGlobal>(rt: &R, sent: &[Sent]) -> io::Result<bool
     Ok(true)
 }
 
-/// Plays an example, and prints and returns whether all its lines came back.
+/// Plays an example, and prints and returns whether all its lines came back. They didn't if no line
+/// is wanted.
 fn show<W: Way, R: Print + AllocGlobal, F: Fn(&W, &[Sent]) -> io::Result<Vec<Vec<u8>>>>(
     rt: &R,
     name: &str,

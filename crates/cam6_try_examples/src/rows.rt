@@ -26,7 +26,7 @@ impl Rows {
         })
     }
 
-    /// Reads a line of rows, by its mark.
+    /// Reads what stands after one of the marks `=`, `@` and `|`. Returns `None` if it is wrong.
     pub fn read_line(&mut self, mark: &str, rest: &str) -> Option<()> {
         match mark {
             "=" => self.put_digits(rest),
@@ -74,7 +74,7 @@ impl Rows {
         Some(())
     }
 
-    /// The reply to `plane`.
+    /// Adds the reply to `plane` that these rows are, and its LF.
     pub fn write_plane(&self, text: &mut Vec<u8>) -> Result<(), AllocError> {
         text.extend_from_slice(b"{\"ok\":\"plane\",\"rows\":[")?;
         for (y, digits) in self.digits.iter().enumerate() {

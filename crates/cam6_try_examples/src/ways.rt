@@ -16,6 +16,6 @@ pub trait Way: Drop {
 
 /// A way that needs nothing but memory to be played. `play_by` is for ways that need more.
 pub trait Played: Way {
-    /// What comes back for the lines, by each way in.
+    /// What comes back for the lines, once for each way in. Each must be what is wanted.
     fn played(&self, alloc: Global, sent: &[Sent]) -> io::Result<Vec<Vec<u8>>>;
 }

@@ -60,7 +60,7 @@ fn drop_value(alloc: Global, name: &Text) -> Result<Value, AllocError> {
     json!(in alloc; {"do": "drop", "name": name.as_str()})
 }
 
-/// The machine has the version that is written.
+/// The value of a `load`. Its machine is written in the second version.
 fn load_value(alloc: Global, machine: &SavedMachine) -> Result<Value, AllocError> {
     let machine = machine_value(alloc, Version::Second, machine)?;
     json!(in alloc; {"do": "load", "machine": machine})

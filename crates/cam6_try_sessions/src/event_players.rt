@@ -42,7 +42,7 @@ impl Told {
         }
     }
 
-    /// Gives the core the lines, each by itself, and keeps what comes back.
+    /// Gives the core the lines, each by itself. What comes back is kept for `both_ways`.
     pub fn answered(&mut self, sent: &[Sent]) -> io::Result<()> {
         for line in sent {
             let line = str::from_utf8(line.bytes.as_slice()).unwrap_or("");
@@ -124,7 +124,8 @@ impl Told {
         add_line(&mut self.answers, outcome)
     }
 
-    /// The first board that takes a user's command does so many bands of it.
+    /// Has the first board that takes a user's command do so many bands of it. Does no band if no
+    /// board takes it.
     fn by_some_board(&mut self, user: u64, left: u64) -> io::Result<()> {
         for board in 0..MAX_BOARDS as u64 {
             let lease = format!(in self.alloc;

@@ -49,7 +49,8 @@ impl Sizes {
     }
 }
 
-/// Does the events of lines as one list, and prints what came of them.
+/// Does the events of lines as one list, and prints what came of them. Begins again if an
+/// allocation fails, up to ten times in all.
 pub fn do_all<R: Print + AllocGlobal>(rt: &R, sizes: &Sizes, lines: &str) -> io::Result<()> {
     let alloc = rt.alloc();
     let mut core = sizes.core(alloc).map_err(|_| no_memory())?;

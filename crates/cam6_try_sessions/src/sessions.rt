@@ -96,7 +96,7 @@ fn answers_of(alloc: Global, machine: &mut Machine, bytes: &[u8]) -> io::Result<
     Ok(answers)
 }
 
-/// What each line says.
+/// What each line says, as the plainest line of its command, or the line's fault.
 pub fn read(alloc: Global, sent: &[Sent]) -> io::Result<Vec<u8>> {
     let mut answers = Vec::new(alloc);
     for line in sent {

@@ -54,7 +54,7 @@ pub struct Link<'a, R: Clock> {
 }
 
 impl<'a, R: Clock> Link<'a, R> {
-    /// A connection whose request has to come.
+    /// A connection without a host. Its request has to come, and be answered, within ten seconds.
     pub fn new(clock: &'a R, stream: &'a TcpStream) -> io::Result<Link<'a, R>> {
         // Answers are sent even if the socket can't be set to send them at once.
         let _ = stream.set_nodelay(true);
@@ -86,7 +86,8 @@ impl<'a, R: Clock> Link<'a, R> {
         false
     }
 
-    /// The bytes that come next, which are left for the next read.
+    /// Copies the bytes that come next, which are left for the next read. Waits for one at least,
+    /// and returns how many came. 0 means that the connection has ended.
     fn peek(&self, bytes: &mut [u8]) -> io::Result<usize>
         ensures { IfOk result (λ count. count ≤ length bytes.new) }
     {
@@ -111,7 +112,7 @@ impl<'a, R: Clock> Link<'a, R> {
         }
     }
 
-    /// Fails if the host is gone.
+    /// Fails with `HostUnreachable` if there is a host and it is gone.
     fn look(&self) -> io::Result<()> {
         match self.host {
             Some(host) if has_ended(host) => Err(Error::from(ErrorKind::HostUnreachable)),
@@ -119,7 +120,7 @@ impl<'a, R: Clock> Link<'a, R> {
         }
     }
 
-    /// Lets the next calls take so many seconds.
+    /// Lets all calls from here on take so many seconds together.
     fn allow(&self, seconds: u64) {
         // A clock that fails leaves the time as it was.
         if let Ok(until) = after(self.clock, seconds) {
@@ -203,7 +204,8 @@ fn goes_on(kind: ErrorKind) -> bool {
     }
 }
 
-/// Whether the other end of a stream has ended it.
+/// Whether the other end of a stream has ended it, or the stream has failed. Doesn't wait, and
+/// takes no bytes.
 fn has_ended(host: &TcpStream) -> bool {
     if host.set_nonblocking(true).is_err() {
         return true;

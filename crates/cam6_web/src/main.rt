@@ -79,7 +79,7 @@ fn over_network<
     }
 }
 
-/// Ends as a server that can't go on.
+/// Prints why a server can't go on, and returns the exit status for that.
 fn closed(rt: &impl Eprint, fault: Fault) -> ExitCode
     ensures { exit_status result ≡ (fault_told fault).0 }
 {

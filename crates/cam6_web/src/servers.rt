@@ -78,7 +78,7 @@ fn accept<
     }
 }
 
-/// Reports a failure, unless so many more are not to be reported. Returns how many aren't after it.
+/// Reports a failure if `quiet` is 0. Returns how many of the next failures are not to be reported.
 fn report(rt: &impl Eprint, error: &Error, quiet: u32) -> u32 {
     if quiet > 0 {
         return quiet - 1;

@@ -39,7 +39,8 @@ pub fn receive<R: Handle + Net<Listener = TcpListener, Stream = TcpStream> + Sen
     }
 }
 
-/// Starts the thread of a connection. Nobody joins it.
+/// Starts the thread of a connection, which nobody joins. Returns `None` if there is no thread or
+/// no memory for it.
 fn begin<R: Handle + Net<Listener = TcpListener, Stream = TcpStream> + Send + Sync + 'static>(
     hall: &Arc<Hall<R>>,
     stream: TcpStream,
@@ -111,7 +112,8 @@ fn converse<R: Handle + Net<Listener = TcpListener, Stream = TcpStream>>(
     }
 }
 
-/// Carries the messages of a page to a machine of its own.
+/// Carries the messages of a page to a machine of its own. If there is no memory for one, turns the
+/// page away.
 fn talk_to_machine<R: Handle>(hall: &Hall<R>, link: &Link<'_, R>, unread: Vec<u8>) {
     let alloc = hall.rt.alloc();
     match PrivateMachine::new(alloc, hall.limit) {
@@ -122,7 +124,8 @@ fn talk_to_machine<R: Handle>(hall: &Hall<R>, link: &Link<'_, R>, unread: Vec<u8
     }
 }
 
-/// Carries the messages of a page to the host of this number.
+/// Carries the messages of a page to the host of this number. If it can't be reached, turns the
+/// page away.
 fn talk_to_host<R: Handle + Net<Listener = TcpListener, Stream = TcpStream>>(
     hall: &Hall<R>,
     link: &Link<'_, R>,
@@ -140,7 +143,7 @@ fn talk_to_host<R: Handle + Net<Listener = TcpListener, Stream = TcpStream>>(
     talk(alloc, &link.beside(&stream), unread, &mut host);
 }
 
-/// Connects to the host of this number.
+/// Connects to the host of this number, counted from 1, within ten seconds.
 fn reach<R: Handle + Net<Listener = TcpListener, Stream = TcpStream>>(
     hall: &Hall<R>,
     number: usize,

@@ -121,7 +121,7 @@ fn asks_for_websocket(request: &Request<Bytes>) -> bool
     upgrade.eq_ignore_ascii_case(b"websocket") && version == b"13".as_slice()
 }
 
-/// What the first field of this name says.
+/// What the first field of this name says, or `None` if there is no such field.
 fn said<'a>(request: &'a Request<Bytes>, name: &str) -> Option<&'a [u8]>
     ensures { option_map (λ bytes. bytes.now) result ≡ said request.now (lowercase name.now) }
 {
@@ -131,7 +131,7 @@ fn said<'a>(request: &'a Request<Bytes>, name: &str) -> Option<&'a [u8]>
     }
 }
 
-/// Whether the request only asks to be shown something.
+/// Whether the method is GET or HEAD, so that the request only asks to be shown something.
 fn is_show(request: &Request<Bytes>) -> bool
     ensures { IsTrue result ↔ IsShow request.now }
 {

@@ -69,7 +69,8 @@ impl Names {
         is_among(self.added.as_slice(), host)
     }
 
-    /// Whether an `Origin` is that of the server's own pages under a name.
+    /// Whether an `Origin` is that of the server's own pages under the name `host`. That is
+    /// `http://` and the name, or `https://` and the name if it was added.
     pub fn is_origin(&self, origin: &[u8], host: &[u8]) -> bool
         ensures { IsTrue result ↔ IsOrigin self.now host.now origin.now }
     {

@@ -145,7 +145,8 @@ fn refuse(response: &mut Response, status: StatusCode, text: &'static str) -> Re
     show(response, status, plain_text(), text)
 }
 
-/// Puts a text into a response.
+/// Puts a text of this content type into a response, with a status. Adds the fields that every text
+/// has.
 fn show(
     response: &mut Response,
     status: StatusCode,
@@ -170,7 +171,7 @@ fn show(
     response.body.push(text)
 }
 
-/// Opens a socket.
+/// Puts the answer that opens a socket into a response.
 fn open(
     alloc: Global,
     door: &Door,

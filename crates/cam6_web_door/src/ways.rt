@@ -62,8 +62,9 @@ impl Hosts {
         self.told.as_slice()
     }
 
-    /// Where the socket at a path leads: to the first host or, if there is none, to a machine of its
-    /// own at `/ws`, and to the host K at `/ws/K`.
+    /// Where the socket at a path leads. `/ws` leads to the first host or, if there is none, to a
+    /// machine of its own. `/ws/K` leads to host K, counted from 1. Returns `None` for any other
+    /// path.
     pub fn way_at(&self, path: &str) -> Option<Way>
         ensures found { IfSome result (λ way. LeadsTo self.now path.now way) }
         ensures none { IfNone result (IsNoWay self.now path.now) }

@@ -43,7 +43,7 @@ impl Host for PrivateMachine {
 
     ghost answering = { by_private_machine };
 
-    /// Does what a line says, and returns the text of the reply.
+    /// Does what a line says, and returns the text of the reply, without its LF.
     fn ask(&mut self, line: &[u8]) -> Result<Vec<u8>, Silence> {
         self.line.clear();
         if self.line.add(line).is_err() {
@@ -53,7 +53,8 @@ impl Host for PrivateMachine {
     }
 }
 
-/// Does what a line says, and returns the text of the machine's reply.
+/// Does what a line says, and returns the text of the machine's reply, without its LF. After an
+/// error the command may have been done.
 fn reply_to(alloc: Global, machine: &mut Machine, line: &LineBuf) -> Result<Vec<u8>, Silence>
     ensures answer { (l : List ℕ) → Holds line.now l → IfOk result (λ answer.
         Answers (machine_of machine.old) l answer.items (machine_of machine.new)) }

@@ -71,8 +71,8 @@ fn exchange<P: Page, H: Host>(page: &mut P, host: &mut H, silences: u8) -> Resul
     }
 }
 
-/// Asks a page for a sign of life that was silent, unless it was silent too often. Returns how often
-/// in a row it was silent.
+/// Sends a ping to a page that was silent again, after so many silences in a row. Returns how many
+/// there are now. At the third the talk ends without a ping.
 fn wait_on<P: Page>(page: &mut P, silences: u8) -> Result<u8, End>
     requires { silences < max_silences }
     ensures { IsWaitedOn P.talking result silences (P.stands page.old) (P.stands page.new) }

@@ -69,7 +69,8 @@ fn with_lf(alloc: Global, line: &[u8]) -> Result<Vec<u8>, AllocError>
     Ok(whole)
 }
 
-/// Reads a line, and returns it without its LF.
+/// Reads a line, and returns it without its LF. If the reader ends before an LF, the error is
+/// `Ended`.
 fn next_answer<R: BufRead>(alloc: Global, reader: &mut R) -> Result<Vec<u8>, Silence>
     ensures answer { IfOk result (λ answer.
         Takes (R.remaining reader.old) answer.items (R.remaining reader.new)) }

@@ -31,7 +31,8 @@ pub trait Host {
     /// How it answers lines, and how it fails to.
     ghost answering: { HostWays state };
 
-    /// Takes a line, and returns the text that answers it.
+    /// Takes a line without its LF, and returns its answer, without an LF too. The caller checks
+    /// that the answer is UTF-8.
     fn ask(&mut self, line: &[u8]) -> Result<Vec<u8>, Silence>
         requires { IsLine line.now }
         ensures answer { IfOk result (λ answer.

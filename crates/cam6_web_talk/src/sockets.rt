@@ -35,7 +35,7 @@ pub enum Pace {
 /// A read fails with `WouldBlock` or `TimedOut` if nothing came in time, and with `HostUnreachable` if
 /// the host is gone meanwhile.
 pub trait Paced {
-    /// The time for this begins.
+    /// Says what the calls from here on are for. The time that they may take begins now.
     fn pace(&self, pace: Pace);
 }
 

@@ -10,7 +10,7 @@ use cam6_planes::Side;
 use std::alloc::{AllocError, Global};
 use std::net::SocketAddr;
 
-/// The side at an option, or 512 if the option isn't there.
+/// The side at an option, or 512 if the option isn't there. Returns `None` if the word is no side.
 pub fn side_by(word: Option<&str>) -> Option<Side>
     ensures { result ≡ side_told (option_map (λ word. word.now) word.entry) }
 {
@@ -29,7 +29,7 @@ pub enum Unaddressed {
     NoMemory,
 }
 
-/// The addresses that are given at an option, in order.
+/// The addresses that are given at an option, in order. There are none without the option.
 pub fn addresses_by(alloc: Global, words: Option<&[&str]>) -> Result<Vec<SocketAddr>, Unaddressed>
     ensures addresses { IfOk result (λ addresses.
         AreAddresses (given (option_map (λ words. texts words.now) words.entry)) addresses.items) }
@@ -63,7 +63,8 @@ fn addresses_of(alloc: Global, words: &[&str]) -> Result<Vec<SocketAddr>, Unaddr
     Ok(addresses)
 }
 
-/// The words that are given at an option as texts of their own, in order.
+/// The words that are given at an option as texts of their own, in order. There are none without
+/// the option.
 pub fn copied_by(alloc: Global, words: Option<&[&str]>) -> Result<Vec<String>, AllocError>
     ensures { IfOk result (λ copies. map string_bytes copies.items
         ≡ given (option_map (λ words. texts words.now) words.entry)) }

@@ -73,7 +73,7 @@ fn taken(alloc: Global, matches: &ArgMatches<'_>) -> Result<Options, Refused>
     }
 }
 
-/// Why arguments that clap takes ask for nothing.
+/// The refusal of arguments that clap takes but that ask for nothing, with a line that says why.
 fn says_nothing(alloc: Global, unsaid: Unsaid) -> Refused
     ensures { IsRefusal result }
 {
@@ -134,7 +134,7 @@ fn numbers_asked(matches: &ArgMatches<'_>) -> Result<Numbers, Unsaid>
     )
 }
 
-/// All of them.
+/// All of these numbers, or the error for the first that is missing.
 fn all(
     port: Option<u64>,
     connections: Option<u64>,
@@ -165,7 +165,7 @@ fn all(
     })
 }
 
-/// The command line.
+/// The program's name, help and options, as clap takes them.
 fn program<'a>(alloc: Global) -> Result<Command<'a>, AllocError>
     ensures { IfOk result (λ command. app_of command ≡ program_of) }
 {

@@ -30,7 +30,7 @@ impl Course {
         self.position
     }
 
-    /// A whole step is done.
+    /// Notes that one more whole step is done: goes on to the next position.
     pub fn go(&mut self) {
         let (_, after) = self.cycle.go(self.position, self.direction);
         self.position = after;

@@ -60,8 +60,8 @@ impl Room {
         &self.tables
     }
 
-    /// Returns the way from where a machine stands, and fills its tables. `None` if there is no
-    /// such way.
+    /// Returns the way from where a machine stands, and fills its tables. Returns `None` if there
+    /// is no cycle, or if its tables can't be filled for this direction.
     fn course_of(&mut self, kept: &Kept, direction: Direction) -> Option<Course> {
         let cycle = kept.cycle()?;
         self.filled.spoil();
@@ -75,7 +75,8 @@ impl Room {
     }
 }
 
-/// Takes a machine apart for so many steps, or gives it back if there is no such way.
+/// Takes a machine apart for so many steps. Gives it back as it was if it has no cycle, or if the
+/// tables can't be filled for this direction.
 pub fn part(
     machine: Machine,
     direction: Direction,
@@ -115,7 +116,7 @@ impl Parted {
         matches!(self.place, Place::Lost(_))
     }
 
-    /// The job in hand, which goes to a board.
+    /// Takes the job in hand, which goes to a board. Returns `None` if the image isn't in hand.
     pub fn job(&mut self) -> Option<Job> {
         match mem::replace(&mut self.place, Place::Board) {
             Place::Hand(image, steps) => Some(self.apart.course.job(image, steps)),
@@ -126,23 +127,23 @@ impl Parted {
         }
     }
 
-    /// A board has done a whole step.
+    /// Notes that a board has done a whole step.
     pub fn go(&mut self) {
         self.apart.course.go();
     }
 
-    /// A board gives the image back, with so many steps still to be done.
+    /// Takes back the image from a board, with so many steps still to be done.
     pub fn take(&mut self, image: Image, steps: u16) {
         self.place = Place::Hand(image, steps);
     }
 
-    /// A board has lost the image.
+    /// Notes that a board has lost the image, and keeps the planes that were left.
     pub fn lose(&mut self, spare: Spare) {
         self.place = Place::Lost(spare);
     }
 
     /// Moves the image to these planes, if it is in hand in the middle of a step, and they have
-    /// room.
+    /// room. Returns `Moved`, or `No` if it stays where it was.
     pub fn move_into(&mut self, planes: Planes) -> BoardAnswer {
         match mem::replace(&mut self.place, Place::Board) {
             Place::Hand(image, steps) => {
@@ -161,7 +162,8 @@ impl Parted {
         }
     }
 
-    /// The machine is whole again with the image in hand, if it is at rest and fits.
+    /// Makes the machine whole again with the image in hand, if that is at rest and fits. Or
+    /// returns what is apart as it was.
     pub fn join(self) -> Result<Machine, Parted> {
         let Parted { apart, place } = self;
         match place {
@@ -170,8 +172,8 @@ impl Parted {
         }
     }
 
-    /// The machine is whole again after its image was lost. It has blank planes, if those that were
-    /// left fit, and stands where the job began.
+    /// Makes the machine whole again after its image was lost. It has blank planes, if those that
+    /// were left fit, and stands where the job began. Or returns what is apart.
     pub fn join_blank(self) -> Result<Machine, Parted> {
         let Parted { apart, place } = self;
         match place {

@@ -158,6 +158,7 @@ impl BoardPlayer {
         }
     }
 
+    /// Keeps the machine if it is whole again, or else what is apart.
     fn after(&mut self, joined: Result<Machine, Parted>) -> BoardAnswer {
         match joined {
             Ok(machine) => {
@@ -202,7 +203,8 @@ fn load<B: Board>(parted: &mut Parted, board: &mut Watched<B>, room: &Room) -> B
     }
 }
 
-/// How a band ends, if there is a step to be done.
+/// Does a band, and returns how it ends. Returns `None` if the board is empty, or if no step is
+/// left.
 fn band<B: Board>(parted: &mut Parted, board: &mut Watched<B>) -> Option<CallEnd> {
     match board.band()? {
         Ok(end) => {
@@ -222,7 +224,8 @@ fn told(end: Option<CallEnd>) -> BoardAnswer {
     end.map_or(BoardAnswer::No, BoardAnswer::Band)
 }
 
-/// Does so many bands, but stops after the last of the job and at a fault.
+/// Does so many bands, but stops after the last of the job and at a fault. Returns `No` if there
+/// was none to do.
 fn bands<B: Board>(parted: &mut Parted, board: &mut Watched<B>, number: u64) -> BoardAnswer {
     let mut answer = BoardAnswer::No;
     for before in 0..number {

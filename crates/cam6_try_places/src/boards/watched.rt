@@ -21,10 +21,12 @@ impl<B: Board> Watched<B> {
         Watched { board, steps: None }
     }
 
+    /// The rows of the step under way that are done: 0 at rest, and `None` on an empty board.
     pub fn rows(&self) -> Option<u16> {
         self.board.rows()
     }
 
+    /// How often the board failed.
     pub fn faults(&self) -> u64 {
         self.board.faults()
     }
@@ -35,7 +37,7 @@ impl<B: Board> Watched<B> {
         self.steps.is_none()
     }
 
-    /// Loads an empty board with a job.
+    /// Loads an empty board with a job. If the board fails, it stays empty.
     pub fn load(&mut self, job: Job, tables: &Tables) -> Result<(), BoardFault>
         requires { self.old.steps ≡ None }
     {
@@ -47,7 +49,8 @@ impl<B: Board> Watched<B> {
         loaded
     }
 
-    /// Does a band, if there is a step to be done.
+    /// Does a band, after which the board is empty if it failed. Returns `None` if it is empty
+    /// before, or if no step is left.
     pub fn band(&mut self) -> Option<Result<BandEnd, BoardFault>> {
         let steps = self.steps?;
         if steps == 0 {
@@ -62,7 +65,8 @@ impl<B: Board> Watched<B> {
         Some(end)
     }
 
-    /// Takes the image off the board, if it holds one, with the steps that are still to be done.
+    /// Takes the image off the board, with the steps that are still to be done. The board is empty
+    /// after that, even if it fails. Returns `None` if it was empty before.
     pub fn unload(&mut self) -> Option<(Result<Image, BoardFault>, u16)> {
         let steps = self.steps?;
         let image = self.board.unload();

@@ -66,7 +66,9 @@ impl Counter {
         self.station.is_dead()
     }
 
-    /// The board takes the user's command, if it waits, and has so many bands to do.
+    /// Takes the user's command onto the board, and returns `Left` with its bands. Returns
+    /// `Nothing` if no command waits, or `Lost` if the board fails, and then the command waits
+    /// again.
     pub fn take(&mut self, user: usize, cache: &mut TableCache) -> DeskAnswer
         requires idle { is_idle self.old.station ≡ true }
         requires a_user { 0 < user }
@@ -89,7 +91,8 @@ impl Counter {
         }
     }
 
-    /// One band: so many are left, or the command is done and given to the user's desk.
+    /// Does one band. Returns `Left`, or `Done` if the command is done and given to its desk.
+    /// Returns `Lost` if the board fails, and then the command waits again.
     pub fn band(&mut self) -> DeskAnswer
         requires { is_loaded self.old.station ≡ true }
     {
@@ -106,7 +109,8 @@ impl Counter {
         }
     }
 
-    /// The command is taken off the board, and waits again.
+    /// Takes the command off the board, so that it waits again. Returns `Back`, or `Lost` if the
+    /// board fails.
     pub fn back(&mut self) -> DeskAnswer
         requires { is_loaded self.old.station ≡ true }
     {
@@ -122,7 +126,8 @@ impl Counter {
         }
     }
 
-    /// The board fails, and what it holds waits again at its home.
+    /// Makes the board fail, and what it holds waits again at its home. Returns `Lost`, or `Failed`
+    /// if it held nothing.
     pub fn fail(&mut self) -> DeskAnswer
         requires { is_dead self.old.station ≡ false }
     {
@@ -133,7 +138,7 @@ impl Counter {
         DeskAnswer::Lost
     }
 
-    /// A board that has failed is idle again.
+    /// Repairs a board that has failed, so that it is idle again.
     pub fn repair(&mut self) -> DeskAnswer
         requires { is_dead self.old.station ≡ true }
     {

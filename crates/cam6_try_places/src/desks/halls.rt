@@ -42,11 +42,13 @@ impl DeskHall {
         })
     }
 
-    /// The desk of a user, if there is one.
+    /// The desk of a user, counted from 1, if there is one.
     pub fn desk(&mut self, user: usize) -> Option<&mut Desk> {
         self.desks.get_mut(user.checked_sub(1)?)
     }
 
+    /// Has a board, counted from 0, take a user's command. Returns `No` if there is no such board
+    /// or user, or if the board isn't idle.
     pub fn take(&mut self, board: usize, user: usize) -> DeskAnswer {
         let Some(counter) = self.counters.get_mut(board) else {
             return DeskAnswer::No;
@@ -57,6 +59,8 @@ impl DeskHall {
         counter.take(user, &mut self.cache)
     }
 
+    /// Does so many bands on a board, up to the last of its command. Returns what came of the last
+    /// one that was done, or `No` if none was.
     pub fn bands(&mut self, board: usize, number: u64) -> DeskAnswer {
         let Some(counter) = self.counters.get_mut(board) else {
             return DeskAnswer::No;
@@ -71,6 +75,7 @@ impl DeskHall {
         answer
     }
 
+    /// Takes the command off a board. Returns `No` if there is no such board, or if it holds none.
     pub fn back(&mut self, board: usize) -> DeskAnswer {
         match self.counters.get_mut(board) {
             Some(counter) if counter.is_loaded() => counter.back(),
@@ -78,6 +83,7 @@ impl DeskHall {
         }
     }
 
+    /// Makes a board fail. Returns `No` if there is no such board, or if it has failed already.
     pub fn fail(&mut self, board: usize) -> DeskAnswer {
         match self.counters.get_mut(board) {
             Some(counter) if !counter.is_dead() => counter.fail(),
@@ -85,6 +91,7 @@ impl DeskHall {
         }
     }
 
+    /// Repairs a board. Returns `No` if there is no such board, or if it hasn't failed.
     pub fn repair(&mut self, board: usize) -> DeskAnswer {
         match self.counters.get_mut(board) {
             Some(counter) if counter.is_dead() => counter.repair(),

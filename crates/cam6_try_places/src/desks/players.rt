@@ -73,7 +73,8 @@ fn answer_of(alloc: Global, hall: &mut DeskHall, ask: DeskAsk<'_>) -> io::Result
     }
 }
 
-/// Puts a command at a desk, or tells of a line's fault. A desk that waits is not asked.
+/// Puts a command at a desk, or tells of a line's fault. If the desk waits, does nothing and
+/// returns `No`.
 fn read(alloc: Global, desk: &mut Desk, line: &str) -> io::Result<DeskAnswer> {
     if desk.is_waiting() {
         return Ok(DeskAnswer::No);

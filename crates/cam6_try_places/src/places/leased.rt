@@ -56,7 +56,8 @@ impl<B: Board> Waiting<B> {
         Waiting { queued, idle }
     }
 
-    /// The board has lost a lease's image, and left these planes.
+    /// The lease's command, which waits again after the board lost its image. These planes are what
+    /// was left.
     fn behind(lease: Lease, spare: Spare, board: B) -> Waiting<B>
         requires limit { spare.planes.limit ≡ lease.work.home.limit }
         requires empty { B.held board ≡ empty }
@@ -73,7 +74,8 @@ impl<B: Board> Waiting<B> {
         self.queued.left()
     }
 
-    /// The board takes the command under a number, unless it fails.
+    /// Has the board take the command, under the board's number. If the board fails, the command
+    /// waits again.
     pub fn lease(self, number: u8, room: &mut Room) -> Result<Leased<B>, Waiting<B>> {
         let mut board = self.idle.board;
         let (lease, job) = self.queued.lease(number);
@@ -110,7 +112,7 @@ impl<B: Board> Leased<B> {
         }
     }
 
-    /// Does a band, unless the board fails.
+    /// Does a band. If the board fails, the command waits again at its home.
     pub fn band(self) -> Result<Leased<B>, Waiting<B>>
         requires { 0 < lease_left self }
     {
@@ -138,7 +140,8 @@ impl<B: Board> Leased<B> {
         Ok(leased)
     }
 
-    /// Takes the command off the board.
+    /// Takes the command off the board, so that it waits again. If the board fails then, the image
+    /// is lost.
     pub fn preempt(self) -> Waiting<B>
         requires { 0 < lease_left self }
     {
@@ -155,7 +158,7 @@ impl<B: Board> Leased<B> {
         }
     }
 
-    /// The board loses the image.
+    /// Has the board lose the image, so that the command waits again at its home.
     pub fn lose(self) -> Waiting<B> {
         let Leased { lease, mut board } = self;
         let spare = match board.unload() {
@@ -165,7 +168,8 @@ impl<B: Board> Leased<B> {
         Waiting::behind(lease, spare, board)
     }
 
-    /// Takes the image off the board once all bands are done, unless the board fails.
+    /// Takes the image off the board after all bands are done, and ends the lease. If the board
+    /// fails, the command waits again.
     pub fn finish(self) -> Result<(Finished, Idle<B>), Waiting<B>>
         requires { lease_left self ≡ 0 }
     {

@@ -176,7 +176,7 @@ fn out_after(leased: Leased<SoftBoard>, ask: PlaceAsk) -> (PlacePlayer, PlaceAns
     }
 }
 
-/// The reply, once no band is left.
+/// Returns the reply after all bands are done, or the bands left if the board fails.
 fn finished(leased: Leased<SoftBoard>) -> (PlacePlayer, PlaceAnswer)
     requires { lease_left leased ≡ 0 }
 {
@@ -200,7 +200,7 @@ fn out(leased: Result<Leased<SoftBoard>, Waiting<SoftBoard>>) -> PlacePlayer {
     }
 }
 
-/// The bands left are told of the command, if there is one.
+/// Tells how many bands are left of the command, or `No` if there is none.
 fn told(player: PlacePlayer) -> (PlacePlayer, PlaceAnswer) {
     let answer = player.left().map_or(PlaceAnswer::No, PlaceAnswer::Left);
     (player, answer)

@@ -25,7 +25,7 @@ impl Told {
 }
 
 /// Whether a blank machine of this limit replies the same to all commands, and ends with the planes
-/// of the desk.
+/// of the desk. It is false if the desk waits.
 pub fn is_same(alloc: Global, limit: Side, told: &[Told], desk: &mut Desk) -> io::Result<bool> {
     match Machine::new(alloc, limit) {
         Ok(mut machine) => comes_to_same(alloc, &mut machine, told, desk),
@@ -60,7 +60,7 @@ fn replies_same(alloc: Global, machine: &mut Machine, told: &Told) -> io::Result
     Ok(text.as_str() == told.reply.as_str())
 }
 
-/// Whether the machine and the desk have the same in a plane.
+/// Whether the machine and the desk have the same in a plane. It is false if the desk waits.
 fn has_same_plane(
     alloc: Global,
     machine: &mut Machine,
@@ -74,7 +74,7 @@ fn has_same_plane(
     }
 }
 
-/// A command that was read before.
+/// The command of a line that was read before. Any failure counts as one of memory.
 fn command_of(alloc: Global, text: &str) -> io::Result<Command> {
     read_command(alloc, text.as_bytes()).map_err(|_| no_memory())
 }

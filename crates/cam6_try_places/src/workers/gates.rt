@@ -48,7 +48,7 @@ impl Watch {
         }
     }
 
-    /// Answers, and notes it.
+    /// Answers a worker that asks before a band, and notes the answer.
     pub fn turn(&mut self, board: u8, user: u8, band: u8) -> Turn {
         let turn = self.answer(user, band);
         self.note(board, user, band, turn);
@@ -141,6 +141,7 @@ impl Watch {
         boards
     }
 
+    /// Fails if there was no memory for a note.
     fn checked(&self) -> io::Result<()> {
         if self.is_short {
             return Err(no_memory());

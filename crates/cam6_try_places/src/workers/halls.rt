@@ -53,7 +53,8 @@ impl<R: Handle + Send + Sync + 'static> WorkerHall<R> {
         })
     }
 
-    /// Starts a worker at each seat. The board that fails does so at this call.
+    /// Starts a worker at each seat, with boards of this way. If one is to fail, that is board 0,
+    /// at this call, counted from 1.
     pub fn open(&mut self, board: BoardWay, call: u64) -> io::Result<()> {
         for (number, worker) in self.workers.iter_mut().enumerate() {
             let kind = match board {
@@ -96,7 +97,7 @@ impl<R: Handle + Send + Sync + 'static> WorkerHall<R> {
         Ok(())
     }
 
-    /// Joins all users, and returns the first fault.
+    /// Joins the threads of all users, and returns the first fault after that.
     fn join_users(&mut self) -> io::Result<()> {
         let mut joined = Ok(());
         for user in self.users.iter_mut() {
@@ -107,7 +108,7 @@ impl<R: Handle + Send + Sync + 'static> WorkerHall<R> {
         joined
     }
 
-    /// Starts a worker again at each seat where the worker has ended.
+    /// Starts a worker again at each seat where the worker has ended. Its board never fails.
     fn serve_again(&mut self) -> io::Result<()> {
         for worker in self.workers.iter_mut() {
             worker.join_ended(&self.house.rt, &self.house.serving);
@@ -116,7 +117,7 @@ impl<R: Handle + Send + Sync + 'static> WorkerHall<R> {
         Ok(())
     }
 
-    /// A board that is held goes on, and all workers end.
+    /// Lets a board that is held go on, tells all workers to end, and joins them.
     pub fn end(&mut self) {
         self.house.hold.end(&self.house.rt);
         self.house.tell_to_end(true);
@@ -125,7 +126,8 @@ impl<R: Handle + Send + Sync + 'static> WorkerHall<R> {
         }
     }
 
-    /// Starts a worker again at the seat, if none serves there.
+    /// Starts a worker again at the seat, with a board that never fails. Returns `Started`, or no
+    /// if there is no such seat or if the worker before isn't joined.
     pub fn serve(&mut self, board: usize) -> io::Result<WorkerAnswer> {
         let Some(worker) = self.workers.get_mut(board) else {
             return Ok(WorkerAnswer::Is(false));
@@ -138,7 +140,8 @@ impl<R: Handle + Send + Sync + 'static> WorkerHall<R> {
         }
     }
 
-    /// Waits for the worker's end.
+    /// Waits for the worker's end, and returns how it ended. It is no if no worker was running, or
+    /// if it runs on after `LOOKS` looks.
     pub fn ended(&mut self, board: usize) -> WorkerAnswer {
         match self.workers.get_mut(board) {
             Some(worker) => match worker.wait(&self.house.rt, &self.house.serving) {
@@ -149,6 +152,7 @@ impl<R: Handle + Send + Sync + 'static> WorkerHall<R> {
         }
     }
 
+    /// Drops the oldest table from the cache. Returns whether there was one.
     pub fn evict(&mut self) -> WorkerAnswer {
         WorkerAnswer::Is(self.house.cache.lock(&self.house.rt).evict_oldest())
     }

@@ -31,12 +31,12 @@ impl Present {
         }
     }
 
-    /// Notes that a thread comes. It isn't there yet.
+    /// Notes that a thread comes. The caller makes sure that it wasn't there before.
     pub fn enter(&self, number: u8) {
         self.bits.fetch_add(bit(number), Ordering::SeqCst);
     }
 
-    /// Notes that a thread goes. It is there.
+    /// Notes that a thread goes. The caller makes sure that it was there before.
     pub fn leave(&self, number: u8) {
         self.bits.fetch_sub(bit(number), Ordering::SeqCst);
     }
@@ -49,7 +49,7 @@ impl Present {
         self.bits.load(Ordering::SeqCst).count_ones()
     }
 
-    /// Waits for a thread to go, and returns whether it has gone.
+    /// Waits for a thread to go, for `LOOKS` looks at most. Returns whether it has gone.
     pub fn is_gone<R: Clock>(&self, rt: &R, number: u8) -> bool {
         for _ in 0..LOOKS {
             if !self.is_there(number) {
@@ -60,7 +60,7 @@ impl Present {
         false
     }
 
-    /// Waits for so many to be there, and returns whether they are.
+    /// Waits for so many to be there, for `LOOKS` looks at most. Returns whether they are.
     pub fn is_count<R: Clock>(&self, rt: &R, count: u32) -> bool {
         for _ in 0..LOOKS {
             if self.count() == count {
@@ -121,14 +121,15 @@ impl<R: Handle> WorkerHouse<R> {
         }
     }
 
-    /// Wakes a worker, if one sleeps: a command was put.
+    /// Wakes a worker that sleeps, if there is one, after a command was put. Does nothing if the
+    /// gate is `watch`, since no worker sleeps then.
     pub fn ring(&self) {
         if let Some(gate) = &self.slices {
             gate.ring();
         }
     }
 
-    /// Waits for the reply to a command. Returns `None` if an allocation failed.
+    /// Puts a command at a desk, and waits for its reply. Returns `None` if an allocation failed.
     pub fn ask(&self, desk: &mut Desk, command: Command) -> Option<Reply>
         requires { is_waiting desk.old ≡ false }
     {

@@ -29,8 +29,8 @@ impl IdleSeat {
         IdleSeat { seat }
     }
 
-    /// Takes the user's command, if it waits, and puts it back as it is. Returns the bands left of
-    /// it.
+    /// Takes the user's command, and puts it back as it is. Returns the bands left of it, or `None`
+    /// if no command waits or if there is no such user.
     pub fn left(&mut self, user: usize) -> Option<u64> {
         if user == 0 || user > self.seat.users() {
             return None;
@@ -65,11 +65,11 @@ pub enum Kind {
     Soft,
     /// The same, and it is held inside the first band of all such boards.
     Held,
-    /// It fails at this one of its calls.
+    /// It fails at this call, counted from 1. Loads, bands and unloads are counted together.
     Failing(u64),
 }
 
-/// What a worker does in its thread.
+/// Serves with a board until the worker ends, and notes that it goes. Returns what is left of it.
 fn work<R: Handle, B: Board>(house: &WorkerHouse<R>, seat: IdleSeat, board: EmptyBoard<B>) -> Left {
     let number = seat.seat.number();
     let (seat, board, ended) = serve_board(&house.rt, seat.seat, board.board, &house.cache, house);
@@ -82,19 +82,21 @@ fn work<R: Handle, B: Board>(house: &WorkerHouse<R>, seat: IdleSeat, board: Empt
     left
 }
 
-/// A board that never fails.
+/// An empty board that never fails.
 fn soft_board(alloc: Global) -> io::Result<EmptyBoard<SoftBoard>> {
     let board = SoftBoard::new(alloc).map_err(|_| no_memory())?;
     Ok(EmptyBoard { board })
 }
 
-/// A board that is held in its first band.
+/// An empty board that never fails. The first thread that does a band of such a board is held
+/// inside it.
 fn held_board<R: Handle>(house: &Arc<WorkerHouse<R>>) -> io::Result<EmptyBoard<HeldBoard<R>>> {
     let board = HeldBoard::new(house).map_err(|_| no_memory())?;
     Ok(EmptyBoard { board })
 }
 
-/// A board that fails at this one of its calls.
+/// An empty board that fails at this call, counted from 1. Loads, bands and unloads are counted
+/// together.
 fn failing_board(alloc: Global, call: u64) -> io::Result<EmptyBoard<FlakyBoard>> {
     let calls = vec![in alloc; call]?;
     let board = FlakyBoard::new(alloc, calls).map_err(|_| no_memory())?;
@@ -145,7 +147,8 @@ impl Worker {
         }
     }
 
-    /// Serves from here on, and returns whether it didn't before.
+    /// Starts a thread that serves with a board of this kind, and returns true. Does nothing and
+    /// returns false if there is one that isn't joined, or if one couldn't be started before.
     pub fn serve<R: Handle + Send + Sync + 'static>(
         &mut self,
         house: &Arc<WorkerHouse<R>>,
@@ -162,7 +165,8 @@ impl Worker {
         }
     }
 
-    /// Serves with a board from here on, at the seat that is left, and returns true.
+    /// Starts a thread that serves with a board at the seat that is left, and returns true. It
+    /// fails if there is no memory for that, and then the seat may be gone.
     fn serve_with<R: Handle + Send + Sync + 'static, B: Board + Send + 'static>(
         &mut self,
         house: &Arc<WorkerHouse<R>>,
@@ -180,7 +184,7 @@ impl Worker {
         Ok(true)
     }
 
-    /// Joins the thread, if there is one.
+    /// Waits for the thread's end and joins it, if there is one.
     pub fn join<R: Handle>(&mut self, rt: &R) {
         if let Some(thread) = self.thread.take() {
             self.left.insert(thread.join(rt));
@@ -194,7 +198,8 @@ impl Worker {
         }
     }
 
-    /// Waits for the end of a worker that runs, and returns how it ended.
+    /// Waits for the end of a worker that runs, and returns how it ended. Returns `None` if there
+    /// is no thread, or if it runs on after `LOOKS` looks.
     pub fn wait<R: Handle>(&mut self, rt: &R, serving: &Present) -> Option<Ended> {
         if self.thread.is_none() || !serving.is_gone(rt, self.number) {
             return None;
@@ -207,8 +212,8 @@ impl Worker {
     }
 }
 
-/// The worker of this board, if it has ended, takes the user's command that waits, and puts it
-/// back.
+/// Takes the user's command at the seat of a worker, and puts it back. Returns the bands left of
+/// it, or `Nothing` if no command waits. It is no if the worker isn't joined.
 pub fn bands_left(workers: &mut Vec<Worker>, board: usize, user: usize) -> WorkerAnswer {
     let Some(left) = left_at(workers, board) else {
         return WorkerAnswer::Is(false);
@@ -219,7 +224,7 @@ pub fn bands_left(workers: &mut Vec<Worker>, board: usize, user: usize) -> Worke
     }
 }
 
-/// How often the board of a worker that has ended failed.
+/// How often the board of a worker failed. It is no if the worker isn't joined.
 pub fn faults(workers: &mut Vec<Worker>, board: usize) -> WorkerAnswer {
     match left_at(workers, board) {
         Some(left) => WorkerAnswer::Faults(left.faults),
@@ -227,7 +232,7 @@ pub fn faults(workers: &mut Vec<Worker>, board: usize) -> WorkerAnswer {
     }
 }
 
-/// What is left of the worker of a board, if it has ended.
+/// What is left of the worker of a board, if it is joined.
 fn left_at(workers: &mut Vec<Worker>, board: usize) -> Option<&mut Left> {
     match workers.get_mut(board) {
         Some(worker) => worker.left.as_mut(),

@@ -55,7 +55,8 @@ impl User {
         }
     }
 
-    /// Asks the command at the desk, and waits for its reply.
+    /// Asks the command at the desk, waits for its reply and keeps both. It is no if the desk isn't
+    /// free, or if no board has done the command in time.
     pub fn ask<R: Handle>(
         &mut self,
         house: &WorkerHouse<R>,
@@ -78,7 +79,8 @@ impl User {
         Ok(())
     }
 
-    /// Starts a thread that asks the command.
+    /// Starts a thread that asks the command, and returns `Started`. It is no if the desk isn't
+    /// free.
     pub fn start<R: Handle + Send + Sync + 'static>(
         &mut self,
         house: &Arc<WorkerHouse<R>>,
@@ -97,7 +99,8 @@ impl User {
         }
     }
 
-    /// A thread goes off with the desk, to ask the command there.
+    /// Starts a thread that goes off with the desk, to ask the command there. It fails if there is
+    /// no memory for that, and then the desk may be gone.
     fn send<R: Handle + Send + Sync + 'static>(
         &mut self,
         house: &Arc<WorkerHouse<R>>,
@@ -123,7 +126,8 @@ impl User {
         Ok(())
     }
 
-    /// Waits for what the thread asked for.
+    /// Waits for the thread that asks, takes the desk back, and keeps and returns the reply. It is
+    /// no if there is no thread, or if it goes on after `LOOKS` looks.
     pub fn join<R: Handle>(&mut self, rt: &R, asking: &Present) -> io::Result<WorkerAnswer> {
         if !asking.is_gone(rt, self.number) {
             return Ok(WorkerAnswer::Is(false));
@@ -143,7 +147,8 @@ impl User {
         spoken.reply
     }
 
-    /// Keeps the reply to the last command, and returns it.
+    /// Keeps the reply to the last command, and returns it. Without a reply it fails as if memory
+    /// had run out.
     fn hear(&mut self, alloc: Global, reply: Option<&Reply>) -> io::Result<WorkerAnswer> {
         match reply {
             Some(reply) => {
@@ -162,7 +167,8 @@ impl User {
         }
     }
 
-    /// Whether a private machine of this limit comes to the same.
+    /// Whether a blank private machine of this limit gives the same replies to all commands, and
+    /// ends with the same planes. It is no if a thread has the desk.
     pub fn alone(&mut self, alloc: Global, limit: Side) -> io::Result<WorkerAnswer> {
         let Some(desk) = &mut self.desk else {
             return Ok(WorkerAnswer::Is(false));
@@ -207,7 +213,7 @@ fn answer_at<R: Handle>(
     }
 }
 
-/// The answer with a reply, or without one.
+/// The text of a reply, or no without one.
 fn reply_answer(alloc: Global, reply: Option<&Reply>) -> io::Result<WorkerAnswer> {
     match reply {
         Some(reply) => Ok(WorkerAnswer::Text(text_of(alloc, reply)?)),

@@ -103,7 +103,7 @@ impl<'a> Words<'a> {
         }
     }
 
-    /// Goes past these words, if they come next.
+    /// Goes past these words if they come next, and returns whether they did.
     fn take(&mut self, words: &str) -> bool {
         if !self.comes_next(words) {
             return false;
@@ -119,7 +119,7 @@ impl<'a> Words<'a> {
         self.next().parse().map_err(|_| Unplayable::Unread)
     }
 
-    /// The next word, which is a small number.
+    /// The next word, which is a number from 0 to 255.
     fn byte(&mut self) -> Result<u8, Unplayable> {
         self.next().parse().map_err(|_| Unplayable::Unread)
     }

@@ -115,7 +115,8 @@ fn load(
     Ok(Ok(asked.cache.load(key, &code, &mut asked.out)))
 }
 
-/// Why a rule that is to be undone can't be, if it can't.
+/// Why a rule that is to be undone can't be. Returns `None` if it can be, or if it isn't to be
+/// undone.
 fn why_refused(
     wiring: Wiring,
     text: &str,

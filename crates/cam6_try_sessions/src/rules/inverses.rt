@@ -74,7 +74,8 @@ fn add_inverse_twice(
     }
 }
 
-/// Fills the table of a rule's text, and its inverse.
+/// Fills the table of a rule's text, and its inverse. Or returns the text's fault, the least
+/// address at which the rule stops, or why there is no inverse.
 fn inverse_of_text(
     alloc: Global,
     wiring: Wiring,
@@ -88,6 +89,7 @@ fn inverse_of_text(
     }
 }
 
+/// Makes `inverse` that of a table, or returns why the table has none.
 fn inverse_of(
     alloc: Global,
     wiring: Wiring,
@@ -100,6 +102,7 @@ fn inverse_of(
     }
 }
 
+/// The text for why a table has no inverse.
 pub fn cause_text(alloc: Global, cause: NotReversible) -> io::Result<String> {
     match cause {
         NotReversible::Hood => Ok(String::from_str(alloc, "hood")?),

@@ -12,7 +12,7 @@ use std::io;
 /// Entries in a line of a table.
 const LINE: u16 = 64;
 
-/// Reads a rule's text.
+/// Returns the rule of a text, or the text's first fault. It fails if the text isn't UTF-8.
 pub fn read_rule(
     alloc: Global,
     wiring: Wiring,
@@ -25,6 +25,7 @@ pub fn read_rule(
     }
 }
 
+/// These bytes as a text. It fails if they aren't UTF-8.
 pub fn text_of(bytes: &[u8]) -> io::Result<&str> {
     str::from_utf8(bytes).map_err(|_| io::Error::from(io::ErrorKind::InvalidData))
 }
@@ -34,6 +35,7 @@ fn text_fault(alloc: Global, fault: TextFault) -> io::Result<String> {
     Ok(format!(in alloc; r#"{{"fault":{number},"token":{token}}}"#)?)
 }
 
+/// The line of a fault at which a rule stops, without its LF.
 pub fn rule_fault(alloc: Global, fault: RuleFault) -> io::Result<String> {
     let number = fault.number();
     Ok(format!(in alloc; r#"{{"fault":{number}}}"#)?)
@@ -51,7 +53,8 @@ pub fn faults_of_texts(alloc: Global, wiring: Wiring, sent: &[Sent]) -> io::Resu
     Ok(answers)
 }
 
-/// What is kept of each text: its wiring, and each definition's name, size and words.
+/// What each text's rule has: its wiring, and each definition's name, size and words. For a text
+/// that isn't a rule it is the first fault.
 pub fn kept_rules(alloc: Global, wiring: Wiring, sent: &[Sent]) -> io::Result<Vec<u8>> {
     let mut answers = Vec::new(alloc);
     for text in sent {
@@ -96,7 +99,8 @@ fn word_text(alloc: Global, word: Word) -> io::Result<String> {
     }
 }
 
-/// The entries of each rule at these addresses, one after another.
+/// The entries of each rule at these addresses, in one line. A fault stands where the rule stops,
+/// or in place of the line if the text isn't a rule.
 pub fn entries(
     alloc: Global,
     wiring: Wiring,
