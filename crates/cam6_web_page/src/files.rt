@@ -46,7 +46,7 @@ pub enum File {
     ViewJs,
 }
 
-/// The file at a path.
+/// Returns the file of the page at a path, or `None` if there is none.
 pub fn file_at(path: &str) -> Option<File>
     ensures found { IfSome result (λ file. path.now ≡ path_to file) }
     ensures none { IfNone result (IsNowhere path.now) }
