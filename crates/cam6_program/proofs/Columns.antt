@@ -1,12 +1,13 @@
 -- What lines and slots show at a column.
-use Rattle.std.proofs.Common.{◌≡◌, ℕ, ◌≤◌, ◌<◌, Bool, false, List, [], ◌∷◌, ◌++◌}
+use Rattle.std.proofs.Common.{◌≡◌, ℕ, suc, ◌≤◌, ◌<◌, Bool, false, List, [], ◌∷◌, ◌++◌}
 use Rattle.std.proofs.Common.{length, map, get_or, set, refl, sym, ◌∙◌, ap, arith}
 use Rattle.std.proofs.Common.{true, ◌+◌, ◌==◌, ◌&&◌, nat_lt}
-use Rattle.std.proofs.Common.{if◌then◌else◌, Bor, take}
+use Rattle.std.proofs.Common.{if◌then◌else◌, Bor, take, drop}
 use Rattle.std.proofs.Math.Seq.{set-append_seam}
 use Rattle.std.proofs.lemmas.Bool.{and_parts, eqb-true, ltb-true}
 use Rattle.std.proofs.lemmas.List.{get_or-map, get_or_past, length-map, length-take-le}
-use Rattle.std.proofs.lemmas.List.{map-append, take_more}
+use Rattle.std.proofs.lemmas.List.{map-append, take_more, take-map, drop-map, set_split}
+use Rattle.std.proofs.lemmas.List.{get_or-set_same, length-set}
 use Rattle.cam6_planes.specs.Row.{column_bit}
 use Rattle.cam6_wiring.specs.Lines.{at_column}
 use Rattle.cam6_program.specs.Limits.{max_slots}
@@ -110,3 +111,32 @@ module _ (lines : List Bool) (step : Step) (written c : ℕ) (slots : List (List
       ap (λ n. put_into lines step
       (if (step.into == n) && nat_lt step.into max_slots then held ++ (false ∷ []) else held))
       (sym length-held)
+
+  -- what a step makes of the slots beside its own is what it puts there
+  pub made_beside : step.into < written_after written step.into →
+      written_after written step.into ≤ max_slots →
+      made lines (at_column c (take step.into (take (written_after written step.into) slots)) ++
+      (false ∷ at_column c (drop (step.into + 1) (take (written_after written step.into) slots))))
+      step.operation
+      ≡ get_or (after_step lines step held) step.into false
+  made_beside here fits =
+      let units : List (List ℕ) = take (written_after written step.into) slots in
+      let bits : List Bool = at_column c units in
+      let count : length bits ≡ written_after written step.into =
+      length-map units (λ unit. column_bit unit c) ∙
+      length-take-le (written_after written step.into) slots (omega (arith, long, fits)) in
+      let room : step.into < length bits = omega (arith, here, count) in
+      let next : suc step.into ≡ step.into + 1 = omega arith in
+      let parts : set bits step.into false ≡
+      at_column c (take step.into units) ++ (false ∷ at_column c (drop (step.into + 1) units)) =
+      set_split bits step.into false room ∙
+      ap (λ front. front ++ (false ∷ drop (suc step.into) bits))
+      (take-map (λ unit. column_bit unit c) step.into units) ∙
+      ap (λ back. at_column c (take step.into units) ++ (false ∷ back))
+      (drop-map (λ unit. column_bit unit c) (suc step.into) units ∙
+      ap (λ n. at_column c (drop n units)) next) in
+      let emptied : List Bool = set bits step.into false in
+      ap (λ bits. made lines bits step.operation) (sym parts) ∙
+      sym (get_or-set_same emptied step.into (made lines emptied step.operation) false
+      (omega (arith, room, length-set bits step.into false))) ∙
+      ap (λ slots. get_or slots step.into false) step_in_order

@@ -10,3 +10,4 @@ pub mod AddressLines
 pub mod Packing
 -- What is right at every address is right for all that the lines can show.
 pub mod EveryAddress
+pub mod LastSteps

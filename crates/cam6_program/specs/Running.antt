@@ -1,6 +1,7 @@
 -- What is read and made at one column of units, which only this crate cites.
 use Rattle.std.specs.Prelude.{ℕ, Bool, false, ◌≡◌, ◌<◌, ◌*◌, ◌+◌, ◌==◌, ◌&&◌, nat_lt, if◌then◌else◌}
-use Rattle.std.specs.Prelude.{List, ◌∷◌, ◌++◌, map, drop, length}
+use Rattle.std.specs.Prelude.{Option, IfSome}
+use Rattle.std.specs.Prelude.{List, [], ◌∷◌, ◌++◌, map, drop, length, slice_index_or}
 use Rattle.cam6_planes.specs.Row.{column_bit}
 use Rattle.cam6_wiring.specs.Lines.{at_column}
 use Rattle.cam6_wiring.specs.Seen.{number_of}
@@ -9,8 +10,10 @@ use Rattle.cam6_wiring.specs.declared.names.Level.{Level}
 use Rattle.cam6_lines.specs.Units.{asked_for}
 use Rattle.cam6_program.specs.Limits.{max_slots}
 use Rattle.cam6_program.specs.Programs.{Steps, keeps}
-use Rattle.cam6_program.specs.Meaning.{made, bit_by}
+use Rattle.cam6_program.specs.Meaning.{read, made, bit_by, after_step, after_steps}
 use Rattle.cam6_program.specs.declared.steps.Operation.{Operation}
+use Rattle.cam6_program.specs.declared.steps.Source.{Source}
+use Rattle.cam6_program.specs.declared.steps.Step.{Step}
 use Rattle.cam6_program.specs.declared.running.Readable.{Readable}
 
 -- what the lines show
@@ -31,6 +34,16 @@ with_first lines before operation slots =
 abbrev pub written_after : ℕ → ℕ → ℕ
 written_after written into =
     if (into == written) && nat_lt into max_slots then written + 1 else written
+
+-- what a step after others makes, read from its slot
+abbrev pub beside : List Bool → List Step → Step → Bool
+beside lines steps last =
+    slice_index_or (after_step lines last (after_steps lines steps [])) last.into false
+
+-- a level that is read from no slot: from a constant or a line, or from nothing
+abbrev pub ReadsNoSlot : Option Source → Type 0
+ReadsNoSlot source =
+    (lines slots : List Bool) → IfSome source (λ source. read lines [] source ≡ read lines slots source)
 
 -- unless the level is kept, the unit has the bits that the program makes of these lines, which show
 -- 0 if the program doesn't ask for them

@@ -9,6 +9,7 @@ ghost use Rattle.cam6_lines.specs.Units.{asked_for};
 ghost use Rattle.cam6_lines.specs.declared.units.TheConstants.{UNIT};
 ghost use Rattle.cam6_program.specs.Computing.{Computes};
 ghost use Rattle.cam6_program.specs.Programs.{keeps};
+ghost use Rattle.cam6_program.specs.Running.{ReadsNoSlot};
 ghost use Rattle.cam6_program.specs.declared.nodes.TheConstants.{PLACES};
 
 use crate::building::{Diagram, TooLong};
@@ -59,6 +60,8 @@ impl Model for Program {
 impl Program {
     ghost use Rattle.cam6_program.specs.Meaning.{bit_by};
     ghost use Rattle.cam6_program.specs.declared.programs.TheConstants.{MAX_STEPS};
+    ghost use Rattle.cam6_program.specs.declared.steps.Source.TheVariants.{Slot};
+    ghost use Rattle.std.specs.Prelude.{Some, take, ◌-◌, ◌++◌, ◌∷◌, []};
     ghost use Rattle.cam6_program.specs.Computing.{Computes};
 
     /// Returns a program that computes the entries, or `None` if it finds no short one. Does not
@@ -149,11 +152,44 @@ impl Program {
             at_column c (map (λ line. line.now) lines.now) ≡ asked_for self.now.asked bits →
             column_bit upper.new c ≡ bit_by Upper self.now bits }
     {
-        let written = take_steps(&self.steps[..self.count], lines, &mut slots.units, words);
-        let slots = &slots.units[..written];
-        put_given(lower, self.lower, lines, slots);
-        put_given(upper, self.upper, lines, slots);
+        let steps = &self.steps[..self.count];
+        if let Some(last) = self.last() {
+            let steps = &steps[..steps.len() - 1];
+            take_steps(lower, steps, Some(last), lines, &mut slots.units, words);
+            put_given(upper, self.upper, lines, &slots.units[..0]);
+        } else {
+            let written = take_steps(lower, steps, None, lines, &mut slots.units, words);
+            let slots = &slots.units[..written];
+            put_given(lower, self.lower, lines, slots);
+            put_given(upper, self.upper, lines, slots);
+        }
     }
+
+    /// The last step, if only the lower level is read from slots, and from the one that it writes.
+    fn last(&self) -> Option<Step>
+        ensures lower { IfSome result (λ last. self.now.lower ≡ Some (Slot last.into)) }
+        ensures upper { IfSome result (λ last. ReadsNoSlot self.now.upper) }
+        ensures steps { IfSome result (λ last. self.now.steps ≡
+            take (length self.now.steps - 1) self.now.steps ++ (last ∷ [])) }
+        ensures some { IfSome result (λ last. 0 < length self.now.steps) }
+    {
+        if self.count == 0 || reads_slot(self.upper) {
+            return None;
+        }
+        let last = self.steps[self.count - 1];
+        if self.lower == Some(Source::Slot(last.into)) {
+            Some(last)
+        } else {
+            None
+        }
+    }
+}
+
+/// Whether a level is read from a slot.
+fn reads_slot(source: Option<Source>) -> bool
+    ensures { result ≡ false → ReadsNoSlot source }
+{
+    matches!(source, Some(Source::Slot(_)))
 }
 
 /// The program with the least work that is found for entries. It may mean anything.

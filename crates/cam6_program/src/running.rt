@@ -6,6 +6,7 @@ ghost use Rattle.cam6_wiring.specs.Lines.{at_column};
 ghost use Rattle.cam6_lines.specs.declared.units.TheConstants.{UNIT};
 ghost use Rattle.cam6_program.specs.Meaning.{read, made, put_into, after_step, after_steps};
 ghost use Rattle.cam6_program.specs.Running.{lines_at, slots_at, with_first, written_after};
+ghost use Rattle.cam6_program.specs.Running.{beside};
 ghost use Rattle.cam6_program.specs.declared.programs.TheConstants.{MAX_SLOTS};
 ghost use Rattle.cam6_program.specs.declared.running.TheConstants.{HALF_UNIT};
 
@@ -186,10 +187,12 @@ fn write_first(
 }
 
 /// Takes all steps, one after the other, and returns how many slots they wrote. The slots may hold
-/// anything before. For whole units and for halves the compiler knows the number of words, which
-/// makes the loops over them a third shorter.
+/// anything before. Then writes `out` by the last step, if there is one. For whole units and for
+/// halves the compiler knows the number of words, which makes the loops over them a third shorter.
 pub(crate) fn take_steps(
+    out: &mut Unit,
     steps: &[Step],
+    last: Option<Step>,
     lines: &Lines,
     slots: &mut [Unit; MAX_SLOTS],
     words: usize,
@@ -198,40 +201,60 @@ pub(crate) fn take_steps(
     ensures within { result ≤ MAX_SLOTS }
     ensures slots { (c : ℕ) → c < 64 * words → at_column c (take result slots.new) ≡ after_steps
         (at_column c (map (λ line. line.now) lines.now)) steps.now [] }
+    ensures last { IfSome last (λ last. (c : ℕ) → c < 64 * words → column_bit out.new c ≡
+        beside (at_column c (map (λ line. line.now) lines.now)) steps.now last) }
 {
     if words == UNIT {
-        take_steps_of_units(steps, lines, slots)
+        take_steps_of_units(out, steps, last, lines, slots)
     } else if words == HALF_UNIT {
-        take_steps_of_halves(steps, lines, slots)
+        take_steps_of_halves(out, steps, last, lines, slots)
     } else {
-        take_steps_of_parts(steps, lines, slots, words)
+        take_steps_of_parts(out, steps, last, lines, slots, words)
     }
 }
 
 /// Takes all steps over whole units.
 #[inline(never)]
-fn take_steps_of_units(steps: &[Step], lines: &Lines, slots: &mut [Unit; MAX_SLOTS]) -> usize
+fn take_steps_of_units(
+    out: &mut Unit,
+    steps: &[Step],
+    last: Option<Step>,
+    lines: &Lines,
+    slots: &mut [Unit; MAX_SLOTS],
+) -> usize
     ensures within { result ≤ MAX_SLOTS }
     ensures slots { (c : ℕ) → c < 64 * UNIT → at_column c (take result slots.new) ≡ after_steps
         (at_column c (map (λ line. line.now) lines.now)) steps.now [] }
+    ensures last { IfSome last (λ last. (c : ℕ) → c < 64 * UNIT → column_bit out.new c ≡
+        beside (at_column c (map (λ line. line.now) lines.now)) steps.now last) }
 {
-    take_in_turn(steps, lines, slots, UNIT)
+    take_in_turn(out, steps, last, lines, slots, UNIT)
 }
 
 /// Takes all steps over the first halves of units.
 #[inline(never)]
-fn take_steps_of_halves(steps: &[Step], lines: &Lines, slots: &mut [Unit; MAX_SLOTS]) -> usize
+fn take_steps_of_halves(
+    out: &mut Unit,
+    steps: &[Step],
+    last: Option<Step>,
+    lines: &Lines,
+    slots: &mut [Unit; MAX_SLOTS],
+) -> usize
     ensures within { result ≤ MAX_SLOTS }
     ensures slots { (c : ℕ) → c < 64 * HALF_UNIT → at_column c (take result slots.new) ≡ after_steps
         (at_column c (map (λ line. line.now) lines.now)) steps.now [] }
+    ensures last { IfSome last (λ last. (c : ℕ) → c < 64 * HALF_UNIT → column_bit out.new c ≡
+        beside (at_column c (map (λ line. line.now) lines.now)) steps.now last) }
 {
-    take_in_turn(steps, lines, slots, HALF_UNIT)
+    take_in_turn(out, steps, last, lines, slots, HALF_UNIT)
 }
 
 /// Takes all steps over the first words of units.
 #[inline(never)]
 fn take_steps_of_parts(
+    out: &mut Unit,
     steps: &[Step],
+    last: Option<Step>,
     lines: &Lines,
     slots: &mut [Unit; MAX_SLOTS],
     words: usize,
@@ -240,23 +263,68 @@ fn take_steps_of_parts(
     ensures within { result ≤ MAX_SLOTS }
     ensures slots { (c : ℕ) → c < 64 * words → at_column c (take result slots.new) ≡ after_steps
         (at_column c (map (λ line. line.now) lines.now)) steps.now [] }
+    ensures last { IfSome last (λ last. (c : ℕ) → c < 64 * words → column_bit out.new c ≡
+        beside (at_column c (map (λ line. line.now) lines.now)) steps.now last) }
 {
-    take_in_turn(steps, lines, slots, words)
+    take_in_turn(out, steps, last, lines, slots, words)
 }
 
 /// Takes all steps, one after the other, over the first `words` words of units.
 #[inline(always)]
-fn take_in_turn(steps: &[Step], lines: &Lines, slots: &mut [Unit; MAX_SLOTS], words: usize) -> usize
+fn take_in_turn(
+    out: &mut Unit,
+    steps: &[Step],
+    last: Option<Step>,
+    lines: &Lines,
+    slots: &mut [Unit; MAX_SLOTS],
+    words: usize,
+) -> usize
     requires { words ≤ UNIT }
     ensures within { result ≤ MAX_SLOTS }
     ensures slots { (c : ℕ) → c < 64 * words → at_column c (take result slots.new) ≡ after_steps
         (at_column c (map (λ line. line.now) lines.now)) steps.now [] }
+    ensures last { IfSome last (λ last. (c : ℕ) → c < 64 * words → column_bit out.new c ≡
+        beside (at_column c (map (λ line. line.now) lines.now)) steps.now last) }
 {
     let mut written = 0;
     for k in 0..steps.len() {
         written = take_step(steps[k], lines, slots, written, words);
     }
+    if let Some(last) = last {
+        put_beside(out, last, lines, slots, written, words);
+    }
     written
+}
+
+/// Writes to `out` what a step would make of its slot.
+#[inline(always)]
+fn put_beside(
+    out: &mut Unit,
+    step: Step,
+    lines: &Lines,
+    slots: &[Unit; MAX_SLOTS],
+    written: usize,
+    words: usize,
+)
+    requires words { words ≤ UNIT }
+    requires written { written ≤ MAX_SLOTS }
+    ensures { (c : ℕ) → c < 64 * words → column_bit out.new c ≡ slice_index_or (after_step
+        (at_column c (map (λ line. line.now) lines.now)) step
+        (at_column c (take written slots.now))) step.into false }
+{
+    let into = usize::from(step.into);
+    let written = written_after(written, into);
+    if into < written {
+        let slots = &slots[..written];
+        let from = Readable {
+            lines,
+            before: &slots[..into],
+            behind: &slots[into + 1..],
+        };
+        put_result(out, step.operation, &from, words);
+    } else {
+        *out = *constant(false);
+    }
 }
 
 /// Writes what a source reads after the last step. A level that is kept has no source.
