@@ -10,4 +10,5 @@ pub mod AddressLines
 pub mod Packing
 -- What is right at every address is right for all that the lines can show.
 pub mod EveryAddress
+-- A last step that writes the row of the lower level in place of its slot.
 pub mod LastSteps
