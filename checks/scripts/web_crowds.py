@@ -208,6 +208,11 @@ def pings(here: Here) -> None:
         is_so = bool(numbers) and numbers[-1] == count - 1 and numbers == sorted(set(numbers))
         here.tally.note("pings by the thousand", is_so, f"{len(numbers)} pongs, the last {numbers[-1:]}")
         here.tally.same("lines among pings", texts, [b'{"fault":3}'] * (count // 2000))
+        # All of them may be answered before the page plays once more, so further ones follow until it has.
+        last = time.monotonic() + 20
+        while steady.rounds < 2 and not steady.wrong and time.monotonic() < last:
+            one.raw(frame_of(PING, b"once more"))
+            one.read()
         steady.end("pings")
 
 
