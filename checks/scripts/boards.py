@@ -58,8 +58,8 @@ def step(becomes: Callable[..., Any], cells: set[tuple[int, int]], odd: int, sid
     for y in range(odd, side, 2):
         for x in range(odd, side, 2):
             at = [((x + i) % side, (y + j) % side) for i, j in PLACES]
-            places = frozenset(n for n in range(4) if at[n] in cells)
-            stepped.update(at[n] for n in becomes(places))
+            places = frozenset([n for n in range(4) if at[n] in cells])
+            stepped.update([at[n] for n in becomes(places)])
     return stepped
 
 

@@ -35,8 +35,9 @@ class Live:
         self.said = b""
         self.process, self.terminal = pty.fork()
         if self.process == 0:
-            # A shell in the background has its programs ignore it, and what they start does too.
+            # A shell in the background has its programs ignore the one, and nohup the other, and what they start does too.
             signal.signal(signal.SIGINT, signal.SIG_DFL)
+            signal.signal(signal.SIGHUP, signal.SIG_DFL)
             os.execv(LIVE, [LIVE, *words])
 
     def is_begun(self) -> bool:

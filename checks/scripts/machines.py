@@ -8,7 +8,6 @@ that each block was.
 
 from __future__ import annotations
 
-from collections import Counter
 from collections.abc import Iterator
 from functools import cache
 from itertools import product
@@ -45,6 +44,11 @@ class Rule(undoing.Rule):
                 self.fault = {"address": address, "fault": fault.number}
                 return
         self.fault = None
+        # the same by the first eight names, for each sight of the others
+        self.tables = [bytearray(256) for _ in range(16)]
+        for bits, (lower, upper) in self.said.items():
+            sight = sum(bit << place for place, bit in enumerate(bits))
+            self.tables[sight >> 8][sight & 255] = lower | upper << 1
 
     def entry(self, state: int, phase: int, place: int) -> tuple[int, int]:
         return self.said[tuple(self.bit(name, state, phase, place) for name in self.names)]
@@ -65,6 +69,35 @@ def rule_of(half: str, hood: str, minor: str, text: str) -> Rule | dict[str, int
     except TextFault as fault:
         return {"fault": fault.number, "token": fault.token}
     return rule.fault or rule
+
+
+def numbers(planes: list[bytes]) -> bytes:
+    """Of each cell the number that its bits in up to eight planes are, with the first plane's as the lowest."""
+    number = 0
+    for place, plane in enumerate(planes):
+        number |= int.from_bytes(plane, "little") << place
+    return number.to_bytes(len(planes[0]), "little")
+
+
+def rows_of(cells: bytes, side: int) -> list[bytes]:
+    return [cells[at : at + side] for at in range(0, len(cells), side)]
+
+
+def bit_of(cells: bytes, place: int) -> bytes:
+    """A bit of the number that each cell has."""
+    return cells.translate(bytes(number >> place & 1 for number in range(256)))
+
+
+def said_to(rule: Rule, planes: list[bytes]) -> bytes:
+    """What a rule's words say to what each cell sees, plane by plane in the order of the rule's names."""
+    lower, upper = numbers(planes[:8]), planes[8:] and numbers(planes[8:])
+    if not upper:
+        return lower.translate(rule.tables[0])
+    said = 0
+    for number in set(upper):
+        is_there = upper.translate(bytes(3 * (number == other) for other in range(256)))
+        said |= int.from_bytes(lower.translate(rule.tables[number]), "little") & int.from_bytes(is_there, "little")
+    return said.to_bytes(len(lower), "little")
 
 
 def shifted(row: bytes, columns: int) -> bytes:
@@ -109,13 +142,10 @@ class Torus:
 
     def after(self, rule: Rule, grid: str, phase: int) -> list[list[bytes]]:
         """The two planes of the rule's half after a step."""
-        lower, upper = [], []
-        for y in range(self.side):
-            rows = [self.shown(name, rule.half, grid, phase, y) for name in rule.names]
-            new = [rule.said[seen] for seen in zip(*rows)]
-            lower.append(bytes(bits[0] for bits in new))
-            upper.append(bytes(bits[1] for bits in new))
-        return [lower, upper]
+        rows = range(self.side)
+        planes = [b"".join(self.shown(name, rule.half, grid, phase, y) for y in rows) for name in rule.names]
+        said = said_to(rule, planes)
+        return [rows_of(bit_of(said, place), self.side) for place in (0, 1)]
 
     def before(self, rule: Rule, grid: str, phase: int) -> list[list[bytes]]:
         """The two planes of the rule's half before a step: of each block the state that becomes this one."""
@@ -204,9 +234,8 @@ class Machine(hosts.Machine):
     def do_count(self, mask: int) -> int | dict[str, int]:
         if mask > 65535:
             return 65
-        found = Counter(cell for y in range(self.torus.side) for cell in self.torus.cells(y))
-        states = {cell: sum(bit << plane for plane, bit in enumerate(cell)) for cell in found}
-        return {"count": sum(number for cell, number in found.items() if mask >> states[cell] & 1)}
+        states = numbers([b"".join(plane) for plane in self.torus.planes])
+        return {"count": sum(states.count(state) for state in range(16) if mask >> state & 1)}
 
 
 class Alone:

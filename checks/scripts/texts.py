@@ -235,10 +235,11 @@ class Cell:
 
     def taken(self, count: int) -> list[int]:
         """The upper values, which are taken off the stack."""
-        if len(self.stack) < count:
+        first = len(self.stack) - count
+        if first < 0:
             raise RuleFault(40)
-        values = self.stack[len(self.stack) - count :]
-        del self.stack[len(self.stack) - count :]
+        values = self.stack[first:]
+        del self.stack[first:]
         return values
 
     def left(self, values: list[int]) -> None:
@@ -255,8 +256,9 @@ class Cell:
     def do_word(self, word: tuple[int, Callable[..., Any]]) -> None:
         count, leaves = word
         values = leaves(*self.taken(count))
-        if any(not 0 <= value <= LARGEST for value in values):
-            raise RuleFault(43)
+        for value in values:
+            if not 0 <= value <= LARGEST:
+                raise RuleFault(43)
         self.left(values)
 
     def do_output(self, bits: list[tuple[int, int]]) -> None:

@@ -19,6 +19,7 @@ from typing import Any
 PLACES = [(0, 0), (1, 0), (1, 1), (0, 1)]
 TURNS = {"CENTER": 0, "CW": 1, "OPP": 2, "CCW": 3}
 STATES = range(256)
+BITS = [tuple(state >> place & 1 for place in range(8)) for state in STATES]
 
 
 def words_of(text: str) -> list[str]:
@@ -186,18 +187,18 @@ class Torus:
             becomes = {state: images.index(state) for state in set(images)}
         first = 0 if rule.half == "A" else 2
         lower, upper = self.planes[first], self.planes[first + 1]
+        after = {BITS[state]: BITS[new] for state, new in becomes.items()}
         side, odd = self.side, int(grid == "ODD")
+        cells = [(2 * level + j, i) for level in (0, 1) for i, j in PLACES]
         for y in range(odd, side + odd, 2):
-            above, below = y, (y + 1) % side
-            l0, l1, u0, u1 = lower[above], lower[below], upper[above], upper[below]
-            for x in range(odd, side + odd, 2):
-                z = (x + 1) % side
-                state = l0[x] | l0[z] << 1 | l1[z] << 2 | l1[x] << 3
-                state |= u0[x] << 4 | u0[z] << 5 | u1[z] << 6 | u1[x] << 7
-                new = becomes[state]
-                if new != state:
-                    l0[x], l0[z], l1[z], l1[x] = new & 1, new >> 1 & 1, new >> 2 & 1, new >> 3 & 1
-                    u0[x], u0[z], u1[z], u1[x] = new >> 4 & 1, new >> 5 & 1, new >> 6 & 1, new >> 7
+            places = [(plane, row) for plane in (lower, upper) for row in (y, (y + 1) % side)]
+            # the four rows of the blocks, from the first column of a block on
+            rows = [plane[row][odd:] + plane[row][:odd] for plane, row in places]
+            blocks = zip(*(rows[row][i::2] for row, i in cells))
+            for (row, i), new in zip(cells, zip(*map(after.get, blocks))):
+                rows[row][i::2] = new
+            for (plane, row), new in zip(places, rows):
+                plane[row] = new[-odd:] + new[:-odd]
 
     def entry(self, backward: bool) -> None:
         names, grid, phase = self.entries[self.position]

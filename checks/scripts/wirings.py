@@ -8,7 +8,7 @@ cell. Where no set cell is beside, a name that reads cells shows 0, so that it i
 from __future__ import annotations
 
 from argparse import ArgumentParser
-from collections.abc import Sequence
+from collections.abc import Callable, Sequence
 from functools import cache
 
 # The names by their lines, from 0 on; a dot is a line without a name.
@@ -73,31 +73,39 @@ class Torus:
 
     def shown(self, name: str, half: str, grid: str, phase: int, x: int, y: int) -> int:
         """What the cell sees under the name: 0 or 1."""
+        return int(self.is_shown(name, half, grid, phase)(x, y))
+
+    def is_shown(self, name: str, half: str, grid: str, phase: int) -> Callable[[int, int], bool]:
+        """Says of a cell whether it sees a 1 under the name."""
         odd = 1 if grid == "ODD" else 0
-        right, low = (x + odd) % 2, (y + odd) % 2
         upper = 1 if name.endswith("'") else 0
         word = name.rstrip("'")
         if word in ("PHASE", "&PHASE"):
-            return phase >> upper & 1
+            return lambda x, y: phase >> upper & 1 == 1
         if word in ("HORZ", "&HORZ"):
-            return right
+            return lambda x, y: (x + odd) % 2 == 1
         if word in ("VERT", "&VERT"):
-            return low
+            return lambda x, y: (y + odd) % 2 == 1
         own, other = (0, 2) if half == "A" else (2, 0)
         if word == "&CENTER":
-            return int((other + upper, x, y) in self.cells)
-        if word in TURNS:
-            i, j = PLACES[(PLACES.index((right, low)) + TURNS[word]) % 4]
-            i, j = i - right, j - low
-        else:
+            return lambda x, y: (other + upper, x, y) in self.cells
+        if word in BESIDE:
             i, j = BESIDE[word]
-        return int((own + upper, (x + i) % self.side, (y + j) % self.side) in self.cells)
+            return lambda x, y: (own + upper, (x + i) % self.side, (y + j) % self.side) in self.cells
+
+        def is_turned(x: int, y: int) -> bool:
+            right, low = (x + odd) % 2, (y + odd) % 2
+            i, j = PLACES[(PLACES.index((right, low)) + TURNS[word]) % 4]
+            return (own + upper, (x + i - right) % self.side, (y + j - low) % self.side) in self.cells
+
+        return is_turned
 
     @cache
     def plane(self, name: str, half: str, grid: str, phase: int) -> tuple[tuple[int, ...], ...]:
         """The rows that are written where the name is: for each row the set columns."""
         columns, rows = (self.corner, self.corner) if reads_cells(name) else (self.all, self.all)
-        set_in = {y: tuple(x for x in columns if self.shown(name, half, grid, phase, x, y)) for y in rows}
+        is_shown = self.is_shown(name, half, grid, phase)
+        set_in = {y: tuple(x for x in columns if is_shown(x, y)) for y in rows}
         return tuple(set_in.get(y, ()) for y in self.all)
 
     def digits(self, columns: Sequence[int]) -> str:

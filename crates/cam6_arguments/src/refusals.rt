@@ -79,8 +79,9 @@ fn with_hint(text: String, hint: &str) -> Refused
     }
 }
 
-/// Returns the refusal of arguments that clap takes but that ask for nothing. `text` says why, or
-/// is an error if that couldn't be allocated.
+/// Returns the refusal that prints `text`, as it is, if clap has not refused the arguments itself:
+/// they ask for nothing, or a word isn't UTF-8. `text` is a whole line with the program's name and
+/// LF, or an error if that couldn't be allocated.
 pub fn unasked(text: Result<String, AllocError>) -> Refused
     ensures refusal { IsRefusal result }
     ensures text { MatchResult text (λ text. result ≡ Refused.Words text)

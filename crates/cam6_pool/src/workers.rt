@@ -135,11 +135,11 @@ fn take_next(seat: &mut BoardSeat, row: u8) -> Option<(User, Lease, Job)>
     None
 }
 
-/// Serves users with a board until the gate ends it, or the board fails. Users take turns: each time
-/// it goes on from the user after the one whom it served last. Each table is filled under the cache's
-/// lock, and no lock is held while bands are done. A lease that it has at its end is put back first:
-/// with its half-done step if the gate stopped it, from its home if the board failed. The seat can
-/// serve again, with this board or another one.
+/// Serves users with a board until the gate ends it, or the board fails. Users take turns: each
+/// time it goes on from the user after the one whose command it took last. Each table is filled
+/// under the cache's lock, and no lock is held while bands are done. A lease that it has at its end
+/// is put back first: with its half-done step if the gate stopped it, from its home if the board
+/// failed. The seat can serve again, with this board or another one.
 pub fn serve_board<R: Wait, B: Board, G: Gate>(
     rt: &R,
     mut seat: BoardSeat,

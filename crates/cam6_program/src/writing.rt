@@ -285,7 +285,7 @@ fn asked_by(source: Option<Source>) -> u16 {
     }
 }
 
-/// What an operation reads, up to three sources.
+/// The sources that an operation reads. If it reads two, the third is the constant 0.
 fn sources(operation: Operation) -> [Source; 3] {
     match operation {
         Operation::Choice { by, low, high } | Operation::ChoiceNot { by, low, high } => {

@@ -18,61 +18,59 @@ const PICTURE: [[u64; 4]; 4] = [
     [0b0011, 0b1001, 0b0100, 0b1110],
 ];
 
-/// Sets those rows of a plane.
-fn set_rows(rt: &impl Abort, planes: &mut Planes, plane: usize, rows: [u64; 4]) {
+/// Sets one of those rows of a plane.
+fn set_ends(rt: &impl Abort, planes: &mut Planes, plane: usize, row: u8, bits: u64) {
     let side = planes.side();
     let last = side.words() - 1;
-    for (row, bits) in [254, 255, 0, 1].into_iter().zip(rows) {
-        let mut row_words = [0; WORDS];
-        row_words[0] = bits << 62;
-        row_words[last] = bits >> 2;
-        set_row(rt, planes, plane, on_side(side, (0, row)).1, row_words);
-    }
+    let mut row_words = [0; WORDS];
+    row_words[0] = bits << 62;
+    row_words[last] = bits >> 2;
+    set_row(rt, planes, plane, on_side(side, (0, row)).1, row_words);
 }
 
 fn picture(rt: &impl Abort, alloc: Global, side: Side) -> Result<Planes, NoMemory> {
     let mut planes = Planes::blank(alloc, side)?;
-    for (plane, rows) in PICTURE.into_iter().enumerate() {
-        set_rows(rt, &mut planes, plane, rows);
+    for plane in 0..4 {
+        let [first, second, third, fourth] = PICTURE[plane];
+        set_ends(rt, &mut planes, plane, 254, first);
+        set_ends(rt, &mut planes, plane, 255, second);
+        set_ends(rt, &mut planes, plane, 0, third);
+        set_ends(rt, &mut planes, plane, 1, fourth);
     }
     Ok(planes)
 }
 
 /// The address with these bits on lines 0 to 11.
-fn address_with(lines: &str) -> u16 {
+fn address_with(lines: &[u8]) -> u16 {
     let mut address: u16 = 0;
-    for line in lines.as_bytes().iter().rev() {
+    for line in lines.iter().rev() {
         address = address.wrapping_mul(2) | u16::from(*line == b'1');
     }
     address
 }
 
+/// How cells are looked at: under a neighbourhood with a minor assignment, of a half, on a grid and
+/// in a phase.
+pub(crate) type Look = (Hood, Minor, Setting);
+
 /// The cell at this column and row shows this address.
 pub(crate) fn check_address(
     rt: &impl Abort,
     planes: &Planes,
-    hood: Hood,
-    minor: Minor,
-    setting: Setting,
+    look: Look,
     looking: (usize, usize),
     want: u16,
 ) {
+    let (hood, minor, setting) = look;
     let address = address_of(rt, planes, hood, minor, setting, looking);
-    same_at(rt, &address, &want, &(hood, minor, setting, looking));
+    same_at(rt, &address, &want, &(look, looking));
 }
 
-fn check_addresses(
-    rt: &impl Abort,
-    planes: &Planes,
-    hood: Hood,
-    minor: Minor,
-    setting: Setting,
-    lines: &str,
-) {
-    for (cell, lines) in CELLS.into_iter().zip(lines.split(' ')) {
-        let looking = on_side(planes.side(), cell);
-        let want = address_with(lines);
-        check_address(rt, planes, hood, minor, setting, looking, want);
+fn check_addresses(rt: &impl Abort, planes: &Planes, look: Look, lines: &str) {
+    let side = planes.side();
+    for i in 0..4 {
+        let want = address_with(lines.split(' ').nth(i).unwrap_or("").as_bytes());
+        check_address(rt, planes, look, on_side(side, CELLS[i]), want);
     }
 }
 
@@ -121,7 +119,7 @@ fn check_beside(rt: &impl Abort, planes: &Planes) {
             "101001011000 010111010010 100100100101 001001011011",
         ),
     ] {
-        check_addresses(rt, planes, hood, minor, setting, lines);
+        check_addresses(rt, planes, (hood, minor, setting), lines);
     }
 }
 
@@ -193,7 +191,7 @@ fn check_in_blocks(rt: &impl Abort, planes: &Planes) {
             "011010011111 101001100101 000111101010 110100010000",
         ),
     ] {
-        check_addresses(rt, planes, hood, minor, setting, lines);
+        check_addresses(rt, planes, (hood, minor, setting), lines);
     }
 }
 

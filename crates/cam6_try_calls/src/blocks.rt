@@ -81,7 +81,7 @@ fn check_round(rt: &impl Abort, planes: &Planes) {
     ] {
         let phase = Phase::P0;
         let setting = Setting { half, grid, phase };
-        check_address(rt, planes, hood, Minor::Centers, setting, (x, y), want);
+        check_address(rt, planes, (hood, Minor::Centers, setting), (x, y), want);
     }
 }
 

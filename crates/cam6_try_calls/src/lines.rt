@@ -58,7 +58,7 @@ fn check_row(
     let lines = lines_of(rt, planes, hood, minor, setting, y);
     for x in 0..planes.side().number() {
         let shown = shown_at(rt, &lines, x);
-        check_address(rt, planes, hood, minor, setting, (x, y), shown);
+        check_address(rt, planes, (hood, minor, setting), (x, y), shown);
     }
 }
 
