@@ -32,7 +32,7 @@ ascii_onto (suc k) n after is =
     (ascii_glyph (nat_lt (n % 10) 10) (n % 10) (omega arith)) is in
     ascii_if (n / 10 == 0) _ _ more (ascii_onto k (n / 10) _ more)
 
-ascii_decimal : (n : ℕ) → are_ascii (decimal n) ≡ true
+pub ascii_decimal : (n : ℕ) → are_ascii (decimal n) ≡ true
 unfolding digits
 ascii_decimal n = ascii_onto 64 n [] refl
 

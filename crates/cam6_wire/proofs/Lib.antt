@@ -54,6 +54,8 @@ pub mod BandTexts
 pub mod PlainBands
 -- JSON's compact text has no control character, so it is one line.
 pub mod Plain
+-- Hexadecimal digits stand for themselves in a JSON string, and are ASCII.
+pub mod HexTexts
 -- What stands between the quotes of a JSON string, unescaped, is UTF-8 where the bytes are.
 pub mod Utf8Contents
 -- So are the keys and strings among the tokens of such bytes,
@@ -64,6 +66,10 @@ pub mod Utf8Values
 pub mod TextsAreUtf8
 -- The compact text of a value of whole numbers is UTF-8 where its strings and keys are.
 pub mod CompactUtf8
+-- Lines that are spelled plainly say their commands.
+pub mod PlainLines
+-- The texts of the replies that are sent most, and what they are read as.
+pub mod PlainReplies
 -- The whole numbers of a value that serde_json reads have 64 bits.
 pub mod WordsRead
 -- The value of a machine that can be saved has whole numbers, keys in order, and texts in UTF-8,

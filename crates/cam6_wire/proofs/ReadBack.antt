@@ -6,6 +6,7 @@ use Rattle.std.specs.Prelude.{⊤}
 use Rattle.std.specs.Ordering.{nat_cmp, match_ordering}
 use Rattle.std.specs.Cmp.Lexicographic.{slice_cmp}
 use Rattle.json.specs.Lex.{tokens}
+use Rattle.json.specs.Print.{print}
 use Rattle.json.specs.Json as json
 use Rattle.json.specs.Tree as tree
 use Rattle.json.proofs.Printed.Tokens.{tokens-print}
@@ -191,17 +192,23 @@ mutual
       (precede_more found key d held precede.1 whole.1)
       ∙ ap Some (behind_again found (member key d no_members) held)
 
-pub read_back : (d : Data) → IsWholeData d → depth d ≤ max_depth → read (compact_text d) ≡ Some d
-read_back d whole shallow =
-    let j = outline d in
-    let printed : tokens (compact_text d) ≡ tree.json_tokens j =
-    ap tokens (sym (print-outline d))
-    ∙ tokens-print (tree.json_tokens j) (ArePrintable-json_tokens j (numbers_are d whole)) in
+-- JSON is read from its text, in whatever order its keys are
+pub read_printed : (j : json.Json) → tree.HasNumbers j → tree.depth j ≤ max_depth
+    → read (print (tree.json_tokens j)) ≡ of_json j
+read_printed j numbers shallow =
+    let printed : tokens (print (tree.json_tokens j)) ≡ tree.json_tokens j =
+    tokens-print (tree.json_tokens j) (ArePrintable-json_tokens j numbers) in
     let parsed : json.value max_depth (tree.json_tokens j) ≡ Some (j, []) =
     ap (json.value max_depth) (sym (append-nil (tree.json_tokens j)))
-    ∙ value-json_tokens j max_depth [] (omega (arith, same_depth d, shallow)) in
+    ∙ value-json_tokens j max_depth [] shallow in
     ap (λ o. option_and_then of_json (option_and_then (λ p. json.if_last p.0 p.1) o))
-    (ap (json.value max_depth) printed ∙ parsed) ∙ value_back d whole
+    (ap (json.value max_depth) printed ∙ parsed)
+
+pub read_back : (d : Data) → IsWholeData d → depth d ≤ max_depth → read (compact_text d) ≡ Some d
+read_back d whole shallow =
+    ap read (sym (print-outline d))
+    ∙ read_printed (outline d) (numbers_are d whole) (omega (arith, same_depth d, shallow))
+    ∙ value_back d whole
 
 inner : (d e : Data) → Some d ≡ Some e → d ≡ e
 inner d e same = cc same

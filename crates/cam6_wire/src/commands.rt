@@ -18,6 +18,7 @@ use crate::faults::LineFault;
 use crate::fields::{bits_at, colours_at, has_size, number_at, text_at};
 use crate::limits::line_limit;
 use crate::loads::saved_in;
+use crate::plain_lines::plain_command;
 use crate::rules::rule_fields;
 use crate::saved::is_load_line;
 use cam6_commands::{Command, NamedRule, Text};
@@ -32,6 +33,9 @@ pub fn read_command(alloc: Global, line: &[u8]) -> Result<Command, LineFault>
         (0 < length line.now) × (length line.now ≤ limit_of line.now) }
     ensures texts { IfOk result (λ command. HasText command) }
 {
+    if let Some(command) = plain_command(line) {
+        return Ok(command);
+    }
     let value = line_value(alloc, line)?;
     let command = command_in(alloc, &value)?.ok_or(LineFault::NoCommand)?;
     if !is_spelled(alloc, line, &command)? {

@@ -26,11 +26,12 @@
 //! is one line.
 //!
 //! Stands on: `cam6_planes`, `cam6_wiring`, `cam6_table`, `cam6_block`, `cam6_commands`;
-//! `serde_json` with its grammar in `json`, and `hex`.
+//! `serde_json` with its grammar in `json`, `hex`, and `itoa`.
 //!
-//! Read next: `faults`, `limits`, `commands` and `replies`; what they read, `fields`, `wirings`,
-//! `rules` and `entries`, and how they write, `objects`; `saved`, a machine as it is written, and
-//! `loads`, as it is read; `events`, `outcomes` and `seats`; then `laws`.
+//! Read next: `faults`, `limits`, `commands` and `replies`; `plain_lines`, of which no JSON value
+//! is made; what the others read, `fields`, `wirings`, `rules` and `entries`, and how they write,
+//! `objects`; `saved`, a machine as it is written, and `loads`, as it is read; `events`, `outcomes`
+//! and `seats`; then `laws`.
 #![tactic(auto)]
 
 mod commands;
@@ -43,6 +44,7 @@ mod limits;
 mod loads;
 mod objects;
 mod outcomes;
+mod plain_lines;
 mod replies;
 mod rules;
 mod saved;

@@ -2,7 +2,7 @@
 ghost use Rattle.std.specs.Prelude.{◌≡◌, ◌≢◌, ◌≤◌, [], ◌∷◌, ◌++◌, Some, IfOk, IfSome, string_bytes};
 ghost use Rattle.std.specs.Prelude.{length};
 ghost use Rattle.std.specs.Prelude.{map, take};
-ghost use Rattle.std.specs.Prelude.{codes};
+ghost use Rattle.std.specs.Prelude.{◌<◌, ◌^◌, codes, decimal};
 ghost use Rattle.std.specs.List.{AllByRecursion};
 ghost use Rattle.std.specs.Str.{IsAscii};
 ghost use Rattle.serde_json.specs.Data.{array, object, string, no_members, member};
@@ -25,17 +25,69 @@ use cam6_block::NotReversible;
 use cam6_commands::{Done, Names, PlaneRows, Refusal, Reply, RowColours, RowText, SavedMachine};
 use cam6_planes::{COLUMNS, NoMemory};
 use cam6_wiring::{Half, Phase};
+use json::Writer;
 use serde_json::{Map, Value, json};
 use std::alloc::{AllocError, Global};
 
 const HEX_DIGITS: [u8; 16] = *b"0123456789abcdef";
+
+/// The bytes of the longest reply that shows a row, with its LF, and a few more.
+const SHORT_LINE: usize = 160;
 
 /// Returns the line of a reply, without its LF.
 pub fn reply_text(alloc: Global, reply: &Reply) -> Result<String, NoMemory>
     ensures text { IfOk result (λ text. string_bytes text ≡ reply_bytes reply.now) }
     ensures value { IfOk result (λ text. read (string_bytes text) ≡ Some (reply_data reply.now)) }
 {
+    let Reply::Done(done) = reply else {
+        return value_text(alloc, reply);
+    };
+    match done {
+        // These are sent most, so their texts are made without a JSON value in between.
+        Done::Run { position } => {
+            Ok(number_text(alloc, "{\"ok\":\"run\",\"position\":", *position)?)
+        }
+        Done::Back { position } => {
+            Ok(number_text(alloc, "{\"ok\":\"back\",\"position\":", *position)?)
+        }
+        Done::Row { bits } => Ok(row_text(alloc, bits)?),
+        _ => value_text(alloc, reply),
+    }
+}
+
+/// The text of a reply, made of its JSON value.
+fn value_text(alloc: Global, reply: &Reply) -> Result<String, NoMemory>
+    ensures text { IfOk result (λ text. string_bytes text ≡ reply_bytes reply.now) }
+    ensures value { IfOk result (λ text. read (string_bytes text) ≡ Some (reply_data reply.now)) }
+{
     Ok(reply_value(alloc, reply)?.to_string(alloc)?)
+}
+
+/// A text that is a front, a number and a brace.
+fn number_text(alloc: Global, front: &str, n: usize) -> Result<String, AllocError>
+    ensures text { IfOk result (λ text. string_bytes text ≡ front.now ++ decimal n ++ codes "}") }
+    ensures fits { n < 2 ^ 64 }
+{
+    let mut text = String::with_capacity(alloc, SHORT_LINE)?;
+    text.push_str(front)?;
+    text.push_str(itoa::Buffer::new().format(n))?;
+    text.push_str("}")?;
+    Ok(text)
+}
+
+/// The text of the reply to a command that shows a row, its keys in byte order.
+fn row_text(alloc: Global, bits: &RowText) -> Result<String, AllocError>
+    ensures { IfOk result (λ text. string_bytes text
+        ≡ reply_bytes (Reply.Done (Done.Row bits.now))) }
+{
+    let mut writer = Writer::new(Vec::with_capacity(alloc, SHORT_LINE)?);
+    writer.begin_object()?;
+    writer.key("bits")?;
+    writer.string(digits(bits.as_slice()))?;
+    writer.key("ok")?;
+    writer.string("row")?;
+    writer.end_object()?;
+    Ok(String::from_utf8(writer.into_inner()).unwrap())
 }
 
 /// Returns the line of a reply that only says what was done, with its LF, and `None` for any other
