@@ -1,35 +1,33 @@
--- The bits that a program makes which computes the entries.
-use Rattle.std.proofs.Common.{◌≡◌, ℕ, ◌%◌, ◌==◌, ◌∙◌, ap, Bool, List, map}
+-- The bits that a program makes which does for the entries.
+use Rattle.std.proofs.Common.{◌≡◌, ℕ, ◌%◌, ◌==◌, ◌∙◌, ap, List, map}
 use Rattle.std.proofs.Common.{get_or}
 use Rattle.std.proofs.Math.Nat.{div-one}
-use Rattle.std.proofs.lemmas.List.{length-map}
 use Rattle.cam6_planes.specs.Cells.{Cells}
 use Rattle.cam6_wiring.specs.Lines.{sees_at}
-use Rattle.cam6_wiring.specs.Seen.{line_shows, number_of, address_of}
+use Rattle.cam6_wiring.specs.Seen.{Sees, line_shows, address_of}
 use Rattle.cam6_wiring.specs.Wiring.{names_of}
 use Rattle.cam6_wiring.specs.declared.names.Level.{Level}
 use Rattle.cam6_wiring.specs.declared.names.Level.TheVariants.{Lower, Upper}
 use Rattle.cam6_wiring.specs.declared.neighbours.Setting.{Setting}
 use Rattle.cam6_wiring.specs.declared.wirings.Hood.{Hood}
 use Rattle.cam6_wiring.specs.declared.wirings.Minor.{Minor}
-use Rattle.cam6_wiring.proofs.Numbers.{length-names_of}
-use Rattle.cam6_program.specs.Computing.{Computes}
 use Rattle.cam6_program.specs.Meaning.{bit_by}
 use Rattle.cam6_program.specs.Programs.{Steps}
 use Rattle.cam6_entries.specs.Bands.{new_bit}
+use Rattle.cam6_entries.specs.Programs.{ComputesUnder}
 
-pub computed : (entries : List ℕ) (program : Steps) → Computes entries program → (level : Level)
-    (s : ℕ) (f : Cells) (setting : Setting) (hood : Hood) (minor : Minor) (x y : ℕ) →
+-- the bits are those of the entry at the address that a cell shows
+pub computed : (entries : List ℕ) (program : Steps) (hood : Hood) (minor : Minor) →
+    ComputesUnder hood minor entries program → (level : Level) (s : ℕ) (f : Cells)
+    (setting : Setting) (x y : ℕ) →
     bit_by level program (map (line_shows (sees_at s f setting x y)) (names_of hood minor))
     ≡ new_bit entries s f setting hood minor level x y
-unfolding address_of
-computed entries program computes Lower s f setting hood minor x y =
-    let bits : List Bool = map (line_shows (sees_at s f setting x y)) (names_of hood minor) in
-    computes Lower bits (length-map _ _ ∙ length-names_of hood minor) ∙
-    ap (λ n. n % 2 == 1) (div-one (get_or entries (number_of bits) 0))
-computed entries program computes Upper s f setting hood minor x y =
-    let bits : List Bool = map (line_shows (sees_at s f setting x y)) (names_of hood minor) in
-    computes Upper bits (length-map _ _ ∙ length-names_of hood minor)
+computed entries program hood minor computes Lower s f setting x y =
+    let sees : Sees = sees_at s f setting x y in
+    computes Lower sees ∙
+    ap (λ n. n % 2 == 1) (div-one (get_or entries (address_of hood minor sees) 0))
+computed entries program hood minor computes Upper s f setting x y =
+    computes Upper (sees_at s f setting x y)
 
 -- the new bit by equal entries and an equal wiring
 pub same_bit : {held entries : List ℕ} {own hood : Hood} {kept minor : Minor} → held ≡ entries →

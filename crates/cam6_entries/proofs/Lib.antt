@@ -6,7 +6,9 @@ pub mod UnitRows
 pub mod BandRows
 -- In planes that are kept every cell keeps its bit.
 pub mod KeptPlanes
--- A program that computes the entries makes the new bits.
+-- A program that does for the entries makes the new bits.
 pub mod ComputedBits
+-- One that computes entries without two lines does for them under N/MARG.
+pub mod LinesWithoutNames
 -- So do look-ups, if all twelve lines are asked for.
 pub mod LookedUp

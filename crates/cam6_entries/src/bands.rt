@@ -10,10 +10,10 @@ ghost use Rattle.cam6_wiring.specs.declared.names.Level.TheVariants.{Lower, Uppe
 ghost use Rattle.cam6_lines.specs.Bands.{IsBandOf, IsWithin, side_of};
 ghost use Rattle.cam6_lines.specs.Limits.{height};
 ghost use Rattle.cam6_lines.specs.Units.{bit_in};
-ghost use Rattle.cam6_program.specs.Computing.{Computes};
 ghost use Rattle.cam6_program.specs.Meaning.{bit_by};
 ghost use Rattle.cam6_entries.specs.Bands.{ShowNewBits, MakesRows, seen_by, all_lines, asked_by};
 ghost use Rattle.cam6_entries.specs.Limits.{addresses};
+ghost use Rattle.cam6_entries.specs.Programs.{ComputesUnder};
 
 use crate::rooms::TableRoom;
 use crate::tables::Table;
@@ -82,11 +82,11 @@ impl Table {
                 band,
             );
         }
-        let plan = Plan::of(asked, hood, minor);
+        let plan = Plan::of(ALL_LINES, hood, minor);
         by_plan(
             room,
             &self.entries,
-            &self.program,
+            &None,
             &plan,
             lower,
             upper,
@@ -109,7 +109,8 @@ fn by_plan(
 ) -> Written
     requires within { IsWithin band.now }
     requires entries { length entries.now ≡ addresses }
-    requires program { IfSome program.now (λ program. Computes entries.now program) }
+    requires program { IfSome program.now (λ program.
+        ComputesUnder plan.now.hood plan.now.minor entries.now program) }
     requires plan { plan.now.lines ≡ asked_by program.now }
     ensures lower { (f : Cells) → IsBandOf f band.now →
         ShowNewBits entries.now f band.now setting plan.now.hood plan.now.minor

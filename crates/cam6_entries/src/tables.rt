@@ -4,6 +4,7 @@ ghost use Rattle.std.specs.Prelude.{slice_index, replicate};
 ghost use Rattle.cam6_entries.specs.declared.tables.TheConstants.{ENTRIES};
 
 use crate::bands::asked_by;
+use crate::programs::program_under;
 use cam6_lines::Plan;
 use cam6_lookup::look_up_rows;
 use cam6_planes::{NoMemory, Row, Side};
@@ -20,7 +21,7 @@ pub const ENTRIES: u16 = 4096;
 #[derive(Drop)]
 pub struct Table {
     pub(crate) entries: Vec<u8>,
-    /// A program that computes the entries, if the table was given one.
+    /// A program that makes the entries' bits under the plan's wiring, if the table was given one.
     pub(crate) program: Option<Program>,
     /// How the lines are seen under the wiring for which the table was quickened: those for which
     /// the program asks, or all of them without a program.
@@ -29,15 +30,16 @@ pub struct Table {
 
 impl Model for Table {
     ghost use Rattle.std.specs.Prelude.{◌≡◌, List, ℕ, IfSome, vec_len};
-    ghost use Rattle.cam6_program.specs.Computing.{Computes};
     ghost use Rattle.cam6_entries.specs.Limits.{addresses};
+    ghost use Rattle.cam6_entries.specs.Programs.{ComputesUnder};
 
     ghost Value = { List ℕ };
 
     ghost view = { λ t. t.entries.items };
 
     ghost invariant = { λ t. (vec_len t.entries ≡ addresses)
-        × IfSome t.program (λ program. Computes t.entries.items program) };
+        × IfSome t.program (λ program. IfSome t.plan (λ plan.
+        ComputesUnder plan.hood plan.minor t.entries.items program)) };
 }
 
 impl Table {
@@ -102,12 +104,13 @@ impl Table {
     }
 
     /// Gives the table a program, if its entries have a short one, and a plan of the lines for this
-    /// neighbourhood and minor assignment. Both make bands faster, the plan only under this wiring.
-    /// Copies of the table get them too. Writing an entry removes the program. Does not allocate.
+    /// neighbourhood and minor assignment. Both make bands faster under this wiring, and nothing
+    /// under others. Copies of the table get them too. Writing an entry removes the program. Does not
+    /// allocate.
     pub fn quicken(&mut self, hood: Hood, minor: Minor)
         ensures { self.new ≡ self.old }
     {
-        self.program = Program::of(&self.entries);
+        self.program = program_under(&self.entries, hood);
         self.plan = Some(Plan::of(asked_by(&self.program), hood, minor));
     }
 
