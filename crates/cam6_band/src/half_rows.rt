@@ -73,14 +73,14 @@ impl HalfRows {
     pub(crate) fn make(
         &mut self,
         room: &mut TableRoom,
-        setting: Setting,
+        setting: &Setting,
         by: &HalfTable,
         band: &Band,
     )
         requires { IsWithin band.now }
         ensures { (f : Cells) → IsBandOf f band.now → (level : Level) →
             let plane = rows_of level self.new in
-            ShowNewBits by.now.table.now f band.now setting by.now.hood by.now.minor level
+            ShowNewBits by.now.table.now f band.now setting.now by.now.hood by.now.minor level
             plane.is_written plane.rows }
     {
         let HalfTable { table, hood, minor } = *by;

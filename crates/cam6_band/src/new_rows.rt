@@ -44,7 +44,7 @@ pub(crate) fn step_band(
         Some(by) => step_halves(image, last, first, y, &by, tables, room),
         None => {
             let b = tables.setting(Half::B);
-            step_half(image, last, first, y, b, &tables.b, &mut room.half)
+            step_half(image, last, first, y, &b, &tables.b, &mut room.half)
         }
     }
 }
@@ -77,8 +77,8 @@ fn step_halves(
     let a = tables.setting(Half::A);
     let b = tables.setting(Half::B);
     let old = old_rows(image, last, first, y);
-    room.a.make(&mut room.half.table, a, by, &old);
-    step_half(image, last, first, y, b, &tables.b, &mut room.half);
+    room.a.make(&mut room.half.table, &a, by, &old);
+    step_half(image, last, first, y, &b, &tables.b, &mut room.half);
     room.a.put(image, Half::A, y);
 }
 
@@ -89,16 +89,16 @@ fn step_half(
     last: &mut CellRow,
     first: &CellRow,
     y: usize,
-    setting: Setting,
+    setting: &Setting,
     table: &Option<HalfTable>,
     room: &mut HalfRoom,
 )
     requires { y + band ≤ width image.old }
     ensures new { let s = width image.old in (f : Cells) →
         AreOldRows s f y (cells image.old) last.old first.now →
-        HasNewBits s f setting (option_map half_entries table.now) y (cells image.new) }
+        HasNewBits s f setting.now (option_map half_entries table.now) y (cells image.new) }
     ensures other_half { (level : Level) (x v : ℕ) → x < width image.old → v < width image.old →
-        let p = plane_of (other_half setting.half) level in
+        let p = plane_of (other_half setting.now.half) level in
         cells image.new p x v ≡ cells image.old p x v }
     ensures others { (p x v : ℕ) → p < 4 → x < width image.old → v < width image.old →
         IsOutside y v → cells image.new p x v ≡ cells image.old p x v }
@@ -119,16 +119,16 @@ fn step_by_table(
     last: &mut CellRow,
     first: &CellRow,
     y: usize,
-    setting: Setting,
+    setting: &Setting,
     by: &HalfTable,
     room: &mut HalfRoom,
 )
     requires { y + band ≤ width image.old }
     ensures new { let s = width image.old in (f : Cells) →
         AreOldRows s f y (cells image.old) last.old first.now →
-        HasNewBits s f setting (Some (half_entries by.now)) y (cells image.new) }
+        HasNewBits s f setting.now (Some (half_entries by.now)) y (cells image.new) }
     ensures other_half { (level : Level) (x v : ℕ) → x < width image.old → v < width image.old →
-        let p = plane_of (other_half setting.half) level in
+        let p = plane_of (other_half setting.now.half) level in
         cells image.new p x v ≡ cells image.old p x v }
     ensures others { (p x v : ℕ) → p < 4 → x < width image.old → v < width image.old →
         IsOutside y v → cells image.new p x v ≡ cells image.old p x v }

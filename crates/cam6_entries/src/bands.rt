@@ -56,16 +56,16 @@ impl Table {
         room: &mut TableRoom,
         lower: &mut BandRows,
         upper: &mut BandRows,
-        setting: Setting,
+        setting: &Setting,
         hood: Hood,
         minor: Minor,
         band: &Band,
     ) -> Written
         requires { IsWithin band.now }
         ensures lower { (f : Cells) → IsBandOf f band.now →
-            ShowNewBits self.now f band.now setting hood minor Lower result.lower lower.new }
+            ShowNewBits self.now f band.now setting.now hood minor Lower result.lower lower.new }
         ensures upper { (f : Cells) → IsBandOf f band.now →
-            ShowNewBits self.now f band.now setting hood minor Upper result.upper upper.new }
+            ShowNewBits self.now f band.now setting.now hood minor Upper result.upper upper.new }
     {
         let asked = asked_by(&self.program);
         if let Some(plan) = &self.plan
@@ -104,7 +104,7 @@ fn by_plan(
     plan: &Plan,
     lower: &mut BandRows,
     upper: &mut BandRows,
-    setting: Setting,
+    setting: &Setting,
     band: &Band,
 ) -> Written
     requires within { IsWithin band.now }
@@ -113,10 +113,10 @@ fn by_plan(
         ComputesUnder plan.now.hood plan.now.minor entries.now program) }
     requires plan { plan.now.lines ≡ asked_by program.now }
     ensures lower { (f : Cells) → IsBandOf f band.now →
-        ShowNewBits entries.now f band.now setting plan.now.hood plan.now.minor
+        ShowNewBits entries.now f band.now setting.now plan.now.hood plan.now.minor
         Lower result.lower lower.new }
     ensures upper { (f : Cells) → IsBandOf f band.now →
-        ShowNewBits entries.now f band.now setting plan.now.hood plan.now.minor
+        ShowNewBits entries.now f band.now setting.now plan.now.hood plan.now.minor
         Upper result.upper upper.new }
 {
     match program {
@@ -140,17 +140,17 @@ fn by_look_ups(
     plan: &Plan,
     lower: &mut BandRows,
     upper: &mut BandRows,
-    setting: Setting,
+    setting: &Setting,
     band: &Band,
 )
     requires within { IsWithin band.now }
     requires entries { length entries.now ≡ addresses }
     requires plan { plan.now.lines ≡ all_lines }
     ensures lower { (f : Cells) → IsBandOf f band.now →
-        ShowNewBits entries.now f band.now setting plan.now.hood plan.now.minor
+        ShowNewBits entries.now f band.now setting.now plan.now.hood plan.now.minor
         Lower true lower.new }
     ensures upper { (f : Cells) → IsBandOf f band.now →
-        ShowNewBits entries.now f band.now setting plan.now.hood plan.now.minor
+        ShowNewBits entries.now f band.now setting.now plan.now.hood plan.now.minor
         Upper true upper.new }
 {
     let side = band.planes.side();
@@ -169,7 +169,7 @@ fn by_program(
     plan: &Plan,
     lower: &mut BandRows,
     upper: &mut BandRows,
-    setting: Setting,
+    setting: &Setting,
     band: &Band,
 ) -> Written
     requires within { IsWithin band.now }
@@ -177,13 +177,13 @@ fn by_program(
     ensures lower { (f : Cells) → IsBandOf f band.now → (r x : ℕ) →
         r < height → x < side_of band.now →
         (if result.lower then bit_in band.now.planes.now.side lower.new r x
-        else f (plane_of setting.half Lower) x (band.now.first + r))
-        ≡ bit_by Lower program.now (seen_by plan.now setting f band.now r x) }
+        else f (plane_of setting.now.half Lower) x (band.now.first + r))
+        ≡ bit_by Lower program.now (seen_by plan.now setting.now f band.now r x) }
     ensures upper { (f : Cells) → IsBandOf f band.now → (r x : ℕ) →
         r < height → x < side_of band.now →
         (if result.upper then bit_in band.now.planes.now.side upper.new r x
-        else f (plane_of setting.half Upper) x (band.now.first + r))
-        ≡ bit_by Upper program.now (seen_by plan.now setting f band.now r x) }
+        else f (plane_of setting.now.half Upper) x (band.now.first + r))
+        ≡ bit_by Upper program.now (seen_by plan.now setting.now f band.now r x) }
 {
     by_units(room, program, plan, lower, upper, setting, band);
     Written {
@@ -199,15 +199,15 @@ fn by_units(
     plan: &Plan,
     lower: &mut BandRows,
     upper: &mut BandRows,
-    setting: Setting,
+    setting: &Setting,
     band: &Band,
 )
     requires within { IsWithin band.now }
     requires plan { plan.now.lines ≡ program.now.asked }
     ensures lower { (f : Cells) → IsBandOf f band.now →
-        MakesRows program.now plan.now setting f band.now Lower lower.new }
+        MakesRows program.now plan.now setting.now f band.now Lower lower.new }
     ensures upper { (f : Cells) → IsBandOf f band.now →
-        MakesRows program.now plan.now setting f band.now Upper upper.new }
+        MakesRows program.now plan.now setting.now f band.now Upper upper.new }
 {
     let side = band.planes.side();
     let words = HEIGHT * words_of_row(side);

@@ -31,7 +31,7 @@ pub(crate) type Part = [u64; PART];
 pub(crate) fn put_part<const W: usize>(
     part: &mut Part,
     side: Side,
-    setting: Setting,
+    setting: &Setting,
     name: Name,
     band: &Band,
     unit: usize,
@@ -40,9 +40,9 @@ pub(crate) fn put_part<const W: usize>(
     requires side { side ≡ band.now.planes.now.side }
     requires within { IsWithin band.now }
     requires unit { columns band.now.planes.now.side * unit < side_of band.now }
-    ensures { (f : Cells) → IsBandOf f band.now → ShowsPart f setting name band.now unit part.new }
+    ensures { (f : Cells) → IsBandOf f band.now → ShowsPart f setting.now name band.now unit part.new }
 {
-    let Setting { half, grid, .. } = setting;
+    let Setting { half, grid, .. } = *setting;
     match name {
         Name::Beside(Compass::Center, level) => put_here::<W>(
             part,
@@ -95,7 +95,7 @@ pub(crate) fn put_part<const W: usize>(
 fn put_rows<const W: usize>(
     part: &mut Part,
     side: Side,
-    setting: Setting,
+    setting: &Setting,
     name: Name,
     band: &Band,
     unit: usize,
@@ -104,11 +104,11 @@ fn put_rows<const W: usize>(
     requires side { side ≡ band.now.planes.now.side }
     requires within { IsWithin band.now }
     requires unit { columns band.now.planes.now.side * unit < side_of band.now }
-    ensures { (f : Cells) → IsBandOf f band.now → ShowsPart f setting name band.now unit part.new }
+    ensures { (f : Cells) → IsBandOf f band.now → ShowsPart f setting.now name band.now unit part.new }
 {
     let first = first_row(name);
     for j in first..HEIGHT + 2 - first {
-        put_row::<W>(part, W * j, row_seen(side, setting, name, band, unit, j));
+        put_row::<W>(part, W * j, row_seen(side, *setting, name, band, unit, j));
     }
 }
 

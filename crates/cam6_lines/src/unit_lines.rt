@@ -60,13 +60,13 @@ impl UnitLines {
 
     /// Makes what the cells of a unit of the band see on the lines for which a plan asks. The other
     /// lines show 0.
-    pub fn put(&mut self, plan: &Plan, setting: Setting, band: &Band, unit: usize)
+    pub fn put(&mut self, plan: &Plan, setting: &Setting, band: &Band, unit: usize)
         requires within { IsWithin band.now }
         requires unit { columns band.now.planes.now.side * unit < side_of band.now }
         ensures { (f : Cells) → IsBandOf f band.now → (r i : ℕ) → r < height →
             let side = band.now.planes.now.side in i < columns side →
             at_column (place side r i) self.new ≡ asked_for plan.now.lines (map (line_shows
-            (sees_at (side_of band.now) f setting (columns side * unit + i) (band.now.first + r)))
+            (sees_at (side_of band.now) f setting.now (columns side * unit + i) (band.now.first + r)))
             (names_of plan.now.hood plan.now.minor)) }
     {
         put_parts(&mut self.parts, &plan.needed, setting, band, unit);
@@ -99,14 +99,14 @@ impl UnitLines {
 }
 
 /// Makes the parts that are needed, by loops that are compiled for the words of a unit's row.
-fn put_parts(parts: &mut [Part], needed: &Needed, setting: Setting, band: &Band, unit: usize)
+fn put_parts(parts: &mut [Part], needed: &Needed, setting: &Setting, band: &Band, unit: usize)
     requires room { needed.now.count ≤ length parts.old }
     requires most { needed.now.count ≤ LINES }
     requires within { IsWithin band.now }
     requires unit { columns band.now.planes.now.side * unit < side_of band.now }
     ensures { (f : Cells) → IsBandOf f band.now → (place : ℕ) (name : Name) →
         IsPartFor needed.now name place →
-        ShowsPart f setting name band.now unit (slice_index_or parts.new place []) }
+        ShowsPart f setting.now name band.now unit (slice_index_or parts.new place []) }
 {
     match band.planes.side() {
         Side::S128 => put_parts_at::<2>(parts, needed, Side::S128, setting, band, unit),
@@ -120,7 +120,7 @@ fn put_parts_at<const W: usize>(
     parts: &mut [Part],
     needed: &Needed,
     side: Side,
-    setting: Setting,
+    setting: &Setting,
     band: &Band,
     unit: usize,
 )
@@ -132,7 +132,7 @@ fn put_parts_at<const W: usize>(
     requires unit { columns band.now.planes.now.side * unit < side_of band.now }
     ensures { (f : Cells) → IsBandOf f band.now → (place : ℕ) (name : Name) →
         IsPartFor needed.now name place →
-        ShowsPart f setting name band.now unit (slice_index_or parts.new place []) }
+        ShowsPart f setting.now name band.now unit (slice_index_or parts.new place []) }
 {
     for k in 0..needed.count {
         put_named::<W>(&mut parts[k], needed.names[k], side, setting, band, unit);
@@ -145,7 +145,7 @@ fn put_named<const W: usize>(
     part: &mut Part,
     name: Option<Name>,
     side: Side,
-    setting: Setting,
+    setting: &Setting,
     band: &Band,
     unit: usize,
 )
@@ -154,7 +154,7 @@ fn put_named<const W: usize>(
     requires within { IsWithin band.now }
     requires unit { columns band.now.planes.now.side * unit < side_of band.now }
     ensures { (f : Cells) → IsBandOf f band.now → (known : Name) → name ≡ Some known →
-        ShowsPart f setting known band.now unit part.new }
+        ShowsPart f setting.now known band.now unit part.new }
 {
     if let Some(name) = name {
         put_part::<W>(part, side, setting, name, band, unit);

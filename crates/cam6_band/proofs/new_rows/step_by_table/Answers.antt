@@ -13,10 +13,10 @@ returns-clause-new c = λ f old level x r h k.
     let a = c.args in
     let s = width a.image.now in
     let band = c.old_rows-old in
-    are_new s f (cells a.image.now) (cells c.put.new.image) a.by.now.table.now a.setting
+    are_new s f (cells a.image.now) (cells c.put.new.image) a.by.now.table.now a.setting.now
     a.by.now.hood a.by.now.minor level a.y band.result a.image.now.side
     (rows_of level c.make.new.self) x r (ap side_number band.ensures.side) band.ensures.side
     band.ensures.first h k (c.make.ensures f (band.ensures.rows f old) level)
     (c.put.ensures.half level x r h k)
-    (old.rows (plane_of a.setting.half level) x (a.y + r) (plane-lt a.setting.half level) h
+    (old.rows (plane_of a.setting.now.half level) x (a.y + r) (plane-lt a.setting.now.half level) h
     (omega arith) (omega (arith, k, c.requires)))

@@ -36,19 +36,19 @@ loop-unit-preserved c =
       c.loop-unit-test.true,
     ) in
     let bit : Level → Cells → ℕ → ℕ → Bool =
-    λ level f r x. new_bit entries s f a.setting plan.hood plan.minor level x (band.first + r) in
+    λ level f r x. new_bit entries s f a.setting.now plan.hood plan.minor level x (band.first + r) in
     let shown : (f : Cells) → IsBandOf f band → (r i : ℕ) → r < 16 → i < wide →
     at_column (place side r i) (map (λ line. line.now) c.lines-lines.result)
-    ≡ asked_for all_lines (seen_by plan a.setting f band r (wide * now.unit + i)) = λ f of r i h l.
+    ≡ asked_for all_lines (seen_by plan a.setting.now f band r (wide * now.unit + i)) = λ f of r i h l.
     ap (at_column (place side r i)) c.lines-lines.ensures ∙ c.put.ensures f of r i h l ∙
-    ap (λ mask. asked_for mask (seen_by plan a.setting f band r (wide * now.unit + i)))
+    ap (λ mask. asked_for mask (seen_by plan a.setting.now f band r (wide * now.unit + i)))
     c.requires.plan in
     let entry : (level : Level) (f : Cells) → IsBandOf f band → (r i : ℕ) → r < 16 → i < wide →
     entry_bit entries (number_of (at_column (place side r i)
     (map (λ line. line.now) c.lines-lines.result))) (number level)
     ≡ bit level f r (wide * now.unit + i) = λ level f of r i h l.
     ap (λ shown. entry_bit entries (number_of shown) (number level)) (shown f of r i h l) ∙
-    looked_up entries level s f a.setting plan.hood plan.minor (wide * now.unit + i)
+    looked_up entries level s f a.setting.now plan.hood plan.minor (wide * now.unit + i)
     (band.first + r) in
     record {
       lower_long = length-set _ _ _ ∙ now.invariant.lower_long;

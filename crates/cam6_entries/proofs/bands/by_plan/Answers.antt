@@ -29,7 +29,7 @@ returns-in-Some-clause-lower c = λ f of r x h l.
     c.by_program.ensures.lower f of r x h l ∙
     computed a.entries.now c.in-Some.program a.plan.now.hood a.plan.now.minor
     (held_program a.plan.now.hood a.plan.now.minor a.entries.now a.program.now c.in-Some.program
-    c.in-Some.is c.requires.program) Lower (side_of band) f a.setting x (band.first + r)
+    c.in-Some.is c.requires.program) Lower (side_of band) f a.setting.now x (band.first + r)
 
 pub returns-in-Some-clause-upper : goal.returns-in-Some-clause-upper
 returns-in-Some-clause-upper c = λ f of r x h l.
@@ -38,4 +38,4 @@ returns-in-Some-clause-upper c = λ f of r x h l.
     c.by_program.ensures.upper f of r x h l ∙
     computed a.entries.now c.in-Some.program a.plan.now.hood a.plan.now.minor
     (held_program a.plan.now.hood a.plan.now.minor a.entries.now a.program.now c.in-Some.program
-    c.in-Some.is c.requires.program) Upper (side_of band) f a.setting x (band.first + r)
+    c.in-Some.is c.requires.program) Upper (side_of band) f a.setting.now x (band.first + r)

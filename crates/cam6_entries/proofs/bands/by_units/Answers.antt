@@ -28,7 +28,7 @@ loop-unit-preserved c =
       two_units own c.units_of_band-unit-end.result c.units_of_band-unit-end.ensures.columns,
       c.loop-unit-test.true,
     ) in
-    let seen : Cells → ℕ → ℕ → List Bool = λ f r x. seen_by a.plan.now a.setting f band r x in
+    let seen : Cells → ℕ → ℕ → List Bool = λ f r x. seen_by a.plan.now a.setting.now f band r x in
     let shown : (f : Cells) → IsBandOf f band → (r i : ℕ) → r < 16 → i < wide →
     at_column (place side r i) (map (λ line. line.now) c.lines-lines.result)
     ≡ asked_for a.program.now.asked (seen f r (wide * now.unit + i)) = λ f of r i h l.

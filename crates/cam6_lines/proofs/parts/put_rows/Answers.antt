@@ -11,7 +11,7 @@ loop-j-preserved g c = λ f of.
     let a = c.args in
     let band = a.band.now in
     let side = band.planes.now.side in
-    rows_more side (λ r i. sees_at (side_of band) f a.setting (columns side * a.unit + i)
+    rows_more side (λ r i. sees_at (side_of band) f a.setting.now (columns side * a.unit + i)
     (row_above band r) a.name) c.loop-j.part c.put_row.new.part c.row_seen.result
     g.row.W (first_row a.name) c.loop-j.j c.requires.words
     c.put_row.ensures.row c.put_row.ensures.before (c.row_seen.ensures f of)

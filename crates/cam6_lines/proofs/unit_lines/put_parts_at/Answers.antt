@@ -13,7 +13,7 @@ loop-k-preserved g c =
       made = λ f of.
           one_more (λ place part. (name : Name) →
           get_or a.needed.now.names place None ≡ Some name →
-          ShowsPart f a.setting name a.band.now a.unit part)
+          ShowsPart f a.setting.now name a.band.now a.unit part)
           now.parts [] c.put_named.new.part now.k
           (omega (arith, now.invariant.long, c.requires.room, c.loop-k-test.true))
           (now.invariant.made f of) (c.put_named.ensures f of);

@@ -52,13 +52,13 @@ returns c = λ f of r i h l.
     let words = c.words_of_row-self-inside.result in
     let begins : 64 * words ≡ columns side =
     c.words_of_row-self-inside.ensures.value ∙ ap columns c.side.ensures.side in
-    let sees = sees_at s f a.setting x y in
+    let sees = sees_at s f a.setting.now x y in
     let part : (name : Name) (at : ℕ) → IsPartFor p.needed (part_name name) at →
     column_bit (get_or parts at []) (place side (r + seen_from name) i) ≡ sees name =
     λ name at made.
     let rows = rows_made name r h in
     c.put_parts.ensures f of at (part_name name) made (r + seen_from name) i rows.0 rows.1 l ∙
-    seen_part s f a.setting x band.first r name c.requires.within h in
+    seen_part s f a.setting.now x band.first r name c.requires.within h in
     subst (λ (q : Asked). map (λ line. column_bit line (place side r i))
     (map (unit_of parts words) p.views)
     ≡ asked_for q.lines (map (line_shows sees) (names_of q.hood q.minor))) c.plan.view_is
