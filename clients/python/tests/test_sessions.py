@@ -72,13 +72,17 @@ class Once:
 class TestBreaks(unittest.TestCase):
     """A host that breaks at any line, in any way."""
 
-    def check(self, breaks: Any, sent: list[bytes], batch: int, **options: Any) -> Breaking:
+    def check(self, breaks: Any, sent: list[bytes], batch: int, save_after: int = 0, **options: Any) -> Breaking:
+        """Sends the lines, so many at a time. If `save_after` is above 0, saves each time that so many were answered."""
         want = support.answers(sent, 128)
         with Breaking(breaks) as host:
             with connected(host.port, **options) as machine:
                 got: list[bytes] = []
+                saved = 0
                 for at in range(0, len(sent), batch):
                     got += machine._talk(sent[at : at + batch])
+                    if save_after and len(got) - saved >= save_after and machine._transport.checkpoint():
+                        saved = len(got)
                 self.assertTrue(got == want)
                 plain = Plain(128)
                 for line in sent:
@@ -104,7 +108,9 @@ class TestBreaks(unittest.TestCase):
                     is_replayed = line.startswith((lines.LOAD_HEAD, b'{"do":"side"'))
                     return source.choice(["before", "after", 3]) if not is_replayed and source.random() < 0.08 else None
 
-                host = self.check(breaks, commands(seed, 60, 1), source.choice([1, 4, 60]), every_seconds=0.02)
+                # Saved by a count of lines. By seconds, a fast computer would play all lines again, and seldom get through.
+                batch = source.choice([1, 4, 60])
+                host = self.check(breaks, commands(seed, 60, 1), batch, save_after=8, every_seconds=60)
                 self.assertGreater(len(host.first), 1)
 
     def test_at_each_byte_of_a_reply(self) -> None:
