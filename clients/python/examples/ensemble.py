@@ -241,12 +241,17 @@ def halves(plan: Plan) -> list[str]:
     return [name for name in os.listdir(plan.folder) if f".{plan.run}." in name and name.endswith(".half")]
 
 
+def worker_of(half: str) -> int:
+    """The process that writes a part."""
+    return int(half.split(".")[-2])
+
+
 def killed(plan: Plan) -> bool:
     """Kills a worker of this computer that is within a part, if there is one."""
-    for name in halves(plan):
-        os.kill(int(name.split(".")[-2]), signal.SIGKILL)
+    for worker in map(worker_of, halves(plan)):
+        os.kill(worker, signal.SIGKILL)
         time.sleep(0.1)
-        if name in halves(plan):  # If not, it was just ending.
+        if worker in map(worker_of, halves(plan)):  # If not, its part was just ending. It may have begun another one.
             return True
     return False
 
