@@ -55,9 +55,9 @@ int main(int argc, char **argv) {
   int connections = atoi(argv[2]), at_once = atoi(argv[3]);
   double seconds = atof(argv[4]);
   if (connections < 1 || connections > MOST || at_once < 1) return 2;
-  size_t length = strlen(argv[5]) + 2;
+  size_t length = strlen(argv[5]) + 1;
   char *batch = malloc(length * at_once + 1);
-  for (int i = 0; i < at_once; i++) sprintf(batch + i * length, "%s\r\n", argv[5]);
+  for (int i = 0; i < at_once; i++) sprintf(batch + i * length, "%s\n", argv[5]);
   size_t batch_length = length * at_once;
 
   struct pollfd polled[MOST];
