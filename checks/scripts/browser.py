@@ -2,7 +2,7 @@
 
 WEB is the program `cam6_web`, CAM6 the program `cam6`, and SESSION a file of lines, the first session of README. Whatever
 the canvas has to show is what a private machine, `cam6 alone`, has after the same lines. With --pictures it only takes
-pictures of the page. With --plain, or without a browser, a WebSocket client plays the same sessions. The last line is 'N
+pictures of the page. With --plain a WebSocket client plays the same sessions, without a browser. The last line is 'N
 passed, M failed'.
 """
 
@@ -815,9 +815,11 @@ def main() -> int:
     # What was read of README ends with what is only looked at.
     session = [line for line in cells.lines_of(asked.session) if not re.search('"do":"(?:plane|count)"', line)]
     here = Here(Tally(), asked.web, asked.cam6, session, asked.part)
-    path = None if asked.plain else browsers.found()
-    if path is None:
+    path = browsers.found()
+    if asked.plain:
         here.tally.guard("the sessions without a browser", lambda: plain(here))
+    elif path is None:
+        parser.error("there is no browser")
     elif asked.pictures:
         here.tally.guard("pictures", lambda: pictures(here, path, asked.pictures))
     else:

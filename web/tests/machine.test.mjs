@@ -8,7 +8,15 @@ import { FakeNet } from './fake_net.mjs';
 import { FakeStorage } from './fake_storage.mjs';
 import { BALLS, ECHOES, PARITY, PlainMachine } from './plain_machine.mjs';
 
-const test = (name, work) => plainTest(name, { timeout: 30000 }, work);
+// Browsers have it, and so has node from version 19 on.
+globalThis.CustomEvent ??= class CustomEvent extends Event {
+  constructor(type, { detail = null } = {}) {
+    super(type);
+    this.detail = detail;
+  }
+};
+
+const test = (name, work) => plainTest(name, { timeout: 120000 }, work);
 
 const EVEN_ODD = name => [
   { a: name, b: '-', grid: 'EVEN', phase: 0 },

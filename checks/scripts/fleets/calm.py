@@ -3,7 +3,6 @@
 from __future__ import annotations
 
 import os
-import shutil
 import ssl
 import subprocess
 import time
@@ -56,9 +55,6 @@ class Calm:
 
     def units(self) -> None:
         """systemd accepts the units, and finds little that is open. Their programs are put in place of those of /opt/cam6."""
-        if not shutil.which("systemd-analyze"):
-            print("fleet: LEFT OUT: there is no systemd-analyze, so the units are not verified", flush=True)
-            return
         folder = os.path.join(self.fleet.folder, "units")
         os.makedirs(folder)
         for name, path in (("cam6", self.cam6), ("cam6_web", self.web)):
