@@ -173,7 +173,7 @@ class Page {
     this.about.update();
     this.time.setFlashes(flashes(machine.rules, machine.entries));
     this.time.begin();
-    at('turn-round').hidden = !this.entry?.turn?.length;
+    at('turn-round').hidden = !this.entry?.turn.length;
   }
 
   /**
@@ -212,8 +212,8 @@ class Page {
   /** Sets an entry of the gallery up. */
   async choose(entry) {
     this.torus.canvas.focus({ preventScroll: true });
-    await this.change(() => this.machine.setUp(entry.lines), entry);
-    this.time.setEach(entry.each ?? 1);
+    await this.change(() => this.machine.setUp(entry.commands), entry);
+    this.time.setEach(entry.each);
     this.time.setRate(matchMedia('(prefers-reduced-motion: reduce)').matches ? Math.min(entry.rate, CALM) : entry.rate);
   }
 
@@ -225,13 +225,12 @@ class Page {
     this.time.begin();
   }
 
-  /** Plays the lines that turn the rule of an entry round. */
+  /** Does the commands that turn the rule of an entry round. */
   async turnRound() {
     const { machine } = this;
     await this.change(async () => {
-      for (const line of this.entry.turn) {
-        const { do: command, entries, n } = JSON.parse(line);
-        await (command === 'cycle' ? machine.setCycle(entries) : machine.run(n));
+      for (const { do: name, entries, n } of this.entry.turn) {
+        await (name === 'cycle' ? machine.setCycle(entries) : machine.run(n));
       }
     });
     note('The rule is turned round. Run takes the steps back now.');

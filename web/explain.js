@@ -45,7 +45,7 @@ function drawn(state, half) {
 
 /**
  * The two states of a block that become one, as two rows of two cells.
- * @param {object} answer of fault 64
+ * @param {import('./lines.js').Refusal} answer of fault 64
  * @returns {{state: number, cells: number[][]}[] | null} null if the cause is another one
  */
 export function blocksOf(answer) {
@@ -87,7 +87,7 @@ export function becomes(state, rule, phase) {
 
 /**
  * The block that both states of a meeting become.
- * @param {object} answer of fault 64
+ * @param {import('./lines.js').Refusal} answer of fault 64
  * @param {Known} known
  * @returns {{state: number, cells: number[][]} | null} null if it can't be known
  */
@@ -125,7 +125,7 @@ function undoingSaid(answer, said, { entries = [] }) {
 
 /**
  * A fault in words.
- * @param {object} answer a reply with its key `fault`
+ * @param {import('./lines.js').Refusal} answer
  * @param {Object<number, Said>} faults those of faults.js
  * @param {Known} [known]
  * @returns {Said & {number: number, token?: {number: number, text: string, start: number, end: number},

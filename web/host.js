@@ -1,6 +1,6 @@
 // One connection to whatever answers lines, and how the page takes a seat.
 
-import { answerOf, seat as seatLine } from './lines.js';
+import { answerOf, lineOf, seat as seatOf } from './lines.js';
 
 /** A connection that is over, or that never was. */
 export class Lost extends Error {
@@ -142,7 +142,7 @@ class Search {
     if (number === 0) {
       return { host, fault: 0 };
     }
-    const { fault = 0 } = answerOf(await host.ask(seatLine(seat)));
+    const { fault = 0 } = answerOf(await host.ask(lineOf(seatOf(seat))));
     if (fault !== 0) {
       host.close();
     }

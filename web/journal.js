@@ -1,6 +1,6 @@
 // What a page keeps of its machine: the last save, and the commands since that change it.
 
-import { back, commandOf, run } from './lines.js';
+import { back, commandOf, lineOf, run } from './lines.js';
 import { Shelf } from './shelf.js';
 
 export { kept, nameOfTab } from './shelf.js';
@@ -10,8 +10,11 @@ const MOST_STEPS = 65535;
 const ZEROING = ['set', 'clear', 'side', 'cycle', 'load'];
 
 /**
- * @typedef {object} Noted a command
+ * @typedef {{command: import('./lines.js').Command, line: string}} Asked a command and its line
+ *
+ * @typedef {object} Noted a command that was noted
  * @property {number} number counted from 1 on
+ * @property {import('./lines.js').Command} command
  * @property {string} line
  * @property {string|null} reply null before there is one
  * @property {boolean} isZero whether the count is 0 after it, whatever it does
@@ -44,7 +47,9 @@ export class Journal {
       this.loadLine = content.loadLine;
       this.first = content.first;
       this.#base = this.count = content.count;
-      content.slots.flat().forEach(([line, reply, isZero]) => this.#read(line, reply, isZero === 1));
+      for (const [line, reply, isZero] of content.slots.flat()) {
+        this.#read({ command: commandOf(line), line }, reply, isZero === 1);
+      }
       this.#slots.forEach((_, slot) => this.#dirty.add(slot));
     }
   }
@@ -73,20 +78,20 @@ export class Journal {
     return this.#shelf.name;
   }
 
-  #read(line, reply, isZero) {
-    const entry = this.#add(line, isZero);
+  #read(asked, reply, isZero) {
+    const entry = this.#add(asked, isZero);
     if (reply !== null) {
       entry.reply = reply;
       this.#counted(entry);
     }
   }
 
-  #add(line, isZero) {
-    return this.#put({ number: ++this.#noted, line, reply: null, isZero, slot: 0 });
+  #add({ command, line }, isZero) {
+    return this.#put({ number: ++this.#noted, command, line, reply: null, isZero, slot: 0 });
   }
 
   #put(entry) {
-    const { line } = entry;
+    const { command, line } = entry;
     if (this.#slots.length === 0 || this.#letters.at(-1) + line.length > SLOT_LETTERS) {
       this.#slots.push([]);
       this.#letters.push(0);
@@ -97,30 +102,30 @@ export class Journal {
     this.#letters[entry.slot] += line.length;
     this.#dirty.add(entry.slot);
     this.size += line.length;
-    this.steps += commandOf(line).n ?? 0;
+    this.steps += command.n ?? 0;
     return entry;
   }
 
   /**
    * Notes commands before they are sent.
-   * @param {string[]} lines
+   * @param {Asked[]} all
    * @param {{isZero?: boolean}} [how]
    * @returns {Noted[]}
    */
-  noteAll(lines, { isZero = false } = {}) {
-    const entries = lines.map(line => this.#add(line, isZero));
+  noteAll(all, { isZero = false } = {}) {
+    const entries = all.map(asked => this.#add(asked, isZero));
     this.#flush();
     return entries;
   }
 
   /**
    * Notes a command, before it is sent or with its reply.
-   * @param {string} line
+   * @param {import('./lines.js').Command} command
    * @param {string|null} [reply]
    * @returns {Noted}
    */
-  note(line, reply = null) {
-    const [entry] = this.noteAll([line]);
+  note(command, reply = null) {
+    const [entry] = this.noteAll([{ command, line: lineOf(command) }]);
     if (reply !== null) {
       this.answer(entry, reply);
     }
@@ -143,8 +148,7 @@ export class Journal {
     }
   }
 
-  #counted({ line, isZero }) {
-    const { do: name, n } = commandOf(line);
+  #counted({ command: { do: name, n }, isZero }) {
     if (isZero || ZEROING.includes(name)) {
       this.count = 0;
       this.first = null;
@@ -158,7 +162,7 @@ export class Journal {
     const slot = this.#slots[entry.slot];
     slot.splice(slot.indexOf(entry), 1);
     this.size -= entry.line.length;
-    this.steps -= commandOf(entry.line).n ?? 0;
+    this.steps -= entry.command.n ?? 0;
   }
 
   // Steps after steps of the same kind are one command.
@@ -168,13 +172,14 @@ export class Journal {
     if (before === undefined || before.isZero || entry.isZero) {
       return;
     }
-    const one = commandOf(before.line);
-    const other = commandOf(entry.line);
-    const line = { run, back }[other.do];
-    if (line !== undefined && one.do === other.do && one.n + other.n <= MOST_STEPS) {
+    const { command: one } = before;
+    const { command: other } = entry;
+    const steps = { run, back }[other.do];
+    if (steps !== undefined && one.do === other.do && one.n + other.n <= MOST_STEPS) {
       this.#remove(before);
       this.size -= entry.line.length;
-      entry.line = line(one.n + other.n);
+      entry.command = steps(one.n + other.n);
+      entry.line = lineOf(entry.command);
       this.size += entry.line.length;
       this.steps += one.n;
     }

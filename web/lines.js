@@ -1,9 +1,78 @@
-// Commands as lines, and replies as what they say.
+// Commands, their lines, and what replies say. A command is an object from where it is made to where its line goes out.
 
-const command = (name, keys) => JSON.stringify({ do: name, ...keys });
+/**
+ * @typedef {{name: string, half: string, hood: string, minor: string, text: string}} Rule
+ * @typedef {{a: string, b: string, grid: string, phase: number}} Entry
+ * @typedef {object} Saved a machine as `save` shows it
+ * @property {number[]} colours
+ * @property {Entry[]} cycle
+ * @property {string[][]} planes
+ * @property {number} position
+ * @property {Rule[]} rules
+ * @property {number} side
+ * @property {number} version
+ */
+
+/**
+ * @typedef {{do: 'set', plane: number, row: number, bits: string} | {do: 'clear'|'plane', plane: number}
+ *   | {do: 'row', plane: number, row: number} | {do: 'side', side: number} | {do: 'map', colours: number[]}
+ *   | {do: 'rule'} & Rule | {do: 'drop', name: string} | {do: 'cycle', entries: Entry[]}
+ *   | {do: 'run'|'back', n: number} | {do: 'count', mask: number} | {do: 'save'} | {do: 'load', machine: Saved}} Command
+ * Its keys have the order of its line. One that came as a text may have any keys.
+ */
+
+/**
+ * @typedef {{ok: string, position?: number, rows?: string[], count?: number, machine?: Saved}} Done
+ * @typedef {object} Refusal
+ * @property {number} fault
+ * @property {number} [token] the token of a rule's text that is refused
+ * @property {number} [address] the least address at which a rule stops
+ * @property {string} [cause] why an entry of the cycle can't be undone
+ * @property {number} [entry]
+ * @property {string} [half]
+ * @property {number} [phase]
+ * @property {number[]} [states]
+ * @typedef {Done | Refusal} Reply
+ */
+
+const LOAD = '{"do":"load",';
+
+// The texts of commands that came as texts. A host may refuse what JSON.parse takes, so each goes out as it came.
+const texts = new WeakMap();
+
+/**
+ * What a line asks for.
+ * @param {string} line that came as a text, from a file or out of the journal
+ * @returns {Command} with nothing but its name for a load, which is long
+ */
+export function commandOf(line) {
+  const command = line.startsWith(LOAD) ? { do: 'load' } : parsed(line);
+  texts.set(command, line);
+  return command;
+}
+
+function parsed(line) {
+  try {
+    return Object(JSON.parse(line));
+  } catch {
+    return {};
+  }
+}
+
+/**
+ * The line of a command, as it goes out.
+ * @param {Command | {seat: number}} command
+ * @returns {string}
+ */
+export const lineOf = command => texts.get(command) ?? JSON.stringify(command);
+
+/** Whether a line loads a machine, spelled as the page spells it. @param {string} line */
+export const isLoad = line => line.startsWith(LOAD);
+
+const command = (name, keys) => ({ do: name, ...keys });
 
 /** @param {number} number a seat, from 1 on */
-export const seat = number => JSON.stringify({ seat: number });
+export const seat = number => ({ seat: number });
 
 /** @param {number} plane @param {number} row @param {string} bits */
 export const set = (plane, row, bits) => command('set', { plane, row, bits });
@@ -21,12 +90,7 @@ export const plane = plane => command('plane', { plane });
 export const side = side => command('side', { side });
 
 /** @param {number[]} colours sixteen colours of 0 to 15 */
-export const map = colours => command('map', { colours });
-
-/**
- * @typedef {{name: string, half: string, hood: string, minor: string, text: string}} Rule
- * @typedef {{a: string, b: string, grid: string, phase: number}} Entry
- */
+export const map = colours => command('map', { colours: [...colours] });
 
 /** @param {Rule} rule */
 export const rule = ({ name, half, hood, minor, text }) => command('rule', { name, half, hood, minor, text });
@@ -50,7 +114,7 @@ export const save = () => command('save', {});
 /** @param {number} mask bit s for state s */
 export const count = mask => command('count', { mask });
 
-/** @param {object} machine what `save` showed; its keys keep their order */
+/** @param {Saved} machine its keys keep their order */
 export const load = machine => command('load', { machine });
 
 /**
@@ -59,15 +123,14 @@ export const load = machine => command('load', { machine });
  * @returns {string}
  */
 export function loadLineOf(reply) {
-  return '{"do":"load","machine":' + reply.slice('{"machine":'.length, -',"ok":"save"}'.length) + '}';
+  return `${LOAD}"machine":` + reply.slice('{"machine":'.length, -',"ok":"save"}'.length) + '}';
 }
 
 /**
- * A load line of a blank machine without rules.
+ * Loads a blank machine without rules.
  * @param {number} side
- * @returns {string}
  */
-export function blankLine(side) {
+export function blank(side) {
   const rows = Array(side).fill('0'.repeat(side / 4));
   const colours = Array.from({ length: 16 }, (_, state) => state);
   return load({ colours, cycle: [], planes: [rows, rows, rows, rows], position: 0, rules: [], side, version: 2 });
@@ -76,43 +139,26 @@ export function blankLine(side) {
 /** The cycle that leaves each cell as it is and uses no rule. */
 export const IDLE = Object.freeze([Object.freeze({ a: '-', b: '-', grid: 'EVEN', phase: 0 })]);
 
-/**
- * What a line is to do, without reading all of a long line.
- * @param {string} line
- * @returns {object} the command, or only its name for a load
- */
-export function commandOf(line) {
-  if (line.startsWith('{"do":"load",')) {
-    return { do: 'load' };
-  }
-  try {
-    return JSON.parse(line) ?? {};
-  } catch {
-    return {};
-  }
-}
-
 const CHANGING = ['set', 'clear', 'side', 'map', 'rule', 'drop', 'cycle', 'load'];
 
 /**
- * Whether a line changes a machine if it is done.
- * @param {string} line
+ * Whether a command changes a machine if it is done.
+ * @param {Command} command
  * @returns {boolean}
  */
-export function changes(line) {
-  const said = commandOf(line);
-  return CHANGING.includes(said.do) || (said.do === 'run' || said.do === 'back') && said.n !== 0;
+export function changes(command) {
+  return CHANGING.includes(command.do) || (command.do === 'run' || command.do === 'back') && command.n !== 0;
 }
 
 /** A reply that is a fault. */
 export class Fault extends Error {
-  /** @param {object} answer the reply, with its key `fault` */
+  /** @param {Refusal} answer */
   constructor(answer) {
     super(`fault ${answer.fault}`);
     this.name = 'Fault';
     /** @type {number} */
     this.number = answer.fault;
-    /** @type {object} */
+    /** @type {Refusal} */
     this.answer = answer;
   }
 }
@@ -120,7 +166,7 @@ export class Fault extends Error {
 /**
  * What a reply says, fault or not.
  * @param {string} text
- * @returns {object}
+ * @returns {Reply}
  */
 export function answerOf(text) {
   return JSON.parse(text);
@@ -129,7 +175,7 @@ export function answerOf(text) {
 /**
  * What a reply says, unless it is a fault.
  * @param {string} text
- * @returns {object}
+ * @returns {Done}
  * @throws {Fault}
  */
 export function doneOf(text) {

@@ -1,6 +1,6 @@
 // Lines to a machine that stays the same whatever becomes of connections: each command is done once in it.
 
-import { commandOf, changes, answerOf, loadLineOf, save } from './lines.js';
+import { answerOf, changes, lineOf, loadLineOf, save } from './lines.js';
 import { NoSeat, sitDown } from './host.js';
 
 const FIRST_PAUSE = 200;
@@ -8,6 +8,7 @@ const LONGEST_PAUSE = 5000;
 const SIDE_TOO_LARGE = 67;
 const MOST_LOSSES = 12;
 const LEFT_OUT = '{"fault":0}';
+const SAVE = lineOf(save());
 
 /**
  * @typedef {object} Told what a link tells its owner
@@ -67,18 +68,19 @@ export class Link {
   }
 
   /**
-   * Asks for lines in order, with nothing between them. They are noted, then sent; if the connection ends they are
-   * sent again over the next one, to the machine that has all commands before them.
-   * @param {string[]} lines
+   * Asks for commands in order, with nothing between them. They become lines here, are noted, then sent; if the
+   * connection ends they are sent again over the next one, to the machine that has all commands before them.
+   * @param {import('./lines.js').Command[]} commands
    * @param {{isZero?: boolean}} [how] whether the machine after them is a first state
    * @returns {Promise<string>[]} the replies
    */
-  askAll(lines, { isZero = false } = {}) {
-    const changing = lines.filter(changes);
+  askAll(commands, { isZero = false } = {}) {
+    const all = commands.map(command => ({ command, line: lineOf(command), entry: null }));
+    const changing = all.filter(({ command }) => changes(command));
     const entries = changing.length > 0 ? this.#journal.noteAll(changing, { isZero }) : [];
-    return lines.map(line => new Promise(answered => {
-      const entry = changes(line) ? entries.shift() : null;
-      this.#push({ line, entry, through: this.#journal.noted, answered });
+    changing.forEach((asked, i) => { asked.entry = entries[i]; });
+    return all.map(asked => new Promise(answered => {
+      this.#push({ ...asked, through: this.#journal.noted, answered });
     }));
   }
 
@@ -89,7 +91,7 @@ export class Link {
   checkpoint() {
     this.#isSaving = true;
     return new Promise(answered => {
-      this.#push({ line: save(), entry: null, isCheckpoint: true, through: this.#journal.noted, answered });
+      this.#push({ line: SAVE, entry: null, isCheckpoint: true, through: this.#journal.noted, answered });
     });
   }
 
@@ -113,7 +115,7 @@ export class Link {
     this.#pending.shift();
     if (asked.entry !== null) {
       this.#journal.answer(asked.entry, text);
-      if (commandOf(asked.line).do === 'load' && text.startsWith('{"ok":')) {
+      if (asked.command.do === 'load' && text.startsWith('{"ok":')) {
         this.#journal.checkpoint(asked.line, asked.entry.number);
       }
     } else if (asked.isCheckpoint) {
@@ -211,7 +213,7 @@ export class Link {
       }
     }
     const replies = await Promise.all(played.map(({ line }) => host.ask(line)));
-    const saved = await host.ask(save());
+    const saved = await host.ask(SAVE);
     played.forEach((entry, i) => this.#compare(entry, replies[i]));
     journal.checkpoint(loadLineOf(saved), played.at(-1)?.number ?? 0);
     this.#told.restored(saved);

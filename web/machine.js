@@ -189,8 +189,8 @@ export class Machine extends EventTarget {
 
   // Asking.
 
-  async #ask(line, how) {
-    return lines.doneOf(await this.#link.askAll([line], how)[0]);
+  async #ask(command, how) {
+    return lines.doneOf(await this.#link.askAll([command], how)[0]);
   }
 
   async #askAll(all, how) {
@@ -223,12 +223,12 @@ export class Machine extends EventTarget {
 
   #pieces(n) {
     const most = this.#piece();
-    const line = n < 0 ? lines.back : lines.run;
+    const steps = n < 0 ? lines.back : lines.run;
     const pieces = [];
     for (let left = Math.abs(n); left > 0; left -= most) {
-      pieces.push(line(Math.min(left, most)));
+      pieces.push(steps(Math.min(left, most)));
     }
-    return pieces.length > 0 ? pieces : [line(0)];
+    return pieces.length > 0 ? pieces : [steps(0)];
   }
 
   // Commands of steps, and then the planes that they may change, in one go.
@@ -329,7 +329,7 @@ export class Machine extends EventTarget {
 
   /**
    * Whether each step can be undone.
-   * @returns {Promise<{yes: true} | {no: true, fault: object}>} with the answer that refuses it
+   * @returns {Promise<{yes: true} | {no: true, fault: lines.Refusal}>} with the answer that refuses it
    */
   async canGoBack() {
     const fault = await this.#faultOfBack();
@@ -462,17 +462,17 @@ export class Machine extends EventTarget {
 
   /**
    * Sets a new machine up by a list of commands.
-   * @param {string[]} commands of the gallery, or of a file
+   * @param {lines.Command[]} commands of the gallery, or of a file
    * @returns {Promise<void>} rejects with `Fault`, whose `line` is the number of the first command that was refused
    */
   setUp(commands) {
-    const [first] = commands;
-    const begin = first?.startsWith('{"do":"load",') ? [] : [lines.blankLine(128)];
-    if (begin.length > 0 && lines.commandOf(first ?? '').do !== 'side') {
-      begin.push(lines.side(256));
-    }
-    return this.#change([...begin, ...commands], { isZero: true }).catch(error => {
-      throw 'line' in error ? Object.assign(error, { line: error.line - begin.length + 1 }) : error;
+    return this.#begin([lines.blank(128), ...commands[0]?.do === 'side' ? [] : [lines.side(256)]], commands);
+  }
+
+  // Commands after those that make a blank machine. The `line` of a fault doesn't count these.
+  #begin(before, commands) {
+    return this.#change([...before, ...commands], { isZero: true }).catch(error => {
+      throw 'line' in error ? Object.assign(error, { line: error.line - before.length + 1 }) : error;
     });
   }
 
@@ -497,11 +497,12 @@ export class Machine extends EventTarget {
     if (all.some(line => new TextEncoder().encode(line).length > MOST_BYTES)) {
       throw new NotAMachine('This line is longer than any machine. A machine has at most 2,097,152 bytes.');
     }
-    const commands = all.map(line => line.startsWith('{"machine":') ? lines.loadLineOf(line) : line);
-    if (commands.length === 1 && commands[0].startsWith('{"do":"load",')) {
-      return this.#change(commands);
+    const spelled = all.map(line => line.startsWith('{"machine":') ? lines.loadLineOf(line) : line);
+    const commands = spelled.map(lines.commandOf);
+    if (!lines.isLoad(spelled[0])) {
+      return this.setUp(commands);
     }
-    return this.setUp(commands);
+    return commands.length === 1 ? this.#change(commands) : this.#begin([], commands);
   }
 
   /**

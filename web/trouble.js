@@ -68,7 +68,7 @@ export function showError(error, machine) {
 
 /**
  * Why a command was refused, and the two blocks that meet if they are the cause.
- * @param {object} answer the reply
+ * @param {import('./lines.js').Refusal} answer
  * @param {import('./machine.js').Machine} machine
  * @returns {Node[]}
  */

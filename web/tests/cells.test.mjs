@@ -8,6 +8,7 @@ import { PALETTE, brightness, coloursShown, lights, paint } from '../palette.js'
 import { Planes } from '../planes.js';
 import * as shapes from '../shapes.js';
 
+const { commandOf, lineOf } = lines;
 const inRepository = path => readFileSync(new URL(`../../${path}`, import.meta.url), 'utf8');
 
 test('the palette is that of the pictures', () => {
@@ -88,32 +89,50 @@ test('a plane of side 256 is read in less than two milliseconds', () => {
 });
 
 test('lines are those of the manual', () => {
-  assert.equal(lines.seat(3), '{"seat":3}');
-  assert.equal(lines.set(0, 5, '80'), '{"do":"set","plane":0,"row":5,"bits":"80"}');
-  assert.equal(lines.clear(2), '{"do":"clear","plane":2}');
-  assert.equal(lines.row(1, 2), '{"do":"row","plane":1,"row":2}');
-  assert.equal(lines.plane(3), '{"do":"plane","plane":3}');
-  assert.equal(lines.side(512), '{"do":"side","side":512}');
-  assert.equal(lines.run(10), '{"do":"run","n":10}');
-  assert.equal(lines.back(0), '{"do":"back","n":0}');
-  assert.equal(lines.save(), '{"do":"save"}');
-  assert.equal(lines.count(2), '{"do":"count","mask":2}');
-  assert.equal(lines.drop('P'), '{"do":"drop","name":"P"}');
-  assert.equal(lines.map([1, 0]), '{"do":"map","colours":[1,0]}');
-  assert.equal(lines.rule({ text: ': R 1 >PLN0 ;', name: 'R', half: 'A', hood: 'N/VONN', minor: '&/HV', more: 1 }),
+  assert.equal(lineOf(lines.seat(3)), '{"seat":3}');
+  assert.equal(lineOf(lines.set(0, 5, '80')), '{"do":"set","plane":0,"row":5,"bits":"80"}');
+  assert.equal(lineOf(lines.clear(2)), '{"do":"clear","plane":2}');
+  assert.equal(lineOf(lines.row(1, 2)), '{"do":"row","plane":1,"row":2}');
+  assert.equal(lineOf(lines.plane(3)), '{"do":"plane","plane":3}');
+  assert.equal(lineOf(lines.side(512)), '{"do":"side","side":512}');
+  assert.equal(lineOf(lines.run(10)), '{"do":"run","n":10}');
+  assert.equal(lineOf(lines.back(0)), '{"do":"back","n":0}');
+  assert.equal(lineOf(lines.save()), '{"do":"save"}');
+  assert.equal(lineOf(lines.count(2)), '{"do":"count","mask":2}');
+  assert.equal(lineOf(lines.drop('P')), '{"do":"drop","name":"P"}');
+  assert.equal(lineOf(lines.map([1, 0])), '{"do":"map","colours":[1,0]}');
+  assert.equal(lineOf(lines.rule({ text: ': R 1 >PLN0 ;', name: 'R', half: 'A', hood: 'N/VONN', minor: '&/HV', more: 1 })),
     '{"do":"rule","name":"R","half":"A","hood":"N/VONN","minor":"&/HV","text":": R 1 >PLN0 ;"}');
-  assert.equal(lines.cycle([{ phase: 2, b: '-', a: 'P', grid: 'ODD' }]),
+  assert.equal(lineOf(lines.cycle([{ phase: 2, b: '-', a: 'P', grid: 'ODD' }])),
     '{"do":"cycle","entries":[{"a":"P","b":"-","grid":"ODD","phase":2}]}');
   assert.equal(lines.loadLineOf('{"machine":{"x":"\\u0001"},"ok":"save"}'), '{"do":"load","machine":{"x":"\\u0001"}}');
 });
 
-test('lines that change a machine are told from those that don\'t', () => {
-  const zero = [lines.run(0), lines.back(0), lines.save(), lines.row(0, 0), lines.plane(0), lines.count(1), '{"do":"rules"}',
-    '{"do":"colours","row":0}', 'no', 'null', '{"seat":1}'];
+test('a text goes out as it came, and a command as it was when it was made', () => {
+  for (const line of ['{ "n" : 3.0, "do" : "run" }', '{"do":"load","machine":{"x":"\\u0001"}}', 'no', 'null', '3', '{"do":"a","do":"b"}']) {
+    assert.equal(lineOf(commandOf(line)), line);
+  }
+  assert.deepEqual(commandOf('{"do":"load","machine":{}}'), { do: 'load' }, 'a load is not read');
+  assert.deepEqual(commandOf('{ "n" : 3.0, "do" : "run" }'), lines.run(3));
+  assert.equal(lineOf({ ...commandOf('{ "do" : "run", "n" : 3 }'), n: 4 }), '{"do":"run","n":4}');
+  const colours = [1, 2];
+  const entries = [{ a: 'P', b: '-', grid: 'ODD', phase: 2 }];
+  const made = [lines.map(colours), lines.cycle(entries)];
+  colours.push(3);
+  entries[0].phase = 0;
+  entries.pop();
+  assert.deepEqual(made.map(lineOf), ['{"do":"map","colours":[1,2]}',
+    '{"do":"cycle","entries":[{"a":"P","b":"-","grid":"ODD","phase":2}]}']);
+});
+
+test('commands that change a machine are told from those that don\'t', () => {
+  const zero = [lines.run(0), lines.back(0), lines.save(), lines.row(0, 0), lines.plane(0), lines.count(1),
+    ...['{"do":"rules"}', '{"do":"colours","row":0}', 'no', 'null', '{"seat":1}'].map(commandOf)];
   const changing = [lines.run(1), lines.back(1), lines.set(0, 0, '0'), lines.clear(0), lines.side(128), lines.map([]),
-    lines.rule({}), lines.drop('P'), lines.cycle([]), lines.load({}), '{ "n" : 3, "do" : "run" }'];
+    lines.rule({}), lines.drop('P'), lines.cycle([]), lines.load({}),
+    ...['{ "n" : 3, "do" : "run" }', '{"do":"load","machine":{}}'].map(commandOf)];
   assert.deepEqual(zero.filter(lines.changes), []);
-  assert.deepEqual(changing.filter(line => !lines.changes(line)), []);
+  assert.deepEqual(changing.filter(command => !lines.changes(command)), []);
   assert.throws(() => lines.doneOf('{"address":3,"fault":40}'), { number: 40, answer: { address: 3, fault: 40 } });
 });
 

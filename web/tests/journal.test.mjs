@@ -3,12 +3,14 @@
 import assert from 'node:assert/strict';
 import { test } from 'node:test';
 import { Journal, kept, nameOfTab } from '../journal.js';
-import { run } from '../lines.js';
+import { back, commandOf, lineOf, run, set } from '../lines.js';
 import { FakeStorage } from './fake_storage.mjs';
 
 const OK = '{"ok":"run","position":0}';
-const SET = '{"do":"set","plane":0,"row":1,"bits":"00"}';
+const SET = set(0, 1, '00');
 const saved = sum => `{"do":"load","machine":{"sum":${sum}}}`;
+const textsOf = all => all.map(one => typeof one === 'string' ? one : lineOf(one));
+const padded = (command, letters) => commandOf(lineOf(command).padEnd(letters));
 const counting = () => {
   let next = 0;
   return () => (next += 0.001);
@@ -29,15 +31,28 @@ test('a journal is the last save and the commands since, each with its reply', (
   journal.note(SET, '{"ok":"set"}');
   journal.note(run(2), OK);
   const open = journal.note(run(3));
-  assert.deepEqual(journal.lines(), [saved(0), SET, run(2), run(3)]);
+  assert.deepEqual(journal.lines(), textsOf([saved(0), SET, run(2), run(3)]));
   const read = journalIn(storage);
   assert.deepEqual(read.entries.map(({ line, reply }) => [line, reply]),
-    [[SET, '{"ok":"set"}'], [run(2), OK], [run(3), null]]);
+    [[lineOf(SET), '{"ok":"set"}'], [lineOf(run(2)), OK], [lineOf(run(3)), null]]);
   assert.equal(read.count, 2);
   journal.answer(open, OK);
   assert.equal(journal.count, 5);
   journal.clear();
   assert.deepEqual(journalIn(storage).lines(), []);
+});
+
+test('what an earlier page kept is read', () => {
+  const storage = new FakeStorage();
+  storage.setItem('cam6/page', '{"generation":3,"first":"cam6/page/3/save","count":0,"when":1}');
+  storage.setItem('cam6/page/3/save', saved(7));
+  storage.setItem('cam6/page/3/0', '[["{\\"do\\":\\"run\\",\\"n\\":4}","{\\"ok\\":\\"run\\",\\"position\\":0}",0]]');
+  storage.setItem('cam6/page/3/1', '[["{ \\"do\\" : \\"run\\", \\"n\\" : 2 }",null,0]]');
+  const journal = journalIn(storage);
+  assert.deepEqual(journal.lines(), [saved(7), '{"do":"run","n":4}', '{ "do" : "run", "n" : 2 }']);
+  assert.deepEqual([journal.count, journal.steps, journal.first], [4, 6, saved(7)]);
+  journal.answer(journal.entries[1], OK);
+  assert.equal(journal.count, 6);
 });
 
 test('steps of one kind are one command, refused commands are none', () => {
@@ -46,12 +61,12 @@ test('steps of one kind are one command, refused commands are none', () => {
   for (let i = 0; i < 100; i++) {
     journal.note(run(1), OK);
   }
-  journal.note('{"do":"back","n":4}', '{"ok":"back","position":0}');
-  journal.note('{"do":"back","n":5}', '{"ok":"back","position":0}');
-  journal.note('{"do":"back","n":5}', '{"fault":64}');
+  journal.note(back(4), '{"ok":"back","position":0}');
+  journal.note(back(5), '{"ok":"back","position":0}');
+  journal.note(back(5), '{"fault":64}');
   journal.note(run(65535), OK);
   journal.note(run(1), OK);
-  assert.deepEqual(journal.lines(), [saved(0), run(100), '{"do":"back","n":9}', run(65535), run(1)]);
+  assert.deepEqual(journal.lines(), textsOf([saved(0), run(100), '{"do":"back","n":9}', run(65535), run(1)]));
   assert.equal(journal.steps, 100 + 9 + 65535 + 1);
   assert.equal(journal.size, journal.lines().slice(1).join('').length);
   assert.equal(journal.count, 100 - 9 + 65536);
@@ -65,11 +80,11 @@ test('a save drops the commands that it has in it, and keeps those that were not
   const through = journal.noted;
   const later = journal.note(run(7));
   journal.checkpoint(saved(4), through);
-  assert.deepEqual(journal.lines(), [saved(4), run(7)]);
+  assert.deepEqual(journal.lines(), textsOf([saved(4), run(7)]));
   journal.answer(later, OK);
   assert.equal(journal.count, 11);
   const read = journalIn(storage);
-  assert.deepEqual(read.lines(), [saved(4), run(7)]);
+  assert.deepEqual(read.lines(), textsOf([saved(4), run(7)]));
   assert.equal(read.count, 4);
 });
 
@@ -125,7 +140,7 @@ test('whenever the page ends, what is in the storage is a machine that it had', 
   for (let i = 1; i < 400; i++) {
     const n = 1000 + i;
     noted.add(sum + n);
-    const entry = journal.note(i % 3 ? run(n) : run(n).padEnd(300));
+    const entry = journal.note(i % 3 ? run(n) : padded(run(n), 300));
     sum += n;
     journal.answer(entry, OK);
     if (i % 37 === 0) {
@@ -143,7 +158,7 @@ test('a full storage is said; what it has is a front of the journal, and later s
   let sum = 0;
   let kept = 0;
   for (let i = 0; i < 40; i++) {
-    journal.note(run(1000 + i).padEnd(90), i % 2 ? OK : '{"ok":"run","position":1}');
+    journal.note(padded(run(1000 + i), 90), i % 2 ? OK : '{"ok":"run","position":1}');
     sum += 1000 + i;
     kept = journal.isKept ? sum : kept;
     journal.note(SET, '{"ok":"set"}');
@@ -165,11 +180,11 @@ test('after a command that had no room, later ones are not kept either', () => {
   const journal = journalIn(storage);
   journal.checkpoint(saved(0));
   journal.note(run(1), OK);
-  journal.note(run(2).padEnd(4000));
+  journal.note(padded(run(2), 4000));
   assert.equal(journal.isKept, false);
   journal.note(SET);
   assert.equal(journal.isKept, false);
-  assert.deepEqual(journalIn(storage).lines(), [saved(0), run(1)]);
+  assert.deepEqual(journalIn(storage).lines(), textsOf([saved(0), run(1)]));
 });
 
 test('without a storage, or with one that throws, a journal keeps on in memory', () => {
@@ -178,7 +193,7 @@ test('without a storage, or with one that throws, a journal keeps on in memory',
     const journal = journalIn(storage);
     journal.checkpoint(saved(3));
     journal.note(run(1), OK);
-    assert.deepEqual(journal.lines(), [saved(3), run(1)]);
+    assert.deepEqual(journal.lines(), textsOf([saved(3), run(1)]));
     assert.equal(journal.isKept, false);
   }
 });

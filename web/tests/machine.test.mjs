@@ -3,7 +3,7 @@
 import assert from 'node:assert/strict';
 import { test as plainTest } from 'node:test';
 import { Machine } from '../machine.js';
-import { Fault, cycle, rule, set, side } from '../lines.js';
+import { Fault, cycle, drop, lineOf, rule, set, side } from '../lines.js';
 import { FakeNet } from './fake_net.mjs';
 import { FakeStorage } from './fake_storage.mjs';
 import { BALLS, ECHOES, PARITY, PlainMachine } from './plain_machine.mjs';
@@ -27,10 +27,11 @@ const ruleB = { ...ruleE, name: 'B', text: BALLS };
 const ruleP = { name: 'P', half: 'A', hood: 'N/VONN', minor: '&/CENTERS', text: PARITY };
 
 // Two cells side by side turn; three others lie over the seams.
-const ECHO_LINES = [
+const ECHO_COMMANDS = [
   side(128), rule(ruleE), cycle(EVEN_ODD('E')),
   set(0, 0, '8' + '0'.repeat(30) + '1'), set(0, 6, '0c'.padEnd(32, '0')), set(0, 127, '1'.padStart(32, '0')),
 ];
+const ECHO_LINES = ECHO_COMMANDS.map(lineOf);
 
 const machineOf = (net, more = {}) => new Machine({
   urlOf: number => net.urlOf(number), hosts: net.hosts.length, WebSocketClass: net.WebSocket, wait: async () => {}, ...more,
@@ -60,7 +61,7 @@ function painted(machine, cells) {
 
 // A user's session, with some of everything.
 async function session(machine) {
-  await machine.setUp(ECHO_LINES);
+  await machine.setUp(ECHO_COMMANDS);
   await Promise.all([machine.frame(1), machine.frame(1)]);
   await machine.frame(3);
   await machine.paint(painted(machine, [[3, 3, 1], [4, 3, 9], [200, 3, 2]]));
@@ -90,8 +91,8 @@ async function unbroken(netOf) {
 const privateNet = () => new FakeNet();
 const hostNet = () => {
   const net = new FakeNet({ hosts: [{ seats: 2 }] });
-  net.hosts[0].machines[0].respond(set(2, 9, 'f'.repeat(64)));
-  net.hosts[0].machines[1].respond(set(3, 9, 'f'.repeat(64)));
+  net.hosts[0].machines[0].respond(lineOf(set(2, 9, 'f'.repeat(64))));
+  net.hosts[0].machines[1].respond(lineOf(set(3, 9, 'f'.repeat(64))));
   return net;
 };
 
@@ -289,9 +290,9 @@ test('a load of a side that is too large has fault 67, and changes nothing', asy
   const net = new FakeNet({ hosts: [{ seats: 1, limit: 256 }] });
   const machine = machineOf(net);
   await machine.start();
-  await machine.setUp(ECHO_LINES);
+  await machine.setUp(ECHO_COMMANDS);
   const large = new PlainMachine(512);
-  large.respond(side(512));
+  large.respond(lineOf(side(512)));
   const before = savedBy(net.machine);
   await assert.rejects(machine.load(JSON.stringify({ do: 'load', machine: savedBy(large) })), { number: 67 });
   await assert.rejects(machine.setSide(512), { number: 67 });
@@ -307,7 +308,7 @@ test('a host that answers otherwise when commands are played again is told of', 
   const net = new FakeNet();
   const machine = machineOf(net);
   await machine.start();
-  await machine.setUp(ECHO_LINES);
+  await machine.setUp(ECHO_COMMANDS);
   await machine.run(1);
   const told = [];
   machine.addEventListener('diverged', ({ detail }) => told.push(detail));
@@ -325,7 +326,7 @@ test('a command that ends each connection is left out, and the others are done',
   const net = new FakeNet();
   const machine = machineOf(net);
   await machine.start();
-  await machine.setUp(ECHO_LINES);
+  await machine.setUp(ECHO_COMMANDS);
   const { do_map } = PlainMachine.prototype;
   PlainMachine.prototype.do_map = () => { setImmediate(() => net.cutAll()); throw new Error('ended'); };
   const { arrived } = net.WebSocket.prototype;
@@ -350,14 +351,14 @@ test('faults are thrown with their answer, and the machine and its count stay', 
   const net = new FakeNet();
   const machine = machineOf(net);
   await machine.start();
-  await machine.setUp(ECHO_LINES);
+  await machine.setUp(ECHO_COMMANDS);
   await machine.run(3);
   const before = savedBy(net.machine);
   const strange = { ...ruleE, text: ': E NORTHEAST >PLN0 ;' };
   await assert.rejects(machine.define(strange), error => error instanceof Fault && error.number === 20 && error.answer.token === 3);
   await assert.rejects(machine.drop('E'), { number: 61 });
   await assert.rejects(machine.setCycle([{ a: 'Q', b: '-', grid: 'EVEN', phase: 0 }]), { number: 60 });
-  await assert.rejects(machine.setUp([side(128), '{"do":"fly"}', '{"do":"drop","name":"Z"}']), { number: 3, line: 2 });
+  await assert.rejects(machine.setUp([side(128), { do: 'fly' }, drop('Z')]), { number: 3, line: 2 });
   await machine.load(JSON.stringify({ do: 'load', machine: before }));
   assert.deepEqual(savedBy(net.machine), before);
   assert.equal(machine.count, 0);
@@ -369,7 +370,7 @@ test('a rule that the cycle uses is redefined; entries of its old half get a das
   const net = new FakeNet();
   const machine = machineOf(net);
   await machine.start();
-  await machine.setUp(ECHO_LINES);
+  await machine.setUp(ECHO_COMMANDS);
   await machine.run(1);
   await machine.define({ ...ruleE, text: BALLS });
   assert.deepEqual(machine.entries, EVEN_ODD('E'));
@@ -386,7 +387,7 @@ test('the scrubber goes back by undoing, or from the first state if that can\'t 
   const net = new FakeNet();
   const machine = machineOf(net);
   await machine.start();
-  await machine.setUp(ECHO_LINES);
+  await machine.setUp(ECHO_COMMANDS);
   const first = rowsOf(machine);
   await machine.run(9);
   const later = rowsOf(machine);
@@ -420,7 +421,7 @@ test('frames: two under way at most, none beside a command, and only planes that
   const net = new FakeNet();
   const machine = machineOf(net);
   await machine.start();
-  await machine.setUp(ECHO_LINES);
+  await machine.setUp(ECHO_COMMANDS);
   assert.deepEqual(machine.moves, [0]);
   await machine.frame(1);
   net.heard.length = 0;
@@ -436,11 +437,59 @@ test('frames: two under way at most, none beside a command, and only planes that
   machine.stop();
 });
 
+// What JSON.parse is given while something is done. The plain machine has a JSON.parse of its own.
+async function parsedBy(work) {
+  const { parse } = JSON;
+  const texts = [];
+  JSON.parse = text => {
+    texts.push(text);
+    return parse(text);
+  };
+  try {
+    await work();
+  } finally {
+    JSON.parse = parse;
+  }
+  return texts;
+}
+
+test('each reply is parsed once, and no line that the page made', async () => {
+  const net = new FakeNet();
+  const machine = machineOf(net, { storage: new FakeStorage() });
+  await machine.start();
+  const setUp = await parsedBy(() => machine.setUp(ECHO_COMMANDS));
+  assert.equal(setUp.length, 8, 'of a blank machine, of six commands, and of a save');
+  await machine.run(3);
+  await machine.back(1);
+  net.heard.length = 0;
+  const back = await parsedBy(() => machine.back(1));
+  assert.deepEqual(net.heard, ['{"do":"back","n":1}', '{"do":"plane","plane":0}']);
+  assert.equal(back.length, 2, 'of a step back, and of the one plane that the rule writes');
+  assert.deepEqual(back.map(text => text.slice(0, 13)), ['{"ok":"back",', '{"ok":"plane"']);
+  machine.stop();
+});
+
+test('lines of a file go out as they stand there', async () => {
+  const net = new FakeNet();
+  const machine = machineOf(net);
+  await machine.start();
+  const file = ['{ "side" : 128, "do" : "side" }', '{"do":"map","colours":[1.0,1,1,1,1,1,1,1,1,1,1,1,1,1,1,1e0]}', '{"do":"fly","x":"\\u0041"}'];
+  net.heard.length = 0;
+  await assert.rejects(machine.load(`${file.join('\r\n')}\n`), { number: 3, line: 3 });
+  assert.deepEqual(net.heard.slice(1, -1), file);
+  const saved = await machine.save();
+  net.heard.length = 0;
+  await machine.load(`${saved}\n{"do":"clear", "plane":0}`);
+  assert.deepEqual(net.heard, [saved, '{"do":"clear", "plane":0}', '{"do":"save"}']);
+  assert.equal(machine.colours[15], 1);
+  machine.stop();
+});
+
 test('a stroke that is drawn while the machine runs changes only its own cells', async () => {
   const net = new FakeNet();
   const machine = machineOf(net);
   await machine.start();
-  await machine.setUp(ECHO_LINES);
+  await machine.setUp(ECHO_COMMANDS);
   const base = machine.planes.clone();
   const edited = base.clone();
   edited.put(100, 100, 5);
@@ -463,7 +512,7 @@ test('a stroke that a lost connection interrupts is shown as the machine has it'
       const net = new FakeNet();
       const machine = machineOf(net);
       await machine.start();
-      await machine.setUp(ECHO_LINES);
+      await machine.setUp(ECHO_COMMANDS);
       net.cutAt(net.messages + at, when);
       await machine.paint(painted(machine, [[3, 3, 1], [4, 50, 14], [77, 90, 3]]));
       assert.equal(machine.planes.get(4, 50), 14);
@@ -485,7 +534,7 @@ test('a host that is gone is said, with what the host said, and the page goes on
   });
   machine.addEventListener('state', ({ detail }) => told.push(`${detail.state}: ${detail.text}`));
   await machine.start();
-  await machine.setUp(ECHO_LINES);
+  await machine.setUp(ECHO_COMMANDS);
   net.isUp = false;
   net.cutAll();
   await machine.run(2);
@@ -514,13 +563,13 @@ test('a plane that becomes blank is one line, and rows that stay are none', asyn
   const net = new FakeNet();
   const machine = machineOf(net);
   await machine.start();
-  await machine.setUp(ECHO_LINES);
+  await machine.setUp(ECHO_COMMANDS);
   net.heard.length = 0;
   const edited = machine.planes.clone();
   edited.cells.fill(0);
   edited.put(1, 127, 8);
   await machine.paint(edited);
-  assert.deepEqual(net.heard, ['{"do":"clear","plane":0}', set(3, 127, '4'.padEnd(32, '0'))]);
+  assert.deepEqual(net.heard, ['{"do":"clear","plane":0}', lineOf(set(3, 127, '4'.padEnd(32, '0')))]);
   isSame(machine, net.machine);
   machine.stop();
 });
@@ -529,7 +578,7 @@ test('journals are bounded: many commands and long runs bring a save', async () 
   const net = new FakeNet();
   const machine = machineOf(net);
   await machine.start();
-  await machine.setUp(ECHO_LINES);
+  await machine.setUp(ECHO_COMMANDS);
   const { do_run } = PlainMachine.prototype;
   PlainMachine.prototype.do_run = function run({ n }) { this.steps = (this.steps ?? 0) + n; return { position: n % 2 }; };
   await machine.run(200000);

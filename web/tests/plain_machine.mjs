@@ -1,5 +1,8 @@
 // A plain machine for tests: cells in arrays, and three rules done cell by cell. It shares nothing with the page's modules.
 
+// A parser of its own, so that a test can count what the page parses.
+const { parse } = JSON;
+
 export const PARITY = ': P CENTER NORTH XOR SOUTH XOR WEST XOR EAST XOR >PLN0 ;';
 export const BALLS = ': S4 CENTER CW + CCW + OPP + ; : D CENTER OPP = IF CW ELSE CENTER THEN ; : B S4 { CENTER OPP D CENTER CENTER } >PLN0 ;';
 export const ECHOES = ': S4 CENTER CW + CCW + OPP + ; : E S4 { CENTER OPP CCW OPP CENTER } >PLN0 ;';
@@ -57,7 +60,7 @@ export class PlainMachine {
     }
     let command;
     try {
-      command = JSON.parse(line);
+      command = parse(line);
     } catch {
       return '{"fault":2}';
     }

@@ -1,0 +1,21 @@
+// The gallery of the page: its entries are the examples.
+
+import assert from 'node:assert/strict';
+import { existsSync, readFileSync } from 'node:fs';
+import { test } from 'node:test';
+import { GALLERY } from '../gallery.js';
+import { lineOf } from '../lines.js';
+
+const urlOf = path => new URL(`../../${path}`, import.meta.url);
+const inRepository = path => readFileSync(urlOf(path), 'utf8');
+const textOf = commands => commands.map(command => `${lineOf(command)}\n`).join('');
+
+test('each entry has the lines of its example, byte for byte', () => {
+  const shown = inRepository('examples/shown.txt').split('\n').filter(line => line !== '' && !line.startsWith('#'));
+  assert.deepEqual(GALLERY.map(({ name }) => name), shown.map(line => line.split(' ')[0]));
+  for (const { name, commands, turn } of GALLERY) {
+    assert.equal(textOf(commands), inRepository(`examples/${name}.lines`));
+    const turned = `examples/${name}.turn`;
+    assert.equal(textOf(turn), existsSync(urlOf(turned)) ? inRepository(turned) : '');
+  }
+});
