@@ -17,7 +17,7 @@ from texts import TextFault, read_text
 
 def session_answers(part: Part) -> list[bytes]:
     alone = Alone(limit_of(part.way))
-    return [alone.answer(line) for line in lines_of(part.bytes_sent())]
+    return [alone.answer(line) or b"" for line in lines_of(part.bytes_sent())]
 
 
 def reading(line: bytes) -> bytes:
@@ -87,6 +87,6 @@ def play(path: str) -> str:
         if came != wanted:
             line = first_difference(came, wanted)
             told = [lines[line][:200] if line < len(lines) else b"nothing" for lines in (came, wanted)]
-            return f"failed {basename(path)}: part {number}, line {line + 1}: {told[0]} and not {told[1]}"
+            return f"failed {basename(path)}: part {number}, line {line + 1}: {told[0]!r} and not {told[1]!r}"
         compared += len(came)
     return f"passed {basename(path)} {compared}"

@@ -249,7 +249,7 @@ KEEPS, CLEARS = (": R CENTER >PLN0 ;", 3), (": R 0 >PLN0 ;", 2)
 # What is loaded from a cache of two tables, one after another.
 LOADS = (KEEPS, KEEPS, CLEARS, CLEARS, KEEPS)
 # Which of the loads find their table kept, and how that is seen.
-HITS = {
+HITS: dict[tuple[str, ...], str] = {
     ("false", "true", "false", "true", "true"): "unseen",
     ("false", "false", "false", "true", "true"): "the first not kept",
     ("false", "true", "false", "false", "true"): "the second not kept"}
