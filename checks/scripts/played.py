@@ -44,25 +44,26 @@ def said_of(example: Example, found: int, how: str = "") -> str | None:
 
 
 def play_all(places: list[str], play: Callable[[Example], str | None]) -> tuple[int, int]:
-    """Plays files and those of folders, as many at once as there are processors, or as JOBS says. Prints what `play` says of
-    each that isn't as it should be. Returns how many were, and how many weren't. A folder in which no file is wrong on
-    purpose counts as one that isn't."""
+    """Plays files and those of folders, as many at once as there are processors, or as JOBS says. Prints what `play` says
+    of each that isn't as it should be. Returns how many were, and how many weren't. A folder in which no file is wrong
+    on purpose counts as one that isn't."""
 
     def verdict(path: str) -> str | None:
         try:
             return play(Example(path))
         except Unplayable as why:
-            return str(why)
+            return str(why).removeprefix(f"{os.path.basename(path)}: ")
 
     paths = [path for place in places for path in files_of(place)]
     jobs = int(os.environ.get("JOBS") or len(os.sched_getaffinity(0)))
+    passed = failed = 0
     with ThreadPoolExecutor(jobs) as pool:
-        verdicts = zip(paths, pool.map(verdict, paths))
-        failed = [f"{os.path.basename(path)}: {said}" for path, said in verdicts if said is not None]
-    passed = len(paths) - len(failed)
+        for path, said in zip(paths, pool.map(verdict, paths)):
+            passed, failed = passed + (said is None), failed + (said is not None)
+            if said is not None:
+                print(f"failed {os.path.basename(path)}: {said}", flush=True)
     for folder in filter(os.path.isdir, places):
         if not glob.glob(f"{glob.escape(folder)}/wrong_*.example"):
-            failed.append(f"{folder}: no file is wrong on purpose")
-    for said in failed:
-        print(f"failed {said}")
-    return passed, len(failed)
+            print(f"failed {folder}: no file is wrong on purpose")
+            failed += 1
+    return passed, failed
