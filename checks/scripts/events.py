@@ -1,7 +1,7 @@
 #!/usr/bin/env python3
 """Writes schedules_of_events.example of cam6_host/events: random schedules of events, at a host that many users
-share, and their outcomes. With `SEED EVENTS` it writes one schedule by this seed, of so many lines of events. After them
-come those that bring all users to rest and show their planes.
+share, and their outcomes. With `SEED EVENTS` it writes one schedule by this seed, of so many lines of events. After
+them come those that bring all users to rest and show their planes.
 
 Shares nothing with the program: the outcomes are those of the model in `hosts`, which is in plain steps over cells.
 """
@@ -229,8 +229,8 @@ class Asker:
 
 
 class Schedule:
-    """Prints events and their outcomes. The host gives all users the largest of the limits. A user with a lower one than
-    that begins at the side that they would have had."""
+    """Prints events and their outcomes. The host gives all users the largest of the limits. A user with a lower one
+    begins at the side that they would have had."""
 
     def __init__(self, random: Random, boards: int, capacity: int, limits: list[int]) -> None:
         most = max(limits)

@@ -244,8 +244,8 @@ def outcome_of(answer: Callable[[bytes], bytes], line: bytes) -> bytes:
 
 
 def whole_reply(answer: Callable[[bytes], bytes], user: bytes, command: bytes) -> bytes:
-    """The outcome of a command's collect, after its ask, a lease of the first board that takes it, and its bands. Or that
-    of an ask that is refused."""
+    """The outcome of a command's collect, after its ask, a lease of the first board that takes it, and its bands. Or
+    that of an ask that is refused."""
     asked = answer(b'{"event":"ask","user":%s,"command":%s}' % (user, command))
     left = re.match(rb'{"left":([0-9]+),', asked)
     if not left:

@@ -44,9 +44,9 @@ def said_of(example: Example, found: int, how: str = "") -> str | None:
 
 
 def play_all(places: list[str], play: Callable[[Example], str | None]) -> tuple[int, int]:
-    """Plays files and those of folders, as many at once as there are processors, or as JOBS says. Prints what `play` says
-    of each that isn't as it should be. Returns how many were, and how many weren't. A folder in which no file is wrong
-    on purpose counts as one that isn't."""
+    """Plays files and those of folders, as many at once as there are processors, or as JOBS says. Prints what `play`
+    says of each that isn't as it should be. Returns how many were, and how many weren't. A folder in which no file is
+    wrong on purpose counts as one that isn't."""
 
     def verdict(path: str) -> str | None:
         try:

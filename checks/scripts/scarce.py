@@ -244,7 +244,7 @@ def driven(ran: Ran, how_of: Callable[..., Any]) -> tuple[bool, str, str]:
     return ran.was_met, "nothing" if how == "unseen" and not ran.was_met else how, told
 
 
-# Two rules with the highest entry that the lowest bits of an address allow: both bits are kept, or the lower one is cleared.
+# Two rules: their entries are the two lowest bits of the address, or the second of these alone.
 KEEPS, CLEARS = (": R CENTER >PLN0 ;", 3), (": R 0 >PLN0 ;", 2)
 # What is loaded from a cache of two tables, one after another.
 LOADS = (KEEPS, KEEPS, CLEARS, CLEARS, KEEPS)

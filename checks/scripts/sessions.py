@@ -143,8 +143,8 @@ def event_ways(program: str, part: Part) -> Iterator[tuple[str, bytes]]:
 
 
 def at_once(written: bytes, one_by_one: list[bytes], answers: list[bytes], ends: list[int]) -> bytes:
-    """The answers of events that came one by one, by what was written for all of them at once. `ends` has for each answer
-    how many events there were up to it. If one of its events has another outcome now, that is the answer."""
+    """The answers of events that came one by one, by what was written for all of them at once. `ends` has for each
+    answer how many events there were up to it. If one of its events has another outcome now, that is the answer."""
     outcomes, begin, said = written.split(b"\n"), 0, []
     for answer, end in zip(answers, ends):
         pairs = zip(outcomes[begin:end] + [b"nothing"] * (end - len(outcomes)), one_by_one[begin:end])
