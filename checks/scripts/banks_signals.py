@@ -1,5 +1,5 @@
 #!/usr/bin/env python3
-"""Writes banks_signals.example of cam6_try_sessions/data: signals on wires in Banks's rule, by plain steps.
+"""Writes banks_signals.example of cam6_host/sessions: signals on wires in Banks's rule, by plain steps.
 
 Shares nothing with the program. What is known by hand is compared with the steps here.
 """

@@ -1,5 +1,5 @@
 #!/usr/bin/env python3
-"""Writes inverses.example of cam6_try_sessions/data, and with the argument `refused` inverses_refused.example: the
+"""Writes inverses.example of cam6_try_rules/data, and with the argument `refused` inverses_refused.example: the
 inverses of rules' tables, and rules without one.
 
 Shares nothing with the program. A rule is a plain formula over what a place of a block sees; each of the 256

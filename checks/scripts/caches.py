@@ -1,5 +1,5 @@
 #!/usr/bin/env python3
-"""Writes caches.example of cam6_try_sessions/data: what is asked of a cache of tables, and what comes back.
+"""Writes caches.example of cam6_try_rules/data: what is asked of a cache of tables, and what comes back.
 
 Shares nothing with the program. The tables are made by the formulas of checks/scripts/tables.py over the address, those
 that undo them by checks/scripts/blocks.py, which looks for the state that each state of a block was made from. Which loads

@@ -1,5 +1,5 @@
 #!/usr/bin/env python3
-"""Writes counts_without_a_pattern.example of cam6_try_sessions/data: counts and colours of random planes, cell by cell.
+"""Writes counts_without_a_pattern.example of cam6_host/sessions: counts and colours of random planes, cell by cell.
 
 Shares nothing with the program: a state is put together from its four bits, and cells are counted one by one.
 """

@@ -1,5 +1,5 @@
 #!/usr/bin/env python3
-"""Writes critters.example of cam6_try_sessions/data: the book's Critters, by plain steps over blocks.
+"""Writes critters.example of cam6_host/sessions: the book's Critters, by plain steps over blocks.
 
 Shares nothing with the program. If a flight is known by hand, the steps are compared with it here.
 """

@@ -1,5 +1,5 @@
 #!/usr/bin/env python3
-"""Writes dendrites.example of cam6_try_sessions/data: growth from a seed by cells with one set neighbour, by plain steps.
+"""Writes dendrites.example of cam6_host/sessions: growth from a seed by cells with one set neighbour, by plain steps.
 
 Shares nothing with the program. The counts of four neighbours, which are known by a formula, are compared with it here.
 """

@@ -1,5 +1,5 @@
 #!/usr/bin/env python3
-"""Writes echoes.example of cam6_try_sessions/data: a picture that is scrambled and comes home, by plain steps over blocks.
+"""Writes echoes.example of cam6_host/sessions: a picture that is scrambled and comes home, by plain steps over blocks.
 
 Shares nothing with the program.
 """

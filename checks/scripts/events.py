@@ -1,7 +1,7 @@
 #!/usr/bin/env python3
-"""Writes schedules_of_events.example of cam6_try_sessions/data: random schedules of events, at a host that many users
-share, and their outcomes. With `SEED EVENTS` it writes one schedule by this seed, of so many lines of events. After them
-come those that bring all users to rest and show their planes.
+"""Writes schedules_of_events.example of cam6_host/events: random schedules of events, at a host that many users
+share, and their outcomes. With `SEED EVENTS` it writes one schedule by this seed, of so many lines of events. After
+them come those that bring all users to rest and show their planes.
 
 Shares nothing with the program: the outcomes are those of the model in `hosts`, which is in plain steps over cells.
 """
@@ -76,16 +76,16 @@ def plane_masks() -> list[int]:
 
 
 class Asker:
-    """The random commands of a user."""
+    """The random commands of a user, who asks for no side above their own limit but by `ask_refused`."""
 
-    def __init__(self, machine: Machine, random: Random) -> None:
-        self.machine, self.random = machine, random
+    def __init__(self, machine: Machine, limit: int, random: Random) -> None:
+        self.machine, self.limit, self.random = machine, limit, random
         self.words = {}
         early = [{"do": "run", "n": 1}] if random.random() < 0.1 else []
         self.wishes = [*early, *self.sides(), *self.new_rules(), *self.pictures()]
 
     def sides(self) -> list[dict[str, Any]]:
-        if self.machine.limit == 512 and self.random.random() < 0.6:
+        if self.limit == 512 and self.random.random() < 0.6:
             return [{"do": "side", "side": 512}]
         return [{"do": "side", "side": 128}] if self.random.random() < 0.6 else []
 
@@ -229,13 +229,18 @@ class Asker:
 
 
 class Schedule:
-    """Prints events and their outcomes."""
+    """Prints events and their outcomes. The host gives all users the largest of the limits. A user with a lower one
+    begins at the side that they would have had."""
 
     def __init__(self, random: Random, boards: int, capacity: int, limits: list[int]) -> None:
-        self.random, self.host = random, Host(limits, boards, capacity)
-        self.askers = {number: Asker(user.machine, random) for number, user in self.host.users.items()}
-        self.last = None
-        print(f"as events {len(limits)} {boards} {capacity} within {' '.join(map(str, limits))}")
+        most = max(limits)
+        self.random, self.host, self.last = random, Host([most] * len(limits), boards, capacity), None
+        print(f"as events {len(limits)} {boards} {capacity} within {most}")
+        self.askers = {}
+        for (number, user), limit in zip(self.host.users.items(), limits):
+            if limit < min(most, 256):
+                self.asked(number, do="side", side=limit)
+            self.askers[number] = Asker(user.machine, limit, random)
 
     def event(self, word: str, **named: int | dict[str, Any]) -> None:
         event = {"event": word} | named

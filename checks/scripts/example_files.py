@@ -1,82 +1,150 @@
-"""Worked examples, played through the machine and the host of `machines` instead of the program: what comes back must
-be what the file says. So the files judge what `fuzz` is judged by.
+"""Worked examples: their files, read as docs/EXAMPLES.md says. Shares nothing with the program.
 
-Shares nothing with the program. It reads files as docs/EXAMPLES.md says, and knows the ways `session`, `readings`,
-`texts`, `tables` and `events`. It skips parts of other ways.
+    example_files.py FILE [NUMBER]    prints what a part of a file sends; they are counted from 1
+
+A file is refused whole if one of its lines can't be read, or if it wants no line.
 """
 
 from __future__ import annotations
 
 import re
+import sys
+from argparse import ArgumentParser, RawDescriptionHelpFormatter
+from collections.abc import Callable
 from os.path import basename
 
-from lines import is_command, lines_of, plain, read_line
-from machines import Alone, Replay, rule_of
-from texts import TextFault, read_text
+from lines import plain
+
+SIDES = (128, 256, 512)
+# A number as JSON writes it, and the least one that an event can't have.
+NUMBER, TOO_LARGE = rb"(0|[1-9][0-9]*)", 2**64
+# The most boards of a host.
+MOST_BOARDS = 8
+
+# A text that is sent, and what is sent after it: an LF, or nothing.
+Sent = tuple[bytes, bytes]
+
+
+class Unplayable(ValueError):
+    """A line of a file, or the whole file, can't be played."""
 
 
 def piece(text: str) -> bytes:
     """A text, or bytes by their digits."""
-    return bytes.fromhex(text[2:]) if text.startswith("x ") else text.encode()
+    if not text.startswith("x "):
+        return text.encode()
+    if not re.fullmatch("x( [0-9A-F]{2})+", text):
+        raise Unplayable(f"no bytes: {text}")
+    return bytes.fromhex(text[2:])
+
+
+def marked(mark: str, named: dict[str, bytes]) -> bytes:
+    """What a mark stands for."""
+    if times := re.fullmatch(r"([0-9]+)\*(.*)", mark, re.DOTALL):
+        return int(times[1]) * piece(times[2])
+    if mark in named:
+        return named[mark]
+    if not mark.startswith("x "):
+        raise Unplayable(f"no text is named {mark}")
+    return piece(mark)
 
 
 def written_out(text: str, named: dict[str, bytes]) -> bytes:
     """A text with its marks written out."""
-    bytes_of, *pieces = text.split("«")
-    whole = bytes_of.encode()
-    for mark, rest in (part.split("»", 1) for part in pieces):
-        if times := re.fullmatch(r"([0-9]+)\*(.*)", mark, re.DOTALL):
-            whole += int(times[1]) * piece(times[2])
-        else:
-            whole += named[mark] if mark in named else piece(mark)
-        whole += rest.encode()
-    return whole
+    whole, *pieces = text.split("«")
+    written = whole.encode()
+    for part in pieces:
+        mark, end, rest = part.partition("»")
+        if not end:
+            raise Unplayable(f"a mark without an end: {part}")
+        written += marked(mark, named) + rest.encode()
+    return written
 
 
 class Rows:
-    """Rows that a file says, all zeros but for those that it names."""
+    """Rows that a file says, all zeros but for those that it names. If they are to be set, `plane` says where."""
 
-    def __init__(self, side: int) -> None:
-        self.side = side
-        self.digits, self.named = ["0" * (side // 4)] * side, set()
+    def __init__(self, side: int, plane: str | None) -> None:
+        self.side, self.plane = side, plane
+        self.digits, self.named = ["0" * (side // 4)] * side, set[int]()
+        self.column = self.next_row = 0
 
     def put(self, y: int, digits: str) -> None:
+        if y >= self.side:
+            raise Unplayable(f"there is no row {y}")
         self.digits[y] = digits
         self.named.add(y)
 
     def read(self, mark: str, rest: str) -> None:
-        if mark == "@":
-            self.column, self.next_row = map(int, rest.split())
-        elif mark == "=":
-            row, digits = rest.split(" ")
-            first, _, last = digits.partition("*")
-            digits = first + "0" * (self.side // 4 - len(first) - len(last)) + last
-            for y in {"even": range(0, self.side, 2), "odd": range(1, self.side, 2)}.get(row) or [int(row)]:
-                self.put(y, digits)
+        wanted = {"=": r"(even|odd|[0-9]+) ([0-9a-f]*\*?[0-9a-f]*)", "@": "([0-9]+) ([0-9]+)", "|": "([#.]*)()"}[mark]
+        found = re.fullmatch(wanted, rest)
+        if not found:
+            raise Unplayable(f"no row: {rest}")
+        if mark == "=":
+            self.put_digits(found[1], found[2])
+        elif mark == "@":
+            self.column, self.next_row = int(found[1]), int(found[2])
         else:
-            y = self.next_row % self.side
-            bits = int(self.digits[y], 16)
-            for i, cell in enumerate(rest):
-                bits |= (cell == "#") << self.side - 1 - (self.column + i) % self.side
-            self.put(y, f"{bits:0{self.side // 4}x}")
-            self.next_row += 1
+            self.put_cells(found[1])
+
+    def put_digits(self, row: str, digits: str) -> None:
+        first, star, last = digits.partition("*")
+        left_out = self.side // 4 - len(first) - len(last)
+        if left_out < 0 or left_out > 0 and not star:
+            raise Unplayable(f"{digits} has not the digits of a row")
+        halves = {"even": range(0, self.side, 2), "odd": range(1, self.side, 2)}
+        for y in halves[row] if row in halves else [int(row)]:
+            self.put(y, first + "0" * left_out + last)
+
+    def put_cells(self, cells: str) -> None:
+        y = self.next_row % self.side
+        bits = int(self.digits[y], 16)
+        for i, cell in enumerate(cells):
+            bits |= (cell == "#") << self.side - 1 - (self.column + i) % self.side
+        self.put(y, f"{bits:0{self.side // 4}x}")
+        self.next_row += 1
 
 
 class Part:
     """Lines that are played in one way: each with whether an LF is sent after it, and what must come back."""
 
     def __init__(self, way: str) -> None:
-        self.way, self.sent, self.wanted = way, [], b""
+        self.way, self.wanted = way, b""
+        self.sent: list[Sent] = []
+
+    def bytes_sent(self) -> bytes:
+        return b"".join(line + end for line, end in self.sent)
 
 
 class Example:
+    """A file that has been read. It can't be played if it wants no line."""
+
     def __init__(self, path: str) -> None:
-        self.parts, self.named, self.side = [], {}, 256
-        self.rows, self.is_set = None, None
+        self.name = basename(path)
+        self.parts: list[Part] = []
+        self.named: dict[str, bytes] = {}
+        self.side = 256
+        self.rows: Rows | None = None
         with open(path, encoding="utf-8", newline="\n") as file:
-            for line in file.read().split("\n"):
+            text = file.read()
+        self.head = " ".join(re.findall("# (.*)", re.split("^(?!# )", text, maxsplit=1, flags=re.M)[0]))
+        for number, line in enumerate(text.split("\n"), 1):
+            try:
                 self.read(*line.partition(" ")[::2])
+            except Unplayable as why:
+                raise Unplayable(f"{self.name}: line {number} can't be played: {why}") from why
         self.end_rows()
+        if not any(part.wanted for part in self.parts):
+            raise Unplayable(f"{self.name}: no line is wanted")
+
+    def wrong_line(self) -> int:
+        """The line that comes back otherwise, counted from 1, or 0 if the file isn't wrong on purpose."""
+        if not self.name.startswith("wrong_"):
+            return 0
+        said = re.match(r"Wrong on purpose: .*?\bline ([1-9][0-9]*)\b", self.head)
+        if not said:
+            raise Unplayable(f"{self.name}: its head doesn't say which line is wrong")
+        return int(said[1])
 
     def part(self) -> Part:
         if not self.parts:
@@ -91,133 +159,115 @@ class Example:
 
     def end_rows(self) -> None:
         rows, self.rows = self.rows, None
-        if rows and self.is_set is None:
+        if rows and rows.plane is None:
             self.want(plain({"ok": "plane", "rows": rows.digits}).decode())
         elif rows:
             for y in sorted(rows.named):
-                self.send(f'{{"do":"set","plane":{self.is_set},"row":{y},"bits":"{rows.digits[y]}"}}')
+                self.send(f'{{"do":"set","plane":{rows.plane},"row":{y},"bits":"{rows.digits[y]}"}}')
                 self.want('{"ok":"set"}')
 
     def read(self, mark: str, rest: str) -> None:
         if mark in ("=", "@", "|"):
+            if not self.rows:
+                raise Unplayable("no rows are begun")
             self.rows.read(mark, written_out(rest, self.named).decode())
             return
         self.end_rows()
-        if mark == "as":
-            self.parts.append(Part(rest))
-        elif mark == "let":
-            name, _, text = rest.partition(" ")
-            self.named[name] = written_out(text, self.named)
-        elif mark == "side":
-            self.side = int(rest)
-        elif mark == ">" and rest.startswith("rows "):
-            self.rows, self.is_set = Rows(self.side), rest[5:]
-        elif mark == ">" and " => " in rest:
+        readers = {"as": self.begin, "let": self.name_text, "side": self.set_side}
+        readers |= {">": self.read_sent, "<": self.read_wanted}
+        if mark == ">>":
+            self.send(rest, b"")
+        elif mark in readers:
+            readers[mark](rest)
+        elif mark not in ("", "#"):
+            raise Unplayable(f"there is no mark {mark}")
+
+    def begin(self, way: str) -> None:
+        self.parts.append(Part(way))
+
+    def name_text(self, rest: str) -> None:
+        name, _, text = rest.partition(" ")
+        if name in self.named:
+            raise Unplayable(f"two texts are named {name}")
+        self.named[name] = written_out(text, self.named)
+
+    def set_side(self, side: str) -> None:
+        if side not in map(str, SIDES):
+            raise Unplayable(f"no side: {side}")
+        self.side = int(side)
+
+    def read_sent(self, rest: str) -> None:
+        if rest.startswith("rows "):
+            self.rows = Rows(self.side, rest[5:])
+        elif " => " in rest:
             sent, wanted = rest.rsplit(" => ", 1)
             self.send(sent)
             self.want(wanted)
-        elif mark == ">":
+        else:
             self.send(rest)
-        elif mark == ">>":
-            self.send(rest, b"")
-        elif mark == "<" and rest == "plane":
-            self.rows, self.is_set = Rows(self.side), None
-        elif mark == "<":
+
+    def read_wanted(self, rest: str) -> None:
+        if rest == "plane":
+            self.rows = Rows(self.side, None)
+        else:
             self.want(rest)
 
 
-def session_answers(way: str, sent: list[tuple[bytes, bytes]]) -> list[bytes]:
-    _, _, limit = way.partition(" within ")
-    alone = Alone(int(limit or 256))
-    return [alone.answer(line) for line in lines_of(b"".join(line + end for line, end in sent))]
+def limit_of(way: str) -> int:
+    """The limit of a session, by its way."""
+    found = re.fullmatch("session(?: within (128|256|512))?", way)
+    if not found:
+        raise Unplayable(f"no session: {way}")
+    return int(found[1] or 256)
 
 
-def reading(line: bytes) -> bytes:
-    """The plainest line that says the same, or the fault."""
-    said = read_line(line, is_command)
-    if isinstance(said, int):
-        return plain({"fault": said})
-    return plain(said | {"bits": said["bits"].lower()} if "bits" in said else said)
+def sizes_of(way: str) -> tuple[int, int, int, int]:
+    """The users, boards and cached tables of events, and the limit of all users, by their way."""
+    found = re.fullmatch("events ([0-9]+) ([0-9]+) ([0-9]+)(?: within (128|256|512))?", way)
+    if not found:
+        raise Unplayable(f"no events: {way}")
+    users, boards, cache, limit = (int(number or 256) for number in found.groups())
+    return users, boards, cache, limit
 
 
-def text_answer(text: bytes, half: str, hood: str, minor: str) -> bytes:
-    try:
-        read_text(text.decode(), half, hood, minor)
-    except TextFault as fault:
-        return plain({"fault": fault.number, "token": fault.token})
-    return b'{"ok":"rule"}'
+def outcome_of(answer: Callable[[bytes], bytes], line: bytes) -> bytes:
+    """The outcome of a line of events, or of the last one of those for which a short form stands. `answer` has that of
+    one line."""
+    if bands := re.fullmatch(rb"bands %s %s" % (NUMBER, NUMBER), line):
+        times = int(bands[2])
+        if times == 0 or max(int(bands[1]), times) >= TOO_LARGE:
+            return b"unread"
+        return [answer(b'{"event":"band","board":%s}' % bands[1]) for _ in range(times)][-1]
+    if (reply := re.fullmatch(rb"reply %s (.*)" % NUMBER, line, re.DOTALL)) and int(reply[1]) < TOO_LARGE:
+        return whole_reply(answer, reply[1], reply[2])
+    return b"unread" if re.match(rb"(bands|reply)( |$)", line) else answer(line)
 
 
-def event_answers(way: str, sent: list[tuple[bytes, bytes]]) -> list[bytes]:
-    sizes, _, limits = way.partition(" within ")
-    users, boards, cache = map(int, sizes.split()[1:])
-    limits = list(map(int, limits.split())) or [256]
-    replay = Replay(limits * users if len(limits) == 1 else limits, boards, cache)
-    return [event_answer(replay, line) for line, _ in sent]
+def whole_reply(answer: Callable[[bytes], bytes], user: bytes, command: bytes) -> bytes:
+    """The outcome of a command's collect, after its ask, a lease of the first board that takes it, and its bands. Or
+    that of an ask that is refused."""
+    asked = answer(b'{"event":"ask","user":%s,"command":%s}' % (user, command))
+    left = re.match(rb'{"left":([0-9]+),', asked)
+    if not left:
+        return asked
+    for board in range(MOST_BOARDS if int(left[1]) else 0):
+        if answer(b'{"event":"lease","user":%s,"board":%d}' % (user, board)).startswith(b'{"left":'):
+            for _ in range(int(left[1])):
+                answer(b'{"event":"band","board":%d}' % board)
+            break
+    return answer(b'{"event":"collect","user":%s}' % user)
 
 
-def event_answer(replay: Replay, line: bytes) -> bytes:
-    """The outcome of a line of events, or of the last of several."""
-    if bands := re.fullmatch(rb"bands ([0-9]+) ([1-9][0-9]*)", line):
-        return [replay.answer(b'{"event":"band","board":%s}' % bands[1]) for _ in range(int(bands[2]))][-1]
-    if reply := re.fullmatch(rb"reply ([0-9]+) (.*)", line, re.DOTALL):
-        asked = replay.answer(b'{"event":"ask","user":%s,"command":%s}' % reply.groups())
-        if not (left := re.match(rb'{"left":([0-9]+),', asked)):
-            return asked
-        boards = range(8 if int(left[1]) else 0)
-        leases = (b'{"event":"lease","user":%s,"board":%d}' % (reply[1], board) for board in boards)
-        board = next((board for board, lease in enumerate(leases) if replay.answer(lease).startswith(b'{"left"')), None)
-        for _ in range(int(left[1]) if board is not None else 0):
-            replay.answer(b'{"event":"band","board":%d}' % board)
-        return replay.answer(b'{"event":"collect","user":%s}' % reply[1])
-    return b"unread" if re.match(rb"(bands|reply)( |$)", line) else replay.answer(line)
+def main() -> None:
+    parser = ArgumentParser(description=__doc__, formatter_class=RawDescriptionHelpFormatter)
+    parser.add_argument("file", metavar="FILE")
+    parser.add_argument("number", metavar="NUMBER", nargs="?", type=int, default=1)
+    asked = parser.parse_args()
+    parts = Example(asked.file).parts
+    if not 1 <= asked.number <= len(parts):
+        parser.error(f"{asked.file} has parts 1 to {len(parts)}")
+    sys.stdout.buffer.write(parts[asked.number - 1].bytes_sent())
 
 
-def table_answer(text: bytes, half: str, hood: str, minor: str) -> bytes:
-    """The entries at all addresses, 64 a line, or where the rule stops."""
-    rule = rule_of(half, hood, minor, text.decode())
-    if isinstance(rule, dict):
-        return plain(rule)
-    places = [rule.lines.index(name) for name in rule.names]
-    said = (rule.said[tuple(address >> place & 1 for place in places)] for address in range(4096))
-    entries = "".join(str(lower + 2 * upper) for lower, upper in said)
-    return "\n".join(entries[i : i + 64] for i in range(0, 4096, 64)).encode()
-
-
-def answers(part: Part) -> list[bytes] | None:
-    """What comes back for a part's lines, or None if its way isn't known."""
-    word, *rest = part.way.split()
-    if word == "session":
-        return session_answers(part.way, part.sent)
-    if word == "readings":
-        return [reading(line) for line, _ in part.sent]
-    if word == "texts":
-        return [text_answer(line, *rest) for line, _ in part.sent]
-    if word == "tables":
-        return [table_answer(line, *rest) for line, _ in part.sent]
-    if word == "events":
-        return event_answers(part.way, part.sent)
-    return None
-
-
-def first_difference(came: list[bytes], wanted: list[bytes]) -> int:
-    """Where two lists differ first."""
-    pairs = enumerate(zip(came, wanted))
-    return next((i for i, (one, other) in pairs if one != other), min(len(came), len(wanted)))
-
-
-def play(path: str) -> str:
-    """Says whether all lines of a file come back."""
-    compared = 0
-    for number, part in enumerate(Example(path).parts, 1):
-        came = answers(part)
-        if came is None:
-            continue
-        wanted = part.wanted[:-1].split(b"\n")
-        came = b"\n".join(came).split(b"\n")
-        if came != wanted:
-            line = first_difference(came, wanted)
-            told = [lines[line][:200] if line < len(lines) else b"nothing" for lines in (came, wanted)]
-            return f"failed {basename(path)}: part {number}, line {line + 1}: {told[0]} and not {told[1]}"
-        compared += len(came)
-    return f"passed {basename(path)} {compared}"
+if __name__ == "__main__":
+    main()

@@ -1,5 +1,5 @@
 #!/usr/bin/env python3
-"""Writes failures_after_each_band.example and preempted_after_each_band.example of cam6_try_sessions/data: three steps
+"""Writes failures_after_each_band.example and preempted_after_each_band.example of cam6_host/events: three steps
 of a ball, on and back. Their board fails after each number of bands, or they are taken off it after each band.
 
 Shares nothing with the program: the outcomes are those of the model in `hosts`.
@@ -39,7 +39,7 @@ class Ball(ToldEvents):
         rows = {f"ROW{number}": f"reply 1 {compact(row(number))}" for number in (0, STEPS)}
         named = {"BALLS": BALLS, "REPLY": '{"ok":"collect","reply":'} | rows
         named |= {word: compact(event) for word, event in events.items()}
-        super().__init__("cam6_try_sessions", name, *comments, SOURCE, **named)
+        super().__init__("cam6_host/events", name, *comments, SOURCE, **named)
 
     def begin(self, title: str | None) -> None:
         self.part(title, 2, 16, [256])

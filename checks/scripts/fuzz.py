@@ -29,14 +29,14 @@ from random import Random
 from tempfile import TemporaryFile
 from typing import Any
 
-import example_files
+import plain_examples
 from asks import NUMBERS, SAVE, Asker
 from broken_lines import Breaker
-from example_files import first_difference
 from events import plane_masks
 from hosts import DEAD, IDLE, REFUSALS
 from lines import Unclear, lines_of, plain
 from machines import Alone, Replay, User
+from plain_examples import first_difference
 
 # How many cells the steps of a line may have, and how many bands of a command are done at the end.
 MOST_CELLS, MOST_BANDS = 170_000, 200
@@ -353,7 +353,7 @@ def main() -> None:
             play_all(asked.program, seed)
     elif asked.word == "examples":
         for path in asked.file:
-            print(example_files.play(path), flush=True)
+            print(plain_examples.play(path), flush=True)
     elif asked.word == "sent":
         sys.stdout.buffer.write(play_of(asked.kind, asked.seed).text())
     else:

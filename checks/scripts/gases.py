@@ -1,5 +1,5 @@
 #!/usr/bin/env python3
-"""Writes gases.example of cam6_try_sessions/data: particles of the book's two lattice gases, by plain steps over blocks.
+"""Writes gases.example of cam6_host/sessions: particles of the book's two lattice gases, by plain steps over blocks.
 
 Shares nothing with the program. If a flight is known by hand, the steps are compared with it here.
 """

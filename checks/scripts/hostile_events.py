@@ -1,5 +1,5 @@
 #!/usr/bin/env python3
-"""Writes numbers_in_events.example, keys_in_events.example and hostile_events.example of cam6_try_sessions/data: events
+"""Writes numbers_in_events.example, keys_in_events.example and hostile_events.example of cam6_host/events: events
 in every spelling, and lines that are none. Each part ends with all users at rest, and with looks at their machines.
 
 Shares nothing with the program: what each spelling says stands in `spellings`, by hand, and outcomes are those of the
@@ -63,7 +63,7 @@ EVENTS = [
 class Events(ToldEvents):
     def __init__(self, name: str, *comments: str) -> None:
         named = {"RULE": compact(RULE), "CYCLE": compact(CYCLE), "REPLY": '{"ok":"collect","reply":'}
-        super().__init__("cam6_try_sessions", name, *comments, SOURCE, **named)
+        super().__init__("cam6_host/events", name, *comments, SOURCE, **named)
 
     def begin(self, title: str, *events: dict[str, Any]) -> None:
         """Two users with a ball each; then these events."""

@@ -1,6 +1,6 @@
 #!/usr/bin/env python3
 """Writes numbers_in_lines.example, texts_in_lines.example, keys_in_lines.example, blanks_in_lines.example,
-nested_lines.example and longest_lines.example of cam6_try_sessions/data: commands in every spelling, and lines that
+nested_lines.example and longest_lines.example of cam6_host/sessions: commands in every spelling, and lines that
 are none. Each session ends with looks at the machine, which no refused line has changed.
 
 Shares nothing with the program: what each spelling says stands in `spellings`, by hand, and replies are those of the
@@ -68,7 +68,7 @@ COMMANDS = [
 class Lines(ToldLines):
     def __init__(self, name: str, *comments: str, **named: str) -> None:
         named = {"BALLS": BALLS, "CYCLE": compact(CYCLE), "MAP": compact(PICTURE[-1])} | named
-        super().__init__("cam6_try_sessions", name, *comments, SOURCE, **named)
+        super().__init__("cam6_host/sessions", name, *comments, SOURCE, **named)
 
     def begin(self, title: str | None = None, is_cycled: bool = True) -> None:
         """A blank machine with a rule, and with pictures; a cycle goes round once, so that its position isn't 0."""

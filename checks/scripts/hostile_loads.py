@@ -1,5 +1,5 @@
 #!/usr/bin/env python3
-"""Writes machines_never_saved.example, loads_in_lines.example and long_loads.example of cam6_try_sessions/data: lines
+"""Writes machines_never_saved.example, loads_in_lines.example and long_loads.example of cam6_host/sessions: lines
 that would load what is the text of no machine, lines that say a machine in another spelling than the plainest, and
 lines that say none. Each session ends with looks at the machine, which no refused line has changed.
 

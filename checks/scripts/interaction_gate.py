@@ -1,5 +1,5 @@
 #!/usr/bin/env python3
-"""Writes interaction_gate.example of cam6_try_sessions/data: two billiard balls that meet or don't, by plain steps over blocks.
+"""Writes interaction_gate.example of cam6_host/sessions: two billiard balls that meet or don't, by plain steps over blocks.
 
 Shares nothing with the program. The ways of the balls, which are known by hand, are compared with the steps here.
 """

@@ -1,5 +1,5 @@
 #!/usr/bin/env python3
-"""Writes majority.example of cam6_try_sessions/data: votes of nine cells, and a trace of what changes, by plain steps.
+"""Writes majority.example of cam6_host/sessions: votes of nine cells, and a trace of what changes, by plain steps.
 
 Shares nothing with the program.
 """

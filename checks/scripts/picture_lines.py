@@ -25,7 +25,7 @@ import wireworld
 from cell_steps import SIDE, drawn, moved, without_a_pattern
 
 ROOT = os.path.join(os.path.dirname(os.path.abspath(__file__)), "..", "..")
-WORKED = os.path.join(ROOT, "crates", "cam6_try_sessions", "data")
+WORKED = os.path.join(ROOT, "crates", "cam6_host", "sessions")
 EVERYWHERE = range(SIDE)
 TRACE = {"do": "rule", "name": "TRACE", "half": "B", "hood": "N/VONN", "minor": "&/CENTERS"}
 TRACE["text"] = ": TRACE CENTER &CENTER OR >PLN2 ;"

@@ -1,5 +1,5 @@
 #!/usr/bin/env python3
-"""Writes tables_with_programs.example of cam6_try_sessions/data: steps by rules with tables that few operations on
+"""Writes tables_with_programs.example of cam6_host/sessions: steps by rules with tables that few operations on
 words make, or some more, or no short list of them, under each of the thirty wirings.
 
 Shares nothing with the program. Replies are those of the machine of `machines`, which asks a rule's words at each cell;
@@ -145,7 +145,7 @@ class Steps(Told):
     """The sessions of the example."""
 
     def __init__(self, name: str, *comments: str) -> None:
-        super().__init__("cam6_try_sessions", name, *comments)
+        super().__init__("cam6_host/sessions", name, *comments)
         for word, cases in LISTS.items():
             self.let(word, cases)
         # Between two rows that come back, between a row and a count, and between two counts.

@@ -2,8 +2,8 @@
 """Plays the sessions of worked examples at a host that two users share, under random schedules, and compares all that
 comes back.
 
-    replays.py PROGRAM PLAYER EXAMPLE..                     plays each session by three seeds, and says how it went
-    replays.py print PROGRAM PLAYER EXAMPLE SESSION SEED    prints a play: its lines, and what must come back
+    replays.py PROGRAM EXAMPLE..                     plays each session by three seeds, and says how it went
+    replays.py print PROGRAM EXAMPLE SESSION SEED    prints a play: its lines, and what must come back
 
 A session's user is one of the two, at random. The other one has commands of their own, with rules of the same names.
 Boards do their steps band by band, commands are taken off them inside a step and after whole ones, boards fail and
@@ -33,13 +33,14 @@ from argparse import SUPPRESS, ArgumentParser, RawDescriptionHelpFormatter
 from collections import Counter, deque
 from collections.abc import Callable, Iterator
 from functools import partial
-from os.path import basename
+from itertools import islice
 from random import Random
 from tempfile import TemporaryFile
 from typing import Any
 
 import hosts
 from events import FREE, RULES, rule_line
+from example_files import Example, limit_of
 from hosts import DEAD, IDLE, REFUSALS, SIDES
 from undoing import compact
 
@@ -129,9 +130,8 @@ def commands_of(program: str, limit: int, lines: list[bytes]) -> tuple[list[Comm
 class Session:
     """A session of an example."""
 
-    def __init__(self, program: str, player: str, path: str, number: int, limit: int) -> None:
-        self.name, self.limit = f"{basename(path)}: session {number}", limit
-        sent = subprocess.run([player, "lines", path, str(number)], stdout=subprocess.PIPE, check=True).stdout
+    def __init__(self, program: str, name: str, limit: int, sent: bytes) -> None:
+        self.name, self.limit = name, limit
         self.commands, self.left_out = commands_of(program, limit, lines_of(sent))
         self.bands = sum(command.left for command in self.commands)
         rules = [json.loads(command.line) for command in self.commands if command.reply == b'{"ok":"rule"}']
@@ -147,23 +147,12 @@ class Session:
         return max(LEAST_SPARE, min(self.bands, MOST_BANDS - self.bands))
 
 
-def limits_of(player: str, path: str) -> list[int]:
-    """The limit of each session of an example that sends anything; the player must count as many."""
-    limits, limit, is_begun = [], 256, False
-    with open(path, encoding="utf-8", newline="\n") as file:
-        for line in file.read().split("\n"):
-            mark, _, rest = line.partition(" ")
-            if mark == "as":
-                way, _, within = rest.partition(" within ")
-                is_begun = way != "session"
-                limit = 256 if is_begun else int(within or 256)
-            if mark in (">", ">>") and not is_begun:
-                limits.append(limit)
-                is_begun = True
-    said = subprocess.run([player, "lines", path, "0"], stdout=subprocess.PIPE, check=False).stdout.decode()
-    if said != f"{path}: it has sessions 1 to {len(limits)}\n":
-        raise ValueError(f"{len(limits)} sessions are found, and the player says: {said}")
-    return limits
+def sessions_of(program: str, path: str) -> Iterator[Session]:
+    """The sessions of an example that send anything, counted from 1."""
+    example = Example(path)
+    parts = [part for part in example.parts if part.sent]
+    for number, part in enumerate(parts, 1):
+        yield Session(program, f"{example.name}: session {number}", limit_of(part.way), part.bytes_sent())
 
 
 class Other:
@@ -380,42 +369,41 @@ def how_it_went(program: str, session: Session, seed: int) -> str:
     return " ".join(["passed", *(str(play.counts[word]) for word in COUNTED)])
 
 
-def play_all(program: str, player: str, path: str) -> None:
-    for number, limit in enumerate(limits_of(player, path), 1):
-        session = Session(program, player, path, number, limit)
+def play_all(program: str, path: str) -> None:
+    for session in sessions_of(program, path):
         loads = list(filter(is_load, session.left_out))
         if loads:
             print(f"loads left out {session.name}: {len(loads)}")
         for line in session.left_out:
             if line not in loads:
-                print(f"left out {session.name}: no ask holds {line[:30]}, which has {len(line)} bytes")
+                print(f"left out {session.name}: no ask holds {line[:30]!r}, which has {len(line)} bytes")
         if not session.seeds():
             print(f"not played {session.name}: it has {session.bands} bands")
         for seed in session.seeds():
             print(how_it_went(program, session, seed))
 
 
-def print_play(program: str, player: str, path: str, number: int, seed: int) -> None:
-    session = Session(program, player, path, number, limits_of(player, path)[number - 1])
+def print_play(program: str, path: str, number: int, seed: int) -> None:
+    session = next(islice(sessions_of(program, path), number - 1, None))
     play, words = play_of(program, session, seed)
     print("# cam6 replay", *words, flush=True)
     for line, wanted in zip(play.lines, play.wanted):
-        outcome = b" or ".join(wanted) if wanted is EVICTED else wanted
+        outcome = b" or ".join(wanted) if isinstance(wanted, tuple) else wanted
         sys.stdout.buffer.write(b"> %s => %s\n" % (line, outcome))
 
 
 def main() -> None:
-    usage = "replays.py PROGRAM PLAYER EXAMPLE.. | print PROGRAM PLAYER EXAMPLE SESSION SEED"
+    usage = "replays.py PROGRAM EXAMPLE.. | print PROGRAM EXAMPLE SESSION SEED"
     parser = ArgumentParser(usage=usage, description=__doc__, formatter_class=RawDescriptionHelpFormatter)
     parser.add_argument("words", nargs="+", help=SUPPRESS)
     words = parser.parse_args().words
-    if words[0] == "print" and len(words) == 6 and words[4].isdigit() and words[5].isdigit():
-        print_play(*words[1:4], *map(int, words[4:]))
-    elif words[0] == "print" or len(words) < 3:
+    if words[0] == "print" and len(words) == 5 and words[3].isdigit() and words[4].isdigit():
+        print_play(*words[1:3], *map(int, words[3:]))
+    elif words[0] == "print" or len(words) < 2:
         parser.error(f"no such arguments: {' '.join(words)}")
     else:
-        for example in words[2:]:
-            play_all(*words[:2], example)
+        for example in words[1:]:
+            play_all(words[0], example)
 
 
 if __name__ == "__main__":

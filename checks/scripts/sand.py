@@ -1,5 +1,5 @@
 #!/usr/bin/env python3
-"""Writes sand.example of cam6_try_sessions/data: grains that fall and slide, by plain steps over blocks.
+"""Writes sand.example of cam6_host/sessions: grains that fall and slide, by plain steps over blocks.
 
 Shares nothing with the program. The first steps of a grain are compared with those by hand here.
 """

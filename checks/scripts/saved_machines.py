@@ -1,6 +1,6 @@
 #!/usr/bin/env python3
-"""Writes saved_machines.example and saved_and_loaded.example of cam6_try_sessions/data, and saved_by_events.example of
-cam6_try_sessions/data: machines that are saved, and machines that are loaded.
+"""Writes saved_machines.example and saved_and_loaded.example of cam6_host/sessions, and saved_by_events.example of
+cam6_host/events: machines that are saved, and machines that are loaded.
 
 Shares nothing with the program: replies are those of the private machine in `hosts`, and faults are said by hand.
 """
@@ -205,7 +205,7 @@ def most(told: ToldMachines) -> None:
 class Events(ToldEvents):
     def __init__(self, name: str, *comments: str) -> None:
         zeros = {f"BLANK_{number}": said(blank(number)["planes"]) for number in (128, 256)}
-        super().__init__("cam6_try_sessions", name, *comments, SOURCE, **zeros)
+        super().__init__("cam6_host/events", name, *comments, SOURCE, **zeros)
 
 
 def refused_events(told: Events) -> None:

@@ -1,6 +1,6 @@
 """Refuses each request for memory in turn, one in a run, until a run meets none, and looks at what comes back.
 
-CAM6 is the program `cam6`, and PLAYER the one of cam6_try_sessions. REFUSING is a library that is loaded into them and
+CAM6 is the program `cam6`, and PLAYER the one of cam6_try_rules. REFUSING is a library that is loaded into them and
 refuses requests (refusing.c). What has to come back is said by hand or by the plain machines of `hosts`. Prints for
 each part how many requests were refused and how that was seen, and what failed. The last line is 'N passed, M failed',
 over the runs in which a request was refused.
@@ -244,13 +244,34 @@ def driven(ran: Ran, how_of: Callable[..., Any]) -> tuple[bool, str, str]:
     return ran.was_met, "nothing" if how == "unseen" and not ran.was_met else how, told
 
 
+# Two rules: their entries are the two lowest bits of the address, or the second of these alone.
+KEEPS, CLEARS = (": R CENTER >PLN0 ;", 3), (": R 0 >PLN0 ;", 2)
+# What is loaded from a cache of two tables, one after another.
+LOADS = (KEEPS, KEEPS, CLEARS, CLEARS, KEEPS)
+# Which of the loads find their table kept, and how that is seen.
+HITS: dict[tuple[str, ...], str] = {
+    ("false", "true", "false", "true", "true"): "unseen",
+    ("false", "false", "false", "true", "true"): "the first not kept",
+    ("false", "true", "false", "false", "true"): "the second not kept"}
+
+
+def table_lines(mask: int) -> list[str]:
+    """A table whose entries are these of the two lowest bits of their addresses, 64 entries a line."""
+    return ["".join(str(address & mask) for address in range(first, first + 64)) for first in range(0, 4096, 64)]
+
+
+def loads_went(got: list[str]) -> str | None:
+    """How the loads went, each of which is followed by its table."""
+    ends = range(0, len(got), 65)
+    tables = [got[at + 1 : at + 65] for at in ends]
+    is_well = tables == [table_lines(mask) for _, mask in LOADS]
+    return HITS.get(tuple(got[at] for at in ends)) if is_well else None
+
+
 def of_loads() -> Callable[..., Any]:
-    ways = {
-        "all kept": "unseen", "no memory": "before the loads",
-        "the first kept when it was asked for again": "the first not kept",
-        "the second kept when it was asked for again": "the second not kept"}
+    text = "".join(f"load A N/VONN &/CENTERS {rule}\ntable\n" for rule, _ in LOADS)
     def once(number):
-        return driven(Ran(number, PLAYER, ["scarce"], ""), lambda got: ways.get(got[0]) if len(got) == 1 else None)
+        return driven(Ran(number, PLAYER, ["scarce", "cache 2"], text), loads_went)
     return once
 
 
@@ -326,7 +347,7 @@ def list_went(events: list[dict[str, Any]], got: list[str]) -> str | None:
 
 def of_list(events: list[dict[str, Any]]) -> Callable[..., Any]:
     def once(number):
-        ran = Ran(number, PLAYER, ["scarce", "events", "2", "1", "1"], lines(events))
+        ran = Ran(number, PLAYER, ["scarce", "list 2 1 1"], lines(events))
         return driven(ran, lambda got: list_went(events, got))
     return once
 

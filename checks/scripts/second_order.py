@@ -1,5 +1,5 @@
 #!/usr/bin/env python3
-"""Writes second_order.example of cam6_try_sessions/data: waves modulo 2 with a past, by plain steps.
+"""Writes second_order.example of cam6_host/sessions: waves modulo 2 with a past, by plain steps.
 
 Shares nothing with the program. What is known by hand is compared with the steps here.
 """

@@ -1,15 +1,13 @@
-"""Plays worked examples at the program as a host on the network: each `host` part at connections to a host of its own, and
-the lines of each `session` part over one connection to a host of one user and one board. Other parts are skipped.
+"""Plays worked examples at the program as a host on the network: each `host` part at connections to a host of its own,
+and the lines of each `session` part over one connection to a host of one user and one board.
 
-FOLDER has the examples, and TOLD what must be printed for each: that all lines came back, or, of one that is wrong on
-purpose, the first line that came back as another. Nothing is waited for without end: a line that does not come within ten
-seconds is `nothing`. As many examples are played at a time as there are processors. The last line is 'N passed, M failed'.
+Each FOLDER has examples. All lines must come back of each, or of one that is wrong on purpose all but the line that its
+head names. Nothing is waited for without end: a line that does not come within ten seconds is `nothing`. As many
+examples are played at a time as there are processors, or as JOBS says. The last line is 'N passed, M failed'.
 """
 
 from __future__ import annotations
 
-import glob
-import os
 import re
 import socket
 import subprocess
@@ -17,10 +15,10 @@ import sys
 import threading
 import time
 from argparse import ArgumentParser
-from concurrent.futures import ThreadPoolExecutor
-from os.path import basename
+from functools import partial
 
-from example_files import Example
+from example_files import Example, Part, Sent, Unplayable, limit_of
+from played import first_other, line_of, play_all, said_of
 
 # The seconds in which an answer or a host's end has to come.
 PATIENCE = 10
@@ -203,14 +201,17 @@ def deed(peer: Peer, rest: bytes) -> bytes:
     return peer.read()
 
 
-def host_answers(program: str, way: str, sent: list[tuple[bytes, bytes]]) -> bytes:
+def host_answers(program: str, part: Part) -> bytes:
     """What comes back for lines for a host, up to the first one for which nothing comes."""
-    users, boards, limit, connections = re.fullmatch(r"host (\d+) (\d+)(?: within (\d+))? connections (\d+)", way).groups()
+    sizes = re.fullmatch(r"host (\d+) (\d+)(?: within (\d+))? connections (\d+)", part.way)
+    if not sizes:
+        raise Unplayable(f"no host: {part.way}")
+    users, boards, limit, connections = sizes.groups()
     host = Host(program, users, boards, limit or "256", connections)
     there = Connections(host)
     answers = []
     try:
-        for line, _ in sent:
+        for line, _ in part.sent:
             answers.append(there.answer(line))
             if answers[-1] == b"nothing":
                 break
@@ -222,13 +223,13 @@ def host_answers(program: str, way: str, sent: list[tuple[bytes, bytes]]) -> byt
     return b"".join(answer + b"\n" for answer in answers)
 
 
-def session_answers(program: str, way: str, sent: list[tuple[bytes, bytes]]) -> bytes:
-    """What comes back after the seat, of all lines at once; and that there was no seat, or that the host did not end well."""
-    limit = way.partition(" within ")[2] or "256"
-    host = Host(program, 1, 1, limit, 1)
+def session_answers(program: str, part: Part) -> bytes:
+    """What comes back after the seat, of all lines at once; and that there was no seat, or that the host did not end
+    well."""
+    host = Host(program, 1, 1, str(limit_of(part.way)), 1)
     try:
         with socket.create_connection(host.address, timeout=SESSION_PATIENCE) as stream:
-            sender = threading.Thread(target=say, args=(stream, SEAT + b"".join(line + end for line, end in sent)))
+            sender = threading.Thread(target=say, args=(stream, SEAT + part.bytes_sent()))
             sender.start()
             heard = all_of(stream)
             sender.join()
@@ -262,47 +263,27 @@ def all_of(stream: socket.socket) -> bytes:
 WAYS = {"host": host_answers, "session": session_answers}
 
 
-def first_other(answers: bytes, wanted: bytes) -> int:
-    """The first line, from 1, in which two texts differ, or 0."""
-    if answers == wanted:
-        return 0
-    pairs = enumerate(zip(answers, wanted))
-    same = next((at for at, (one, other) in pairs if one != other), min(len(answers), len(wanted)))
-    return answers[:same].count(b"\n") + 1
-
-
-def play(program: str, path: str) -> str | None:
-    """What is printed of an example, or None if no part of it is played here."""
-    before, is_played, said = 0, False, "all lines came back"
-    for part in Example(path).parts:
-        if answers_of := WAYS.get(part.way.split()[0]):
-            is_played = True
-            if line := first_other(answers_of(program, part.way, part.sent), part.wanted):
-                said = f"line {before + line} that came back is another"
-                break
+def play(program: str, example: Example) -> str | None:
+    """Returns what is wrong, or nothing."""
+    before = 0
+    for part in example.parts:
+        answers_of = WAYS.get(part.way.split()[0])
+        if not answers_of:
+            raise Unplayable(f"{example.name}: no way: {part.way}")
+        answers = answers_of(program, part)
+        if line := first_other(answers, part.wanted):
+            return said_of(example, before + line, f": {line_of(answers, line)} and not {line_of(part.wanted, line)}")
         before += part.wanted.count(b"\n")
-    return f"{basename(path)}: {said}" if is_played else None
+    return said_of(example, 0)
 
 
 def main() -> int:
     parser = ArgumentParser(description=__doc__)
-    for word in ("program", "folder", "told"):
-        parser.add_argument(word, metavar=word.upper())
+    parser.add_argument("program", metavar="PROGRAM")
+    parser.add_argument("folders", metavar="FOLDER", nargs="+")
     asked = parser.parse_args()
-    program, folder, told = asked.program, asked.folder, asked.told
-    with open(told, encoding="utf-8") as file:
-        wanted = {line.partition(":")[0]: line.rstrip("\n") for line in file}
-    paths = {basename(path): path for path in sorted(glob.glob(f"{folder}/*.example"))}
-    passed, failed = 0, sorted(wanted.keys() ^ paths.keys())
-    for name in failed:
-        print(f"failed {name}: it is not both in {folder} and in {told}")
-    with ThreadPoolExecutor(len(os.sched_getaffinity(0))) as pool:
-        for name, said in zip(paths, pool.map(lambda path: play(program, path), paths.values())):
-            if said is not None and name in wanted:
-                passed += said == wanted[name]
-                failed += [name] if said != wanted[name] else []
-                print(f"{'passed' if said == wanted[name] else 'failed'} {said}", flush=True)
-    print(f"{passed} passed, {len(failed)} failed")
+    passed, failed = play_all(asked.folders, partial(play, asked.program))
+    print(f"{passed} passed, {failed} failed")
     return 1 if failed or not passed else 0
 
 

@@ -1,5 +1,5 @@
 #!/usr/bin/env python3
-"""Writes short_texts.example of cam6_try_sessions/data: all texts of up to five bytes, each an LF, `0` or `x`, as sessions.
+"""Writes short_texts.example of cam6_host/sessions: all texts of up to five bytes, each an LF, `0` or `x`, as sessions.
 
 `0` alone is a JSON value and no command; `x` never is one. A text is split at its LFs, and what is after the last one
 is a line if it isn't empty.

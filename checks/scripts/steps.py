@@ -1,5 +1,5 @@
 #!/usr/bin/env python3
-"""Writes steps_without_a_pattern.example of cam6_try_sessions/data: one step on random planes, by plain formulas.
+"""Writes steps_without_a_pattern.example of cam6_host/sessions: one step on random planes, by plain formulas.
 
 Shares nothing with the program: the formulas know cells and blocks, and none of a rule's words.
 """

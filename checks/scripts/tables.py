@@ -1,5 +1,5 @@
 #!/usr/bin/env python3
-"""Writes tables.example of cam6_try_sessions/data: whole tables of four rules, by plain formulas over the address.
+"""Writes tables.example of cam6_try_rules/data: whole tables of four rules, by plain formulas over the address.
 
 Shares nothing with the program: a formula knows the address bits, and none of a rule's words.
 """

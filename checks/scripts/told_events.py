@@ -1,4 +1,4 @@
-"""Lines of events and what comes of them, as an example of cam6_try_sessions says them.
+"""Lines of events and what comes of them, as an example of cam6_host/events says them.
 
 Shares nothing with the program: the outcomes are those of the model in `hosts`.
 """
@@ -15,13 +15,17 @@ from undoing import compact
 class ToldEvents(Told):
     """Parts of an example. In each a new host takes lines."""
 
-    def part(self, title: str | None, boards: int, capacity: int, limits: list[int]) -> None:
-        """Begins with a host of a user for each limit."""
-        self.host = Host(limits, boards, capacity)
+    def part(self, title: str | None, boards: int, capacity: int, sides: list[int]) -> None:
+        """Begins with a host of a user for each side. All have the largest one as their limit."""
+        limit = max(sides)
+        self.host = Host([limit] * len(sides), boards, capacity)
         if title:
             self.say(f"\n# {title}")
-        sides = f" within {' '.join(map(str, limits))}" if limits != [256] * len(limits) else ""
-        self.say(f"as events {len(limits)} {boards} {capacity}{sides}")
+        within = f" within {limit}" if limit != 256 else ""
+        self.say(f"as events {len(sides)} {boards} {capacity}{within}")
+        for user, side in enumerate(sides, 1):
+            if side < min(limit, 256):
+                self.reply(user, {"do": "side", "side": side})
 
     def answer(self, meaning: dict[str, Any]) -> dict[str, Any]:
         return self.host.apply(meaning)

@@ -1,4 +1,4 @@
-"""Lines and what comes of them, as an example of cam6_try_sessions says them.
+"""Lines and what comes of them, as an example of cam6_host/sessions says them.
 
 Shares nothing with the program. What a line says is given with it, by a plain command or by its fault. Replies are
 those of the private machine in `hosts`. A text may have bytes that are no UTF-8. They stand in it as `text_of` has
@@ -54,10 +54,11 @@ def shown(text: str) -> str:
 
 
 class Told:
-    """An example of a player: first what it shows and where its answers come from, and texts that have names."""
+    """An example in a folder of crates/: first what it shows and where its answers come from, and texts that have
+    names."""
 
-    def __init__(self, player: str, name: str, *comments: str, **named: str) -> None:
-        self.path = os.path.join(player, "data", f"{name}.example")
+    def __init__(self, folder: str, name: str, *comments: str, **named: str) -> None:
+        self.path = os.path.join(folder, f"{name}.example")
         self.named = named
         self.lines = [f"# {line}" for comment in comments for line in wrap(comment, 117)]
         for word, text in named.items():
@@ -81,7 +82,7 @@ class Told:
         self.line(text, {"fault": meaning} if isinstance(meaning, int) else self.answer(meaning))
 
     def write(self, crates: str) -> None:
-        """Writes the example, in its player's folder below this one."""
+        """Writes the example, in its folder below this one."""
         path = os.path.join(crates, self.path)
         os.makedirs(os.path.dirname(path), exist_ok=True)
         with open(path, "w", encoding="utf-8", newline="\n") as file:
@@ -91,7 +92,7 @@ class Told:
 def write_examples(purpose: str, *examples: Callable[..., Any]) -> None:
     """Writes the examples that these functions make, as the script's arguments say. Its help says what it is for."""
     parser = ArgumentParser(description=purpose)
-    parser.add_argument("crates", nargs="?", default=CRATES, help="writes to CRATES/PLAYER/data, in place of crates/")
+    parser.add_argument("crates", nargs="?", default=CRATES, help="writes to folders of CRATES, in place of crates/")
     crates = parser.parse_args().crates
     for example in examples:
         example().write(crates)

@@ -1,4 +1,5 @@
-"""Lines that save machines and load them, and what comes of them, as an example of cam6_try_sessions says them.
+"""Lines that save machines and load them, and what comes of them, as an example of cam6_host/sessions
+says them.
 
 Shares nothing with the program. The private machine in `hosts` loads what is loaded. The fault of a machine that is
 refused, or of a line that says none, is given with it, by hand.
@@ -73,7 +74,7 @@ class ToldMachines(ToldLines):
     """Sessions with lines of many bytes."""
 
     def __init__(self, name: str, *comments: str) -> None:
-        super().__init__("cam6_try_sessions", name, *comments, **NAMED)
+        super().__init__("cam6_host/sessions", name, *comments, **NAMED)
 
     def write(self, crates: str) -> None:
         """Texts that are named and don't occur are left out."""

@@ -1,5 +1,5 @@
 #!/usr/bin/env python3
-"""Writes tron.example of cam6_try_sessions/data: blocks of four equal cells are inverted, by plain steps over blocks.
+"""Writes tron.example of cam6_host/sessions: blocks of four equal cells are inverted, by plain steps over blocks.
 
 Shares nothing with the program. The first steps are compared with those by hand here.
 """

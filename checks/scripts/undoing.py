@@ -1,5 +1,5 @@
 #!/usr/bin/env python3
-"""Writes gases_undone.example, halves_undone.example or into_the_past.example of cam6_try_sessions/data: with the
+"""Writes gases_undone.example, halves_undone.example or into_the_past.example of cam6_host/sessions: with the
 argument `gases`, `halves` or `past`.
 
 Shares nothing with the program. A rule's words are evaluated at each place of each of the 256

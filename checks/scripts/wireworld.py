@@ -1,5 +1,5 @@
 #!/usr/bin/env python3
-"""Writes wireworld.example of cam6_try_sessions/data: two clocks and a gate, by plain steps of heads and tails.
+"""Writes wireworld.example of cam6_host/sessions: two clocks and a gate, by plain steps of heads and tails.
 
 Shares nothing with the program. What is known by hand is compared with the steps here.
 """

@@ -1,5 +1,5 @@
 #!/usr/bin/env python3
-"""Writes wirings.example of cam6_try_sessions/data: each name of each of the thirty wirings, on both grids and in two phases.
+"""Writes wirings.example of cam6_host/sessions: each name of each of the thirty wirings, on both grids and in two phases.
 
 Shares nothing with the program: it has the tables of names and what each of them means at a cell, and looks cell by
 cell. Where no set cell is beside, a name that reads cells shows 0, so that it is looked up round the corner alone.

@@ -102,7 +102,7 @@ test('rules are evaluated as their words say', () => {
 });
 
 // The worked examples of tables that can't be inverted: the wiring, the text, and the states that meet.
-const MEETINGS = [...inRepository('crates/cam6_try_sessions/data/inverses_refused.example')
+const MEETINGS = [...inRepository('crates/cam6_try_rules/data/inverses_refused.example')
   .matchAll(/^as inverses (\S+) (\S+) (\S+)\n> (.*)\n< meeting at phase (\d+) of (\d+) and (\d+)$/gm)]
   .map(([, half, hood, minor, text, ...numbers]) => ({ rule: { half, hood, minor, text }, numbers: numbers.map(Number) }));
 

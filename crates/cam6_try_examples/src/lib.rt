@@ -6,11 +6,11 @@
 //! their lines are played (`Played`, or a closure that may start threads). `play` and `play_by` do
 //! the rest.
 //!
-//! Stands on: `cam6_planes`, for rows and sides, and `cam6_wiring`, for the words of a wiring.
+//! Stands on: `cam6_planes`, for sides, and `cam6_wiring`, for the words of a wiring.
 //!
-//! Read next: `examples`, a file line by line; `repeats` and `rows`, its texts and its planes;
-//! `ways`, what a program has of its own; `settings` and `answers`; `faults`; then `players`, and the
-//! programs `cam6_try_sessions` and `cam6_try_places`, beside which the examples lie.
+//! Read next: `examples`, a file line by line; `repeats`, its texts; `ways`, what a program has of
+//! its own; `settings` and `answers`; `faults`; then `players`, and the programs `cam6_try_rules` and
+//! `cam6_try_places`, beside which the examples lie.
 #![tactic(auto)]
 
 mod answers;
@@ -18,13 +18,12 @@ mod examples;
 mod faults;
 mod players;
 mod repeats;
-mod rows;
 mod settings;
 mod ways;
 
 pub use answers::{add_line, no_memory};
-pub use examples::{Part, Sent, bytes_of, read_example};
+pub use examples::{Part, Sent, read_example};
 pub use faults::Unplayable;
 pub use players::{play, play_by};
-pub use settings::{limit_of, size_of, wiring_before, wiring_of};
+pub use settings::{limit_of, side_of, size_of, wiring_before, wiring_of};
 pub use ways::{Played, Way};

@@ -1,13 +1,12 @@
 //! Files that are played, and what is printed of each.
 
 use crate::answers::no_memory;
-use crate::examples::{Part, Sent, bytes_of, read_example};
+use crate::examples::{Part, Sent, read_example};
 use crate::faults::Unplayable;
 use crate::ways::{Played, Way};
 use std::alloc::Global;
 use std::env::Env;
 use std::fs::Files;
-use std::io::Write;
 use std::process::ExitCode;
 use std::{fs, io};
 
@@ -16,9 +15,7 @@ use std::{fs, io};
 /// The arguments name files, for example `parity.example`. Each is played in the ways that it says,
 /// and a line reports whether all came back byte for byte. A file with a name that begins with
 /// `wrong_` has one answer that is wrong on purpose. What is printed of it shows that answers are
-/// compared. After the argument `lines` comes one file, and the number of one of its sessions, or
-/// none for the first. The lines of that session are printed as they are sent, for the program
-/// `cam6` to take.
+/// compared.
 pub fn play<W: Played, R: Env + Files + Print + AllocGlobal>(rt: &R) -> io::Result<ExitCode> {
     let alloc = rt.alloc();
     play_by(rt, &|way: &W, sent: &[Sent]| way.played(alloc, sent))
@@ -36,14 +33,7 @@ pub fn play_by<
     let words = std::env::args(rt)?
         .skip(1)
         .collect::<Vec<String>>(rt.alloc())?;
-    let is_well = match words.as_slice() {
-        [first, name] if first.as_str() == "lines" => send::<W, R>(rt, name.as_str(), "1"),
-        [first, name, number] if first.as_str() == "lines" => {
-            send::<W, R>(rt, name.as_str(), number.as_str())
-        }
-        names => play_files(rt, names, played),
-    };
-    is_well.map(|is_well| if is_well {
+    play_files(rt, words.as_slice(), played).map(|is_well| if is_well {
         ExitCode::SUCCESS
     } else {
         ExitCode::FAILURE
@@ -95,46 +85,6 @@ fn play_file<
             != name.starts_with("wrong_")),
         None => Ok(false),
     }
-}
-
-/// Prints the lines that an example sends in its session of this number, counted from 1. Returns
-/// whether it has such a session.
-fn send<W: Way, R: Files + Print + AllocGlobal>(
-    rt: &R,
-    name: &str,
-    number: &str,
-) -> io::Result<bool> {
-    match parts_of::<W, R>(rt, name)? {
-        Some(parts) => send_session(rt, name, parts.as_slice(), number.parse().unwrap_or(0)),
-        None => Ok(false),
-    }
-}
-
-/// The same for an example that has been read.
-fn send_session<W: Way, R: Print + AllocGlobal>(
-    rt: &R,
-    name: &str,
-    parts: &[Part<W>],
-    number: usize,
-) -> io::Result<bool> {
-    let mut sessions: usize = 0;
-    for part in parts {
-        if part.way.is_session() && !part.sent.is_empty() {
-            sessions = sessions.saturating_add(1);
-            if sessions == number {
-                return write_lines(rt, part.sent.as_slice());
-            }
-        }
-    }
-    println!(rt; "{name}: it has sessions 1 to {sessions}")?;
-    Ok(false)
-}
-
-/// Prints lines as they are sent.
-fn write_lines<R: Print + AllocGlobal>(rt: &R, sent: &[Sent]) -> io::Result<bool> {
-    let bytes = bytes_of(rt.alloc(), sent)?;
-    io::writer(rt).write_all(bytes.as_slice())?;
-    Ok(true)
 }
 
 /// Plays an example, and prints and returns whether all its lines came back. They didn't if no line

@@ -7,11 +7,8 @@ use std::io;
 
 /// What is made of the lines that a part of an example sends.
 pub trait Way: Drop {
-    /// Reads the words after `as`. Lines above the first `as` have the way `session`.
+    /// Reads the words after `as`.
     fn read(alloc: Global, words: &str) -> Result<Self, Unplayable>;
-
-    /// Whether the program `cam6` takes such lines.
-    fn is_session(&self) -> bool;
 }
 
 /// A way that needs nothing but memory to be played. `play_by` is for ways that need more.

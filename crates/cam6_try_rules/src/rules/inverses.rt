@@ -1,0 +1,97 @@
+//! Inverses of the tables of rules.
+
+use crate::rules::texts::{add_table, fill_by_text};
+use cam6_block::{NotReversible, invert};
+use cam6_table::Table;
+use cam6_try_examples::{Sent, add_line, no_memory};
+use cam6_wiring::Wiring;
+use std::alloc::Global;
+use std::io;
+
+/// How often a rule's table is inverted.
+#[derive(Clone, Copy)]
+pub enum Times {
+    Once,
+    Twice,
+}
+
+/// Room for a table, and for its inverse.
+#[derive(Drop)]
+struct Room {
+    table: Table,
+    inverse: Table,
+}
+
+/// The inverse of each rule's table, or the inverse of that one, in lines of 64 entries; or why there
+/// is none.
+pub fn inverses(alloc: Global, wiring: Wiring, times: Times, sent: &[Sent]) -> io::Result<Vec<u8>> {
+    let table = Table::blank(alloc).map_err(|_| no_memory())?;
+    let inverse = Table::blank(alloc).map_err(|_| no_memory())?;
+    let mut room = Room { table, inverse };
+    let mut answers = Vec::new(alloc);
+    for text in sent {
+        match filled(alloc, wiring, times, text, &mut room)? {
+            Ok(()) => add_table(&mut answers, &room.inverse)?,
+            Err(cause) => add_line(&mut answers, cause.as_str())?,
+        }
+    }
+    Ok(answers)
+}
+
+/// Makes the room's `inverse` what is shown of a rule's text, or returns why there is none.
+fn filled(
+    alloc: Global,
+    wiring: Wiring,
+    times: Times,
+    text: &Sent,
+    room: &mut Room,
+) -> io::Result<Result<(), String>> {
+    let first = inverse_of_text(alloc, wiring, text, &mut room.table, &mut room.inverse)?;
+    match (first, times) {
+        (Ok(()), Times::Twice) => {
+            std::mem::swap(&mut room.table, &mut room.inverse);
+            inverse_of(alloc, wiring, &room.table, &mut room.inverse)
+        }
+        (first, _) => Ok(first),
+    }
+}
+
+/// Fills the table of a rule's text, and its inverse. Or returns the text's fault, the least
+/// address at which the rule stops, or why there is no inverse.
+fn inverse_of_text(
+    alloc: Global,
+    wiring: Wiring,
+    text: &Sent,
+    table: &mut Table,
+    inverse: &mut Table,
+) -> io::Result<Result<(), String>> {
+    match fill_by_text(alloc, wiring, text, table)? {
+        Ok(()) => inverse_of(alloc, wiring, table, inverse),
+        Err(fault) => Ok(Err(fault)),
+    }
+}
+
+/// Makes `inverse` that of a table, or returns why the table has none.
+fn inverse_of(
+    alloc: Global,
+    wiring: Wiring,
+    table: &Table,
+    inverse: &mut Table,
+) -> io::Result<Result<(), String>> {
+    match invert(table, wiring.hood, wiring.minor, inverse) {
+        Ok(()) => Ok(Ok(())),
+        Err(cause) => Ok(Err(cause_text(alloc, cause)?)),
+    }
+}
+
+/// The text for why a table has no inverse.
+pub fn cause_text(alloc: Global, cause: NotReversible) -> io::Result<String> {
+    match cause {
+        NotReversible::Hood => Ok(String::from_str(alloc, "hood")?),
+        NotReversible::Centres => Ok(String::from_str(alloc, "centres")?),
+        NotReversible::Meeting { phase, a, b } => {
+            let number = phase.number();
+            Ok(format!(in alloc; "meeting at phase {number} of {a} and {b}")?)
+        }
+    }
+}

@@ -1,0 +1,211 @@
+//! Texts of rules: their first faults, what is kept of them, their entries and tables.
+ghost use Rattle.std.specs.Prelude.{IfOk, OnOk};
+ghost use Rattle.cam6_table.specs.RuleTexts.{IsCodeFor, IsTableOf};
+
+use cam6_forth::{Definition, ParseFault, Rule, TextFault, Word, parse_under};
+use cam6_table::{Code, ENTRIES, MAX_TURNS, NotCompiled, RuleFault, Table, compile, eval};
+use cam6_try_examples::{Sent, add_line, no_memory};
+use cam6_wiring::Wiring;
+use std::alloc::Global;
+use std::io;
+
+/// Entries in a line of a table.
+const LINE: u16 = 64;
+
+/// Returns the rule of a text, or the text's first fault. It fails if the text isn't UTF-8.
+pub fn read_rule(
+    alloc: Global,
+    wiring: Wiring,
+    text: &[u8],
+) -> io::Result<Result<Rule, TextFault>> {
+    match parse_under(alloc, text_of(text)?, wiring) {
+        Ok(rule) => Ok(Ok(rule)),
+        Err(ParseFault::Text(fault)) => Ok(Err(fault)),
+        Err(ParseFault::NoMemory) => Err(no_memory()),
+    }
+}
+
+/// These bytes as a text. It fails if they aren't UTF-8.
+pub fn text_of(bytes: &[u8]) -> io::Result<&str> {
+    str::from_utf8(bytes).map_err(|_| io::Error::from(io::ErrorKind::InvalidData))
+}
+
+fn text_fault(alloc: Global, fault: TextFault) -> io::Result<String> {
+    let (number, token) = (fault.number, fault.token);
+    Ok(format!(in alloc; r#"{{"fault":{number},"token":{token}}}"#)?)
+}
+
+/// The line of a fault at which a rule stops, without its LF.
+pub fn rule_fault(alloc: Global, fault: RuleFault) -> io::Result<String> {
+    let number = fault.number();
+    Ok(format!(in alloc; r#"{{"fault":{number}}}"#)?)
+}
+
+/// What is shown of a rule.
+#[derive(Clone, Copy)]
+pub enum Shown<'a> {
+    /// That its text has no fault.
+    Nothing,
+    /// Its wiring, and each definition's name, size and words.
+    Definitions,
+    /// The entries at these addresses, in one line. A fault stands where the rule stops.
+    Entries(&'a [u16]),
+}
+
+/// What is shown of each text's rule, or the text's first fault.
+pub fn answered(
+    alloc: Global,
+    wiring: Wiring,
+    shown: Shown<'_>,
+    sent: &[Sent],
+) -> io::Result<Vec<u8>> {
+    let mut answers = Vec::new(alloc);
+    for text in sent {
+        match read_rule(alloc, wiring, text.bytes.as_slice())? {
+            Ok(rule) => add_shown(alloc, &mut answers, &rule, shown)?,
+            Err(fault) => add_line(&mut answers, text_fault(alloc, fault)?.as_str())?,
+        }
+    }
+    Ok(answers)
+}
+
+fn add_shown(
+    alloc: Global,
+    answers: &mut Vec<u8>,
+    rule: &Rule,
+    shown: Shown<'_>,
+) -> io::Result<()> {
+    match shown {
+        Shown::Nothing => add_line(answers, r#"{"ok":"rule"}"#),
+        Shown::Definitions => add_rule(alloc, answers, rule),
+        Shown::Entries(addresses) => add_entries(alloc, answers, rule, addresses),
+    }
+}
+
+fn add_rule(alloc: Global, answers: &mut Vec<u8>, rule: &Rule) -> io::Result<()> {
+    let wiring = rule.wiring();
+    let (half, hood) = (wiring.half.text(), wiring.hood.text());
+    let minor = wiring.minor.text();
+    let head = format!(in alloc; "{half} {hood} {minor}")?;
+    answers.extend_from_slice(head.as_bytes())?;
+    for definition in rule.definitions() {
+        add_definition(alloc, answers, definition)?;
+    }
+    answers.push(b'\n')?;
+    Ok(())
+}
+
+fn add_definition(alloc: Global, answers: &mut Vec<u8>, definition: &Definition) -> io::Result<()> {
+    answers.extend_from_slice(b" | ")?;
+    answers.extend_from_slice(definition.name.as_slice())?;
+    let size = format!(in alloc; " {}", definition.size)?;
+    answers.extend_from_slice(size.as_bytes())?;
+    for word in &definition.words {
+        let word = word_text(alloc, *word)?;
+        answers.extend_from_slice(word.as_bytes())?;
+    }
+    Ok(())
+}
+
+/// A space and the word. A single word has the name of what it says.
+fn word_text(alloc: Global, word: Word) -> io::Result<String> {
+    match word {
+        Word::Single(said) => Ok(format!(in alloc; " {said:?}")?),
+        mark => Ok(format!(in alloc; " {mark:?}")?),
+    }
+}
+
+fn add_entries(
+    alloc: Global,
+    answers: &mut Vec<u8>,
+    rule: &Rule,
+    addresses: &[u16],
+) -> io::Result<()> {
+    let code = Code::of(alloc, rule).map_err(|_| no_memory())?;
+    for (i, address) in addresses.iter().enumerate() {
+        if i > 0 {
+            answers.push(b' ')?;
+        }
+        let mut turns = MAX_TURNS;
+        let entry = match eval(&code, *address, &mut turns) {
+            Ok(entry) => format!(in alloc; "{entry}")?,
+            Err(fault) => rule_fault(alloc, fault)?,
+        };
+        answers.extend_from_slice(entry.as_bytes())?;
+    }
+    answers.push(b'\n')?;
+    Ok(())
+}
+
+/// The table of each rule, in lines of 64 entries, or the least address at which it stops.
+pub fn tables(alloc: Global, wiring: Wiring, sent: &[Sent]) -> io::Result<Vec<u8>> {
+    let mut answers = Vec::new(alloc);
+    let mut table = Table::blank(alloc).map_err(|_| no_memory())?;
+    add_tables(alloc, &mut answers, wiring, sent, &mut table)?;
+    Ok(answers)
+}
+
+/// The same, in this room for a table.
+fn add_tables(
+    alloc: Global,
+    answers: &mut Vec<u8>,
+    wiring: Wiring,
+    sent: &[Sent],
+    table: &mut Table,
+) -> io::Result<()> {
+    for text in sent {
+        match fill_by_text(alloc, wiring, text, table)? {
+            Ok(()) => add_table(answers, table)?,
+            Err(fault) => add_line(answers, fault.as_str())?,
+        }
+    }
+    Ok(())
+}
+
+/// Makes the table that of a rule's text, or returns the text's fault, or the least address at
+/// which the rule stops.
+pub fn fill_by_text(
+    alloc: Global,
+    wiring: Wiring,
+    text: &Sent,
+    table: &mut Table,
+) -> io::Result<Result<(), String>> {
+    match code_of(alloc, wiring, text_of(text.bytes.as_slice())?, table)? {
+        Ok(_) => Ok(Ok(())),
+        Err(fault) => Ok(Err(fault)),
+    }
+}
+
+/// Returns the code of a rule's text, and makes the table the rule's. Or returns the text's fault,
+/// or the least address at which the rule stops.
+pub fn code_of(
+    alloc: Global,
+    wiring: Wiring,
+    text: &str,
+    table: &mut Table,
+) -> io::Result<Result<Code, String>>
+    ensures code { IfOk result (λ read. IfOk read (λ code. IsCodeFor wiring text.now code)) }
+    ensures table { IfOk result (λ read. OnOk read (IsTableOf wiring text.now table.new)) }
+{
+    match compile(alloc, wiring, text, table) {
+        Ok(code) => Ok(Ok(code)),
+        Err(NotCompiled::Text(fault)) => Ok(Err(text_fault(alloc, fault)?)),
+        Err(NotCompiled::Stops { address, fault }) => {
+            let number = fault.number();
+            let stop = format!(in alloc; r#"{{"address":{address},"fault":{number}}}"#)?;
+            Ok(Err(stop))
+        }
+        Err(NotCompiled::NoMemory) => Err(no_memory()),
+    }
+}
+
+/// Adds a table's entries, 64 in a line.
+pub fn add_table(answers: &mut Vec<u8>, table: &Table) -> io::Result<()> {
+    for address in 0..ENTRIES {
+        answers.push(b"0123"[usize::from(table.at(address) & 3)])?;
+        if address % LINE == LINE - 1 {
+            answers.push(b'\n')?;
+        }
+    }
+    Ok(())
+}

@@ -1,0 +1,92 @@
+//! The ways in which texts of rules are played, and what is asked of a cache.
+
+use crate::rules::inverses::{Times, inverses};
+use crate::rules::texts::Shown;
+use crate::rules::{caches, stacks, texts};
+use cam6_cache::MAX_CAPACITY;
+use cam6_try_examples::{Played, Sent, Unplayable, Way, wiring_of};
+use cam6_wiring::Wiring;
+use std::alloc::Global;
+use std::io;
+
+/// What is made of texts.
+#[derive(Drop)]
+pub enum RuleWay {
+    /// Texts of rules under a wiring: the first fault of each, if it has one.
+    Texts(Wiring),
+    /// What is kept of each rule's text.
+    Rules(Wiring),
+    /// The entry of each rule at these addresses.
+    Entries(Wiring, Vec<u16>),
+    /// Each rule's whole table, or the least address at which it stops.
+    Tables(Wiring),
+    /// The inverse of each rule's table, or why it has none.
+    Inverses(Wiring),
+    /// The inverse of the inverse of each rule's table.
+    InversesTwice(Wiring),
+    /// Loads from a cache of so many tables.
+    Cache(usize),
+    /// Words of a body: what they leave on the stack, the top value last.
+    Stacks,
+}
+
+impl Way for RuleWay {
+    fn read(alloc: Global, words: &str) -> Result<RuleWay, Unplayable> {
+        match words.split_once(' ').unwrap_or((words, "")) {
+            ("stacks", "") => Ok(RuleWay::Stacks),
+            ("cache", capacity) => capacity_of(capacity).map(RuleWay::Cache),
+            ("texts", wiring) => wiring_of(wiring).map(RuleWay::Texts),
+            ("rules", wiring) => wiring_of(wiring).map(RuleWay::Rules),
+            ("tables", wiring) => wiring_of(wiring).map(RuleWay::Tables),
+            ("inverses", rest) => match rest.strip_prefix("twice ") {
+                Some(wiring) => wiring_of(wiring).map(RuleWay::InversesTwice),
+                None => wiring_of(rest).map(RuleWay::Inverses),
+            },
+            ("entries", rest) => entries_way(alloc, rest),
+            _ => Err(Unplayable::Unread),
+        }
+    }
+}
+
+impl Played for RuleWay {
+    fn played(&self, alloc: Global, sent: &[Sent]) -> io::Result<Vec<Vec<u8>>> {
+        let answers = match self {
+            RuleWay::Texts(wiring) => texts::answered(alloc, *wiring, Shown::Nothing, sent),
+            RuleWay::Rules(wiring) => texts::answered(alloc, *wiring, Shown::Definitions, sent),
+            RuleWay::Entries(wiring, addresses) => {
+                texts::answered(alloc, *wiring, Shown::Entries(addresses.as_slice()), sent)
+            }
+            RuleWay::Tables(wiring) => texts::tables(alloc, *wiring, sent),
+            RuleWay::Inverses(wiring) => inverses(alloc, *wiring, Times::Once, sent),
+            RuleWay::InversesTwice(wiring) => inverses(alloc, *wiring, Times::Twice, sent),
+            RuleWay::Cache(capacity) => caches::loads(alloc, *capacity, sent),
+            RuleWay::Stacks => stacks::stacks(alloc, sent),
+        };
+        Ok(vec![in alloc; answers?]?)
+    }
+}
+
+/// The way of `WIRING at ADDRESS ..`.
+fn entries_way(alloc: Global, text: &str) -> Result<RuleWay, Unplayable> {
+    let (wiring, addresses) = text.split_once(" at ").ok_or(Unplayable::Unread)?;
+    let wiring = wiring_of(wiring)?;
+    Ok(RuleWay::Entries(wiring, addresses_of(alloc, addresses)?))
+}
+
+/// How many tables a cache keeps, 1 to 64.
+fn capacity_of(text: &str) -> Result<usize, Unplayable> {
+    let capacity = text.parse().map_err(|_| Unplayable::Unread)?;
+    if (1..=MAX_CAPACITY).contains(&capacity) {
+        Ok(capacity)
+    } else {
+        Err(Unplayable::Unread)
+    }
+}
+
+fn addresses_of(alloc: Global, text: &str) -> Result<Vec<u16>, Unplayable> {
+    let mut addresses = Vec::new(alloc);
+    for address in text.split(' ') {
+        addresses.push(address.parse().map_err(|_| Unplayable::Unread)?)?;
+    }
+    Ok(addresses)
+}
