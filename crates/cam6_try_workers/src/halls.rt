@@ -155,7 +155,11 @@ impl<R: Handle + Send + Sync + 'static> Hall<R> {
     /// How often the board of a worker that has ended failed.
     fn faults(&self, board: usize) -> io::Result<String> {
         let alloc = self.house.rt.alloc();
-        match self.workers.get(board).and_then(|worker| worker.left.as_ref()) {
+        match self
+            .workers
+            .get(board)
+            .and_then(|worker| worker.left.as_ref())
+        {
             Some(left) => Ok(format!(in alloc; "faults {}", left.faults)?),
             None => text(alloc, "no"),
         }
@@ -182,7 +186,13 @@ impl<R: Handle + Send + Sync + 'static> Hall<R> {
     /// Waits for so many workers to run. Returns whether they do.
     fn are_running(&self, count: usize) -> bool {
         for _ in 0..LOOKS {
-            if self.workers.iter().filter(|worker| worker.is_running()).count() == count {
+            if self
+                .workers
+                .iter()
+                .filter(|worker| worker.is_running())
+                .count()
+                == count
+            {
                 return true;
             }
             pause(&self.house.rt);

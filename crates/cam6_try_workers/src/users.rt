@@ -39,7 +39,11 @@ impl User {
     /// Starts a thread that goes off with the desk, to ask a line's command there. Returns whether
     /// it did: not if a thread has the desk, or if the line is no command. It fails if there is no
     /// memory for that, and then the desk may be gone.
-    pub fn start<R: Handle + Send + Sync + 'static>(&mut self, rt: R, line: &str) -> io::Result<bool> {
+    pub fn start<R: Handle + Send + Sync + 'static>(
+        &mut self,
+        rt: R,
+        line: &str,
+    ) -> io::Result<bool> {
         let Ok(command) = read_command(rt.alloc(), line.as_bytes()) else {
             return Ok(false);
         };

@@ -159,12 +159,7 @@ fn started<R: Handle + Send + Sync + 'static>(
 }
 
 /// Serves with a board until the worker ends. Returns what is left of it.
-fn serve<R: Handle>(
-    house: &House<R>,
-    seat: IdleSeat,
-    board: EmptyBoard<R>,
-    raised: &Flag,
-) -> Left {
+fn serve<R: Handle>(house: &House<R>, seat: IdleSeat, board: EmptyBoard<R>, raised: &Flag) -> Left {
     let (seat, board, ended) = serve_board(&house.rt, seat.seat, board.board, &house.cache, house);
     raised.raise();
     Left {
