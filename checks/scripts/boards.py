@@ -1,6 +1,6 @@
 #!/usr/bin/env python3
-"""Writes jobs_at_each_side.example of cam6_try_places/data: jobs of billiard balls and of Critters, by plain
-steps over whole blocks.
+"""Writes jobs_at_each_side.example of cam6_host/events: commands of billiard balls and of Critters, band by band, by
+plain steps over whole blocks.
 
 Shares nothing with the program: it knows no bands, and undoes a block by looking for the one that becomes it.
 """
@@ -12,7 +12,7 @@ from collections.abc import Callable
 from itertools import combinations
 from typing import Any
 
-from block_steps import PLACES, print_cycle, print_plane, print_rows, print_rule, print_side
+from block_steps import PLACES
 from undoing import without_a_pattern
 
 ALL = frozenset(range(4))
@@ -63,15 +63,31 @@ def step(becomes: Callable[..., Any], cells: set[tuple[int, int]], odd: int, sid
     return stepped
 
 
+def reply(command: str, wanted: str) -> None:
+    """A command, and the reply that is collected."""
+    print(f"> reply 1 {command} => «REPLY»{wanted}}}")
+
+
+def rule(name: str, text: str) -> None:
+    words = f'"name":"{name}","half":"A","hood":"N/MARG","minor":"&/PHASES","text":"{text}"'
+    reply(f'{{"do":"rule",{words}}}', '{"ok":"rule"}')
+
+
 class Machine:
-    """Prints jobs and what is seen of them; position 0 is the even grid, and 1 the odd one."""
+    """Prints commands on boards and what is seen of them; position 0 is the even grid, and 1 the odd one."""
 
     def __init__(self, name: str, becomes: Callable[..., Any], side: int, cells: set[tuple[int, int]]) -> None:
         self.becomes, self.side, self.cells, self.position = becomes, side, cells, 0
-        print_side(side)
-        print_cycle(name, ("EVEN", 0), ("ODD", 0))
-        print("> rows 0")
-        print_rows(cells, side)
+        self.bands = side // 16
+        reply(f'{{"do":"side","side":{side}}}', '{"ok":"side"}')
+        entries = ",".join(f'{{"a":"{name}","b":"-","grid":"{grid}","phase":0}}' for grid in ("EVEN", "ODD"))
+        reply(f'{{"do":"cycle","entries":[{entries}]}}', '{"ok":"cycle"}')
+        for y in sorted({y for _, y in cells}):
+            reply(f'{{"do":"set","plane":0,"row":{y},"bits":"{self.digits(y)}"}}', '{"ok":"set"}')
+
+    def digits(self, y: int) -> str:
+        bits = "".join("1" if (x, y) in self.cells else "0" for x in range(self.side))
+        return f"{int(bits, 2):0{self.side // 4}x}"
 
     def go(self, word: str, steps: int) -> None:
         for _ in range(steps):
@@ -82,45 +98,50 @@ class Machine:
                 self.position = 1 - self.position
                 self.cells = step(undone(self.becomes), self.cells, self.position, self.side)
 
-    def load(self, word: str, steps: int, board: str) -> None:
-        print(f"> job {word} {steps} => job\n> load {board} => loaded")
+    def load(self, word: str, steps: int, board: int) -> None:
+        left = steps * self.bands
+        print(f'> {{"event":"ask","user":1,"command":{{"do":"{word}","n":{steps}}}}} => {{"left":{left},"ok":"ask"}}')
+        print(f'> {{"event":"lease","user":1,"board":{board}}} => {{"left":{left},"ok":"lease"}}')
         self.go(word, steps)
 
-    def unload(self, board: str) -> None:
-        print(f"> unload {board} => at rest\n> join => joined")
+    def collect(self, word: str) -> None:
+        print(f'> {{"event":"collect","user":1}} => «REPLY»{{"ok":"{word}","position":{self.position}}}}}')
 
-    def job(self, word: str, steps: int, board: str) -> None:
-        """All its bands in three calls or fewer."""
+    def job(self, word: str, steps: int, board: int) -> None:
+        """All its bands in three lines or fewer."""
         self.load(word, steps, board)
-        bands = self.side // 16
-        print(f"> bands {board} {bands - 1} => {bands - 1} bands, then inside")
-        if steps > 1:
-            print(f"> band {board} => step end")
-        rest = (steps - 1) * bands or 1
-        print(f"> bands {board} {rest + 5} => {rest} bands, then last end")
-        self.unload(board)
+        left = steps * self.bands
+        for bands in (self.bands - 1, 1, left - self.bands):
+            if bands > 0:
+                left -= bands
+                print(f'> bands {board} {bands} => {{"left":{left},"ok":"band"}}')
+        self.collect(word)
 
-    def band_by_band(self, word: str, steps: int, board: str) -> None:
+    def band_by_band(self, word: str, steps: int, board: int) -> None:
         self.load(word, steps, board)
-        for left in reversed(range(steps)):
-            print(f"> band {board} => inside\n" * (self.side // 16 - 1), end="")
-            print(f"> band {board} => {'step' if left else 'last'} end")
-        self.unload(board)
+        for left in reversed(range(steps * self.bands)):
+            print(f'> {{"event":"band","board":{board}}} => {{"left":{left},"ok":"band"}}')
+        self.collect(word)
 
-    def run(self, word: str, steps: int) -> None:
-        self.go(word, steps)
-        print(f'> {{"do":"{word}","n":{steps}}} => {{"ok":"{word}","position":{self.position}}}')
+    def row(self, y: int) -> None:
+        reply(f'{{"do":"row","plane":0,"row":{y}}}', f'{{"bits":"{self.digits(y)}","ok":"row"}}')
+
+    def count(self) -> None:
+        """How many cells are in state 1, and in any but state 0."""
+        for mask in (2, 65534):
+            reply(f'{{"do":"count","mask":{mask}}}', f'{{"count":{len(self.cells)},"ok":"count"}}')
 
     def rows(self) -> None:
         side = self.side
         for y in (0, 1, 15, 16, side // 2, side - 17, side - 16, side - 2, side - 1):
-            bits = "".join("1" if (x, y) in self.cells else "0" for x in range(side))
-            digits = f"{int(bits, 2):0{side // 4}x}"
-            print(f'> {{"do":"row","plane":0,"row":{y}}} => {{"bits":"{digits}","ok":"row"}}')
-        print(f'> {{"do":"count","mask":65534}} => {{"count":{len(self.cells)},"ok":"count"}}')
+            self.row(y)
+        self.count()
 
     def plane(self) -> None:
-        print_plane(self.cells, self.side)
+        """All rows with a cell; the counts say that no other row has one."""
+        for y in sorted({y for _, y in self.cells}):
+            self.row(y)
+        self.count()
 
 
 def played(name: str, becomes: Callable[..., Any], side: int) -> None:
@@ -128,35 +149,36 @@ def played(name: str, becomes: Callable[..., Any], side: int) -> None:
     start = {(x, y) for y in rows for x in range(side) if without_a_pattern(0, x, y)}
     m = Machine(name, becomes, side, start)
     print("# Three steps, band by band, and two from the odd grid on.")
-    m.band_by_band("run", 3, "soft")
+    m.band_by_band("run", 3, 1)
     m.rows()
-    m.job("run", 2, "flaky")
+    m.job("run", 2, 0)
     m.rows()
-    print("# All five are undone by a job; then one step of the machine by a job, and of a job by the machine.")
-    m.job("back", 5, "soft")
+    print("# All five are undone; then one step on one board, and back on the other, both ways round.")
+    m.job("back", 5, 1)
     assert m.cells == start and m.position == 0
     m.plane()
-    m.run("run", 1)
+    m.job("run", 1, 1)
     m.rows()
-    m.job("back", 1, "flaky")
+    m.job("back", 1, 0)
     assert m.cells == start
     m.plane()
-    m.job("run", 1, "soft")
-    m.run("back", 1)
+    m.job("run", 1, 0)
+    m.job("back", 1, 1)
     m.rows()
     print("# Back past the start.")
-    m.job("back", 4, "flaky")
+    m.job("back", 4, 0)
     m.rows()
 
 
 def main() -> None:
-    print("# Jobs of several steps along a cycle of both grids, at each side, forward and backward, on both boards: a step has")
-    print("# a sixteenth as many bands as there are rows, and the last of each tells that a step ends, or the job. The planes,")
-    print("# without a pattern in a few rows at the seams of torus and bands, become what whole steps make of them.")
+    print("# Commands of several steps along a cycle of both grids, at each side, forward and backward, on both boards: a step")
+    print("# has a sixteenth as many bands as there are rows, and each band leaves one less. The planes, random in a few rows at")
+    print("# the seams of torus and bands, become what whole steps make of them.")
     print("# Answers: by checks/scripts/boards.py, which steps and undoes block by block and knows no bands.")
-    print("as boards within 512")
-    print_rule("B", BALLS)
-    print_rule("C", CRITTERS)
+    print('let REPLY {"ok":"collect","reply":')
+    print("as events 1 2 16 within 512")
+    rule("B", BALLS)
+    rule("C", CRITTERS)
     for name, becomes in (("B", ball), ("C", critter)):
         for side in (128, 256, 512):
             print(f"\n# {'Billiard balls' if name == 'B' else 'Critters'} at side {side}.")

@@ -1,26 +1,43 @@
-#!/usr/bin/env python3
-"""Writes many_users.example of cam6_try_places/data: 32 users with rules, pictures and runs of their own, which eight
-workers do at once while a gate takes commands off boards at random.
+"""Plays 32 users over connections to a host of eight boards, whose cache has fewer tables than there are rules.
 
-Shares nothing with the program: each user's replies are those of a private machine of `hosts`, in plain steps over
-cells. It has no other user's commands, no bands and no boards, and does the same whatever the gate answers.
+Eight users ask for runs that take seconds, so that all boards are busy. Then all others ask for shorter steps; three of
+them go back. Each of these must be answered before any of the eight, although there are no other boards: so commands
+were taken off boards, and went on later, maybe elsewhere. In the end each reply, and each plane of each user, must be
+what a private machine gives. `checks/replays` and `checks/schedules` take commands off boards at random.
+
+Shares nothing with the program: the private machines are those of `machines`, which knows no bands and no boards. The
+runs of the eight come back to their beginning, and so the plain machine does only what is left over. A step of parity
+is a sum, so that 128 steps put five copies of the cells onto themselves, which leaves one. A ball crosses the torus in
+128 steps. Three cells of Life in a row lie so again after two steps, and a block that is turned after four.
+
+PROGRAM is the program `cam6`. Prints what passed, a line each, and what failed. The last line is 'N passed, M failed'.
 """
 
 from __future__ import annotations
 
-import re
+import select
+import signal
+import sys
+import time
 from argparse import ArgumentParser
 from random import Random
 from typing import Any
 
+import connections
+from connections import Host, Peer, check
 from events import CELLS, REVERSIBLE, RULES, rule_line
-from hosts import FIRST_PLANE, Machine
+from hosts import FIRST_PLANE
+from machines import Alone
 from undoing import compact
 
-SIDE, USERS = 128, 32
+SIDE, USERS, BOARDS, TABLES = 128, 32, 8, 4
+# The most steps of a command.
+LONG = 65_535
 VOTE = ("B", *CELLS, ": R CENTER NORTH + SOUTH + WEST + EAST + { 0 0 0 1 1 1 } >PLN2 ;")
 WAYS = RULES | {"VOTE": VOTE}
-# The rules of user 1, of user 2 and so on, and again from the first.
+# The rules of users with long runs, one after another, and after how many steps a run is where it began.
+AROUND = [("PARITY", 128), ("LIFE", 2), ("BALLS", 128), ("TURN", 4)]
+# The rules of the others, one after another, and again from the first.
 WORDS = [
     ["PARITY"],
     ["LIFE"],
@@ -36,15 +53,8 @@ WORDS = [
     ["OTHER_ROW", "BALLS"],
     ["COPY", "PARITY"],
 ]
-# Users who go back.
-BACK = (4, 12, 24)
-
-
-def shortened(line: str) -> str:
-    """The line as an example may say it: texts by their words, and how many zeros there are one after another."""
-    for word, (_, _, _, text) in WAYS.items():
-        line = line.replace(f'"text":"{text}"', f'"text":"«{word}»"')
-    return re.sub("0{9,}|f{9,}", lambda found: f"«{len(found[0])}*{found[0][0]}»", line)
+# Those of the others who go back, by their numbers.
+BACK = (12, 17, 24)
 
 
 def near(random: Random, is_dense: bool) -> str:
@@ -58,22 +68,39 @@ def near(random: Random, is_dense: bool) -> str:
 
 
 class User:
-    def __init__(self, number: int) -> None:
-        self.number, self.random, self.machine = number, Random(number), Machine(SIDE)
-        self.words = WORDS[(number - 1) % len(WORDS)]
+    """A user, with a connection and with a plain machine."""
 
-    def line(self, verb: str, command: dict[str, Any], answer: str) -> None:
-        print(shortened(f"> {verb} {self.number} {compact(command)} => {answer}"))
+    def __init__(self, number: int, port: int) -> None:
+        self.number, self.random = number, Random(number)
+        self.alone, self.peer = Alone(SIDE), Peer(port, number)
+        self.wrong = [] if self.peer.said == '{"ok":"seat"}' else [f"the seat: {self.peer.said}"]
+        self.is_long = number <= BOARDS
+        if self.is_long:
+            word, self.period = AROUND[(number - 1) % len(AROUND)]
+            self.words = [word]
+        else:
+            self.words = WORDS[(number - 1) % len(WORDS)]
+
+    def wanted(self, command: dict[str, Any]) -> str:
+        answer = self.alone.answer(compact(command).encode())
+        assert answer is not None
+        return answer.decode()
 
     def ask(self, command: dict[str, Any]) -> None:
-        self.line("user", command, compact(self.machine.do(command)))
+        """Asks, and looks whether the reply is that of the plain machine."""
+        self.compare(command, self.peer.ask(compact(command)), self.wanted(command))
+
+    def compare(self, command: dict[str, Any], came: str | None, wanted: str) -> None:
+        if came != wanted:
+            self.wrong.append(f"{compact(command)[:80]}: {str(came)[:80]} and not {wanted[:80]}")
 
     def entries(self) -> list[dict[str, Any]]:
         """The user's rules on the even grid, and after it those of blocks on the odd one."""
         entry = {"a": "-", "b": "-", "grid": "EVEN", "phase": self.number % 4}
         for word in self.words:
             entry[WAYS[word][0].lower()] = word
-        if all(WAYS[word][1].startswith("N/MARG") for word in self.words):
+        is_turned = self.words == ["TURN"]
+        if all(WAYS[word][1].startswith("N/MARG") for word in self.words) and not is_turned:
             return [entry, entry | {"grid": "ODD"}]
         return [entry]
 
@@ -81,56 +108,82 @@ class User:
         for word in self.words:
             self.ask(rule_line(word, *WAYS[word]))
         self.ask({"do": "cycle", "entries": self.entries()})
+        for command in self.picture():
+            self.ask(command)
+
+    def picture(self) -> list[dict[str, Any]]:
+        """Rows with a few cells. A run of Life or of a ball that comes back needs a row of three cells, or one cell."""
+        if self.is_long and self.words[0] in ("LIFE", "BALLS"):
+            digits = "e" if self.words[0] == "LIFE" else "8"
+            return [{"do": "set", "plane": 0, "row": 8 * self.number, "bits": digits.ljust(SIDE // 4, "0")}]
+        rows = []
         for word in self.words:
             first = FIRST_PLANE[WAYS[word][0]]
             for row in range(3):
-                plane = first + (row + self.number) % 2 * (row == 2)
+                plane = first + (row + self.number) % 2 * (row == 2) * (not self.is_long)
                 y = (self.number * 4 + row + first) % SIDE
-                self.ask({"do": "set", "plane": plane, "row": y, "bits": near(self.random, word == "VOTE")})
+                rows.append({"do": "set", "plane": plane, "row": y, "bits": near(self.random, word == "VOTE")})
+        return rows
 
     def start(self) -> None:
-        """Asks for steps, and keeps the reply for `join`."""
+        """Asks for steps, and works out the reply."""
         assert self.number not in BACK or all(word in REVERSIBLE for word in self.words)
         word = "back" if self.number in BACK else "run"
-        command = {"do": word, "n": 2 + self.number % 8}
-        self.reply = self.machine.do(command)
-        self.line("start", command, "started")
+        steps = LONG if self.is_long else 20 + self.number % 8
+        self.command = {"do": word, "n": steps}
+        self.peer.send(compact(self.command) + "\n")
 
-    def join(self) -> None:
-        print(f"> join {self.number} => {compact(self.reply)}")
+    def read(self) -> None:
+        """Reads the reply to the steps."""
+        self.came = self.peer.read()
 
     def end(self) -> None:
-        print(f"> alone {self.number} => same")
-        for word in self.words:
-            first = FIRST_PLANE[WAYS[word][0]]
-            self.ask({"do": "count", "mask": sum(1 << state for state in range(16) if state >> first & 1)})
-            rows = {y for plane, _, y in self.machine.torus.cells if plane == first}
-            if rows:
-                self.ask({"do": "row", "plane": first, "row": self.random.choice(sorted(rows))})
+        """Looks at the reply to the steps, and at all planes."""
+        plain = self.command | ({"n": LONG % self.period} if self.is_long else {})
+        self.compare(self.command, self.came, self.wanted(plain))
+        for plane in range(4):
+            self.ask({"do": "plane", "plane": plane})
+        self.ask({"do": "count", "mask": 65534})
+        self.peer.close()
 
 
-def main() -> None:
-    print("# 32 users with rules, pictures and runs of their own; three of them go back. Eight workers do the steps of")
-    print("# all at once, with fewer tables in their cache than there are rules, and about once in twenty bands a")
-    print("# command is taken off its board and done by another one. Each has what a machine alone has.")
-    print("# Answers: by checks/scripts/many_users.py, for each user by a machine alone in plain steps over cells.")
-    for word in dict.fromkeys(word for words in WORDS for word in words):
-        print(f"let {word} {WAYS[word][3]}")
-    users = [User(number) for number in range(1, USERS + 1)]
-    print(f"as workers {USERS} 8 within {SIDE} cached 4 chance 2463534242")
+def play() -> None:
+    """Plays all users at one host."""
+    sizes = {"users": USERS, "boards": BOARDS, "cache": TABLES, "side": SIDE, "connections": USERS}
+    host = Host(*(f"--{name}={number}" for name, number in sizes.items()))
+    users = [User(number, host.port) for number in range(1, USERS + 1)]
+    long, others = users[:BOARDS], users[BOARDS:]
     for user in users:
         user.begin()
-    for user in users:
+    for user in long:
         user.start()
-    for user in users:
-        user.join()
+    # The boards take them meanwhile.
+    time.sleep(0.1)
+    for user in others:
+        user.start()
+    for user in others:
+        user.read()
+    ready, _, _ = select.select([user.peer.socket for user in long], [], [], 0)
+    check(f"{len(others)} users are answered while {BOARDS} others have {BOARDS} boards", ready == [], len(ready))
+    for user in long:
+        user.read()
     for user in users:
         user.end()
-    print("> running 8 => yes")
-    print("> end => ended")
-    print("> running 0 => yes")
+        check(f"user {user.number}: each reply and plane is that of a private machine", not user.wrong, user.wrong[:3])
+    status = host.status()
+    check("the host ends once all have gone", status == (0, "", ""), status)
+
+
+def main() -> int:
+    parser = ArgumentParser(description=__doc__.partition("\n")[0])
+    parser.add_argument("program", metavar="PROGRAM")
+    connections.begin(parser.parse_args().program)
+    play()
+    passed, failed = connections.passed, connections.failed
+    print(f"{passed} passed, {failed} failed")
+    return 0 if failed == 0 and passed == USERS + 2 else 1
 
 
 if __name__ == "__main__":
-    ArgumentParser(description=__doc__).parse_args()
-    main()
+    signal.alarm(600)
+    sys.exit(main())

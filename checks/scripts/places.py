@@ -1,6 +1,6 @@
 #!/usr/bin/env python3
-"""Writes schedules.example of cam6_try_places/data: runs and backs under random schedules, on a board that loses its
-image now and then and has the command taken off it, by whole steps over blocks.
+"""Writes schedules_of_runs.example of cam6_host/events: runs and backs of one user under random schedules, on boards
+that fail now and then and have the command taken off them, by whole steps over blocks.
 
 Shares nothing with the program: it knows no bands but two numbers, how many are left, and how many would be left if
 all that isn't at home were lost.
@@ -10,8 +10,9 @@ from __future__ import annotations
 
 from argparse import ArgumentParser
 from random import Random
+from typing import Any
 
-from undoing import TM, Session, Torus, compact, without_a_pattern
+from undoing import TM, Rule, Torus, compact, without_a_pattern
 
 BALLS = (
     ": S4 CENTER CW + CCW + OPP + ; : D CENTER OPP = IF CW ELSE CENTER THEN ;"
@@ -22,6 +23,7 @@ CRITTERS = (
     " : C S4 { NC NC CENTER NO NC } >PLN0 ;"
 )
 GAS = f"{TM} >PLN2 ;"
+BOARDS = 3
 IN_TURN = [("EVEN", 0), ("ODD", 0)]
 RULES = [
     ("Billiard balls", "A", BALLS, IN_TURN),
@@ -48,63 +50,90 @@ class Left:
         self.left = self.home
 
 
-class User(Session):
-    """Prints what a user sends, and what comes back."""
+class User:
+    """Prints what a user asks, what their boards do, and what comes back."""
 
     def __init__(self, side: int, random: Random) -> None:
         self.torus, self.random = Torus(side), random
-        print(f'as places\n> {{"do":"side","side":{side}}} => {{"ok":"side"}}\nside {side}')
+        self.dead = set()
+        print(f"as events 1 {BOARDS} 16")
+        self.reply({"do": "side", "side": side}, {"ok": "side"})
+
+    def reply(self, command: dict[str, Any], wanted: dict[str, Any]) -> None:
+        print(f"> reply 1 {compact(command)} => «REPLY»{compact(wanted)}}}")
+
+    def event(self, word: str, left: int | None = None, **named: int | dict[str, Any]) -> None:
+        outcome = {"ok": word} if left is None else {"left": left, "ok": word}
+        print(f"> {compact({'event': word} | named)} => {compact(outcome)}")
+
+    def rule(self, half: str, text: str) -> None:
+        self.torus.rules["R"] = Rule(half, "N/MARG", "&/PHASES", text)
+        words = {"do": "rule", "name": "R", "half": half, "hood": "N/MARG", "minor": "&/PHASES", "text": text}
+        self.reply(words, {"ok": "rule"})
+
+    def cycle(self, names: tuple[str, str], entries: list[tuple[str, int]]) -> None:
+        self.torus.entries = [(names, grid, phase) for grid, phase in entries]
+        texts = [{"a": names[0], "b": names[1], "grid": grid, "phase": phase} for grid, phase in entries]
+        self.reply({"do": "cycle", "entries": texts}, {"ok": "cycle"})
+
+    def fill(self, plane: int, rows: list[int]) -> None:
+        for y in rows:
+            self.torus.planes[plane][y] = [int(without_a_pattern(plane, x, y)) for x in range(self.torus.side)]
+            self.reply({"do": "set", "plane": plane, "row": y, "bits": self.torus.digits(plane, y)}, {"ok": "set"})
 
     def do(self, word: str, steps: int) -> None:
         """Steps under a schedule, and the reply."""
-        print(f'> {{"do":"{word}","n":{steps}}} => left {self.torus.side // 16 * steps}')
-        self.schedule(Left(self.torus.side // 16, steps))
+        bands = self.torus.side // 16
+        self.event("ask", bands * steps, user=1, command={"do": word, "n": steps})
+        self.schedule(Left(bands, steps))
         getattr(self.torus, word)(steps)
         reply = {"ok": word, "position": self.torus.position}
-        print(f"> finish => {compact(reply)}")
+        print(f'> {{"event":"collect","user":1}} => «REPLY»{compact(reply)}}}')
 
     def schedule(self, count: Left) -> None:
         """Leases up to one that leaves no band."""
         losses = 2
-        while True:
-            print(f"> lease {self.random.randrange(256)} => left {count.left}")
+        while count.left > 0:
+            board = self.random.randrange(BOARDS)
+            if board in self.dead:
+                self.dead.remove(board)
+                self.event("repair", board=board)
+            self.event("lease", count.left, user=1, board=board)
             for _ in range(self.random.choice([0, 1, 1, 2])):
-                self.some_bands(count)
-            if count.left == 0 and (losses == 0 or self.random.random() < 0.7):
-                return
-            if losses > 0 and self.random.random() < 0.4:
+                self.some_bands(count, board, losses)
+            if losses > 0 and count.left > 0 and self.random.random() < 0.4:
                 losses -= 1
                 count.lost()
-                print(f"> lost => left {count.left}")
+                self.dead.add(board)
+                self.event("fail", count.left, board=board)
             elif count.left > 0:
                 count.preempt()
-                print(f"> preempt => left {count.left}")
-            else:
-                return
+                self.event("preempt", count.left, board=board)
 
-    def some_bands(self, count: Left) -> None:
-        """One band, those up to the end of a step, or so many, now and then more than are left."""
+    def some_bands(self, count: Left, board: int, losses: int) -> None:
+        """One band, those up to the end of a step, or so many; now and then all but one, while the board may fail."""
         if count.left == 0:
             return
         number = self.random.choice([1, count.left % count.bands or count.bands, 0, 0])
-        number = number or self.random.randrange(2, 2 * count.bands + 3)
-        for _ in range(min(number, count.left)):
+        number = min(number or self.random.randrange(2, 2 * count.bands + 3), count.left)
+        if number == count.left > 1 and losses > 0 and self.random.random() < 0.5:
+            number -= 1
+        for _ in range(number):
             count.band()
-        print(f"> band{f's {number}' if number > 1 else ''} => left {count.left}")
+        print(f'> bands {board} {number} => {{"left":{count.left},"ok":"band"}}')
 
     def rows(self, plane: int) -> None:
         side = self.torus.side
         for y in (0, 16, side - 17, side - 1):
-            self.row(plane, y)
+            self.reply({"do": "row", "plane": plane, "row": y}, {"bits": self.torus.digits(plane, y), "ok": "row"})
 
 
 def played(half: str, text: str, entries: list[tuple[str, int]], side: int, random: Random) -> None:
     user = User(side, random)
     plane = 0 if half == "A" else 2
-    user.rule("R", half, "N/MARG", "&/PHASES", text)
-    names = ("R", "-") if half == "A" else ("-", "R")
-    user.cycle(*[(*names, grid, phase) for grid, phase in entries])
-    user.fill(plane, without_a_pattern, [0, 1, 15, 16, side - 17, side - 16, side - 1])
+    user.rule(half, text)
+    user.cycle(("R", "-") if half == "A" else ("-", "R"), entries)
+    user.fill(plane, [0, 1, 15, 16, side - 17, side - 16, side - 1])
     words = ["run", "back", random.choice(["run", "back"])]
     for word, steps in zip(words, random.sample([1, 2, 3], 3)):
         user.do(word, steps)
@@ -112,11 +141,11 @@ def played(half: str, text: str, entries: list[tuple[str, int]], side: int, rand
 
 
 def main() -> None:
-    print("# Runs and backs of one to three steps, at two sides, under schedules without a pattern: boards of any number take")
-    print("# them, do some bands, lose the image, or are preempted. The planes, without a pattern in a few rows at the seams of")
-    print("# torus and bands, become what whole steps make of them.")
+    print("# Runs and backs of one to three steps, at two sides, under random schedules: boards take them, do some bands, fail, or")
+    print("# are preempted. The planes, random in a few rows at the seams of torus and bands, become what whole steps make of them.")
     print("# Answers: by checks/scripts/places.py, which steps and undoes block by block and knows no bands but two numbers: those")
     print("# left, and those left from home.")
+    print('let REPLY {"ok":"collect","reply":')
     random = Random(24)
     for title, half, text, entries in RULES:
         for side in (128, 256):

@@ -10,7 +10,7 @@
 //!
 //! Read next: `examples`, a file line by line; `repeats`, its texts; `ways`, what a program has of
 //! its own; `settings` and `answers`; `faults`; then `players`, and the programs `cam6_try_rules` and
-//! `cam6_try_places`, beside which the examples lie.
+//! `cam6_try_workers`, beside which the examples lie.
 #![tactic(auto)]
 
 mod answers;

@@ -1,4 +1,0 @@
--- Lemmas.
-
--- The board of a lease, behind a band.
-pub mod Moving

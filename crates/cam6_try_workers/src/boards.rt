@@ -1,0 +1,63 @@
+//! Boards that fail at a call, or that are held in their first band.
+
+use crate::houses::House;
+use crate::threads::Handle;
+use cam6_board::{BandEnd, Board, BoardFault, FlakyBoard, Image, Job, Tables};
+use cam6_planes::NoMemory;
+use std::sync::Arc;
+
+/// A board that fails at one call or never. If the house holds bands, the first thread that does a
+/// band of such a board is held inside it.
+#[derive(Drop)]
+pub struct TriedBoard<R: Handle> {
+    inner: FlakyBoard,
+    house: Arc<House<R>>,
+}
+
+impl<R: Handle> TriedBoard<R> {
+    ghost use Rattle.std.specs.Prelude.{◌≡◌, IfOk};
+    ghost use Rattle.cam6_board.specs.Held.{empty};
+
+    /// An empty board that fails at this call, or never if there is none. Loads, bands and unloads
+    /// are counted together, from 1.
+    pub fn new(house: &Arc<House<R>>, call: Option<u64>) -> Result<TriedBoard<R>, NoMemory>
+        ensures { IfOk result (λ board. board.inner.load ≡ empty) }
+    {
+        let mut calls = Vec::new(house.rt.alloc());
+        if let Some(call) = call {
+            calls.push(call)?;
+        }
+        let inner = FlakyBoard::new(house.rt.alloc(), calls)?;
+        let house = Arc::try_clone(house)?;
+        Ok(TriedBoard { inner, house })
+    }
+}
+
+impl<R: Handle> Board for TriedBoard<R> {
+    ghost held = { λ board. board.inner.load };
+
+    ghost fault_count = { λ board. board.inner.faults };
+
+    fn faults(&self) -> u64 {
+        self.inner.faults()
+    }
+
+    fn rows(&self) -> Option<u16> {
+        self.inner.rows()
+    }
+
+    fn load(&mut self, job: Job, tables: &Tables) -> Result<(), BoardFault> {
+        self.inner.load(job, tables)
+    }
+
+    fn band(&mut self) -> Result<BandEnd, BoardFault> {
+        if self.house.holds_bands {
+            self.house.hold.pass(&self.house.rt);
+        }
+        self.inner.band()
+    }
+
+    fn unload(&mut self) -> Result<Image, BoardFault> {
+        self.inner.unload()
+    }
+}

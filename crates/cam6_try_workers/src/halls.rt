@@ -1,0 +1,270 @@
+//! All users and workers of a part, and what a line asks of them. Users are numbered from 1, boards
+//! from 0.
+//!
+//! ```text
+//! user USER {..}      asks the command at the user's desk, and waits: its reply
+//! start USER {..}     asks the command in a thread of its own: that it has started
+//! join USER           waits for what that thread asked for: its reply
+//! held                whether a board is held; waits for one that may still come by
+//! release             lets the board that is held go on: whether there was one
+//! asked USER          what the gate was asked for the user, with its answers but for Go
+//! apart USER USER     whether each of them had a board, and no board did a band of both
+//! ended BOARD         waits for the worker's end: how it ended
+//! running NUMBER      waits for so many workers to run: whether they do
+//! left BOARD USER     a worker that has ended takes the user's command, if it waits, and puts it
+//!                     back: the bands left of it
+//! faults BOARD        how often the board of a worker that has ended failed
+//! serve BOARD         a worker serves there again, with a board that never fails
+//! end                 a board that is held goes on, and all workers end
+//! evict               whether there was a table to drop from the cache
+//! ```
+//!
+//! What can't be done as things are is `no`.
+ghost use Rattle.cam6_handoff.specs.Holding.{AreIdle};
+
+use crate::houses::House;
+use crate::threads::{Handle, LOOKS, pause};
+use crate::users::User;
+use crate::ways::{Event, WorkerWay};
+use crate::workers::Worker;
+use cam6_cache::TableCache;
+use cam6_handoff::{BoardSeat, Desk, boot};
+use cam6_planes::{NoMemory, Side};
+use cam6_pool::Ended;
+use cam6_try_examples::{Sent, add_line};
+use std::alloc::{AllocError, Global};
+use std::io;
+use std::sync::Arc;
+
+/// The most tables that are cached.
+const CACHED: usize = 16;
+
+/// The users and the workers, and what these share.
+#[derive(Drop)]
+pub struct Hall<R: Handle> {
+    house: Arc<House<R>>,
+    users: Vec<User>,
+    workers: Vec<Worker>,
+}
+
+impl<R: Handle + Send + Sync + 'static> Hall<R> {
+    /// A hall with a desk for each user, and a seat for each worker. No worker serves yet.
+    pub fn new(rt: R, way: &WorkerWay) -> Result<Hall<R>, NoMemory> {
+        let alloc = rt.alloc();
+        let house = house_of(rt, way.event)?;
+        let limits = vec![in alloc; Side::S256; way.users]?;
+        let (desks, seats) = boot(alloc, way.users, way.boards as u8, limits.as_slice())?;
+        let (users, workers) = people_at(alloc, desks, seats)?;
+        Ok(Hall {
+            house,
+            users,
+            workers,
+        })
+    }
+
+    /// Starts a worker at each seat, and adds what comes back for each line.
+    pub fn play(
+        &mut self,
+        event: Event,
+        call: u64,
+        sent: &[Sent],
+        answers: &mut Vec<u8>,
+    ) -> io::Result<()> {
+        for (board, worker) in self.workers.iter_mut().enumerate() {
+            let fails = matches!(event, Event::Fails { .. }) && board == 0;
+            worker.serve(&self.house, if fails { Some(call) } else { None })?;
+        }
+        for line in sent {
+            let line = str::from_utf8(line.bytes.as_slice()).unwrap_or("");
+            let answer = self.answer(line)?;
+            add_line(answers, answer.as_str())?;
+        }
+        Ok(())
+    }
+
+    /// Lets a board that is held go on, tells all workers to end, and joins those that do.
+    pub fn end(&mut self) {
+        self.house.hold.end(&self.house.rt);
+        self.house.tell_to_end(true);
+        for worker in self.workers.iter_mut() {
+            worker.join(&self.house.rt);
+        }
+    }
+
+    /// What comes back for a line.
+    fn answer(&mut self, line: &str) -> io::Result<String> {
+        let (word, rest) = line.split_once(' ').unwrap_or((line, ""));
+        let (number, rest) = rest.split_once(' ').unwrap_or((rest, ""));
+        let index = number.parse().unwrap_or(usize::MAX);
+        match word {
+            "user" | "start" | "join" => self.of_user(word, index, rest),
+            "asked" | "apart" => self.of_gate(word, index, rest),
+            "left" => self.left(index, rest.parse().unwrap_or(0)),
+            "faults" => self.faults(index),
+            _ => {
+                let words = self.of_all(word, index)?;
+                text(self.house.rt.alloc(), words)
+            }
+        }
+    }
+
+    /// What comes back for a line that names a user's desk.
+    fn of_user(&mut self, word: &str, number: usize, line: &str) -> io::Result<String> {
+        let rt = self.house.rt;
+        let Some(user) = self.users.get_mut(number.wrapping_sub(1)) else {
+            return text(rt.alloc(), "no");
+        };
+        if word != "join" && !user.start(rt, line)? {
+            return text(rt.alloc(), "no");
+        }
+        if word == "start" {
+            return text(rt.alloc(), "started");
+        }
+        match user.join(&rt)? {
+            Some(reply) => Ok(reply),
+            None => text(rt.alloc(), "no"),
+        }
+    }
+
+    /// What comes back for a line that asks what the gate was asked.
+    fn of_gate(&self, word: &str, user: usize, rest: &str) -> io::Result<String> {
+        let rt = self.house.rt;
+        let watch = self.house.watch.lock(&rt);
+        if word == "asked" {
+            return watch.bands(rt.alloc(), user);
+        }
+        let is_so = watch.are_apart(user, rest.parse().unwrap_or(0))?;
+        text(rt.alloc(), yes_or_no(is_so))
+    }
+
+    /// The bands left of a user's command, at the seat of a worker that has ended.
+    fn left(&mut self, board: usize, user: usize) -> io::Result<String> {
+        let alloc = self.house.rt.alloc();
+        let Some(worker) = self.workers.get_mut(board) else {
+            return text(alloc, "no");
+        };
+        if worker.left.is_none() {
+            return text(alloc, "no");
+        }
+        match worker.bands_left(user) {
+            Some(bands) => Ok(format!(in alloc; "left {bands}")?),
+            None => text(alloc, "none"),
+        }
+    }
+
+    /// How often the board of a worker that has ended failed.
+    fn faults(&self, board: usize) -> io::Result<String> {
+        let alloc = self.house.rt.alloc();
+        match self
+            .workers
+            .get(board)
+            .and_then(|worker| worker.left.as_ref())
+        {
+            Some(left) => Ok(format!(in alloc; "faults {}", left.faults)?),
+            None => text(alloc, "no"),
+        }
+    }
+
+    /// The words that come back for any other line.
+    fn of_all(&mut self, word: &str, number: usize) -> io::Result<&'static str> {
+        let rt = self.house.rt;
+        match word {
+            "held" => Ok(yes_or_no(self.house.hold.is_holding(&rt))),
+            "release" => Ok(yes_or_no(self.house.hold.release(&rt))),
+            "evict" => Ok(yes_or_no(self.house.cache.lock(&rt).evict_oldest())),
+            "running" => Ok(yes_or_no(self.are_running(number))),
+            "ended" => Ok(self.ended(number)),
+            "serve" => self.serve(number),
+            "end" => {
+                self.end();
+                Ok("ended")
+            }
+            _ => Ok("no"),
+        }
+    }
+
+    /// Waits for so many workers to run. Returns whether they do.
+    fn are_running(&self, count: usize) -> bool {
+        for _ in 0..LOOKS {
+            if self
+                .workers
+                .iter()
+                .filter(|worker| worker.is_running())
+                .count()
+                == count
+            {
+                return true;
+            }
+            pause(&self.house.rt);
+        }
+        false
+    }
+
+    /// Waits for the worker's end, and returns how it ended.
+    fn ended(&mut self, board: usize) -> &'static str {
+        let Some(worker) = self.workers.get_mut(board) else {
+            return "no";
+        };
+        match worker.join(&self.house.rt) {
+            Some(Ended::Stopped) => "stopped",
+            Some(Ended::Dead) => "dead",
+            None => "no",
+        }
+    }
+
+    /// Starts a worker again at the seat, with a board that never fails.
+    fn serve(&mut self, board: usize) -> io::Result<&'static str> {
+        let Some(worker) = self.workers.get_mut(board) else {
+            return Ok("no");
+        };
+        self.house.tell_to_end(false);
+        let is_started = worker.serve(&self.house, None)?;
+        Ok(if is_started { "started" } else { "no" })
+    }
+}
+
+fn yes_or_no(is_so: bool) -> &'static str {
+    if is_so { "yes" } else { "no" }
+}
+
+fn text(alloc: Global, words: &str) -> io::Result<String> {
+    Ok(String::from_str(alloc, words)?)
+}
+
+/// All that the threads share.
+fn house_of<R: Handle>(rt: R, event: Event) -> Result<Arc<House<R>>, NoMemory> {
+    let cache = TableCache::new(rt.alloc(), CACHED)?;
+    let once = match event {
+        Event::AtGate(once) => Some(once),
+        _ => None,
+    };
+    let holds_bands = matches!(event, Event::InBand);
+    Ok(Arc::new(rt.alloc(), House::new(rt, cache, once, holds_bands))?)
+}
+
+/// Users at their desks, and seats at which nobody serves.
+fn people_at(
+    alloc: Global,
+    desks: Vec<Desk>,
+    seats: Vec<BoardSeat>,
+) -> Result<(Vec<User>, Vec<Worker>), AllocError>
+    requires { AreIdle seats.items }
+{
+    let mut users = Vec::with_capacity(alloc, desks.len())?;
+    for desk in desks {
+        users.push(User::new(desk))?;
+    }
+    let workers = workers_at(alloc, seats)?;
+    Ok((users, workers))
+}
+
+/// Seats at which nobody serves.
+fn workers_at(alloc: Global, seats: Vec<BoardSeat>) -> Result<Vec<Worker>, AllocError>
+    requires { AreIdle seats.items }
+{
+    let mut workers = Vec::with_capacity(alloc, seats.len())?;
+    for seat in seats {
+        workers.push(Worker::new(seat))?;
+    }
+    Ok(workers)
+}

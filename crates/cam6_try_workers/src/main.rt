@@ -1,0 +1,32 @@
+//! Plays the worked examples of workers: boards in threads of their own serve the desks of a hand-off
+//! table, while a gate says when they go on.
+//!
+//! The arguments name files of `data/`. `play_by` of `cam6_try_examples` says what they ask for, and
+//! does all but the way. The program makes no claim of its own beyond being safe.
+//!
+//! Stands on: `cam6_try_examples`, how files are read and compared; `cam6_pool`, the workers;
+//! `cam6_handoff`, `cam6_board`, `cam6_cache`, `cam6_slot`, `cam6_wire` and what they stand on.
+//!
+//! Read next: `data/`, the examples; `ways`, how they are played; `halls`, what a line asks for;
+//! `users` and `workers`, who have threads of their own; `houses`, all that threads share, with
+//! `gates`, `holds` and `boards`; then `threads`.
+#![tactic(auto)]
+
+mod boards;
+mod gates;
+mod halls;
+mod holds;
+mod houses;
+mod threads;
+mod users;
+mod ways;
+mod workers;
+
+use cam6_try_examples::{Sent, play_by};
+use std::io;
+use std::process::ExitCode;
+use ways::WorkerWay;
+
+fn main(rt: HostRuntime) -> io::Result<ExitCode> {
+    play_by(&rt, &|way: &WorkerWay, sent: &[Sent]| way.played(rt, sent))
+}

@@ -1,0 +1,117 @@
+//! Users, whose commands are asked at their desks by threads of their own.
+ghost use Rattle.std.specs.Prelude.{◌≡◌, false};
+ghost use Rattle.cam6_handoff.specs.Standing.{is_waiting};
+
+use crate::threads::{Flag, Handle, Thread};
+use cam6_commands::{Command, Reply};
+use cam6_handoff::Desk;
+use cam6_try_examples::no_memory;
+use cam6_wire::{read_command, reply_text};
+use std::alloc::Global;
+use std::thread::spawn;
+use std::{io, mem};
+
+/// What a thread that asked at a desk comes back with.
+#[derive(Drop)]
+struct Spoken {
+    desk: Desk,
+    /// `None` if the desk waited already, or there was no memory for it.
+    reply: Option<Reply>,
+}
+
+/// A user, who may ask at their desk.
+#[derive(Drop)]
+pub struct User {
+    /// The user's desk, unless a thread has it.
+    desk: Option<Desk>,
+    /// The thread that has the user's desk.
+    thread: Option<Thread<Spoken>>,
+}
+
+impl User {
+    pub fn new(desk: Desk) -> User {
+        User {
+            desk: Some(desk),
+            thread: None,
+        }
+    }
+
+    /// Starts a thread that goes off with the desk, to ask a line's command there. Returns whether
+    /// it did: not if a thread has the desk, or if the line is no command. It fails if there is no
+    /// memory for that, and then the desk may be gone.
+    pub fn start<R: Handle + Send + Sync + 'static>(
+        &mut self,
+        rt: R,
+        line: &str,
+    ) -> io::Result<bool> {
+        let Ok(command) = read_command(rt.alloc(), line.as_bytes()) else {
+            return Ok(false);
+        };
+        let flag = Flag::new(rt.alloc())?;
+        let raised = flag.shared()?;
+        let Some(desk) = self.desk.take() else {
+            return Ok(false);
+        };
+        let thread = sent(rt, desk, command, flag, raised);
+        drop(mem::replace(&mut self.thread, thread));
+        if self.thread.is_none() {
+            return Err(no_memory());
+        }
+        Ok(true)
+    }
+
+    /// Waits for the thread that asks, takes the desk back, and returns the text of the reply.
+    /// Returns `None` if there is no thread, or if it goes on for too long.
+    pub fn join<R: Handle>(&mut self, rt: &R) -> io::Result<Option<String>> {
+        if !self.is_back(rt) {
+            return Ok(None);
+        }
+        match self.thread.take() {
+            Some(thread) => {
+                let spoken = thread.handle.join(rt);
+                self.desk.insert(spoken.desk);
+                text_of(rt.alloc(), spoken.reply.as_ref())
+            }
+            None => Ok(None),
+        }
+    }
+
+    /// Whether there is a thread, and its end comes in time.
+    fn is_back<R: Handle>(&self, rt: &R) -> bool {
+        match &self.thread {
+            Some(thread) => thread.ends(rt),
+            None => false,
+        }
+    }
+}
+
+/// The text of a reply. Without a reply it fails as if memory had run out.
+fn text_of(alloc: Global, reply: Option<&Reply>) -> io::Result<Option<String>> {
+    match reply {
+        Some(reply) => Ok(Some(reply_text(alloc, reply).map_err(|_| no_memory())?)),
+        None => Err(no_memory()),
+    }
+}
+
+/// A thread that asks a command at the desk, if there is memory for it.
+fn sent<R: Handle + Send + Sync + 'static>(
+    rt: R,
+    desk: Desk,
+    command: Command,
+    flag: Flag,
+    raised: Flag,
+) -> Option<Thread<Spoken>> {
+    let handle = spawn(&rt, move || speak(&rt, desk, command, &raised)).ok()?;
+    Some(Thread { handle, flag })
+}
+
+/// Has a command done, unless the desk still waits for another one. Returns the desk with the reply.
+fn speak<R: Handle>(rt: &R, mut desk: Desk, command: Command, raised: &Flag) -> Spoken {
+    let reply = if desk.is_waiting() {
+        None
+    } else {
+        desk.ask(rt, command).ok()
+    };
+    raised.raise();
+    Spoken { desk, reply }
+}

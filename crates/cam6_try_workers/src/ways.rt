@@ -1,0 +1,115 @@
+//! The way in which lines of users and workers are played.
+ghost use Rattle.std.specs.Prelude.{◌<◌, ◌≤◌};
+ghost use Rattle.cam6_commands.specs.Limits.{max_users, max_boards};
+
+use crate::gates::Once;
+use crate::halls::Hall;
+use crate::threads::Handle;
+use cam6_handoff::{MAX_BOARDS, MAX_USERS};
+use cam6_pool::Turn;
+use cam6_try_examples::{Sent, Unplayable, Way, no_memory, size_of};
+use std::alloc::Global;
+use std::io;
+
+/// What happens to a worker or its board.
+#[derive(Clone, Copy)]
+pub enum Event {
+    Nothing,
+    /// What the gate does at a user's band.
+    AtGate(Once),
+    /// A board is held inside the first band of all.
+    InBand,
+    /// Board 0 fails at one of these calls. The lines are played anew for each of them.
+    Fails { first: u64, last: u64 },
+}
+
+/// `workers USERS BOARDS [EVENT]`: so many users, each with a blank machine of limit 256, and so many
+/// boards, each with a worker. An event is `hold USER BAND`, `preempt USER BAND`, `stop USER BAND`,
+/// `hold bands` or `fails FIRST LAST`.
+#[derive(Drop)]
+pub struct WorkerWay {
+    pub users: usize,
+    pub boards: usize,
+    pub event: Event,
+    ghost users_fit: { (0 < users) × (users ≤ max_users) },
+    ghost boards_fit: { (0 < boards) × (boards ≤ max_boards) },
+}
+
+impl Way for WorkerWay {
+    fn read(alloc: Global, words: &str) -> Result<WorkerWay, Unplayable> {
+        let words = words.split(' ').collect::<Vec<&str>>(alloc)?;
+        match words.as_slice() {
+            ["workers", users, boards, event @ ..] => Ok(WorkerWay {
+                users: size_of(users, MAX_USERS)?,
+                boards: size_of(boards, MAX_BOARDS)?,
+                event: event_of(event)?,
+            }),
+            _ => Err(Unplayable::Unread),
+        }
+    }
+
+    fn is_session(&self) -> bool {
+        false
+    }
+}
+
+impl WorkerWay {
+    /// What comes back for the lines, once for each call at which a board is to fail.
+    pub fn played<R: Handle + Send + Sync + 'static>(
+        &self,
+        rt: R,
+        sent: &[Sent],
+    ) -> io::Result<Vec<Vec<u8>>> {
+        let (first, last) = match self.event {
+            Event::Fails { first, last } => (first, last),
+            _ => (1, 1),
+        };
+        let mut all = Vec::new(rt.alloc());
+        for call in first..=last {
+            all.push(self.answers(rt, call, sent)?)?;
+        }
+        Ok(all)
+    }
+
+    /// What comes back for the lines. A board that is to fail does so at this call.
+    fn answers<R: Handle + Send + Sync + 'static>(
+        &self,
+        rt: R,
+        call: u64,
+        sent: &[Sent],
+    ) -> io::Result<Vec<u8>> {
+        let mut answers = Vec::new(rt.alloc());
+        match Hall::new(rt, self) {
+            Ok(mut hall) => {
+                let played = hall.play(self.event, call, sent, &mut answers);
+                hall.end();
+                drop(hall);
+                played.map(|_| answers)
+            }
+            Err(_) => Err(no_memory()),
+        }
+    }
+}
+
+/// The event that words say.
+fn event_of(words: &[&str]) -> Result<Event, Unplayable> {
+    match words {
+        [] => Ok(Event::Nothing),
+        ["hold", "bands"] => Ok(Event::InBand),
+        ["hold", user, band] => at_gate(Turn::Go, user, band),
+        ["preempt", user, band] => at_gate(Turn::Preempt, user, band),
+        ["stop", user, band] => at_gate(Turn::Stop, user, band),
+        ["fails", first, last] => Ok(Event::Fails {
+            first: first.parse().map_err(|_| Unplayable::Unread)?,
+            last: last.parse().map_err(|_| Unplayable::Unread)?,
+        }),
+        _ => Err(Unplayable::Unread),
+    }
+}
+
+/// What the gate does at a user's band, which is named by its number.
+fn at_gate(turn: Turn, user: &str, band: &str) -> Result<Event, Unplayable> {
+    let user = user.parse().map_err(|_| Unplayable::Unread)?;
+    let band = band.parse().map_err(|_| Unplayable::Unread)?;
+    Ok(Event::AtGate(Once { turn, user, band }))
+}

@@ -1,0 +1,170 @@
+//! Workers in threads of their own, and the seats of those that have ended.
+ghost use Rattle.std.specs.Prelude.{◌≡◌};
+ghost use Rattle.cam6_board.specs.Held.{empty};
+ghost use Rattle.cam6_handoff.specs.Holding.{IsIdle};
+
+use crate::boards::TriedBoard;
+use crate::houses::House;
+use crate::threads::{Flag, Handle, Thread};
+use cam6_board::Board;
+use cam6_handoff::BoardSeat;
+use cam6_pool::{Ended, serve_board};
+use cam6_try_examples::no_memory;
+use std::sync::Arc;
+use std::thread::spawn;
+use std::{io, mem};
+
+/// A seat that holds nothing.
+#[derive(Drop)]
+pub struct IdleSeat {
+    seat: BoardSeat,
+    ghost idle: { IsIdle seat },
+}
+
+impl IdleSeat {
+    /// Takes the user's command, and puts it back as it is. Returns the bands left of it, or `None`
+    /// if no command waits or if there is no such user.
+    fn left(&mut self, user: usize) -> Option<u64> {
+        if user == 0 || user > self.seat.users() {
+            return None;
+        }
+        let (lease, job) = self.seat.try_take(user)?;
+        let left = lease.left();
+        self.seat.put_back(lease.preempt(job.into_image()));
+        Some(left)
+    }
+}
+
+/// A board that holds nothing.
+#[derive(Drop)]
+struct EmptyBoard<R: Handle> {
+    board: TriedBoard<R>,
+    ghost empty: { board.inner.load ≡ empty },
+}
+
+/// What is left of a worker that has ended.
+#[derive(Drop)]
+pub struct Left {
+    seat: IdleSeat,
+    /// How often its board failed.
+    pub faults: u64,
+    pub ended: Ended,
+}
+
+/// A worker, or what is left of one, or neither if it could not be started.
+#[derive(Drop)]
+pub struct Worker {
+    /// The thread, while it isn't joined.
+    thread: Option<Thread<Left>>,
+    /// What is left after it is joined.
+    pub left: Option<Left>,
+}
+
+impl Worker {
+    /// A seat at which nobody has served.
+    pub fn new(seat: BoardSeat) -> Worker
+        requires { IsIdle seat }
+    {
+        let left = Left {
+            seat: IdleSeat { seat },
+            faults: 0,
+            ended: Ended::Stopped,
+        };
+        Worker {
+            thread: None,
+            left: Some(left),
+        }
+    }
+
+    /// Starts a thread that serves at the seat, with a board that fails at this call or never.
+    /// Returns whether it did: not if there is one that isn't joined. It fails if there is no memory
+    /// for that, and then the seat may be gone.
+    pub fn serve<R: Handle + Send + Sync + 'static>(
+        &mut self,
+        house: &Arc<House<R>>,
+        call: Option<u64>,
+    ) -> io::Result<bool> {
+        let flag = Flag::new(house.rt.alloc())?;
+        let raised = flag.shared()?;
+        let theirs = Arc::try_clone(house)?;
+        let board = empty_board(house, call)?;
+        let Some(left) = self.left.take() else {
+            return Ok(false);
+        };
+        let thread = started(theirs, left.seat, board, flag, raised);
+        drop(mem::replace(&mut self.thread, thread));
+        if self.thread.is_none() {
+            return Err(no_memory());
+        }
+        Ok(true)
+    }
+
+    /// Whether it has a thread that has not come to its end.
+    pub fn is_running(&self) -> bool {
+        match &self.thread {
+            Some(thread) => !thread.is_over(),
+            None => false,
+        }
+    }
+
+    /// Waits for the end of a worker that runs, and returns what is left of it. Returns `None` if
+    /// there is no thread, or if it runs on for too long.
+    pub fn join<R: Handle>(&mut self, rt: &R) -> Option<Ended> {
+        if !self.is_over(rt) {
+            return None;
+        }
+        let left = self.thread.take()?.handle.join(rt);
+        let ended = left.ended;
+        self.left.insert(left);
+        Some(ended)
+    }
+
+    /// Whether there is a thread, and its end comes in time.
+    fn is_over<R: Handle>(&self, rt: &R) -> bool {
+        match &self.thread {
+            Some(thread) => thread.ends(rt),
+            None => false,
+        }
+    }
+
+    /// The bands left of the user's command, which is taken at the seat and put back. Returns `None`
+    /// if the worker isn't joined, or if no command waits.
+    pub fn bands_left(&mut self, user: usize) -> Option<u64> {
+        match &mut self.left {
+            Some(left) => left.seat.left(user),
+            None => None,
+        }
+    }
+}
+
+/// An empty board that fails at this call or never.
+fn empty_board<R: Handle>(house: &Arc<House<R>>, call: Option<u64>) -> io::Result<EmptyBoard<R>> {
+    match TriedBoard::new(house, call) {
+        Ok(board) => Ok(EmptyBoard { board }),
+        Err(_) => Err(no_memory()),
+    }
+}
+
+/// A thread that serves at the seat, if there is memory for it.
+fn started<R: Handle + Send + Sync + 'static>(
+    house: Arc<House<R>>,
+    seat: IdleSeat,
+    board: EmptyBoard<R>,
+    flag: Flag,
+    raised: Flag,
+) -> Option<Thread<Left>> {
+    let rt = house.rt;
+    let handle = spawn(&rt, move || serve(&house, seat, board, &raised)).ok()?;
+    Some(Thread { handle, flag })
+}
+
+/// Serves with a board until the worker ends. Returns what is left of it.
+fn serve<R: Handle>(house: &House<R>, seat: IdleSeat, board: EmptyBoard<R>, raised: &Flag) -> Left {
+    let (seat, board, ended) = serve_board(&house.rt, seat.seat, board.board, &house.cache, house);
+    raised.raise();
+    Left {
+        seat: IdleSeat { seat },
+        faults: board.faults(),
+        ended,
+    }
+}
