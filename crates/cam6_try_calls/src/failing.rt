@@ -4,7 +4,7 @@
 use cam6_commands::{Command, Reply};
 use cam6_machine::Machine;
 use cam6_planes::{NoMemory, Side};
-use cam6_session::{Ask, End, serve};
+use cam6_session::Ask;
 use std::alloc::Global;
 use std::io;
 use std::io::{BufRead, ErrorKind, Read, Write};
@@ -74,6 +74,8 @@ pub(crate) enum Failure {
     Error,
     Interruption,
     TakesNothing,
+    /// An error at one call. Any later one goes well.
+    Once,
 }
 
 /// Takes one byte at a time for a number of calls, flushes among them, then fails.
@@ -92,10 +94,13 @@ impl Ones {
             self.calls -= 1;
             return Ok(true);
         }
+        if self.failure == Failure::Once {
+            self.calls = usize::MAX;
+        }
         match self.failure {
-            Failure::Error => Err(io::Error::from(ErrorKind::Other)),
-            Failure::Interruption => Err(io::Error::from(ErrorKind::Interrupted)),
             Failure::TakesNothing => Ok(false),
+            Failure::Interruption => Err(io::Error::from(ErrorKind::Interrupted)),
+            Failure::Error | Failure::Once => Err(io::Error::from(ErrorKind::Other)),
         }
     }
 }
@@ -113,46 +118,4 @@ impl Write for Ones {
         let _ = self.goes_well()?;
         Ok(())
     }
-}
-
-/// Takes one byte at a time. It fails at one of its calls, flushes among them, and at no other.
-#[derive(Drop)]
-pub(crate) struct Once {
-    pub(crate) bytes: Vec<u8>,
-    pub(crate) calls: usize,
-}
-
-impl Once {
-    /// Fails if this call is the one, after as many others as `calls` says.
-    fn goes_well(&mut self) -> io::Result<()> {
-        let is_due = self.calls == 0;
-        self.calls = self.calls.wrapping_sub(1);
-        if is_due {
-            return Err(io::Error::from(ErrorKind::Other));
-        }
-        Ok(())
-    }
-}
-
-impl Write for Once {
-    fn write(&mut self, buf: &[u8]) -> io::Result<usize> {
-        if buf.is_empty() {
-            return Ok(0);
-        }
-        self.goes_well()?;
-        self.bytes.push(buf[0])?;
-        Ok(1)
-    }
-
-    fn flush(&mut self) -> io::Result<()> {
-        self.goes_well()
-    }
-}
-
-/// Whether all of a session of one line is served, and this is written for it.
-pub(crate) fn is_answered(alloc: Global, machine: &mut Machine, line: &str, want: &[u8]) -> bool {
-    let mut reader = line.as_bytes();
-    let mut writer = Vec::new(alloc);
-    let end = serve(alloc, &mut reader, &mut writer, machine, 100);
-    end == End::EndOfInput && writer.as_slice() == want
 }

@@ -1,6 +1,6 @@
 //! Answers on their way to a writer that fails at each of its calls.
 
-use crate::failing::Once;
+use crate::failing::{Failure, Ones};
 use cam6_server::Outbox;
 use std::alloc::Global;
 use std::io;
@@ -12,7 +12,7 @@ use std::process::Abort;
 const ANSWERS: &[u8] = b"one\ntwo\n";
 
 /// Whether an answer is taken and then released.
-fn goes(outbox: &mut Outbox<Once>, answer: &[u8]) -> bool {
+fn goes(outbox: &mut Outbox<Ones>, answer: &[u8]) -> bool {
     let is_taken = outbox.write_all(answer).is_ok();
     outbox.release().is_ok() && is_taken
 }
@@ -20,9 +20,10 @@ fn goes(outbox: &mut Outbox<Once>, answer: &[u8]) -> bool {
 /// Which answers go to a writer that fails at this call, counted from 0, and at no other. And
 /// whether it gets these bytes of them.
 fn sent(alloc: Global, calls: usize, want: &[u8]) -> io::Result<(bool, bool, bool)> {
-    let writer = Once {
+    let writer = Ones {
         bytes: Vec::new(alloc),
         calls,
+        failure: Failure::Once,
     };
     let mut outbox = Outbox::new(alloc, writer)?;
     let first = goes(&mut outbox, &ANSWERS[..4]);

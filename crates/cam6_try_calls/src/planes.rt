@@ -1,132 +1,132 @@
-//! Rows of planes: one is written, and all others stay.
+//! Rows and planes by functions that no program calls, and what no reply shows of the others.
 
-use crate::within::{row_of, same, same_at, set_row};
-use cam6_planes::{DIGITS, NoMemory, Planes, Row, Side, WORDS};
+use cam6_planes::{COLUMNS, DIGITS, NoMemory, Planes, Row, Side, WORDS, east, west};
+use std::fmt::Debug;
 use std::process::Abort;
-use std::test::Fail;
 
-// Columns 0, 131, 132 and 255: the bytes 80, 18 and 01 at 0, 16 and 31.
-const ROW: Row = [
-    0x8000_0000_0000_0000,
-    0,
-    0x1800_0000_0000_0000,
-    1,
-    0,
-    0,
-    0,
-    0,
-];
+/// Both values are the same at this place, which a failure names. An assertion costs its proof
+/// wherever it is written, so it stands here.
+pub(crate) fn same_at<R: Abort, T: PartialEq + Debug, P: Debug>(
+    rt: &R,
+    got: &T,
+    want: &T,
+    place: &P,
+) {
+    assert_eq!(rt; got, want, "at {place:?}");
+}
 
-// By hand, four columns to a digit from column 0 on.
-const TEXT: &[u8] = b"8000000000000000000000000000000018000000000000000000000000000001";
+pub(crate) fn set_row(rt: &impl Abort, planes: &mut Planes, plane: usize, row: usize, words: Row) {
+    assert!(rt; plane < 4 && row < planes.side().number());
+    planes.set_row_words(plane, row, words);
+}
 
-fn check_columns(rt: &impl Abort, planes: &Planes) {
-    assert!(rt; planes.side().number() == 256);
-    for x in 0..256 {
-        let want = x == 0 || x == 131 || x == 132 || x == 255;
-        same_at(rt, &planes.bit(2, x, 10), &want, &x);
+/// A row with one column set.
+pub(crate) fn lone(column: usize) -> Row {
+    let column = column % COLUMNS;
+    let mut row = [0; WORDS];
+    row[column / 64] = 1 << (63 - column % 64);
+    row
+}
+
+// A lone column, with the columns to its east and to its west on the ring, by hand.
+#[test]
+fn lone_columns_move(rt: HostRuntime) {
+    for (side, column, its_east, its_west) in [
+        (Side::S128, 0usize, 1, 127),
+        (Side::S128, 63, 64, 62),
+        (Side::S128, 64, 65, 63),
+        (Side::S128, 127, 0, 126),
+        (Side::S256, 0, 1, 255),
+        (Side::S256, 1, 2, 0),
+        (Side::S256, 100, 101, 99),
+        (Side::S256, 127, 128, 126),
+        (Side::S256, 128, 129, 127),
+        (Side::S256, 191, 192, 190),
+        (Side::S256, 192, 193, 191),
+        (Side::S256, 254, 255, 253),
+        (Side::S256, 255, 0, 254),
+        (Side::S512, 0, 1, 511),
+        (Side::S512, 255, 256, 254),
+        (Side::S512, 256, 257, 255),
+        (Side::S512, 511, 0, 510),
+    ] {
+        let row = lone(column);
+        same_at(&rt, &west(&row, side), &lone(its_east), &column);
+        same_at(&rt, &east(&row, side), &lone(its_west), &column);
     }
 }
 
+const FIRST: u64 = 0x0123_4567_89AB_CDEF;
+
+const SECOND: u64 = 0xFEDC_BA98_7654_3210;
+
+const LAST: u64 = 0x8000_0000_0000_0001;
+
+// Every digit, and the first and the last column of the last word.
+const ROW: Row = [FIRST, SECOND, 0, LAST, 0, 0, 0, 0];
+
+const TEXT: &[u8] = b"0123456789abcdeffedcba987654321000000000000000008000000000000001";
+
+const BYTES: [u8; 32] = [
+    0x01, 0x23, 0x45, 0x67, 0x89, 0xAB, 0xCD, 0xEF, 0xFE, 0xDC, 0xBA, 0x98, 0x76, 0x54, 0x32, 0x10,
+    0, 0, 0, 0, 0, 0, 0, 0, 0x80, 0, 0, 0, 0, 0, 0, 0x01,
+];
+
+// By hand: a digit is four columns, a byte eight and a word 64, the first the highest bit.
+#[test]
+fn digits_bytes_and_words(rt: HostRuntime) -> Result<(), NoMemory> {
+    let mut planes = Planes::blank(rt.alloc(), Side::S256)?;
+    planes.put_row(0, 0, &BYTES);
+    set_row(&rt, &mut planes, 3, 255, ROW);
+    check_row(&rt, &planes, 0, 0, ROW);
+    check_row(&rt, &planes, 3, 255, ROW);
+    check_digits(&rt, &planes);
+    Ok(())
+}
+
+pub(crate) fn check_row(rt: &impl Abort, planes: &Planes, p: usize, y: usize, want: Row) {
+    assert!(rt; p < 4 && y < planes.side().number());
+    same_at(rt, &planes.row_words(p, y), &want, &(p, y));
+}
+
+/// Row 255 of plane 3 has the digits of `TEXT`, and nothing is written behind them. The columns of
+/// row 0 of plane 0 are the bits of `ROW`.
 fn check_digits(rt: &impl Abort, planes: &Planes) {
     assert!(rt; planes.side().number() == 256);
     let mut text = [b'-'; DIGITS];
-    same(rt, &planes.row_hex(2, 10, &mut text), &64);
-    same(rt, &&text[..64], &TEXT);
-    same(rt, &&text[64..], &[b'-'; 64].as_slice());
-}
-
-fn check_rows(rt: &impl Abort, planes: &Planes) {
-    for plane in 0..4 {
-        for row in 0..256 {
-            let want = if plane == 2 && row == 10 {
-                ROW
-            } else {
-                [0; WORDS]
-            };
-            check_row(rt, planes, plane, row, want);
-        }
+    same_at(rt, &planes.row_hex(3, 255, &mut text), &64, &"digits");
+    same_at(rt, &&text[..64], &TEXT, &"digits");
+    same_at(
+        rt,
+        &&text[64..],
+        &[b'-'; 64].as_slice(),
+        &"what lies behind",
+    );
+    for x in 0..256 {
+        let want = (ROW[x / 64] >> (63 - x % 64)) % 2 == 1;
+        same_at(rt, &planes.bit(0, x, 0), &want, &x);
     }
 }
 
+// At a side of 128 a row has two words, and what is written past them isn't there. A copy has the
+// cells and the side of other planes, and stays if these change.
 #[test]
-fn writes_one_row(rt: HostRuntime) -> Result<(), NoMemory> {
-    let mut bits = [0; 32];
-    bits[0] = 0x80;
-    bits[16] = 0x18;
-    bits[31] = 0x01;
-    let mut planes = Planes::blank(rt.alloc(), Side::S256)?;
-    planes.put_row(2, 10, &bits);
-    check_columns(&rt, &planes);
-    check_digits(&rt, &planes);
-    check_rows(&rt, &planes);
-    Ok(())
-}
-
-// The rows beside it, and the same row of other planes, stay.
-#[test]
-fn a_row_takes_the_place_of_one(rt: HostRuntime) -> Result<(), Fail> {
-    let mut planes = Planes::blank(rt.alloc(), Side::S256)?;
-    for (plane, row) in [(1, 255), (2, 0), (2, 254), (2, 255), (3, 255)] {
-        set_row(&rt, &mut planes, plane, row, ROW);
-    }
-    set_row(&rt, &mut planes, 2, 255, [0, 7, 0, 0, 0, 0, 0, 0]);
-    check_beside(&rt, &planes);
-    Ok(())
-}
-
-fn check_beside(rt: &impl Abort, planes: &Planes) {
-    for (plane, row, want) in [
-        (0, 255, [0; WORDS]),
-        (1, 255, ROW),
-        (2, 0, ROW),
-        (2, 254, ROW),
-        (2, 255, [0, 7, 0, 0, 0, 0, 0, 0]),
-        (3, 255, ROW),
-    ] {
-        check_row(rt, planes, plane, row, want);
-    }
-}
-
-fn check_row(rt: &impl Abort, planes: &Planes, plane: usize, row: usize, want: Row) {
-    let got = row_of(rt, planes, plane, row);
-    same_at(rt, &got, &want, &(plane, row));
-}
-
-#[test]
-fn copies(rt: HostRuntime) -> Result<(), Fail> {
-    let mut planes = Planes::blank(rt.alloc(), Side::S256)?;
-    planes.set_row_words(0, 0, ROW);
-    planes.set_row_words(3, 255, ROW);
-    let mut copy = Planes::blank(rt.alloc(), Side::S256)?;
-    copy.set_row_words(1, 7, ROW);
-    copy.copy_from(&planes);
-    planes.set_row_words(0, 0, [0; WORDS]);
-    check_row(&rt, &copy, 0, 0, ROW);
-    check_row(&rt, &copy, 3, 255, ROW);
-    check_row(&rt, &copy, 1, 7, [0; WORDS]);
-    check_row(&rt, &planes, 0, 0, [0; WORDS]);
-    Ok(())
-}
-
-// At a side of 128 a row has two words, and what is written past them isn't there.
-#[test]
-fn sides_change(rt: HostRuntime) -> Result<(), Fail> {
+fn sides_change(rt: HostRuntime) -> Result<(), NoMemory> {
     let mut planes = Planes::blank(rt.alloc(), Side::S512)?;
-    planes.set_row_words(0, 511, [1; WORDS]);
+    set_row(&rt, &mut planes, 0, 511, [1; WORDS]);
     check_row(&rt, &planes, 0, 511, [1; WORDS]);
     planes.set_side(Side::S128);
     check_row(&rt, &planes, 0, 127, [0; WORDS]);
-    planes.set_row_words(0, 127, [1; WORDS]);
-    let want = [1, 1, 0, 0, 0, 0, 0, 0];
-    check_row(&rt, &planes, 0, 127, want);
+    set_row(&rt, &mut planes, 0, 127, [1; WORDS]);
+    set_row(&rt, &mut planes, 3, 0, ROW);
     let mut copy = Planes::blank(rt.alloc(), Side::S256)?;
+    set_row(&rt, &mut copy, 1, 7, ROW);
     copy.copy_from(&planes);
-    check_sides(&rt, &copy, Side::S128, Side::S256);
-    check_row(&rt, &copy, 0, 127, want);
+    set_row(&rt, &mut planes, 0, 127, [0; WORDS]);
+    assert!(rt; copy.side() == Side::S128 && copy.limit() == Side::S256);
+    check_row(&rt, &copy, 0, 127, [1, 1, 0, 0, 0, 0, 0, 0]);
+    check_row(&rt, &copy, 3, 0, [FIRST, SECOND, 0, 0, 0, 0, 0, 0]);
+    check_row(&rt, &copy, 1, 7, [0; WORDS]);
+    check_row(&rt, &planes, 0, 127, [0; WORDS]);
     Ok(())
-}
-
-fn check_sides(rt: &impl Abort, planes: &Planes, side: Side, limit: Side) {
-    assert!(rt; planes.side() == side && planes.limit() == limit);
 }

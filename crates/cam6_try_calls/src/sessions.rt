@@ -1,11 +1,15 @@
-//! Sessions in which the reader, the writer or the desk fails at each of its calls.
+//! Sessions in which the reader, the writer or the desk fails at each of its calls, and one at a desk
+//! of the hand-off table that waits by itself. A program's desks wait in a host.
 
-use crate::failing::{Desk, Failure, Ones, Shown, is_answered};
+use crate::failing::{Desk, Failure, Ones, Shown};
+use cam6_commands::{Command, Done, Fault, Refusal, Reply};
+use cam6_handoff::boot;
 use cam6_machine::Machine;
-use cam6_planes::NoMemory;
-use cam6_session::{End, serve};
+use cam6_planes::{NoMemory, Side};
+use cam6_session::{AtDesk, End, Unaided, serve};
 use std::alloc::Global;
 use std::process::Abort;
+use std::sync::Wait;
 use std::test::Fail;
 
 // A session of four lines, the last without its LF, and the answers of the profile: no cycle is
@@ -17,17 +21,9 @@ const LINES: &[u8] =
 const ANSWERS: &[u8] =
     b"{\"fault\":63}\n{\"fault\":2}\n{\"ok\":\"cycle\"}\n{\"ok\":\"run\",\"position\":0}\n";
 
-const RUN: &str = "{\"do\":\"run\",\"n\":0}\n";
-
 /// The answers to the first lines of the session.
 fn answers_to_first(lines: usize) -> &'static [u8] {
-    match lines {
-        0 => &ANSWERS[..0],
-        1 => &ANSWERS[..13],
-        2 => &ANSWERS[..25],
-        3 => &ANSWERS[..40],
-        _ => ANSWERS,
-    }
+    &ANSWERS[..[0, 13, 25, 40, 66][lines.min(4)]]
 }
 
 /// How many of these numbers have been reached.
@@ -37,81 +33,101 @@ fn reached(marks: &[usize], n: usize) -> usize {
 
 /// Whether a machine answers a run of no steps as it does after so many lines of the session. The
 /// third line sets the cycle.
-fn stands_after(alloc: Global, lines: usize, machine: &mut Machine) -> bool {
-    let want = if lines < 3 {
-        b"{\"fault\":63}\n".as_slice()
-    } else {
-        b"{\"ok\":\"run\",\"position\":0}\n".as_slice()
-    };
-    is_answered(alloc, machine, RUN, want)
+fn stands_after(lines: usize, machine: &mut Machine) -> bool {
+    match machine.reply_to(Command::Run { n: 0 }) {
+        Ok(reply) => is_reply_after(lines, &reply),
+        Err(NoMemory) => false,
+    }
+}
+
+fn is_reply_after(lines: usize, reply: &Reply) -> bool {
+    match reply {
+        Reply::Done(Done::Run { position: 0 }) => lines >= 3,
+        Reply::Refused(Refusal::Fault(Fault::NoCycle)) => lines < 3,
+        _ => false,
+    }
 }
 
 /// What came of a session: its end, whether the wanted bytes were written, and whether the desk
-/// stands where it should. As few functions as possible drop a desk, since each way to drop it is a
-/// proof of its own.
+/// stands where it should.
 type Came = (End, bool, bool);
 
-/// A session over a desk, with this reader and bound: its end, and whether these bytes are written.
-fn read_at(
-    alloc: Global,
-    mut reader: Shown,
+/// How a session goes: its lines are shown so many bytes at once, for so many looks, within so many
+/// turns. Its writer fails after so many calls.
+#[derive(Clone, Copy)]
+struct Way {
+    at_once: usize,
+    looks: usize,
     turns: u64,
-    desk: &mut Desk,
-    want: &[u8],
-) -> (End, bool) {
-    let mut writer = Vec::new(alloc);
-    let end = serve(alloc, &mut reader, &mut writer, desk, turns);
-    (end, writer.as_slice() == want)
+    calls: usize,
+    failure: Failure,
 }
 
-/// What comes of a session with this reader and bound, if so many lines are to be answered.
-fn session(alloc: Global, reader: Shown, turns: u64, lines: usize) -> Result<Came, NoMemory> {
+const WELL: Way = Way {
+    at_once: 1_000,
+    looks: 1_000,
+    turns: 1_000,
+    calls: 1_000,
+    failure: Failure::Error,
+};
+
+/// What comes of a session if these bytes are to be written and the commands of so many lines to be
+/// done.
+fn session(alloc: Global, way: Way, want: &[u8], lines: usize) -> Result<Came, NoMemory> {
     let mut desk = Desk::new(alloc, 9)?;
-    let came = session_at(alloc, reader, turns, lines, &mut desk);
+    let came = session_at(alloc, way, want, lines, &mut desk);
     drop(desk);
     Ok(came)
 }
 
 /// The same over this desk.
-fn session_at(alloc: Global, reader: Shown, turns: u64, lines: usize, desk: &mut Desk) -> Came {
-    let (end, is_written) = read_at(alloc, reader, turns, desk, answers_to_first(lines));
-    let stands = stands_after(alloc, lines, &mut desk.machine);
-    (end, is_written, stands)
-}
-
-/// A reader that fails after so many looks, and a bound of so many turns, end a session after so
-/// many lines.
-fn check_reader(
-    rt: &impl Abort,
-    alloc: Global,
-    at_once: usize,
-    calls: u16,
-    lines: usize,
-) -> Result<(), NoMemory> {
-    for (looks, turns, end) in [
-        (usize::from(calls), 1_000, End::ReadFault),
-        (1_000, u64::from(calls), End::TurnBound),
-    ] {
-        let reader = Shown {
-            bytes: LINES,
-            at_once,
-            calls: looks,
-        };
-        let want = if lines < 4 { end } else { End::EndOfInput };
-        let got = session(alloc, reader, turns, lines)?;
-        assert_eq!(rt; got, (want, true, true), "{at_once} {calls}");
-    }
-    Ok(())
+fn session_at(alloc: Global, way: Way, want: &[u8], lines: usize, desk: &mut Desk) -> Came {
+    let mut reader = Shown {
+        bytes: LINES,
+        at_once: way.at_once,
+        calls: way.looks,
+    };
+    let mut writer = Ones {
+        bytes: Vec::new(alloc),
+        calls: way.calls,
+        failure: way.failure,
+    };
+    let end = serve(alloc, &mut reader, &mut writer, desk, way.turns);
+    let is_written = writer.bytes.as_slice() == want;
+    (end, is_written, stands_after(lines, &mut desk.machine))
 }
 
 // By hand: each line takes a look for each of its bytes, or for every three and what is left of
-// them, the LF among them; the last takes one more, which shows the input's end.
+// them, the LF among them; the last takes one more, which shows the input's end. So many turns end a
+// session where so many looks do.
 #[test]
 fn readers_fail_at_each_call(rt: HostRuntime) -> Result<(), Fail> {
     for (at_once, marks) in [(1, [19, 24, 93, 112]), (3, [7, 9, 32, 39])] {
-        for calls in 0..114 {
-            let lines = reached(&marks, usize::from(calls));
-            check_reader(&rt, rt.alloc(), at_once, calls, lines)?;
+        for calls in 0..114u16 {
+            let (looks, turns) = (usize::from(calls), u64::from(calls));
+            let lines = reached(&marks, looks);
+            for (way, end) in [
+                (
+                    Way {
+                        at_once,
+                        looks,
+                        ..WELL
+                    },
+                    End::ReadFault,
+                ),
+                (
+                    Way {
+                        at_once,
+                        turns,
+                        ..WELL
+                    },
+                    End::TurnBound,
+                ),
+            ] {
+                let want = if lines < 4 { end } else { End::EndOfInput };
+                let got = session(rt.alloc(), way, answers_to_first(lines), lines)?;
+                assert_eq!(rt; got, (want, true, true), "{at_once} {calls}");
+            }
         }
     }
     Ok(())
@@ -120,59 +136,12 @@ fn readers_fail_at_each_call(rt: HostRuntime) -> Result<(), Fail> {
 /// How many bytes so many calls write, each byte by a call of its own and each answer flushed by
 /// one.
 fn bytes_of(calls: usize) -> usize {
-    match calls {
-        0..14 => calls.min(13),
-        14..27 => 13 + (calls - 14).min(12),
-        27..43 => 25 + (calls - 27).min(15),
-        43..70 => 40 + (calls - 43).min(26),
-        _ => 66,
-    }
-}
-
-/// A session over a desk, with a writer that fails after so many calls: its end, and whether these
-/// bytes are written.
-fn written_at(
-    alloc: Global,
-    failure: Failure,
-    calls: usize,
-    desk: &mut Desk,
-    want: &[u8],
-) -> (End, bool) {
-    let mut reader = LINES;
-    let mut writer = Ones {
-        bytes: Vec::new(alloc),
-        calls,
-        failure,
-    };
-    let end = serve(alloc, &mut reader, &mut writer, desk, 100);
-    (end, writer.bytes.as_slice() == want)
-}
-
-/// What comes of a session with a writer that fails after so many calls, if so many lines are to be
-/// answered. The command of the line being answered is done.
-fn written(alloc: Global, failure: Failure, calls: usize, lines: usize) -> Result<Came, NoMemory> {
-    let mut desk = Desk::new(alloc, 9)?;
-    let came = written_over(alloc, failure, calls, lines, &mut desk);
-    drop(desk);
-    Ok(came)
-}
-
-/// The same over this desk.
-fn written_over(
-    alloc: Global,
-    failure: Failure,
-    calls: usize,
-    lines: usize,
-    desk: &mut Desk,
-) -> Came {
-    let want = ANSWERS.get(..bytes_of(calls)).unwrap_or(ANSWERS);
-    let (end, is_written) = written_at(alloc, failure, calls, desk, want);
-    let stands = stands_after(alloc, lines.saturating_add(1), &mut desk.machine);
-    (end, is_written, stands)
+    let flushes = reached(&[14, 27, 43, 70], calls);
+    calls.saturating_sub(flushes).min(66)
 }
 
 // The answer to a line takes a call for each byte, and a flush. A flush takes no byte, so it goes
-// well if a writer takes nothing more.
+// well if a writer takes nothing more. The command of the line being answered is done.
 #[test]
 fn writers_fail_at_each_call(rt: HostRuntime) -> Result<(), Fail> {
     for (failure, marks) in [
@@ -182,13 +151,15 @@ fn writers_fail_at_each_call(rt: HostRuntime) -> Result<(), Fail> {
     ] {
         for calls in 0..72 {
             let lines = reached(&marks, calls);
-            let want = if lines < 4 {
-                End::WriteFault
-            } else {
-                End::EndOfInput
+            let end = [End::WriteFault, End::EndOfInput][usize::from(lines >= 4)];
+            let want = ANSWERS.get(..bytes_of(calls)).unwrap_or(ANSWERS);
+            let way = Way {
+                calls,
+                failure,
+                ..WELL
             };
-            let got = written(rt.alloc(), failure, calls, lines)?;
-            assert_eq!(rt; got, (want, true, true), "{failure:?} {calls}");
+            let got = session(rt.alloc(), way, want, lines.saturating_add(1))?;
+            assert_eq!(rt; got, (end, true, true), "{failure:?} {calls}");
         }
     }
     Ok(())
@@ -223,26 +194,44 @@ fn served_again(alloc: Global, answers: usize, line: &'static [u8]) -> Result<Ca
 #[test]
 fn desks_find_no_memory_at_each_call(rt: HostRuntime) -> Result<(), Fail> {
     let not_done = End::NoMemory { done: false };
-    for (answers, want, written, line, rest) in [
+    for (answers, end, written, line, rest) in [
         (0, not_done, 0, LINES, &LINES[19..]),
         (1, not_done, 25, &LINES[24..], &LINES[93..]),
         (2, not_done, 40, &LINES[93..], &LINES[111..]),
         (3, End::EndOfInput, 66, &LINES[111..], &LINES[111..]),
     ] {
-        let want = ([want, End::EndOfInput], written, rest, true);
-        check_served_again(&rt, rt.alloc(), answers, line, want)?;
+        let want = ([end, End::EndOfInput], written, rest, true);
+        let got = served_again(rt.alloc(), answers, line)?;
+        assert_eq!(rt; got, want, "{answers}");
     }
     Ok(())
 }
 
-fn check_served_again(
-    rt: &impl Abort,
-    alloc: Global,
-    answers: usize,
-    line: &'static [u8],
-    want: CameAgain,
-) -> Result<(), NoMemory> {
-    let got = served_again(alloc, answers, line)?;
-    assert_eq!(rt; got, want, "{answers}");
+/// Nothing waits at the desk, and its lines are answered, to the end of the input. No cell of a blank
+/// machine has the state 1. The second line isn't JSON, and no cycle is set.
+fn check_session<R: Abort + Wait + Copy>(rt: R, alloc: Global, desk: cam6_handoff::Desk) {
+    assert!(rt; !desk.is_waiting());
+    let mut reader = b"{\"do\":\"count\",\"mask\":2}\nnope\n{\"do\":\"run\",\"n\":0}\n".as_slice();
+    let waiter = Unaided { rt };
+    let mut desk = AtDesk { waiter, desk };
+    let mut writer = Vec::new(alloc);
+    let end = serve(alloc, &mut reader, &mut writer, &mut desk, 1_000);
+    assert_eq!(rt; end, End::EndOfInput);
+    let want = b"{\"count\":0,\"ok\":\"count\"}\n{\"fault\":2}\n{\"fault\":63}\n";
+    assert!(rt; writer.as_slice() == want.as_slice());
+    let AtDesk {
+        waiter: Unaided { rt: _ },
+        desk: _,
+    } = desk;
+}
+
+// A command without steps is answered on the desk's own thread, so it needs no board.
+#[test]
+fn a_session_is_answered_at_a_desk(rt: HostRuntime) -> Result<(), NoMemory> {
+    let (desks, _seats) = boot(rt.alloc(), 1, 1, &[Side::S128])?;
+    assert_eq!(rt; desks.len(), 1);
+    for desk in desks {
+        check_session(rt, rt.alloc(), desk);
+    }
     Ok(())
 }
