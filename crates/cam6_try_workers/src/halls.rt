@@ -1,25 +1,5 @@
-//! All users and workers of a part, and what a line asks of them. Users are numbered from 1, boards
-//! from 0.
-//!
-//! ```text
-//! user USER {..}      asks the command at the user's desk, and waits: its reply
-//! start USER {..}     asks the command in a thread of its own: that it has started
-//! join USER           waits for what that thread asked for: its reply
-//! held                whether a board is held; waits for one that may still come by
-//! release             lets the board that is held go on: whether there was one
-//! asked USER          what the gate was asked for the user, with its answers but for Go
-//! apart USER USER     whether each of them had a board, and no board did a band of both
-//! ended BOARD         waits for the worker's end: how it ended
-//! running NUMBER      waits for so many workers to run: whether they do
-//! left BOARD USER     a worker that has ended takes the user's command, if it waits, and puts it
-//!                     back: the bands left of it
-//! faults BOARD        how often the board of a worker that has ended failed
-//! serve BOARD         a worker serves there again, with a board that never fails
-//! end                 a board that is held goes on, and all workers end
-//! evict               whether there was a table to drop from the cache
-//! ```
-//!
-//! What can't be done as things are is `no`.
+//! All users and workers of a part, and what comes back for a line. `docs/EXAMPLES.md` says what each
+//! line asks for. Users are numbered from 1, boards from 0. What can't be done as things are is `no`.
 ghost use Rattle.cam6_handoff.specs.Holding.{AreIdle};
 
 use crate::houses::House;

@@ -47,10 +47,6 @@ impl Way for WorkerWay {
             _ => Err(Unplayable::Unread),
         }
     }
-
-    fn is_session(&self) -> bool {
-        false
-    }
 }
 
 impl WorkerWay {
