@@ -6,9 +6,10 @@ were taken off boards, and went on later, maybe elsewhere. In the end each reply
 what a private machine gives. `checks/replays` and `checks/schedules` take commands off boards at random.
 
 Shares nothing with the program: the private machines are those of `machines`, which knows no bands and no boards. The
-runs of the eight come back to their beginning, and so the plain machine does only what is left over. A step of parity
-is a sum, so that 128 steps put five copies of the cells onto themselves, which leaves one. A ball crosses the torus in
-128 steps. Three cells of Life in a row lie so again after two steps, and a block that is turned after four.
+eight have the largest torus. Their runs come back to their beginning, and so the plain machine does only the step that is
+left over. A step of parity is a sum, so that 512 steps put five copies of the cells onto themselves, which leaves one. A
+ball crosses the torus in 512 steps. Three cells of Life in a row lie so again after two steps, and a block that is turned
+after four.
 
 PROGRAM is the program `cam6`. Prints what passed, a line each, and what failed. The last line is 'N passed, M failed'.
 """
@@ -30,13 +31,15 @@ from hosts import FIRST_PLANE
 from machines import Alone
 from undoing import compact
 
-SIDE, USERS, BOARDS, TABLES = 128, 32, 8, 4
-# The most steps of a command.
-LONG = 65_535
+USERS, BOARDS, TABLES = 32, 8, 4
+# The sides of users with long runs, and of the others.
+LARGE, SMALL = 512, 128
+# Nearly as many steps as a command may have: one more than a multiple of each period.
+LONG = 127 * LARGE + 1
 VOTE = ("B", *CELLS, ": R CENTER NORTH + SOUTH + WEST + EAST + { 0 0 0 1 1 1 } >PLN2 ;")
 WAYS = RULES | {"VOTE": VOTE}
 # The rules of users with long runs, one after another, and after how many steps a run is where it began.
-AROUND = [("PARITY", 128), ("LIFE", 2), ("BALLS", 128), ("TURN", 4)]
+AROUND = [("PARITY", LARGE), ("LIFE", 2), ("BALLS", LARGE), ("TURN", 4)]
 # The rules of the others, one after another, and again from the first.
 WORDS = [
     ["PARITY"],
@@ -57,13 +60,14 @@ WORDS = [
 BACK = (12, 17, 24)
 
 
-def near(random: Random, is_dense: bool) -> str:
+def near(side: int, random: Random, is_dense: bool) -> str:
     """Digits of a row with few set cells, or with most of them set, not far from the middle."""
-    digits = ["0"] * (SIDE // 4)
+    digits, middle = ["0"] * (side // 4), side // 8
     if is_dense:
-        return "".join(digits[:12]) + "".join(random.choice("7bdef") for _ in range(8)) + "".join(digits[20:])
+        digits[middle - 4 : middle + 4] = [random.choice("7bdef") for _ in range(8)]
+        return "".join(digits)
     for _ in range(random.randrange(2, 5)):
-        digits[SIDE // 8 + random.randrange(-3, 3)] = f"{random.randrange(1, 16):x}"
+        digits[middle + random.randrange(-3, 3)] = f"{random.randrange(1, 16):x}"
     return "".join(digits)
 
 
@@ -72,9 +76,10 @@ class User:
 
     def __init__(self, number: int, port: int) -> None:
         self.number, self.random = number, Random(number)
-        self.alone, self.peer = Alone(SIDE), Peer(port, number)
+        self.alone, self.peer = Alone(LARGE), Peer(port, number)
         self.wrong = [] if self.peer.said == '{"ok":"seat"}' else [f"the seat: {self.peer.said}"]
         self.is_long = number <= BOARDS
+        self.side = LARGE if self.is_long else SMALL
         if self.is_long:
             word, self.period = AROUND[(number - 1) % len(AROUND)]
             self.words = [word]
@@ -105,6 +110,7 @@ class User:
         return [entry]
 
     def begin(self) -> None:
+        self.ask({"do": "side", "side": self.side})
         for word in self.words:
             self.ask(rule_line(word, *WAYS[word]))
         self.ask({"do": "cycle", "entries": self.entries()})
@@ -115,14 +121,14 @@ class User:
         """Rows with a few cells. A run of Life or of a ball that comes back needs a row of three cells, or one cell."""
         if self.is_long and self.words[0] in ("LIFE", "BALLS"):
             digits = "e" if self.words[0] == "LIFE" else "8"
-            return [{"do": "set", "plane": 0, "row": 8 * self.number, "bits": digits.ljust(SIDE // 4, "0")}]
+            return [{"do": "set", "plane": 0, "row": 8 * self.number, "bits": digits.ljust(self.side // 4, "0")}]
         rows = []
         for word in self.words:
             first = FIRST_PLANE[WAYS[word][0]]
             for row in range(3):
                 plane = first + (row + self.number) % 2 * (row == 2) * (not self.is_long)
-                y = (self.number * 4 + row + first) % SIDE
-                rows.append({"do": "set", "plane": plane, "row": y, "bits": near(self.random, word == "VOTE")})
+                y = (self.number * 4 + row + first) % self.side
+                rows.append({"do": "set", "plane": plane, "row": y, "bits": near(self.side, self.random, word == "VOTE")})
         return rows
 
     def start(self) -> None:
@@ -149,7 +155,7 @@ class User:
 
 def play() -> None:
     """Plays all users at one host."""
-    sizes = {"users": USERS, "boards": BOARDS, "cache": TABLES, "side": SIDE, "connections": USERS}
+    sizes = {"users": USERS, "boards": BOARDS, "cache": TABLES, "side": LARGE, "connections": USERS}
     host = Host(*(f"--{name}={number}" for name, number in sizes.items()))
     users = [User(number, host.port) for number in range(1, USERS + 1)]
     long, others = users[:BOARDS], users[BOARDS:]
