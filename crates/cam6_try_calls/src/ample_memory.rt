@@ -37,7 +37,6 @@ fn is_its_reply(number: usize, reply: &Reply) -> bool {
     }
 }
 
-/// The commands of the numbers 0 to 6, in order.
 fn commands(alloc: Global) -> Result<Vec<Command>, AllocError> {
     let mut commands = Vec::new(alloc);
     for number in 0..7 {

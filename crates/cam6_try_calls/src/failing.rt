@@ -6,8 +6,7 @@ use cam6_machine::Machine;
 use cam6_planes::{NoMemory, Side};
 use cam6_session::Ask;
 use std::alloc::Global;
-use std::io;
-use std::io::{BufRead, ErrorKind, Read, Write};
+use std::io::{self, BufRead, ErrorKind, Read, Write};
 
 /// Answers a number of commands as its machine does, then runs out of memory.
 #[derive(Drop)]

@@ -18,8 +18,6 @@ const HOODS: [Hood; 5] = [
     Hood::MargolusPhase,
 ];
 
-const MINORS: [Minor; 3] = [Minor::Centers, Minor::Phases, Minor::HorzVert];
-
 /// Planes with random cells, which are the same ones each time.
 fn without_a_pattern(rt: &impl Abort, alloc: Global, side: Side) -> Result<Planes, NoMemory> {
     let mut planes = Planes::blank(alloc, side)?;
@@ -46,6 +44,7 @@ fn check_row(rt: &impl Abort, planes: &Planes, wiring: Wiring, grid: Grid, phase
     let Wiring { half, hood, minor } = wiring;
     let lines = lines_of_row(half, hood, minor, grid, phase, y, &Rows::around(planes, y));
     for x in 0..side {
+        assert!(rt; x < side && y < side && x / 64 < WORDS);
         let mut shown: u16 = 0;
         for line in lines.iter().rev() {
             let bit = (line[x / 64] >> (63 - x % 64)) % 2 == 1;
@@ -87,7 +86,8 @@ fn check_diagonals(rt: &impl Abort, planes: &Planes, half: Half, x: usize, y: us
     ] {
         let name = Name::Beside(compass, Level::Upper);
         let got = seen(planes, Setting { half, grid, phase }, name, x, y);
-        let (column, row) = ((x + right) % side, (y + down) % side);
+        let (column, row) = (x.wrapping_add(right) % side, y.wrapping_add(down) % side);
+        assert!(rt; column < side && row < side);
         let want = planes.bit(half.plane(Level::Upper), column, row);
         same_at(rt, &got, &want, &(half, name, x, y));
     }
@@ -99,7 +99,7 @@ fn lines_show_addresses(rt: HostRuntime) -> Result<(), NoMemory> {
     for side in [Side::S128, Side::S256, Side::S512] {
         let planes = without_a_pattern(&rt, rt.alloc(), side)?;
         for hood in HOODS {
-            for minor in MINORS {
+            for minor in [Minor::Centers, Minor::Phases, Minor::HorzVert] {
                 check_rows(&rt, &planes, hood, minor);
             }
         }

@@ -113,16 +113,16 @@ fn check_digits(rt: &impl Abort, planes: &Planes) {
 #[test]
 fn sides_change(rt: HostRuntime) -> Result<(), NoMemory> {
     let mut planes = Planes::blank(rt.alloc(), Side::S512)?;
-    set_row(&rt, &mut planes, 0, 511, [1; WORDS]);
+    planes.set_row_words(0, 511, [1; WORDS]);
     check_row(&rt, &planes, 0, 511, [1; WORDS]);
     planes.set_side(Side::S128);
     check_row(&rt, &planes, 0, 127, [0; WORDS]);
-    set_row(&rt, &mut planes, 0, 127, [1; WORDS]);
-    set_row(&rt, &mut planes, 3, 0, ROW);
+    planes.set_row_words(0, 127, [1; WORDS]);
+    planes.set_row_words(3, 0, ROW);
     let mut copy = Planes::blank(rt.alloc(), Side::S256)?;
-    set_row(&rt, &mut copy, 1, 7, ROW);
+    copy.set_row_words(1, 7, ROW);
     copy.copy_from(&planes);
-    set_row(&rt, &mut planes, 0, 127, [0; WORDS]);
+    planes.set_row_words(0, 127, [0; WORDS]);
     assert!(rt; copy.side() == Side::S128 && copy.limit() == Side::S256);
     check_row(&rt, &copy, 0, 127, [1, 1, 0, 0, 0, 0, 0, 0]);
     check_row(&rt, &copy, 3, 0, [FIRST, SECOND, 0, 0, 0, 0, 0, 0]);

@@ -23,10 +23,15 @@ const ANSWERS: &[u8] =
 
 /// The answers to the first lines of the session.
 fn answers_to_first(lines: usize) -> &'static [u8] {
-    &ANSWERS[..[0, 13, 25, 40, 66][lines.min(4)]]
+    match lines {
+        0 => &ANSWERS[..0],
+        1 => &ANSWERS[..13],
+        2 => &ANSWERS[..25],
+        3 => &ANSWERS[..40],
+        _ => ANSWERS,
+    }
 }
 
-/// How many of these numbers have been reached.
 fn reached(marks: &[usize], n: usize) -> usize {
     marks.iter().filter(|mark| **mark <= n).count()
 }
@@ -52,8 +57,7 @@ fn is_reply_after(lines: usize, reply: &Reply) -> bool {
 /// stands where it should.
 type Came = (End, bool, bool);
 
-/// How a session goes: its lines are shown so many bytes at once, for so many looks, within so many
-/// turns. Its writer fails after so many calls.
+/// How a session goes: how its lines are shown, its turns, and after how many calls its writer fails.
 #[derive(Clone, Copy)]
 struct Way {
     at_once: usize,
@@ -80,7 +84,6 @@ fn session(alloc: Global, way: Way, want: &[u8], lines: usize) -> Result<Came, N
     Ok(came)
 }
 
-/// The same over this desk.
 fn session_at(alloc: Global, way: Way, want: &[u8], lines: usize, desk: &mut Desk) -> Came {
     let mut reader = Shown {
         bytes: LINES,
@@ -151,7 +154,8 @@ fn writers_fail_at_each_call(rt: HostRuntime) -> Result<(), Fail> {
     ] {
         for calls in 0..72 {
             let lines = reached(&marks, calls);
-            let end = [End::WriteFault, End::EndOfInput][usize::from(lines >= 4)];
+            let fault = End::WriteFault;
+            let end = if lines < 4 { fault } else { End::EndOfInput };
             let want = ANSWERS.get(..bytes_of(calls)).unwrap_or(ANSWERS);
             let way = Way {
                 calls,
@@ -181,7 +185,6 @@ fn served_at(alloc: Global, desk: &mut Desk, line: &'static [u8]) -> CameAgain {
     ([end, last], written, reader, is_written)
 }
 
-/// The same over a desk that answers so many commands.
 fn served_again(alloc: Global, answers: usize, line: &'static [u8]) -> Result<CameAgain, NoMemory> {
     let mut desk = Desk::new(alloc, answers)?;
     let came = served_at(alloc, &mut desk, line);
