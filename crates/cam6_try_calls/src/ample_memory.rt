@@ -83,12 +83,18 @@ fn saving_reply(alloc: Global) -> Result<Reply, NoMemory> {
     reply
 }
 
-/// The events by which user 1 loads what a reply saved, then counts the cells of no state.
-fn loading(alloc: Global, reply: Reply) -> Result<Vec<Event>, AllocError> {
-    let mut events = Vec::new(alloc);
-    if let Reply::Done(Done::Save { machine }) = reply {
-        events.push(Event::Ask(1, Command::Load { machine }))?;
+/// The command that loads what a reply saved.
+fn loading(reply: Reply) -> Option<Command> {
+    match reply {
+        Reply::Done(Done::Save { machine }) => Some(Command::Load { machine }),
+        _ => None,
     }
+}
+
+/// The events by which user 1 has a command done, then counts the cells of no state.
+fn asked_for(alloc: Global, command: Command) -> Result<Vec<Event>, AllocError> {
+    let mut events = Vec::new(alloc);
+    events.push(Event::Ask(1, command))?;
     add_the_rest(&mut events)?;
     Ok(events)
 }
@@ -118,13 +124,19 @@ fn check_outcomes(rt: &impl Abort, outcomes: &[Outcome]) {
     }
 }
 
+/// The outcomes of events in a new core of one user.
+fn outcomes(alloc: Global, events: Vec<Event>) -> Result<Vec<Outcome>, NoMemory> {
+    let mut core = Core::new(alloc, 1, 1, 1, [Side::S256].as_slice())?;
+    let outcomes = run(alloc, &mut core, events);
+    drop(core);
+    outcomes
+}
+
 // A line of events asks for no load, but a list of events may.
 #[test]
-fn events_run(rt: HostRuntime) -> Result<(), NoMemory> {
-    let events = loading(rt.alloc(), saving_reply(rt.alloc())?)?;
-    let mut core = Core::new(rt.alloc(), 1, 1, 1, [Side::S256].as_slice())?;
-    let outcomes = run(rt.alloc(), &mut core, events);
-    drop(core);
-    check_outcomes(&rt, outcomes?.as_slice());
+fn events_run(rt: HostRuntime) -> Result<(), Fail> {
+    let command = loading(saving_reply(rt.alloc())?).ok_or("nothing was saved")?;
+    let events = asked_for(rt.alloc(), command)?;
+    check_outcomes(&rt, outcomes(rt.alloc(), events)?.as_slice());
     Ok(())
 }
