@@ -42,13 +42,18 @@ path_of() {
   (cd "$from" && realpath -m -- "$1")
 }
 
-# The path of a crate's program, or of the one that an argument names, if there is one.
+# The path of a crate's program, or of the one that an argument names. An argument that names no program is refused.
 program_of() {
-  local program=$top/crates/$1/out/$1 how="'./build' builds it"
-  [[ $1 != cam6_try_* ]] || how="'rt run' in crates/$1 builds it"
+  local program=$top/crates/$1/out/$1 how=
   [[ -z ${2-} ]] || program=$(path_of "$2")
-  if [[ ! -x $program ]]; then
-    echo "$script: there is no program $program; $how" >&2
+  case $program in
+    *.by-rattle) how="; 'rt ci' builds it" ;;
+    "$top"/crates/cam6_try_*/out/*) how="; 'rt run' in crates/$1 builds it" ;;
+    "$top"/crates/*/out/* | "$top"/cam6*) how="; './build' builds it" ;;
+  esac
+  if [[ ! -f $program || ! -x $program ]]; then
+    [[ -z ${2-} ]] || refuse "there is no program $program$how"
+    echo "$script: there is no program $program$how" >&2
     exit 1
   fi
   echo "$program"

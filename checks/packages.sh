@@ -9,51 +9,84 @@ left_out=()
 
 # The fields of the lines of packages.txt: each line is a package, its part, what shows it, and what it is for.
 package_lines() {
-  grep -v '^ *#' "$PACKAGES" | grep .
+  grep -Ev '^ *(#|$)' "$PACKAGES"
 }
+
+# By an empty list nothing would be missing.
+if ! package_lines > /dev/null; then
+  echo "${script:?}: $PACKAGES lists no package" >&2
+  exit 2
+fi
 
 # The parts that can be left out, by name.
 parts() {
   package_lines | awk '$2 != "all" { print $2 }' | LC_ALL=C sort -u
 }
 
-# An interpreter of Python that has these modules: the one that PYTHON names, or the one on the PATH, or else Debian's own, to
-# which the packages of Debian belong.
-python_with() {
-  local interpreter modules=$*
-  for interpreter in "${PYTHON:-python3}" /usr/bin/python3; do
-    if "$interpreter" -c "import ${modules// /, }" 2> /dev/null; then
-      echo "$interpreter"
-      return
-    fi
-  done
-  return 1
+# The interpreter of Python whose modules a part needs. For the part `all` it is the python3 on the PATH, which the checks run.
+# For another part it is the one that PYTHON names. If PYTHON isn't set, it is python3 if that has all modules of the part, or
+# else Debian's own, to which the packages belong.
+python_of() {
+  local modules
+  modules=$(package_lines | awk -v part="$1" '$2 == part && sub("^import:", "", $3) { print $3 }' | paste -sd ,)
+  if [[ $1 == all ]]; then
+    echo python3
+  elif [[ -n ${PYTHON-} ]]; then
+    echo "$PYTHON"
+  elif python3 -c "import $modules" 2> /dev/null; then
+    echo python3
+  else
+    echo /usr/bin/python3
+  fi
 }
 
-# Whether a package is there, by what shows it.
+# Whether a package of a part is there, by what shows it.
 is_there() {
   local sign signs
   IFS='|' read -ra signs <<< "$1"
   for sign in "${signs[@]}"; do
     case $sign in
-      import:*) python_with "${sign#import:}" ;;
+      import:*) "$(python_of "$2")" -c "import ${sign#import:}" ;;
       /*) [[ -e $sign ]] ;;
       *) command -v "$sign" ;;
-    esac > /dev/null && return
+    esac > /dev/null 2>&1 && return
   done
   return 1
+}
+
+# Says that what shows a package of a part is missing, and where it was looked for.
+lack_of() {
+  case $1 in
+    import:*) echo "$(python_of "$2") has no module ${1#import:}" ;;
+    /*) echo "there is no file $1" ;;
+    *) echo "there is no ${1//|/ or } on the PATH" ;;
+  esac
 }
 
 # Ends a check if one of these packages is missing, with a line that names it.
 needs() {
   local package part sign purpose
-  while read -r package part sign purpose; do
-    if [[ " $* " == *" $package "* ]] && ! is_there "$sign"; then
-      echo "${script:?}: $sign is missing: install the package $package of packages.txt ($purpose)"
+  for package in "$@"; do
+    if ! read -r _ part sign purpose < <(package_lines | grep "^$package "); then
+      echo "$script: packages.txt has no package $package" >&2
+      exit 2
+    fi
+    if ! is_there "$sign" "$part"; then
+      echo "$script: $(lack_of "$sign" "$part"): install the package $package of packages.txt ($purpose)"
       echo "0 passed, 1 failed"
       exit 1
     fi
-  done < <(package_lines)
+  done
+}
+
+# Compiles a library of checks/scripts, with these options, into the folder `work`. Ends a check if it can't.
+compile_library() {
+  [[ -n ${CC-} ]] || needs gcc
+  if ! "${CC:-cc}" -shared -fPIC -O2 -o "${work:?}/$1.so" "checks/scripts/$1.c" "${@:2}"; then
+    echo "$script: checks/scripts/$1.c can't be compiled, which takes the packages gcc and libc6-dev of packages.txt"
+    echo "0 passed, 1 failed"
+    exit 1
+  fi
 }
 
 # Leaves out parts: their names, with commas.
@@ -73,35 +106,78 @@ is_left_out() {
 
 # Leaves in `missing` the packages that aren't there, but for those of parts that are left out.
 find_missing() {
-  local package part sign purpose
+  local package part sign
   missing=()
-  while read -r package part sign purpose; do
-    is_left_out "$part" || is_there "$sign" || missing+=("$package")
+  while read -r package part sign _; do
+    is_left_out "$part" || is_there "$sign" "$part" || missing+=("$package")
   done < <(package_lines)
 }
 
-# Stops with what is missing, and with the command that installs it.
-stop_for_missing() {
+# The lines of packages.txt of what is missing.
+missing_lines() {
+  package_lines | grep -E "^($(IFS='|'; echo "${missing[*]}")) "
+}
+
+# Says how to install what is missing.
+say_command() {
   local command="apt-get update && apt-get install -y --no-install-recommends ${missing[*]}"
-  echo "$script: $1"
   if ! command -v apt-get > /dev/null; then
     echo "$script: this system has no apt-get. packages.txt says which program or module of each package is looked for:"
-    grep -E "^($(IFS='|'; echo "${missing[*]}")) " "$PACKAGES"
+    missing_lines
   elif command -v sudo > /dev/null; then
     echo "sudo sh -c '$command'"
   else
     echo "su -c '$command'"
   fi
-  exit 2
 } >&2
 
-# Installs what is missing, by the words of apt-get. The lists of packages are fetched if it can't be done with those there.
-apt_install() {
+# Says why what was to be installed is still missing. `uninstalled` has those that can't be installed.
+say_why() {
+  local package part sign
+  while read -r package part sign _; do
+    if [[ " ${uninstalled[*]} " == *" $package "* ]]; then
+      echo "$script: the package $package can't be installed"
+    else
+      echo "$script: the package $package is installed, but $(lack_of "$sign" "$part")"
+    fi
+  done < <(missing_lines)
+  echo "$script: the PATH is $PATH"
+} >&2
+
+# Says which parts need what is missing, and how ./test leaves them out.
+say_parts() {
+  local package part out=("${left_out[@]}")
+  while read -r package part _; do
+    if [[ $part == all ]]; then
+      echo "$script: $package is needed whatever parts are left out"
+    else
+      echo "$script: $package is needed by the part $part"
+      out+=("$part")
+    fi
+  done < <(missing_lines)
+  if [[ ${#out[@]} -gt ${#left_out[@]} ]]; then
+    echo "$script: './test --without $(printf '%s\n' "${out[@]}" | LC_ALL=C sort -u | paste -sd ,)' leaves these parts out"
+  fi
+} >&2
+
+# Runs apt-get, in the foreground, so that Ctrl-C ends it. Only its errors are printed.
+apt_get() {
   local as=(env DEBIAN_FRONTEND=noninteractive)
   [[ $EUID -eq 0 ]] || as=(sudo -n "${as[@]}")
-  as+=(timeout 1800 apt-get -qq -o DPkg::Lock::Timeout=120)
-  local install=("${as[@]}" install -y --no-install-recommends "${missing[@]}")
-  "${install[@]}" || { "${as[@]}" update && "${install[@]}"; }
+  "${as[@]}" timeout --foreground 1800 apt-get -qq -o DPkg::Lock::Timeout=120 "$@" < /dev/null > /dev/null
+}
+
+# Installs what is missing: all at once, by the lists of packages that are there or by new ones, or else one by one. Leaves in
+# `uninstalled` those that can't be installed.
+install_missing() {
+  local package install=(install -y --no-install-recommends)
+  uninstalled=()
+  apt_get "${install[@]}" "${missing[@]}" 2> /dev/null && return
+  apt_get update || true
+  apt_get "${install[@]}" "${missing[@]}" && return
+  for package in "${missing[@]}"; do
+    apt_get "${install[@]}" "$package" || uninstalled+=("$package")
+  done
 }
 
 # Whether it may install packages.
@@ -111,12 +187,21 @@ may_install() {
 
 # Sees that all packages are there, but for those of parts that are left out: installs them if it may, or stops the script.
 see_packages() {
-  local missing said
+  local missing uninstalled
   find_missing
   [[ ${#missing[@]} -gt 0 ]] || return 0
-  may_install || stop_for_missing "these packages of packages.txt are missing, and it may not install them: ${missing[*]}"
-  echo "$script: installing ${missing[*]}"
-  said=$(apt_install < /dev/null 2>&1) || { tail -n 5 <<< "$said" >&2; stop_for_missing "they can't be installed"; }
-  find_missing
-  [[ ${#missing[@]} -eq 0 ]] || stop_for_missing "what shows these packages isn't there, though they are installed: ${missing[*]}"
+  if may_install; then
+    echo "$script: installing ${missing[*]}"
+    trap 'exit 130' INT
+    install_missing
+    trap - INT
+    find_missing
+    [[ ${#missing[@]} -gt 0 ]] || return 0
+    say_why
+  else
+    echo "$script: these packages of packages.txt are missing, and it may not install them: ${missing[*]}" >&2
+    say_command
+  fi
+  say_parts
+  exit 2
 }

@@ -19,7 +19,7 @@ import time
 from argparse import ArgumentParser
 
 import connections
-from connections import CYCLE, PARITY, Host, Peer, Steady, alone, cell, check, row, run, seat_when_free
+from connections import CYCLE, PARITY, Host, Peer, Steady, alone, cell, check, row, run, seat_when_free, tried
 from rule_texts import doubled
 
 # How many may wait for a seat, beside one for each user; how many of them with a long line.
@@ -412,12 +412,6 @@ def main() -> int:
     connections.begin(parser.parse_args().program)
     parts = [reads_nothing, silent_peers, closed_connections, slow_first_line, endless_first_lines, unfinished_loads, idle_seats,
              beside_dear_tables, long_fillings, never_gives_up, last_words, last_connections]
-
-    def tried(part):
-        try:
-            part()
-        except (OSError, AttributeError) as error:
-            check(part.__name__, False, repr(error))
 
     # The part that waits for a minute does so beside the others, which are done one after another.
     slow = threading.Thread(target=tried, args=(parts[0],))

@@ -546,13 +546,18 @@ def without_descriptors(port: int, host: Host) -> None:
     peer.close()
 
 
+def tried(what: Callable[..., Any], *words: Any) -> None:
+    """Does it. An exception is a check that failed, also in a thread of its own, which else would end without one."""
+    try:
+        what(*words)
+    except Exception as error:
+        check(what.__name__, False, repr(error))
+
+
 def beside(port: int, user: int, what: Callable[..., Any], *others: Host) -> None:
     """Does it while the user goes on."""
     steady = Steady(port, user)
-    try:
-        what(port, *others)
-    except (OSError, AttributeError) as error:
-        check(what.__name__, False, repr(error))
+    tried(what, port, *others)
     check("another user's replies are his machine's: %s" % what.__name__.replace("_", " "),
           steady.is_well(), steady.wrong)
 
@@ -571,7 +576,7 @@ def main() -> int:
     words_taken()
     peers_at_once()
     host = Host("--users", "5", "--connections", "0")
-    slow = threading.Thread(target=byte_by_byte, args=(host.port,))
+    slow = threading.Thread(target=tried, args=(byte_by_byte, host.port))
     slow.start()
     for what in (closes_within_lines, closes_within_a_run, runs_behind_a_reset, never_reads, no_lines, many_lines_at_once):
         beside(host.port, 2, what)

@@ -126,7 +126,12 @@ def main() -> int:
     program = os.path.abspath(parser.parse_args().program)
     with open(os.path.join(ROOT, "docs", "errors.json"), encoding="utf-8") as file:
         entries = json.load(file)["errors"]
-    found = list(checks(program, entries))
+    found: list[tuple[str, bool]] = []
+    try:
+        for one in checks(program, entries):
+            found.append(one)
+    except OSError as why:
+        found.append((f"all checks can be made: {why}", False))
     for what, is_so in found:
         if not is_so:
             print(f"errors: NOT SO: {what}")

@@ -5,7 +5,8 @@
     fuzz.py sent KIND SEED             prints the lines that are sent
     fuzz.py wanted KIND SEED           prints what must come back
     fuzz.py least PROGRAM KIND SEED    prints as few lines as still make the program answer the last one otherwise
-    fuzz.py examples FILE..            plays worked examples through the plain machine instead of the program
+    fuzz.py examples FILE..            plays worked examples through the plain machine instead of the program. It ends
+                                       with status 1 if one fails, or if none is played
 
 A `session` has commands to the machine of one user: all kinds, with rules of all words, cycles, steps, looks, machines
 that are saved and loaded, and each fault. A `replay` has random events at a host of some users and boards. Its users
@@ -328,6 +329,16 @@ def play_all(program: str, seed: str) -> None:
             print("\n".join(difference(program, kind, seed, play, text, status)))
 
 
+def play_examples(paths: list[str]) -> int:
+    """Plays worked examples. Returns 0 if some passed and none failed, or 1."""
+    words = set()
+    for path in paths:
+        said = plain_examples.play(path)
+        print(said, flush=True)
+        words.add(said.split()[0])
+    return 0 if "passed" in words and "failed" not in words else 1
+
+
 # What the script can be asked for, each with its arguments.
 WORDS = {
     "play": ["program", "seed"],
@@ -338,7 +349,7 @@ WORDS = {
 }
 
 
-def main() -> None:
+def main() -> int:
     parser = ArgumentParser(description=__doc__, formatter_class=RawDescriptionHelpFormatter)
     words = parser.add_subparsers(dest="word", required=True, metavar="play | sent | wanted | least | examples")
     for word, names in WORDS.items():
@@ -352,15 +363,15 @@ def main() -> None:
         for seed in asked.seed:
             play_all(asked.program, seed)
     elif asked.word == "examples":
-        for path in asked.file:
-            print(plain_examples.play(path), flush=True)
+        return play_examples(asked.file)
     elif asked.word == "sent":
         sys.stdout.buffer.write(play_of(asked.kind, asked.seed).text())
     else:
         play = play_of(asked.kind, asked.seed)
         lines = play.wanted if asked.word == "wanted" else least(asked.program, play)
         sys.stdout.buffer.write(b"".join(line + b"\n" for line in lines))
+    return 0
 
 
 if __name__ == "__main__":
-    main()
+    sys.exit(main())

@@ -12,6 +12,7 @@ from os.path import basename
 from example_files import Example, Part, limit_of, outcome_of, sizes_of
 from lines import is_command, lines_of, plain, read_line
 from machines import Alone, Replay, rule_of
+from played import first_other, line_of, said_of
 from texts import TextFault, read_text
 
 
@@ -75,18 +76,31 @@ def first_difference(came: list[bytes], wanted: list[bytes]) -> int:
     return next((i for i, (one, other) in pairs if one != other), min(len(came), len(wanted)))
 
 
+def compare(example: Example) -> tuple[int, int, str]:
+    """How many lines of an example are compared, up to the first one that comes back otherwise. Then which line that
+    is, or 0 if there is none, and how it differs."""
+    before = compared = 0
+    for part in example.parts:
+        lines, came = part.wanted.count(b"\n"), answers(part)
+        if came is not None:
+            compared += lines
+            text = b"".join(answer + b"\n" for answer in came)
+            if line := first_other(text, part.wanted):
+                return compared, before + line, f": {line_of(text, line)} and not {line_of(part.wanted, line)}"
+        before += lines
+    return compared, 0, ""
+
+
 def play(path: str) -> str:
-    """Says whether all lines of a file come back."""
-    compared = 0
-    for number, part in enumerate(Example(path).parts, 1):
-        came = answers(part)
-        if came is None:
-            continue
-        wanted = part.wanted[:-1].split(b"\n")
-        came = b"\n".join(came).split(b"\n")
-        if came != wanted:
-            line = first_difference(came, wanted)
-            told = [lines[line][:200] if line < len(lines) else b"nothing" for lines in (came, wanted)]
-            return f"failed {basename(path)}: part {number}, line {line + 1}: {told[0]!r} and not {told[1]!r}"
-        compared += len(came)
-    return f"passed {basename(path)} {compared}"
+    """Says whether all lines of a file come back, or all before the one that is wrong on purpose. A file is not played
+    if all of its parts are skipped."""
+    name = basename(path)
+    try:
+        example = Example(path)
+        compared, found, how = compare(example)
+        said = said_of(example, found, how)
+    except (OSError, ValueError) as why:
+        return f"failed {name}: {str(why).removeprefix(f'{name}: ')}"
+    if not compared:
+        return f"not played {name}: it has no part of a known way"
+    return f"failed {name}: {said}" if said else f"passed {name} {compared}"

@@ -7,7 +7,7 @@ import os
 from collections.abc import Callable
 from concurrent.futures import ThreadPoolExecutor
 
-from example_files import Example, Unplayable
+from example_files import Example
 
 # The most bytes that are printed of a line.
 SHOWN = 200
@@ -45,13 +45,14 @@ def said_of(example: Example, found: int, how: str = "") -> str | None:
 
 def play_all(places: list[str], play: Callable[[Example], str | None]) -> tuple[int, int]:
     """Plays files and those of folders, as many at once as there are processors, or as JOBS says. Prints what `play`
-    says of each that isn't as it should be. Returns how many were, and how many weren't. A folder in which no file is
-    wrong on purpose counts as one that isn't."""
+    says of each that isn't as it should be, or why it can't be played. Returns how many were, and how many weren't. A
+    folder in which no file is wrong on purpose counts as one that isn't."""
 
     def verdict(path: str) -> str | None:
+        # A file that can't be read, or one that can't be played, or a program that can't be run or reached.
         try:
             return play(Example(path))
-        except Unplayable as why:
+        except (OSError, ValueError) as why:
             return str(why).removeprefix(f"{os.path.basename(path)}: ")
 
     paths = [path for place in places for path in files_of(place)]

@@ -2,13 +2,16 @@
 and the lines of each `session` part over one connection to a host of one user and one board.
 
 Each FOLDER has examples. All lines must come back of each, or of one that is wrong on purpose all but the line that its
-head names. Nothing is waited for without end: a line that does not come within ten seconds is `nothing`. As many
-examples are played at a time as there are processors, or as JOBS says. The last line is 'N passed, M failed'.
+head names. Nothing is waited for without end: a line that does not come within ten seconds is `nothing`, and no other is
+waited for after it. As many examples are played at a time as there are processors, or as JOBS says. The last line is
+'N passed, M failed'.
 """
 
 from __future__ import annotations
 
+import os
 import re
+import select
 import socket
 import subprocess
 import sys
@@ -16,11 +19,12 @@ import threading
 import time
 from argparse import ArgumentParser
 from functools import partial
+from typing import IO
 
-from example_files import Example, Part, Sent, Unplayable, limit_of
+from example_files import Example, Part, Unplayable, limit_of
 from played import first_other, line_of, play_all, said_of
 
-# The seconds in which an answer or a host's end has to come.
+# The seconds in which an answer, or a host's beginning or end, has to come.
 PATIENCE = 10
 # The seconds in which a whole session has to be answered.
 SESSION_PATIENCE = 600
@@ -37,8 +41,19 @@ def free_port() -> int:
         return free.getsockname()[1]
 
 
+def first_line(pipe: IO[bytes]) -> bytes:
+    """The first line from a pipe, or what has come of it before the end, or in time."""
+    line, end = b"", time.monotonic() + PATIENCE
+    while not line.endswith(b"\n") and select.select([pipe], [], [], max(0.0, end - time.monotonic()))[0]:
+        byte = os.read(pipe.fileno(), 1)
+        if not byte:
+            break
+        line += byte
+    return line
+
+
 class Host:
-    """The program, serving so many connections."""
+    """The program, serving so many connections. Raises OSError if it doesn't listen."""
 
     def __init__(self, program: str, users: int | str, boards: int | str, limit: str, connections: int | str) -> None:
         words = {"users": users, "boards": boards, "side": limit, "connections": connections}
@@ -49,12 +64,15 @@ class Host:
             streams = {"stdin": subprocess.DEVNULL, "stdout": subprocess.PIPE, "stderr": subprocess.PIPE}
             self.process = subprocess.Popen(command, **streams)
             self.address = ("127.0.0.1", port)
-            if self.process.stderr.readline() == b"listening on 127.0.0.1:%d\n" % port:
+            said = first_line(self.process.stderr)
+            if said == b"listening on 127.0.0.1:%d\n" % port:
                 return
-            if self.ended() != ENDS[NETWORK_FAILED]:
+            how = self.ended()
+            self.stop()
+            if how != ENDS[NETWORK_FAILED]:
                 break
             self.is_told = False
-        raise SystemExit(f"served.py: no host: {' '.join(command)}")
+        raise OSError(f"no host: said {said!r}, {how.decode()}, by {' '.join(command)}")
 
     def ended(self) -> bytes:
         """How the host ends, once."""
@@ -70,8 +88,8 @@ class Host:
 
     def stop(self) -> None:
         """The host is gone after this, also if it did not end."""
-        self.process.kill()
-        self.process.communicate()
+        with self.process:
+            self.process.kill()
 
 
 class Peer:
@@ -215,8 +233,9 @@ def host_answers(program: str, part: Part) -> bytes:
             answers.append(there.answer(line))
             if answers[-1] == b"nothing":
                 break
-        if not host.is_told:
-            answers.append(host.ended())
+        else:
+            if not host.is_told:
+                answers.append(host.ended())
     finally:
         there.close()
         host.stop()

@@ -9,8 +9,8 @@ comes back is compared, in each of these ways:
 
 A file whose name begins with `wrong_` has one answer that is wrong on purpose. Each way must find it at its line, and
 each folder must have such a file. Nothing is waited for without end: a line that doesn't come within two minutes is
-`nothing`. It plays as many files at once as there are processors, or as JOBS says. The last line is 'N passed, M
-failed', over the files.
+`nothing`, and so are all lines after it. It plays as many files at once as there are processors, or as JOBS says. The
+last line is 'N passed, M failed', over the files.
 """
 
 from __future__ import annotations
@@ -20,6 +20,7 @@ import select
 import subprocess
 import sys
 import threading
+import time
 from argparse import ArgumentParser, RawDescriptionHelpFormatter
 from collections import Counter
 from collections.abc import Iterator
@@ -55,37 +56,54 @@ class Talk:
         self.process = subprocess.Popen(command, bufsize=0, stdin=pipe, stdout=pipe, stderr=pipe)
         assert self.process.stdin and self.process.stdout
         self.input, self.output = self.process.stdin.fileno(), self.process.stdout.fileno()
+        os.set_blocking(self.input, False)
         self.lines: list[bytes] = []
         self.answers: list[bytes] = []
         self.unread = b""
+        self.end = 0.0
+
+    def left(self) -> float:
+        """The seconds that are left for what is being sent, and for what comes back for it."""
+        return max(0.0, self.end - time.monotonic())
 
     def say(self, data: bytes) -> None:
         """Sends bytes. If the program takes no more of them, what comes back shows it."""
+        self.end = time.monotonic() + PATIENCE
         try:
-            while data:
+            while data and select.select([], [self.input], [], self.left())[1]:
                 data = data[os.write(self.input, data) :]
         except BrokenPipeError:
             pass
 
     def more(self) -> bytes:
         """Some more bytes; or none, at the end or if nothing comes."""
-        return os.read(self.output, 1 << 16) if select.select([self.output], [], [], PATIENCE)[0] else b""
+        return os.read(self.output, 1 << 16) if select.select([self.output], [], [], self.left())[0] else b""
 
-    def answer(self, line: bytes) -> bytes:
-        """What comes back for a line."""
+    def reply(self, line: bytes) -> bytes:
+        """The next line that comes back once this one is sent."""
         self.say(line + b"\n")
         while b"\n" not in self.unread and (more := self.more()):
             self.unread += more
-        answer, end, self.unread = self.unread.partition(b"\n")
+        reply, end, self.unread = self.unread.partition(b"\n")
+        return reply if end else b"nothing"
+
+    def is_silent(self) -> bool:
+        """Whether nothing came back for the last line."""
+        return self.answers[-1:] == [b"nothing"]
+
+    def answer(self, line: bytes) -> bytes:
+        """What comes back for a line. After nothing has come for one, none is sent, and none waited for."""
         self.lines.append(line)
-        self.answers.append(answer if end else b"nothing")
+        self.answers.append(b"nothing" if self.is_silent() else self.reply(line))
         return self.answers[-1]
 
     def rest(self, data: bytes = b"") -> bytes:
         """What comes back for the last bytes. It is a line more if the program doesn't end well after them."""
+        if self.is_silent():
+            return b"nothing\n"
         self.say(data)
         try:
-            said, told = self.process.communicate(timeout=PATIENCE)
+            said, told = self.process.communicate(timeout=self.left())
         except subprocess.TimeoutExpired:
             return self.unread + b"nothing\n"
         return self.unread + said + how_it_ended(self.process.returncode, told)
@@ -95,8 +113,8 @@ class Talk:
 
     def __exit__(self, *_: object) -> None:
         """The program is gone after this, also if it did not end."""
-        self.process.kill()
-        self.process.communicate()
+        with self.process:
+            self.process.kill()
 
 
 def byte_by_byte(command: list[str], data: bytes, library: str) -> bytes:
@@ -176,18 +194,19 @@ class Player:
             self.counted[way, "lines"] += part.wanted.count(b"\n")
 
     def play(self, example: Example) -> str | None:
-        """Returns what is wrong, or nothing. Each way has to find what is wrong on purpose."""
+        """Returns what is wrong, or nothing. Each way has to find what is wrong on purpose, and nothing before it."""
         found: dict[str, int] = {}
         before = 0
         for part in example.parts:
             for way, answers in ways_of(self.program, self.library, part):
                 self.count(way, part)
                 line = first_other(answers, part.wanted)
-                if line and not example.wrong_line():
+                if line and not found.get(way):
                     how = f": {line_of(answers, line)} and not {line_of(part.wanted, line)}"
-                    return f"{way}: {said_of(example, before + line, how)}"
-                if not found.get(way):
-                    found[way] = before + line if line else 0
+                    if said := said_of(example, before + line, how):
+                        return f"{way}: {said}"
+                    found[way] = before + line
+                found.setdefault(way, 0)
             before += part.wanted.count(b"\n")
         wrong = ((way, said_of(example, line)) for way, line in found.items())
         return next((f"{way}: {said}" for way, said in wrong if said), None)
