@@ -155,11 +155,8 @@ def kept_or_done(plan: Plan, rule: str, seed: int, number: int) -> Counts:
     return counts
 
 
-def part(rule: str, seed: int, before: Any, plan: Plan, number: int) -> tuple[Counts, float]:
-    """The counts of a part, and how many seconds it took here.
-
-    `before` is what the part before returned. It is only there so that Dask does that one first.
-    """
+def part(rule: str, seed: int, plan: Plan, number: int) -> tuple[Counts, float]:
+    """The counts of a part, and how many seconds it took here."""
     began = time.perf_counter()
     if plan.folder is None:
         counts = counted(plan, rule, seed, plan.steps, None)[0]
@@ -214,25 +211,20 @@ def client_of(asked: argparse.Namespace) -> Iterator[Any]:
             client.wait_for_workers(asked.workers)  # Dask complains if the new worker is closed while it starts.
 
 
-def submitted(client: Any, plan: Plan, tasks: Sequence[Task], retries: int) -> dict[Any, tuple[Task, int]]:
-    """All parts of all tasks as futures. Later parts go first, so that tasks end early."""
-    places: dict[Any, tuple[Task, int]] = {}
-    before: list[Any] = [None] * len(tasks)
-    for number in range(plan.parts):
-        before = client.map(
-            part,
-            [rule for rule, _ in tasks],
-            [seed for _, seed in tasks],
-            before,
-            plan=plan,
-            number=number,
-            key=[f"{plan.name(rule, seed, number)}.{plan.run}" for rule, seed in tasks],
-            retries=retries,
-            priority=number,
-            pure=False,
-        )
-        places.update((future, (task, number)) for task, future in zip(tasks, before))
-    return places
+def submitted(client: Any, plan: Plan, tasks: Sequence[Task], number: int, retries: int) -> list[Any]:
+    """A part of each of these tasks, as futures. Later parts go first, so that tasks end early."""
+    futures: list[Any] = client.map(
+        part,
+        [rule for rule, _ in tasks],
+        [seed for _, seed in tasks],
+        plan=plan,
+        number=number,
+        key=[f"{plan.name(rule, seed, number)}.{plan.run}" for rule, seed in tasks],
+        retries=retries,
+        priority=number,
+        pure=False,
+    )
+    return futures
 
 
 def halves(plan: Plan) -> list[str]:
@@ -266,23 +258,32 @@ def error_of(result: Any) -> Optional[BaseException]:
 
 
 def by_dask(plan: Plan, tasks: Sequence[Task], asked: argparse.Namespace) -> Done:
-    """All tasks by Dask. Raises `Failed` if a part was tried as often as it may be."""
+    """All tasks by Dask. Raises `Failed` if a part was tried as often as it may be.
+
+    A part is submitted when the part before it has come back. So no task of Dask needs the result of another one, which
+    may be lost with its worker.
+    """
     with client_of(asked) as client:
         workers = sum(client.nthreads().values())
         began = time.perf_counter()
-        places = submitted(client, plan, tasks, asked.retries)
-        parts, to_kill, within = len(places), asked.kill, 0.0
+        places = {future: (task, 0) for future, task in zip(submitted(client, plan, tasks, 0, asked.retries), tasks)}
+        to_kill, within = asked.kill, 0.0
         found: dict[tuple[Task, int], Counts] = {}
-        for future, result in dask().as_completed(places, with_results=True, raise_errors=False):
+        coming = dask().as_completed(places, with_results=True, raise_errors=False)
+        for future, result in coming:
             task, number = places.pop(future)  # Dask forgets what nobody waits for, and so never does it again.
             error = error_of(result)
             if error:
                 raise Failed(f"{plan.name(*task, number)}: {error}")
             found[task, number], seconds = result
             within += seconds
+            if number + 1 < plan.parts:
+                [after] = submitted(client, plan, [task], number + 1, asked.retries)
+                places[after] = task, number + 1
+                coming.add(after)
             if to_kill and len(found) >= to_kill and killed(plan):
                 to_kill = 0
-                print(f"a worker was killed after {len(found)} of {parts} parts")
+                print(f"a worker was killed after {len(found)} of {len(tasks) * plan.parts} parts")
         seconds = time.perf_counter() - began
     counts = {task: sum((found[task, number] for number in range(plan.parts)), []) for task in tasks}
     return Done(counts, seconds, within, workers)

@@ -14,6 +14,7 @@ import random
 import subprocess
 import sys
 import tempfile
+from subprocess import PIPE
 from types import SimpleNamespace
 from typing import Any, Optional
 
@@ -22,6 +23,8 @@ import support
 
 SCRIPT = os.path.join(os.path.dirname(support.HERE), "examples", "ensemble.py")
 SIDE = 128
+# Seconds in which a run has to end.
+PATIENCE = 600
 # Tasks that the plain machine can do: three seeds, and a step a part.
 FEW_STEPS, FEW_SEEDS = 3, 3
 FEW = [f"--seeds={FEW_SEEDS}", "--rules=all", f"--steps={FEW_STEPS}", "--every=1", "--part=1", f"--side={SIDE}"]
@@ -99,14 +102,15 @@ def environment(program: Optional[str] = None, first: str = "") -> dict[str, str
 
 
 def run(*words: str, program: Optional[str] = None, first: str = "") -> subprocess.CompletedProcess[str]:
-    """Runs the script to its end."""
-    return subprocess.run(
-        [sys.executable, SCRIPT, *words],
-        env=environment(program, first),
-        capture_output=True,
-        text=True,
-        timeout=600,
-    )
+    """Runs the script to its end. One that doesn't come to it fails with what it has written."""
+    command = [sys.executable, SCRIPT, *words]
+    with subprocess.Popen(command, env=environment(program, first), stdout=PIPE, stderr=PIPE, text=True) as process:
+        try:
+            told = process.communicate(timeout=PATIENCE)
+        except subprocess.TimeoutExpired:
+            process.kill()
+            raise AssertionError(f"{words} did not end: {process.communicate()}") from None
+    return subprocess.CompletedProcess(command, process.returncode, *told)
 
 
 def counts_by(*words: str, program: Optional[str] = None) -> dict[str, list[int]]:

@@ -36,7 +36,7 @@ class TestParts(unittest.TestCase):
     def done(self, rule: str = "critters", seed: int = 1, **changes: Any) -> list[int]:
         plan, counts = dataclasses.replace(self.plan, **changes), []
         for number in range(plan.parts):
-            counts += self.script.part(rule, seed, None, plan, number)[0]
+            counts += self.script.part(rule, seed, plan, number)[0]
         return counts
 
     def test_parts_have_the_counts_of_the_plain_machine(self) -> None:
@@ -66,7 +66,7 @@ class TestParts(unittest.TestCase):
 
     def test_a_part_before_that_is_not_there(self) -> None:
         with self.assertRaisesRegex(FileNotFoundError, "do all workers see this folder"):
-            self.script.part("critters", 1, None, self.plan, 1)
+            self.script.part("critters", 1, self.plan, 1)
 
     def test_differences_are_found(self) -> None:
         def done(counts: dict[tuple[str, int], list[int]]) -> Any:
