@@ -1,0 +1,99 @@
+"""Worked examples of sessions and of events, played at the program cam6. Each byte that comes back is compared.
+
+A session is played whole, byte by byte, and command by command. Events are played one by one, and then all at once. Both builds
+of the program play them.
+"""
+
+from __future__ import annotations
+
+import subprocess
+from collections.abc import Callable
+from pathlib import Path
+
+import pytest
+from oracle.examples import Example, Part, limit_of, outcome_of, sizes_of
+from support.playing import assert_answers, examples
+from support.programs import ran
+from support.talk import Talk, how_it_ended
+
+SESSIONS, EVENTS = "crates/cam6_host/sessions", "crates/cam6_host/events"
+
+
+def written_for(command: list[str], data: bytes, env: dict[str, str] | None = None) -> bytes:
+    """What a program writes if these bytes are its input."""
+    try:
+        done = ran(command, data, env)
+    except subprocess.TimeoutExpired as late:
+        return (late.stdout or b"") + b"nothing\n"
+    return done.output + how_it_ended(done.status, done.errors)
+
+
+def byte_by_byte(command: list[str], data: bytes, short_reads: str, given: Path) -> bytes:
+    """What a program writes if a library gives it a byte by each read. It is a line more if that gave another number of
+    bytes."""
+    written = written_for(command, data, {"LD_PRELOAD": short_reads, "READ_AT": str(given)})
+    said = given.read_bytes()
+    return written if said == b"%d" % len(data) else written + b"%s of %d bytes are read\n" % (said, len(data))
+
+
+def command_by_command(command: list[str], data: bytes) -> bytes:
+    """What a program writes to a client that waits for each reply."""
+    *lines, last = data.split(b"\n")
+    with Talk(command) as talk:
+        return b"".join(talk.answer(line) + b"\n" for line in lines) + talk.rest(last)
+
+
+def alone(cam6: str, part: Part) -> tuple[list[str], bytes]:
+    """The command that plays a session, and its input."""
+    return [cam6, "alone", "--side", str(limit_of(part.way))], part.bytes_sent()
+
+
+@pytest.mark.parametrize("path", examples(SESSIONS))
+def test_a_session_whole(either_cam6: str, path: Path) -> None:
+    example = Example(path)
+    assert_answers(example, (written_for(*alone(either_cam6, part)) for part in example.parts))
+
+
+@pytest.mark.parametrize("path", examples(SESSIONS))
+def test_a_session_byte_by_byte(either_cam6: str, path: Path, library: Callable[[str], str], tmp_path: Path) -> None:
+    example, short_reads = Example(path), library("short_reads")
+    parts = (byte_by_byte(*alone(either_cam6, part), short_reads, tmp_path / "given") for part in example.parts)
+    assert_answers(example, parts)
+
+
+@pytest.mark.parametrize("path", examples(SESSIONS))
+def test_a_session_command_by_command(either_cam6: str, path: Path) -> None:
+    example = Example(path)
+    assert_answers(example, (command_by_command(*alone(either_cam6, part)) for part in example.parts))
+
+
+def replay(cam6: str, part: Part) -> list[str]:
+    """The command that plays events."""
+    words = zip(("--users", "--boards", "--cache", "--side"), map(str, sizes_of(part.way)))
+    return [cam6, "replay", *(word for pair in words for word in pair)]
+
+
+def one_by_one(cam6: str, part: Part) -> tuple[bytes, list[bytes], bytes]:
+    """The answers of a part, whose short forms are many events; and all events that were sent, with all that came back."""
+    assert all(end == b"\n" and b"\n" not in line for line, end in part.sent), "an event is one line"
+    with Talk(replay(cam6, part)) as talk:
+        answers = b"".join(outcome_of(talk.answer, line) + b"\n" for line, _ in part.sent)
+        rest = talk.rest()
+    return answers + rest, talk.lines, b"".join(answer + b"\n" for answer in talk.answers) + rest
+
+
+@pytest.mark.parametrize("path", examples(EVENTS))
+def test_events(either_cam6: str, path: Path) -> None:
+    """They have the outcomes of their file one by one, and the same ones all at once."""
+    example = Example(path)
+    played = [one_by_one(either_cam6, part) for part in example.parts]
+    assert_answers(example, (answers for answers, _, _ in played))
+    for part, (_, lines, came) in zip(example.parts, played):
+        assert written_for(replay(either_cam6, part), b"".join(line + b"\n" for line in lines)) == came
+
+
+@pytest.mark.parametrize("script", ["read line; exec sleep 600", "exec cat > /dev/null"])
+def test_a_program_that_says_nothing_is_not_waited_for(script: str, monkeypatch: pytest.MonkeyPatch) -> None:
+    monkeypatch.setattr("support.talk.PATIENCE", 0.1)
+    with Talk(["sh", "-c", script]) as talk:
+        assert [talk.answer(b"{}"), talk.answer(b"{}"), talk.rest()] == [b"nothing", b"nothing", b"nothing\n"]
