@@ -79,11 +79,11 @@ needs() {
   done
 }
 
-# Compiles a library of checks/scripts, with these options, into the folder `work`. Ends a check if it can't.
+# Compiles a library of tests/support, with these options, into the folder `work`. Ends a check if it can't.
 compile_library() {
   [[ -n ${CC-} ]] || needs gcc
-  if ! "${CC:-cc}" -shared -fPIC -O2 -o "${work:?}/$1.so" "checks/scripts/$1.c" "${@:2}"; then
-    echo "$script: checks/scripts/$1.c can't be compiled, which takes the packages gcc and libc6-dev of packages.txt"
+  if ! "${CC:-cc}" -shared -fPIC -O2 -o "${work:?}/$1.so" "tests/support/$1.c" "${@:2}"; then
+    echo "$script: tests/support/$1.c can't be compiled, which takes the packages gcc and libc6-dev of packages.txt"
     echo "0 passed, 1 failed"
     exit 1
   fi

@@ -1,0 +1,81 @@
+"""What all tests share: the programs under test, and hosts, pages and libraries that go when their test ends."""
+
+from __future__ import annotations
+
+import subprocess
+from collections.abc import Callable, Iterator
+from contextlib import ExitStack
+from pathlib import Path
+
+import pytest
+from support.programs import CRATES, Host, Page, built
+
+SUPPORT = Path(__file__).parent / "support"
+
+
+def pytest_addoption(parser: pytest.Parser) -> None:
+    """An option for each program, by which another build is tested."""
+    for name, crate in CRATES.items():
+        option = f"--{name.replace('_', '-')}"
+        parser.addoption(option, metavar="PATH", help=f"the program {name} (crates/{crate}/out/{crate})")
+
+
+def program(request: pytest.FixtureRequest, name: str) -> str:
+    """The path of a program: the one that an option names, or the one that `./build` left."""
+    path = built(name, request.config.getoption(name))
+    if path is None:
+        pytest.fail(f"there is no program {name}: ./build builds it", pytrace=False)
+    return str(path)
+
+
+@pytest.fixture(scope="session")
+def cam6(request: pytest.FixtureRequest) -> str:
+    """The path of the program cam6."""
+    return program(request, "cam6")
+
+
+@pytest.fixture(scope="session")
+def cam6_draw(request: pytest.FixtureRequest) -> str:
+    """The path of the program cam6_draw."""
+    return program(request, "cam6_draw")
+
+
+@pytest.fixture(scope="session")
+def cam6_rle(request: pytest.FixtureRequest) -> str:
+    """The path of the program cam6_rle."""
+    return program(request, "cam6_rle")
+
+
+@pytest.fixture(scope="session")
+def cam6_web(request: pytest.FixtureRequest) -> str:
+    """The path of the program cam6_web."""
+    return program(request, "cam6_web")
+
+
+@pytest.fixture
+def host(cam6: str) -> Iterator[Callable[..., Host]]:
+    """Starts `cam6 serve` with options, as often as it is called: `host("--users=4")`."""
+    with ExitStack() as stack:
+        yield lambda *options, **how: stack.enter_context(Host(cam6, *options, **how))
+
+
+@pytest.fixture
+def page(cam6_web: str) -> Iterator[Callable[..., Page]]:
+    """Starts `cam6_web` with hosts at these ports, or with a machine for each socket if there are none."""
+    with ExitStack() as stack:
+        yield lambda *ports, **how: stack.enter_context(Page(cam6_web, *ports, **how))
+
+
+@pytest.fixture(scope="session")
+def library(tmp_path_factory: pytest.TempPathFactory) -> Callable[[str], str]:
+    """Compiles a library of tests/support that is loaded into a program: `library("short_reads")` is its path."""
+    folder = tmp_path_factory.mktemp("libraries")
+
+    def compiled(name: str) -> str:
+        path = folder / f"{name}.so"
+        if not path.exists():
+            source = SUPPORT / f"{name}.c"
+            subprocess.run(["cc", "-shared", "-fPIC", "-O2", "-o", path, source, "-ldl"], check=True)
+        return str(path)
+
+    return compiled

@@ -1,0 +1,208 @@
+"""The programs as child processes: runs to an end, private machines, hosts, pages, and connections to them."""
+
+from __future__ import annotations
+
+import os
+import socket
+import struct
+import subprocess
+import threading
+import time
+from collections.abc import Callable, Iterable, Mapping
+from dataclasses import dataclass
+from pathlib import Path
+from typing import Any, TypeVar
+
+TOP = Path(__file__).parents[2]
+# The crate of each program.
+CRATES = {"cam6": "cam6_host", "cam6_draw": "cam6_draw", "cam6_rle": "cam6_rle", "cam6_web": "cam6_web"}
+Self = TypeVar("Self", bound="Listener")
+# Seconds within which a program has to listen, to answer a line, and to end.
+START, PATIENCE, END = 20.0, 60.0, 600.0
+# The exit status of a host whose port is taken, and how often another port is tried.
+NETWORK_FAILED, STARTS = 7, 5
+
+
+def built(name: str, named: str | None = None) -> Path | None:
+    """The path of a program, if it is there: the one that is named, or else the one that the gate built."""
+    crate = CRATES[name]
+    places = [Path(named)] if named else [TOP / "crates" / crate / "out" / crate, TOP / name]
+    return next((path.resolve() for path in places if os.access(path, os.X_OK)), None)
+
+
+@dataclass(frozen=True)
+class Ran:
+    """What a program did: its exit status, and what it wrote to its output and to its errors."""
+
+    status: int
+    output: bytes
+    errors: bytes = b""
+
+
+def ran(command: Iterable[str], data: bytes = b"", env: Mapping[str, str] | None = None, patience: float = END) -> Ran:
+    """Runs a program to its end, with these bytes as its input."""
+    all_env = os.environ | dict(env or {})
+    done = subprocess.run([*command], input=data, capture_output=True, timeout=patience, env=all_env, check=False)
+    return Ran(done.returncode, done.stdout, done.stderr)
+
+
+def private(cam6: str, lines: Iterable[str], side: int = 512) -> list[str]:
+    """The replies of a private machine, `cam6 alone`, to these lines."""
+    done = ran([cam6, "alone", "--side", str(side)], "".join(f"{line}\n" for line in lines).encode())
+    assert done.status == 0, done
+    return done.output.decode().splitlines()
+
+
+def free_port() -> int:
+    """A port that nobody listens at."""
+    with socket.socket() as free:
+        free.bind(("127.0.0.1", 0))
+        port: int = free.getsockname()[1]
+        return port
+
+
+def until(is_so: Callable[[], Any], seconds: float = PATIENCE, pause: float = 0.02) -> bool:
+    """Waits until something is so, for so many seconds at most. Returns whether it came to be so."""
+    end = time.monotonic() + seconds
+    while time.monotonic() < end:
+        if is_so():
+            return True
+        time.sleep(pause)
+    return bool(is_so())
+
+
+class Listener:
+    """A program that listens at a port until it is ended. Raises OSError if it doesn't begin to."""
+
+    process: subprocess.Popen[bytes]
+
+    def __init__(self, command: Callable[[int], list[str]], port: int | None, env: Mapping[str, str] | None) -> None:
+        self.command_at, self.port, self.env = command, port or free_port(), dict(env or {})
+        self.said: list[str] = []
+        for _ in range(1 if port else STARTS):
+            if self.begins():
+                return
+            if self.process.returncode != NETWORK_FAILED:
+                break
+            self.port = free_port()
+        raise OSError(f"{' '.join(self.command_at(self.port))} doesn't listen: {self.said}")
+
+    def begins(self) -> bool:
+        """Starts the program. Returns whether it listens."""
+        self.said = []
+        how: dict[str, Any] = {"stdin": subprocess.DEVNULL, "stdout": subprocess.PIPE, "stderr": subprocess.PIPE}
+        self.process = subprocess.Popen(self.command_at(self.port), env=os.environ | self.env, **how)
+        is_told = threading.Event()
+
+        def listen() -> None:
+            assert self.process.stderr
+            for line in self.process.stderr:
+                self.said.append(line.decode(errors="replace").rstrip("\n"))
+                is_told.set()
+            is_told.set()
+
+        self.reader = threading.Thread(target=listen, daemon=True)
+        self.reader.start()
+        is_told.wait(START)
+        if self.said[:1] == [f"listening on 127.0.0.1:{self.port}"]:
+            return True
+        self.ended(START)
+        self.kill()
+        return False
+
+    def begin(self) -> None:
+        """Starts the program again, at the same port."""
+        assert until(self.begins, START), self.said
+
+    def kill(self) -> None:
+        """Ends the program at once."""
+        self.process.kill()
+        self.ended()
+
+    def ended(self, patience: float = PATIENCE) -> Ran | None:
+        """How the program ends by itself, or None if it doesn't within so many seconds. The first line of its errors,
+        which says where it listens, is left out."""
+        try:
+            status = self.process.wait(patience)
+        except subprocess.TimeoutExpired:
+            return None
+        self.reader.join()
+        assert self.process.stdout
+        output = b"" if self.process.stdout.closed else self.process.stdout.read()
+        self.process.stdout.close()
+        return Ran(status, output, "".join(f"{line}\n" for line in self.said[1:]).encode())
+
+    def is_running(self) -> bool:
+        """Whether the program has not ended."""
+        return self.process.poll() is None
+
+    def of_process(self, name: str) -> int:
+        """A number that the system knows of the process, as VmRSS (in kB) or Threads."""
+        with open(f"/proc/{self.process.pid}/status", encoding="utf-8") as lines:
+            return next((int(line.split()[1]) for line in lines if line.startswith(f"{name}:")), 0)
+
+    def __enter__(self: Self) -> Self:
+        return self
+
+    def __exit__(self, *_: object) -> None:
+        self.kill()
+
+
+class Host(Listener):
+    """`cam6 serve`, with options such as `--users=4`."""
+
+    def __init__(self, cam6: str, *options: str, port: int | None = None, env: Mapping[str, str] | None = None) -> None:
+        super().__init__(lambda at: [cam6, "serve", f"--port={at}", *options], port, env)
+
+
+class Page(Listener):
+    """`cam6_web`, with hosts at these ports, or with a machine for each socket if there are none."""
+
+    def __init__(self, cam6_web: str, *ports: int, port: int | None = None, options: tuple[str, ...] = ()) -> None:
+        hosts = [word for at in ports for word in ("--host", f"127.0.0.1:{at}")]
+        super().__init__(lambda at: [cam6_web, "--port", str(at), *hosts, *options], port, None)
+
+    @property
+    def address(self) -> str:
+        """The address of the page, for a browser."""
+        return f"http://127.0.0.1:{self.port}/"
+
+
+class Peer:
+    """A connection to a host, line by line. If `seat` is a number, it asks for that seat; `said` is the answer."""
+
+    def __init__(self, port: int, seat: int | None = None, patience: float = PATIENCE) -> None:
+        self.socket = socket.create_connection(("127.0.0.1", port), timeout=patience)
+        self.socket.setsockopt(socket.IPPROTO_TCP, socket.TCP_NODELAY, 1)
+        self.file = self.socket.makefile("rb")
+        self.said = None if seat is None else self.ask(f'{{"seat":{seat}}}')
+
+    def send(self, data: bytes | str) -> None:
+        """Sends bytes, or the bytes of a text."""
+        self.socket.sendall(data.encode() if isinstance(data, str) else data)
+
+    def read(self) -> str | None:
+        """The next line without its LF, or None if the connection has ended."""
+        line = self.file.readline()
+        return line[:-1].decode() if line.endswith(b"\n") else None
+
+    def ask(self, line: str) -> str | None:
+        """The answer to a line."""
+        self.send(f"{line}\n")
+        return self.read()
+
+    def close(self) -> None:
+        """Closes the connection."""
+        self.file.close()
+        self.socket.close()
+
+    def reset(self) -> None:
+        """Closes the connection by a reset."""
+        self.socket.setsockopt(socket.SOL_SOCKET, socket.SO_LINGER, struct.pack("ii", 1, 0))
+        self.close()
+
+    def __enter__(self) -> Peer:
+        return self
+
+    def __exit__(self, *_: object) -> None:
+        self.close()

@@ -1,0 +1,32 @@
+"""The helpers of the tests find what they are there to find."""
+
+from __future__ import annotations
+
+from collections.abc import Callable
+
+import pytest
+from support.programs import Host, Peer, Ran, private
+from support.sessions import assert_replies
+
+
+def test_a_host_begins_again_at_its_port(host: Callable[..., Host]) -> None:
+    one = host("--connections=1")
+    with Peer(one.port, 1) as peer:
+        assert peer.said == '{"ok":"seat"}'
+    assert one.ended() == Ran(0, b"", b"")
+    one.begin()
+    assert one.is_running()
+
+
+def test_a_private_machine_replies(cam6: str) -> None:
+    assert private(cam6, ['{"do":"rules"}', "{"]) == ['{"names":[],"ok":"rules"}', '{"fault":2}']
+
+
+def test_a_session_that_fails_is_shown() -> None:
+    sent = ['{"do":"rules"}', "{}", "["]
+    with pytest.raises(AssertionError, match=r"reply 2 of 3 to '\{\}'\n  is     'b'") as told:
+        assert_replies(sent, ["a", "b", "c"], ["a", "B", "c"])
+    assert str(told.value).endswith('./cam6 alone:\n{"do":"rules"}\n{}')
+    with pytest.raises(AssertionError, match="is     nothing"):
+        assert_replies(sent, ["a", "b"], ["a", "b", "c"])
+    assert_replies(sent, ["a", "b", "c"], ["a", "b", "c"])
