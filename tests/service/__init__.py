@@ -1,0 +1,1 @@
+"""Tests of `cam6 serve` and cam6_web over connections."""
