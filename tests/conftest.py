@@ -2,6 +2,7 @@
 
 from __future__ import annotations
 
+import os
 import subprocess
 from collections.abc import Callable, Iterator
 from contextlib import ExitStack
@@ -32,6 +33,15 @@ def program(request: pytest.FixtureRequest, name: str) -> str:
 def cam6(request: pytest.FixtureRequest) -> str:
     """The path of the program cam6."""
     return program(request, "cam6")
+
+
+@pytest.fixture(scope="session", params=["", ".by-rattle"], ids=["llvm", "rattle"])
+def either_cam6(request: pytest.FixtureRequest, cam6: str) -> str:
+    """The path of the program cam6, as each of the two compilers builds it."""
+    path = f"{cam6}{request.param}"
+    if request.config.getoption("cam6") and not os.path.exists(path):
+        pytest.skip(f"--cam6 names a program that has no {path} beside it")
+    return path
 
 
 @pytest.fixture(scope="session")

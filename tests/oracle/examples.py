@@ -1,0 +1,268 @@
+"""Worked examples: their files, read as docs/EXAMPLES.md says.
+
+A file is refused whole if one of its lines can't be read, or if it wants no line.
+"""
+
+from __future__ import annotations
+
+import re
+from collections.abc import Callable
+from pathlib import Path
+
+from oracle.lines import plain
+
+SIDES = (128, 256, 512)
+# A number as JSON writes it, and the least one that an event can't have.
+NUMBER, TOO_LARGE = rb"(0|[1-9][0-9]*)", 2**64
+# The most boards of a host.
+MOST_BOARDS = 8
+
+# A text that is sent, and what is sent after it: an LF, or nothing.
+Sent = tuple[bytes, bytes]
+
+
+class Unplayable(ValueError):
+    """A line of a file, or the whole file, can't be played."""
+
+
+def piece(text: str) -> bytes:
+    """A text, or bytes by their digits."""
+    if not text.startswith("x "):
+        return text.encode()
+    if not re.fullmatch("x( [0-9A-F]{2})+", text):
+        raise Unplayable(f"no bytes: {text}")
+    return bytes.fromhex(text[2:])
+
+
+def marked(mark: str, named: dict[str, bytes]) -> bytes:
+    """What a mark stands for."""
+    if times := re.fullmatch(r"([0-9]+)\*(.*)", mark, re.DOTALL):
+        return int(times[1]) * piece(times[2])
+    if mark in named:
+        return named[mark]
+    if not mark.startswith("x "):
+        raise Unplayable(f"no text is named {mark}")
+    return piece(mark)
+
+
+def written_out(text: str, named: dict[str, bytes]) -> bytes:
+    """A text with its marks written out."""
+    whole, *pieces = text.split("«")
+    written = whole.encode()
+    for part in pieces:
+        mark, end, rest = part.partition("»")
+        if not end:
+            raise Unplayable(f"a mark without an end: {part}")
+        written += marked(mark, named) + rest.encode()
+    return written
+
+
+class Rows:
+    """Rows that a file says, all zeros but for those that it names. If they are to be set, `plane` says where."""
+
+    def __init__(self, side: int, plane: str | None) -> None:
+        self.side, self.plane = side, plane
+        self.digits, self.named = ["0" * (side // 4)] * side, set[int]()
+        self.column = self.next_row = 0
+
+    def put(self, y: int, digits: str) -> None:
+        """Gives a row its digits."""
+        if y >= self.side:
+            raise Unplayable(f"there is no row {y}")
+        self.digits[y] = digits
+        self.named.add(y)
+
+    def read(self, mark: str, rest: str) -> None:
+        """Reads a line that names rows."""
+        wanted = {"=": r"(even|odd|[0-9]+) ([0-9a-f]*\*?[0-9a-f]*)", "@": "([0-9]+) ([0-9]+)", "|": "([#.]*)()"}[mark]
+        found = re.fullmatch(wanted, rest)
+        if not found:
+            raise Unplayable(f"no row: {rest}")
+        if mark == "=":
+            self.put_digits(found[1], found[2])
+        elif mark == "@":
+            self.column, self.next_row = int(found[1]), int(found[2])
+        else:
+            self.put_cells(found[1])
+
+    def put_digits(self, row: str, digits: str) -> None:
+        """Gives one row, or every other one, its digits."""
+        first, star, last = digits.partition("*")
+        left_out = self.side // 4 - len(first) - len(last)
+        if left_out < 0 or left_out > 0 and not star:
+            raise Unplayable(f"{digits} has not the digits of a row")
+        halves = {"even": range(0, self.side, 2), "odd": range(1, self.side, 2)}
+        for y in halves[row] if row in halves else [int(row)]:
+            self.put(y, first + "0" * left_out + last)
+
+    def put_cells(self, cells: str) -> None:
+        """Sets cells of the next row, as a picture has them."""
+        y = self.next_row % self.side
+        bits = int(self.digits[y], 16)
+        for i, cell in enumerate(cells):
+            bits |= (cell == "#") << self.side - 1 - (self.column + i) % self.side
+        self.put(y, f"{bits:0{self.side // 4}x}")
+        self.next_row += 1
+
+
+class Part:
+    """Lines that are played in one way: each with whether an LF is sent after it, and what must come back."""
+
+    def __init__(self, way: str) -> None:
+        self.way, self.wanted = way, b""
+        self.sent: list[Sent] = []
+
+    def bytes_sent(self) -> bytes:
+        """All that is sent."""
+        return b"".join(line + end for line, end in self.sent)
+
+
+class Example:
+    """A file that has been read. It can't be played if it wants no line."""
+
+    def __init__(self, path: Path) -> None:
+        self.name = path.name
+        self.parts: list[Part] = []
+        self.named: dict[str, bytes] = {}
+        self.side = 256
+        self.rows: Rows | None = None
+        text = path.read_bytes().decode()
+        self.head = " ".join(re.findall("# (.*)", re.split("^(?!# )", text, maxsplit=1, flags=re.M)[0]))
+        for number, line in enumerate(text.split("\n"), 1):
+            try:
+                self.read(*line.partition(" ")[::2])
+            except Unplayable as why:
+                raise Unplayable(f"{self.name}: line {number} can't be played: {why}") from why
+        self.end_rows()
+        if not any(part.wanted for part in self.parts):
+            raise Unplayable(f"{self.name}: no line is wanted")
+
+    def wrong_line(self) -> int:
+        """The line that comes back otherwise, counted from 1, or 0 if the file isn't wrong on purpose."""
+        if not self.name.startswith("wrong_"):
+            return 0
+        said = re.match(r"Wrong on purpose: .*?\bline ([1-9][0-9]*)\b", self.head)
+        if not said:
+            raise Unplayable(f"{self.name}: its head doesn't say which line is wrong")
+        return int(said[1])
+
+    def part(self) -> Part:
+        """The last part. Lines before the first one are a session."""
+        if not self.parts:
+            self.parts.append(Part("session"))
+        return self.parts[-1]
+
+    def send(self, text: str, end: bytes = b"\n") -> None:
+        """Sends a line."""
+        self.part().sent.append((written_out(text, self.named), end))
+
+    def want(self, text: str) -> None:
+        """Wants a line."""
+        self.part().wanted += written_out(text, self.named) + b"\n"
+
+    def end_rows(self) -> None:
+        """Ends the rows that were begun: they are wanted, or sent."""
+        rows, self.rows = self.rows, None
+        if rows and rows.plane is None:
+            self.want(plain({"ok": "plane", "rows": rows.digits}).decode())
+        elif rows:
+            for y in sorted(rows.named):
+                self.send(f'{{"do":"set","plane":{rows.plane},"row":{y},"bits":"{rows.digits[y]}"}}')
+                self.want('{"ok":"set"}')
+
+    def read(self, mark: str, rest: str) -> None:
+        """Reads a line by its mark."""
+        if mark in ("=", "@", "|"):
+            if not self.rows:
+                raise Unplayable("no rows are begun")
+            self.rows.read(mark, written_out(rest, self.named).decode())
+            return
+        self.end_rows()
+        readers = {"as": self.begin, "let": self.name_text, "side": self.set_side}
+        readers |= {">": self.read_sent, "<": self.read_wanted}
+        if mark == ">>":
+            self.send(rest, b"")
+        elif mark in readers:
+            readers[mark](rest)
+        elif mark not in ("", "#"):
+            raise Unplayable(f"there is no mark {mark}")
+
+    def begin(self, way: str) -> None:
+        """Begins a part."""
+        self.parts.append(Part(way))
+
+    def name_text(self, rest: str) -> None:
+        """Names a text."""
+        name, _, text = rest.partition(" ")
+        if name in self.named:
+            raise Unplayable(f"two texts are named {name}")
+        self.named[name] = written_out(text, self.named)
+
+    def set_side(self, side: str) -> None:
+        """Says how long rows are."""
+        if side not in map(str, SIDES):
+            raise Unplayable(f"no side: {side}")
+        self.side = int(side)
+
+    def read_sent(self, rest: str) -> None:
+        """Reads a line that is sent, maybe with what is wanted, or that begins rows."""
+        if rest.startswith("rows "):
+            self.rows = Rows(self.side, rest[5:])
+        elif " => " in rest:
+            sent, wanted = rest.rsplit(" => ", 1)
+            self.send(sent)
+            self.want(wanted)
+        else:
+            self.send(rest)
+
+    def read_wanted(self, rest: str) -> None:
+        """Reads a line that is wanted, or that begins a plane."""
+        if rest == "plane":
+            self.rows = Rows(self.side, None)
+        else:
+            self.want(rest)
+
+
+def limit_of(way: str) -> int:
+    """The limit of a session, by its way."""
+    found = re.fullmatch("session(?: within (128|256|512))?", way)
+    if not found:
+        raise Unplayable(f"no session: {way}")
+    return int(found[1] or 256)
+
+
+def sizes_of(way: str) -> tuple[int, int, int, int]:
+    """The users, boards and cached tables of events, and the limit of all users, by their way."""
+    found = re.fullmatch("events ([0-9]+) ([0-9]+) ([0-9]+)(?: within (128|256|512))?", way)
+    if not found:
+        raise Unplayable(f"no events: {way}")
+    users, boards, cache, limit = (int(number or 256) for number in found.groups())
+    return users, boards, cache, limit
+
+
+def outcome_of(answer: Callable[[bytes], bytes], line: bytes) -> bytes:
+    """The outcome of a line of events, or of the last one of those for which a short form stands. `answer` has that of
+    one line."""
+    if bands := re.fullmatch(rb"bands %s %s" % (NUMBER, NUMBER), line):
+        times = int(bands[2])
+        if times == 0 or max(int(bands[1]), times) >= TOO_LARGE:
+            return b"unread"
+        return [answer(b'{"event":"band","board":%s}' % bands[1]) for _ in range(times)][-1]
+    if (reply := re.fullmatch(rb"reply %s (.*)" % NUMBER, line, re.DOTALL)) and int(reply[1]) < TOO_LARGE:
+        return whole_reply(answer, reply[1], reply[2])
+    return b"unread" if re.match(rb"(bands|reply)( |$)", line) else answer(line)
+
+
+def whole_reply(answer: Callable[[bytes], bytes], user: bytes, command: bytes) -> bytes:
+    """The outcome of a command's collect, after its ask, a lease of the first board that takes it, and its bands. Or
+    that of an ask that is refused."""
+    asked = answer(b'{"event":"ask","user":%s,"command":%s}' % (user, command))
+    left = re.match(rb'{"left":([0-9]+),', asked)
+    if not left:
+        return asked
+    for board in range(MOST_BOARDS if int(left[1]) else 0):
+        if answer(b'{"event":"lease","user":%s,"board":%d}' % (user, board)).startswith(b'{"left":'):
+            for _ in range(int(left[1])):
+                answer(b'{"event":"band","board":%d}' % board)
+            break
+    return answer(b'{"event":"collect","user":%s}' % user)

@@ -1,0 +1,350 @@
+"""Lines: what the bytes of one say as JSON, and which command or event that is; or the line's fault.
+
+The reader of JSON is as strict as serde_json is: a text is UTF-8 without a byte order
+mark, no control character stands by itself in a string, a surrogate has its other half, lists and objects are 127 deep
+at most, and a number that is too large for a float is none. Of a key that is repeated the last one counts. A line that
+loads a machine has one spelling, which is the plainest.
+"""
+
+from __future__ import annotations
+
+import json
+import re
+from collections.abc import Callable
+from typing import Any
+
+from oracle.wirings import HOODS, MINORS
+
+LINE_LIMIT, MOST_NESTED = 16384, 127
+# A line that begins so may have more bytes than another one.
+LOAD_HEAD, LOAD_LIMIT = b'{"do":"load",', 2097152
+LARGEST_NUMBER = 2**64 - 1
+# The first digits of the least number that is too large for a float, which is so many digits long.
+TOO_LARGE, TOO_LONG = 17976931348623158, 309
+Shape = Callable[[Any], bool]
+DIGITS = "0123456789abcdefABCDEF"
+
+
+class NoJson(Exception):
+    """The bytes are no JSON value."""
+
+
+class Unclear(Exception):
+    """It takes exact arithmetic to say whether a number is too large: no line of ours has one."""
+
+
+class OtherNumber:
+    """A number that is none of 0 to 2**64 - 1 in digits alone."""
+
+
+class Reader:
+    """Reads a line from its first byte on. `depth` is how many lists and objects are open."""
+
+    def __init__(self, line: bytes) -> None:
+        self.line, self.at, self.depth = line, 0, 0
+
+    def found(self, pattern: bytes) -> re.Match[bytes] | None:
+        """What stands here, if it is of this pattern; it is passed."""
+        if found := re.compile(pattern).match(self.line, self.at):
+            self.at = found.end()
+        return found
+
+    def need(self, pattern: bytes) -> bytes:
+        """What stands here, which has to be of this pattern."""
+        found = self.found(pattern)
+        if not found:
+            raise NoJson
+        return found[0]
+
+    def space(self) -> None:
+        """Passes blanks."""
+        self.found(rb"[ \t\n\r]*")
+
+    def whole(self) -> Any:
+        """The value that is the whole line."""
+        value = self.value()
+        self.space()
+        if self.at < len(self.line):
+            raise NoJson
+        return value
+
+    def value(self) -> Any:
+        """Any value, and what it is."""
+        self.space()
+        for word, value in (rb"null", None), (rb"true", True), (rb"false", False):
+            if self.found(word):
+                return value
+        first = self.line[self.at : self.at + 1]
+        if first == b'"':
+            return self.text()
+        if first in (b"[", b"{"):
+            self.depth += 1
+            if self.depth > MOST_NESTED:
+                raise NoJson
+            inner: Any = self.items() if first == b"[" else self.members()
+            self.depth -= 1
+            return inner
+        return self.number()
+
+    def items(self) -> list[Any]:
+        """A list."""
+        self.need(rb"\[")
+        items: list[Any] = []
+        self.space()
+        if self.found(rb"\]"):
+            return items
+        while True:
+            items.append(self.value())
+            self.space()
+            if self.need(rb"[],]") == b"]":
+                return items
+
+    def members(self) -> dict[str, Any]:
+        """An object."""
+        self.need(rb"\{")
+        members: dict[str, Any] = {}
+        self.space()
+        if self.found(rb"\}"):
+            return members
+        while True:
+            self.space()
+            key = self.text()
+            self.space()
+            self.need(rb":")
+            members[key] = self.value()
+            self.space()
+            if self.need(rb"[},]") == b"}":
+                return members
+
+    def text(self) -> str:
+        """A string."""
+        self.need(rb'"')
+        text = b""
+        while not self.found(rb'"'):
+            text += self.need(rb'[^"\\\x00-\x1f]*')
+            if self.found(rb"\\"):
+                text += self.escaped().encode()
+            elif self.line[self.at : self.at + 1] != b'"':
+                raise NoJson
+        try:
+            return text.decode()
+        except UnicodeDecodeError:
+            raise NoJson from None
+
+    def escaped(self) -> str:
+        """What stands behind a backslash."""
+        letter = self.need(rb'["\\/bfnrtu]').decode()
+        if letter != "u":
+            return {"b": "\b", "f": "\f", "n": "\n", "r": "\r", "t": "\t"}.get(letter, letter)
+        unit = self.unit()
+        if 0xD800 <= unit < 0xDC00:
+            self.need(rb"\\u")
+            low = self.unit()
+            if not 0xDC00 <= low < 0xE000:
+                raise NoJson
+            return chr(0x10000 + (unit - 0xD800 << 10) + low - 0xDC00)
+        if 0xDC00 <= unit < 0xE000:
+            raise NoJson
+        return chr(unit)
+
+    def unit(self) -> int:
+        """Four digits of an escape."""
+        return int(self.need(rb"[0-9a-fA-F]{4}"), 16)
+
+    def number(self) -> OtherNumber | int:
+        """A number. One that no line may have is some other number, and one that is too large for a float is no JSON."""
+        found = self.found(rb"(-?)(0|[1-9][0-9]*)(\.([0-9]+))?([eE]([+-]?[0-9]+))?")
+        if not found:
+            raise NoJson
+        minus, whole, point, part, power, exponent = found.groups()
+        if not minus and not point and not power and len(whole) <= 20 and int(whole) <= LARGEST_NUMBER:
+            return int(whole)
+        if is_too_large(whole + (part or b""), len(whole), exponent or b"0"):
+            raise NoJson
+        return OtherNumber()
+
+
+def is_too_large(digits: bytes, whole: int, exponent: bytes) -> bool:
+    """Whether the digits, with so many of them before the point, are too large for a float with this exponent."""
+    first, power = digits.lstrip(b"0"), exponent.lstrip(b"+-").lstrip(b"0") or b"0"
+    if not first or len(power) > 9:
+        return bool(first) and not exponent.startswith(b"-")
+    ten = -int(power) if exponent.startswith(b"-") else int(power)
+    length = whole - (len(digits) - len(first)) + ten
+    if length != TOO_LONG:
+        return length > TOO_LONG
+    beyond = int(first[:17].ljust(17, b"0")) - TOO_LARGE
+    if abs(beyond) < 1000:
+        raise Unclear
+    return beyond > 0
+
+
+def is_number(value: Any) -> bool:
+    """Whether a value is a number from 0 on. `True` is none."""
+    return type(value) is int
+
+
+def is_text(value: Any) -> bool:
+    """Whether a value is a text."""
+    return isinstance(value, str)
+
+
+def is_bits(value: Any) -> bool:
+    """Whether a value has the digits of a row, of some side."""
+    return is_text(value) and len(value) in (32, 64, 128) and all(digit in DIGITS for digit in value)
+
+
+def one_of(*words: str) -> Shape:
+    """What says whether a value is one of these words."""
+    return lambda value: is_text(value) and value in words
+
+
+def is_object(value: Any, **shapes: Shape) -> bool:
+    """Whether the value is an object with exactly these keys, each of its shape."""
+    return (
+        isinstance(value, dict)
+        and set(value) == set(shapes)
+        and all(is_shape(value[key]) for key, is_shape in shapes.items())
+    )
+
+
+def is_entry(value: Any) -> bool:
+    """Whether a value is an entry of a cycle."""
+    return is_object(value, a=is_text, b=is_text, grid=one_of("EVEN", "ODD"), phase=is_number)
+
+
+def is_list_of(is_shape: Shape) -> Shape:
+    """What says whether a value is a list of such values."""
+    return lambda value: isinstance(value, list) and all(map(is_shape, value))
+
+
+def is_map(value: Any) -> bool:
+    """Whether a value has a number for each of the sixteen states."""
+    return is_list_of(is_number)(value) and len(value) == 16
+
+
+RULE = {
+    "name": is_text,
+    "half": one_of("A", "B"),
+    "hood": one_of(*HOODS),
+    "minor": one_of(*MINORS),
+    "text": is_text,
+}
+
+
+def is_rule(value: Any) -> bool:
+    """Whether a value is a rule of a saved machine."""
+    return is_object(value, **RULE)
+
+
+def are_planes(value: Any) -> bool:
+    """Whether a value has four lists of rows."""
+    return is_list_of(is_list_of(is_bits))(value) and len(value) == 4
+
+
+MACHINE = {
+    "colours": is_map,
+    "cycle": is_list_of(is_entry),
+    "planes": are_planes,
+    "position": is_number,
+    "rules": is_list_of(is_rule),
+    "version": is_number,
+}
+# By its version: a saved machine of the first one has no side.
+MACHINES = {1: MACHINE, 2: MACHINE | {"side": is_number}}
+
+
+def is_machine(value: Any) -> bool:
+    """Whether a value is a saved machine, of either version."""
+    version = value.get("version") if isinstance(value, dict) else None
+    return is_number(version) and version in MACHINES and is_object(value, **MACHINES[version])
+
+
+COMMANDS: dict[str, dict[str, Shape]] = {
+    "set": {"plane": is_number, "row": is_number, "bits": is_bits},
+    "clear": {"plane": is_number},
+    "row": {"plane": is_number, "row": is_number},
+    "plane": {"plane": is_number},
+    "rule": RULE,
+    "drop": {"name": is_text},
+    "rules": {},
+    "cycle": {"entries": is_list_of(is_entry)},
+    "run": {"n": is_number},
+    "back": {"n": is_number},
+    "map": {"colours": is_map},
+    "colours": {"row": is_number},
+    "count": {"mask": is_number},
+    "side": {"side": is_number},
+    "save": {},
+    "load": {"machine": is_machine},
+}
+
+
+def is_one_of(value: Any, key: str, table: dict[str, dict[str, Shape]]) -> bool:
+    """Whether the value is an object that has a word of the table at its key, and the keys of the word."""
+    word = value.get(key) if isinstance(value, dict) else None
+    return is_text(word) and word in table and is_object(value, **{key: is_text}, **table[word])
+
+
+def is_command(value: Any) -> bool:
+    """Whether a value is a command."""
+    return is_one_of(value, "do", COMMANDS)
+
+
+def is_asked(value: Any) -> bool:
+    """Whether an ask may hold the value: a command that loads nothing."""
+    return is_command(value) and value["do"] != "load"
+
+
+EVENTS: dict[str, dict[str, Shape]] = {
+    "ask": {"user": is_number, "command": is_asked},
+    "lease": {"user": is_number, "board": is_number},
+    "band": {"board": is_number},
+    "preempt": {"board": is_number},
+    "fail": {"board": is_number},
+    "repair": {"board": is_number},
+    "evict": {},
+    "collect": {"user": is_number},
+}
+
+
+def is_event(value: Any) -> bool:
+    """Whether a value is an event."""
+    return is_one_of(value, "event", EVENTS)
+
+
+def line_limit(line: bytes) -> int:
+    """How many bytes a line may have that begins as this one does."""
+    return LOAD_LIMIT if line.startswith(LOAD_HEAD) else LINE_LIMIT
+
+
+def is_spelled(line: bytes, said: dict[str, Any]) -> bool:
+    """Whether a line is spelled as it has to be: one that loads a machine has one spelling."""
+    if said.get("do") != "load":
+        return True
+    texts = [digits for rows in said["machine"]["planes"] for digits in rows]
+    return line == plain(said) and all(digits == digits.lower() for digits in texts)
+
+
+def read_line(line: bytes, is_said: Shape) -> int | dict[str, Any]:
+    """What a line says, a command or an event; or the number of its fault."""
+    if len(line) > line_limit(line):
+        return 1
+    try:
+        value = Reader(line).whole()
+    except NoJson:
+        return 2
+    if not is_said(value):
+        return 3
+    return value if is_spelled(line, value) else 4
+
+
+def lines_of(text: bytes) -> list[bytes]:
+    """The lines of bytes. The last one may lack its LF."""
+    lines = text.split(b"\n")
+    return lines if lines[-1] else lines[:-1]
+
+
+def plain(value: Any) -> bytes:
+    """The compact text of a value, its keys in byte order."""
+    return json.dumps(value, separators=(",", ":"), sort_keys=True, ensure_ascii=False).encode()

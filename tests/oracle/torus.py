@@ -1,0 +1,116 @@
+"""A torus of cells: four planes of rows, of a byte for each cell; a step, and a step undone.
+
+A step looks, row by row, at what the cells see under each name of a rule, and asks the rule's words at each cell. A step
+undone looks for the state that each block was.
+"""
+
+from __future__ import annotations
+
+from collections.abc import Iterator
+
+from oracle.rules import Rule
+from oracle.wirings import BESIDE, FIRST_PLANE, PLACES, TURNS
+
+BITS = [tuple(state >> place & 1 for place in range(8)) for state in range(256)]
+
+
+def numbers(planes: list[bytes]) -> bytes:
+    """Of each cell the number that its bits in up to eight planes are, with the first plane's as the lowest."""
+    number = 0
+    for place, plane in enumerate(planes):
+        number |= int.from_bytes(plane, "little") << place
+    return number.to_bytes(len(planes[0]), "little")
+
+
+def said_to(rule: Rule, planes: list[bytes]) -> bytes:
+    """What a rule's words say to what each cell sees, plane by plane in the order of the rule's names."""
+    lower, upper = numbers(planes[:8]), numbers(planes[8:]) if planes[8:] else b""
+    if not upper:
+        return lower.translate(rule.tables[0])
+    said = 0
+    for number in set(upper):
+        is_there = upper.translate(bytes(3 * (number == other) for other in range(256)))
+        said |= int.from_bytes(lower.translate(rule.tables[number]), "little") & int.from_bytes(is_there, "little")
+    return said.to_bytes(len(lower), "little")
+
+
+def shifted(row: bytes, columns: int) -> bytes:
+    """At each cell what is so many columns further east."""
+    return row[columns:] + row[:columns]
+
+
+class Torus:
+    """A blank torus of this side."""
+
+    def __init__(self, side: int) -> None:
+        self.side = side
+        self.planes = [[bytes(side)] * side for _ in range(4)]
+
+    def row(self, plane: int, y: int) -> bytes:
+        """A row, counted round the torus."""
+        return self.planes[plane][y % self.side]
+
+    def shown(self, name: str, half: str, grid: str, phase: int, y: int) -> bytes:
+        """What the cells of a row see under a name."""
+        odd, upper, word = int(grid == "ODD"), int(name.endswith("'")), name.rstrip("'")
+        own = FIRST_PLANE[half] + upper
+        if word.endswith("PHASE"):
+            return bytes([phase >> upper & 1]) * self.side
+        if word.endswith("HORZ"):
+            return bytes([odd, 1 - odd]) * (self.side // 2)
+        if word.endswith("VERT"):
+            return bytes([(y + odd) % 2]) * self.side
+        if word == "&CENTER":
+            return self.row((own + 2) % 4, y)
+        if word in BESIDE:
+            columns, rows = BESIDE[word]
+            return shifted(self.row(own, y + rows), columns)
+        row = bytearray(self.side)
+        for right in (0, 1):
+            place = PLACES.index((right, (y + odd) % 2))
+            i, j = PLACES[(place + TURNS[word]) % 4]
+            first = (right + odd) % 2
+            row[first::2] = shifted(self.row(own, y + j - PLACES[place][1]), i - right)[first::2]
+        return bytes(row)
+
+    def after(self, rule: Rule, grid: str, phase: int) -> list[list[bytes]]:
+        """The two planes of the rule's half after a step."""
+        rows, half = range(self.side), rule.key.half
+        said = said_to(rule, [b"".join(self.shown(name, half, grid, phase, y) for y in rows) for name in rule.names])
+        bits = (said.translate(bytes(number >> place & 1 for number in range(256))) for place in (0, 1))
+        return [[plane[y * self.side : (y + 1) * self.side] for y in rows] for plane in bits]
+
+    def before(self, rule: Rule, grid: str, phase: int) -> list[list[bytes]]:
+        """The two planes of the rule's half before a step: of each block the state that becomes this one."""
+        odd, own = int(grid == "ODD"), FIRST_PLANE[rule.key.half]
+        was = {BITS[image]: BITS[state] for state, image in enumerate(rule.images(phase))}
+        old = [[b""] * self.side for _ in range(2)]
+        for y in range(odd, self.side + odd, 2):
+            rows = [[shifted(self.row(own + level, y + j), odd) for j in (0, 1)] for level in (0, 1)]
+            cells = [rows[level][j][i::2] for level in (0, 1) for i, j in PLACES]
+            blocks = [bytes(places) for places in zip(*(was[block] for block in zip(*cells)))]
+            for level in (0, 1):
+                for j in (0, 1):
+                    row = bytearray(self.side)
+                    for place, (i, low) in enumerate(PLACES):
+                        if low == j:
+                            row[i::2] = blocks[4 * level + place]
+                    old[level][(y + j) % self.side] = shifted(bytes(row), -odd)
+        return old
+
+    def digits(self, plane: int, y: int) -> str:
+        """The hexadecimal digits of a row."""
+        return f"{int(''.join(map(str, self.planes[plane][y])), 2):0{self.side // 4}x}"
+
+    def put(self, plane: int, y: int, digits: str) -> None:
+        """Gives a row these digits."""
+        self.planes[plane][y] = bytes(map(int, f"{int(digits, 16):0{self.side}b}"))
+
+    def states(self, y: int) -> Iterator[int]:
+        """The states of the cells of a row, from 0 to 15."""
+        return iter(numbers([plane[y] for plane in self.planes]))
+
+    def count(self, mask: int) -> int:
+        """How many cells have one of the states of a mask."""
+        states = numbers([b"".join(plane) for plane in self.planes])
+        return sum(states.count(state) for state in range(16) if mask >> state & 1)
