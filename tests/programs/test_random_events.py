@@ -7,6 +7,7 @@ A schedule that fails shrinks, and is printed as lines that can be piped into th
 
 from __future__ import annotations
 
+from collections.abc import Callable
 from typing import Any
 
 import hypothesis
@@ -31,6 +32,16 @@ SHOWN: list[dict[str, Any]] = [
     {"do": "run", "n": 65536},
     {"do": "clear", "plane": 4},
 ]
+
+
+def has_user(status: str) -> Callable[[Any], bool]:
+    """Whether a user has this status."""
+    return lambda machine: bool(machine.host.with_status(status))
+
+
+def has_board(held: str) -> Callable[[Any], bool]:
+    """Whether a board is idle, or dead."""
+    return lambda machine: bool(machine.host.boards_with(held))
 
 
 class Schedules(RuleBasedStateMachine):
@@ -64,7 +75,7 @@ class Schedules(RuleBasedStateMachine):
         if self.host.users[user].status == "finished":
             self.event("collect", user=user)
 
-    @precondition(lambda self: self.host.with_status("resting"))
+    @precondition(has_user("resting"))
     @rule(data=st.data(), of=rules(("rule", "block", "block")), grid=st.sampled_from(["EVEN", "ODD"]))
     def keep_a_rule_and_use_it(self, data: st.DataObject, of: dict[str, str], grid: str) -> None:
         """A user keeps a rule, a cycle of it, and a row at a seam of bands."""
@@ -79,27 +90,28 @@ class Schedules(RuleBasedStateMachine):
         ]:
             self.reply(user, command)
 
-    @precondition(lambda self: self.host.with_status("resting"))
+    @precondition(has_user("resting"))
     @rule(data=st.data(), way=st.sampled_from(["run", "back"]), n=st.integers(0, 3))
     def steps(self, data: st.DataObject, way: str, n: int) -> None:
         """A user asks for steps."""
         user = data.draw(st.sampled_from(self.host.with_status("resting")))
         self.event("ask", user=user, command={"do": way, "n": n})
 
-    @precondition(lambda self: self.host.with_status("resting"))
+    @precondition(has_user("resting"))
     @rule(data=st.data(), command=st.sampled_from(SHOWN))
     def look(self, data: st.DataObject, command: dict[str, Any]) -> None:
         """A user looks, or is refused."""
         self.reply(data.draw(st.sampled_from(self.host.with_status("resting"))), command)
 
-    @precondition(lambda self: self.host.with_status("queued") and self.host.boards_with(IDLE))
+    @precondition(has_user("queued"))
+    @precondition(has_board(IDLE))
     @rule(data=st.data())
     def lease(self, data: st.DataObject) -> None:
         """An idle board takes a command."""
         user = data.draw(st.sampled_from(self.host.with_status("queued")))
         self.event("lease", user=user, board=data.draw(st.sampled_from(self.host.boards_with(IDLE))))
 
-    @precondition(lambda self: self.host.with_status("out"))
+    @precondition(has_user("out"))
     @rule(data=st.data(), count=st.sampled_from([1, 3, 8, 100]))
     def bands(self, data: st.DataObject, count: int) -> None:
         """A board does bands: one, some, those of a step, or all."""
@@ -107,19 +119,19 @@ class Schedules(RuleBasedStateMachine):
         for _ in range(min(count, self.host.user_on(board).left)):
             self.event("band", board=board)
 
-    @precondition(lambda self: self.host.with_status("out"))
+    @precondition(has_user("out"))
     @rule(data=st.data(), word=st.sampled_from(["preempt", "fail"]))
     def take_off(self, data: st.DataObject, word: str) -> None:
         """A command is taken off its board, or lost with it."""
         self.event(word, board=data.draw(st.sampled_from(self.host.boards_with(*self.host.with_status("out")))))
 
-    @precondition(lambda self: self.host.boards_with(DEAD))
+    @precondition(has_board(DEAD))
     @rule()
     def repair(self) -> None:
         """A board is repaired."""
         self.event("repair", board=self.host.boards_with(DEAD)[0])
 
-    @precondition(lambda self: self.host.with_status("finished"))
+    @precondition(has_user("finished"))
     @rule(data=st.data())
     def collect(self, data: st.DataObject) -> None:
         """A user collects a reply."""
