@@ -1,0 +1,245 @@
+"""How long clients may wait for a seat, how many of them and with how many bytes, how long a client may be silent or
+read nothing, how long a user waits beside expensive tables, and how a host refuses clients and ends."""
+
+from __future__ import annotations
+
+import select
+import socket
+import time
+from concurrent.futures import ThreadPoolExecutor
+from contextlib import suppress
+from statistics import median_high
+
+import pytest
+from support.programs import Peer, Ran, private
+from support.sessions import line_of
+
+from .lines import BACK, NO_JSON, NO_NAMES, NO_SEAT, ONE_NAME, PARITY, PLANE, ROW, RULES, RUN
+from .lines import SEATED, START, TAKEN, TOO_LONG, cycle
+from .steady import Hosts, connected, seated
+
+# How many may wait for a seat, beside one for each user; how many of them with a long line.
+MORE, LONG = 64, 8
+# Seconds within which a seat must be taken, for which a client may read nothing, and that a busy machine may add.
+SEAT, SEND, GRACE = 10, 60, 5
+FIRST, LOAD = '{"seat":1}', '{"do":"load",'
+
+
+def is_over(stream: socket.socket) -> bool:
+    """Whether a connection has ended. What comes over it is thrown away."""
+    with suppress(ConnectionError):
+        return stream.recv(4096) == b""
+    return True
+
+
+def closed(peers: list[Peer], within: float) -> int:
+    """How many of these connections the host closes within so many seconds."""
+    left, end = {peer.socket for peer in peers}, time.monotonic() + within
+    while left and (ready := select.select(left, [], [], max(0.0, end - time.monotonic()))[0]):
+        left -= {stream for stream in ready if is_over(stream)}
+    return len(peers) - len(left)
+
+
+def first_answer(port: int, line: str) -> str | None:
+    """The answer to a first line, or None if the host doesn't let the client in."""
+    with suppress(ConnectionError), Peer(port) as peer:
+        return peer.ask(line)
+    return None
+
+
+def test_of_300_silent_clients_68_may_wait_for_a_seat(beside: Hosts) -> None:
+    one, begun = beside(1, "--users=4"), time.monotonic()
+    with connected(one.port, 300) as peers:
+        assert closed(peers, 3) == 300 - (4 + MORE)
+        assert time.monotonic() - begun < SEAT
+        # So is who comes then.
+        assert first_answer(one.port, '{"seat":2}') is None
+
+
+@pytest.mark.slow
+def test_silent_clients_are_closed_after_ten_seconds(beside: Hosts) -> None:
+    one, begun = beside(1, "--users=4"), time.monotonic()
+    with connected(one.port, 300) as peers:
+        assert closed(peers, SEAT + GRACE) == 300
+        assert time.monotonic() - begun > SEAT - 1
+        seated(one.port, 2).close()
+
+
+@pytest.mark.slow
+def test_a_first_line_that_takes_longer_than_ten_seconds_is_not_answered(host: Hosts) -> None:
+    one, begun = host("--users=1"), time.monotonic()
+    with suppress(ConnectionError), Peer(one.port) as peer:
+        for byte in f"{FIRST}\n":
+            peer.send(byte)
+            if closed([peer], 2):
+                break
+    assert SEAT - 1 < time.monotonic() - begun < SEAT + GRACE
+
+
+@pytest.mark.parametrize("text, size", [(FIRST[:-1], 16_385), (LOAD, 2_097_153)], ids=["seat", "load"])
+def test_a_first_line_is_refused_as_soon_as_it_is_too_long(host: Hosts, text: str, size: int) -> None:
+    with Peer(host("--users=1").port) as peer:
+        peer.send(text.ljust(size - 1))
+        assert not select.select([peer.socket], [], [], 0.3)[0]
+        # The client may read the answer while it still sends.
+        peer.send(" ")
+        assert peer.read() == TOO_LONG
+
+
+FIRST_LINES = {
+    "no text": (bytes(range(128, 256)), [NO_JSON, None]),
+    "16,384 bytes": (FIRST.ljust(16_384).encode(), [SEATED]),
+    "16,385 bytes": (FIRST.ljust(16_385).encode(), [TOO_LONG, None]),
+    "1,000,010 bytes": (FIRST.ljust(1_000_010).encode(), [TOO_LONG, None]),
+    "a load of 2,097,152 bytes": (LOAD.ljust(2_097_152).encode(), [NO_JSON, None]),
+}
+
+
+@pytest.mark.parametrize("line, answers", FIRST_LINES.values(), ids=FIRST_LINES)
+def test_a_first_line_is_text_and_has_a_greatest_length(beside: Hosts, line: bytes, answers: list[str | None]) -> None:
+    with Peer(beside(2, "--users=2").port) as peer:
+        peer.send(line + b"\n")
+        assert [peer.read() for _ in answers] == answers
+
+
+def test_of_60_clients_that_send_a_load_first_eight_are_heard(beside: Hosts) -> None:
+    one = beside(1, "--users=4")
+    before = one.of_process("VmRSS")
+    with connected(one.port, 60) as peers:
+        for peer in peers:
+            with suppress(ConnectionError):
+                peer.send(LOAD + "0" * 2_000_000)
+        assert closed(peers, 3) == 60 - LONG
+        assert one.of_process("VmRSS") - before < 30_000
+
+
+def fill(peer: Peer) -> None:
+    """Asks for answers without reading any, until no more can be sent."""
+    peer.socket.settimeout(1)
+    with suppress(OSError):
+        while True:
+            peer.send(f"{PLANE}\n" * 40)
+
+
+@pytest.mark.slow
+def test_who_reads_nothing_loses_the_seat_after_a_minute(beside: Hosts) -> None:
+    one = beside(3, "--users=3")
+    with Peer(one.port, 1) as deaf, Peer(one.port, 2) as shut:
+        for peer in (deaf, shut):
+            fill(peer)
+        shut.socket.shutdown(socket.SHUT_WR)
+        end = time.monotonic() + SEND + 3 * GRACE
+        time.sleep(SEND / 2)
+        with Peer(one.port, 1) as first, Peer(one.port, 2) as second:
+            assert (first.said, second.said) == (TAKEN, TAKEN)
+        for user in (1, 2):
+            seated(one.port, user, end - time.monotonic()).close()
+
+
+def test_a_seat_is_free_after_two_seconds_of_silence_and_its_machine_stays(beside: Hosts) -> None:
+    one = beside(3, "--users=3", "--idle=2")
+    with Peer(one.port, 1) as quiet:
+        quiet.ask(PARITY)
+        assert closed([quiet], 5) == 1
+        with seated(one.port, 1) as again:
+            assert again.ask(RULES) == ONE_NAME
+
+
+def test_who_says_something_each_second_keeps_the_seat(beside: Hosts) -> None:
+    with Peer(beside(3, "--users=3", "--idle=2").port, 2) as lively:
+        end = time.monotonic() + 5
+        while time.monotonic() < end:
+            assert lively.ask(RULES) == NO_NAMES
+            time.sleep(1)
+
+
+def test_runs_are_no_silence(cam6: str, beside: Hosts) -> None:
+    session = [*START, RUN % 65535, ROW % 7]
+    with Peer(beside(3, "--users=3", "--idle=2").port, 1) as peer:
+        begun = time.monotonic()
+        said = [peer.ask(line) for line in session]
+        # So many runs take three seconds, for which the client says nothing.
+        count = 1 + int(3 / (time.monotonic() - begun))
+        peer.send(f"{RUN % 65535}\n" * count)
+        assert [peer.read() for _ in range(count)] == ['{"ok":"run","position":0}'] * count
+    assert said == private(cam6, session)
+
+
+def expensive_lines() -> list[str]:
+    """Sixteen rules of 3,840 words with an IF for each address line, all of half A, and a cycle of them. A cache of
+    sixteen tables never has the next."""
+    names = "CENTER CENTER' CW CCW OPP CW' CCW' OPP' HORZ VERT &PHASE &PHASE'".split()
+    text = ": UNIT0 " + " ".join(f"{name} IF 1 XOR THEN" for name in names) + " ;"
+    text += "".join(f" : UNIT{n} UNIT{n - 1} UNIT{n - 1} ;" for n in range(1, 7))
+    how = {"do": "rule", "half": "A", "hood": "N/MARG-HV", "minor": "&/PHASES"}
+    rules = [line_of(**how, name=f"R{n}", text=f"{text} : R {n} UNIT6 UNIT4 ;") for n in range(16)]
+    return [*rules, cycle(*(f"R{n}" for n in range(16)))]
+
+
+def seconds(peer: Peer, line: str, pause: float = 0) -> float:
+    """How long the answer to a line takes, which is asked after a pause."""
+    time.sleep(pause)
+    begun = time.monotonic()
+    peer.ask(line)
+    return time.monotonic() - begun
+
+
+def test_beside_sixteen_expensive_tables_another_user_waits_for_a_few(beside: Hosts) -> None:
+    # Each table is filled under the cache's lock, and others may have it in between.
+    one = beside(1)
+    with Peer(one.port, 2) as user, Peer(one.port, 3) as other, ThreadPoolExecutor(1) as pool:
+        for line in START[:2]:
+            user.ask(line)
+        assert {other.ask(line) for line in expensive_lines()} == {'{"ok":"rule"}', '{"ok":"cycle"}'}
+        waiting = pool.submit(lambda: [seconds(user, RUN % 1, 0.01) for _ in range(40)])
+        # The other user does a step and undoes it, until the user has done forty.
+        taken = [seconds(other, line) for _ in iter(waiting.done, True) for line in (RUN % 1, BACK)]
+        assert median_high(waiting.result()) < median_high(taken) / 3
+
+
+def test_beside_a_long_run_by_such_tables_another_user_waits_for_one_filling(host: Hosts) -> None:
+    # Filling tables is a part of the time for which a command has its board, and no reason to have it longer.
+    one = host("--users=2", "--boards=1")
+    with Peer(one.port, 1) as user, Peer(one.port, 2) as other:
+        for line in START[:2]:
+            user.ask(line)
+        assert {other.ask(line) for line in expensive_lines()} == {'{"ok":"rule"}', '{"ok":"cycle"}'}
+        end = time.monotonic() + 2
+        taken = [seconds(other, line) for _ in iter(lambda: time.monotonic() > end, True) for line in (RUN % 1, BACK)]
+        other.send(f"{RUN % 65535}\n" * 50)
+        assert median_high(seconds(user, RUN % 1, 0.01) for _ in range(9)) < 3 * median_high(taken)
+
+
+REFUSED = [(FIRST, TAKEN), ('{"seat":9}', NO_SEAT), ("{", NO_JSON), (FIRST.ljust(100_010), TOO_LONG)]
+
+
+@pytest.mark.parametrize("shuts", [True, False], ids=["shut", "open"])
+@pytest.mark.parametrize("first, answer", REFUSED, ids=["taken", "no seat", "no JSON", "too long"])
+def test_a_refusal_comes_before_what_is_sent_behind(host: Hosts, first: str, answer: str, shuts: bool) -> None:
+    one = host("--users=1")
+    with Peer(one.port, 1):
+        for _ in range(10):
+            with Peer(one.port) as peer:
+                peer.send(f"{first}\n" + f"{RULES}\n" * 1400)
+                if shuts:
+                    peer.socket.shutdown(socket.SHUT_WR)
+                # A client that reads late finds the answer still there.
+                time.sleep(0.02)
+                assert [peer.read(), peer.read()] == [answer, None]
+
+
+def test_nobody_is_let_in_behind_the_last_connection(host: Hosts) -> None:
+    one = host("--connections=2")
+    with Peer(one.port):
+        begun = time.monotonic()
+        Peer(one.port, 1).close()
+        assert first_answer(one.port, FIRST) is None
+        assert time.monotonic() - begun < 3
+
+
+@pytest.mark.slow
+def test_a_silent_client_holds_the_end_up_for_ten_seconds_at_most(host: Hosts) -> None:
+    one = host("--connections=2")
+    with Peer(one.port):
+        Peer(one.port, 1).close()
+        assert one.ended(SEAT + GRACE) == Ran(0, b"", b"")
