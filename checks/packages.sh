@@ -23,11 +23,11 @@ parts() {
   package_lines | awk '$2 != "all" { print $2 }' | LC_ALL=C sort -u
 }
 
-# The interpreter of Python whose modules a part needs. It is python3 if that has all of them, or else Debian's own, to which the
-# packages belong. For a part other than `all` PYTHON may name another one.
+# The interpreter of Python whose modules a part needs, with those of the part `all`. It is python3 if that has all of them, or
+# else Debian's own, to which the packages belong. For a part other than `all` PYTHON may name another one.
 python_of() {
   local modules
-  modules=$(package_lines | awk -v part="$1" '$2 == part && sub("^import:", "", $3) { print $3 }' | paste -sd ,)
+  modules=$(package_lines | awk -v part="$1" '($2 == part || $2 == "all") && sub("^import:", "", $3) { print $3 }' | paste -sd ,)
   if [[ $1 != all && -n ${PYTHON-} ]]; then
     echo "$PYTHON"
   elif python3 -c "import $modules" 2> /dev/null; then

@@ -75,6 +75,8 @@ class Listener:
     """A program that listens at a port until it is ended. Raises OSError if it doesn't begin to."""
 
     process: subprocess.Popen[bytes]
+    # The first line of its errors.
+    first = "listening on 127.0.0.1:{}"
 
     def __init__(self, command: Callable[[int], list[str]], port: int | None, env: Mapping[str, str] | None) -> None:
         self.command_at, self.port, self.env = command, port or free_port(), dict(env or {})
@@ -104,7 +106,7 @@ class Listener:
         self.reader = threading.Thread(target=listen, daemon=True)
         self.reader.start()
         is_told.wait(START)
-        if self.said[:1] == [f"listening on 127.0.0.1:{self.port}"]:
+        if self.said[:1] == [self.first.format(self.port)]:
             return True
         self.ended(START)
         self.kill()
@@ -157,6 +159,8 @@ class Host(Listener):
 
 class Page(Listener):
     """`cam6_web`, with hosts at these ports, or with a machine for each socket if there are none."""
+
+    first = "listening on http://127.0.0.1:{}/"
 
     def __init__(self, cam6_web: str, *ports: int, port: int | None = None, options: tuple[str, ...] = ()) -> None:
         hosts = [word for at in ports for word in ("--host", f"127.0.0.1:{at}")]

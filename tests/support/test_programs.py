@@ -5,7 +5,7 @@ from __future__ import annotations
 from collections.abc import Callable
 
 import pytest
-from support.programs import Host, Peer, Ran, private
+from support.programs import Host, Page, Peer, Ran, private
 from support.sessions import assert_replies
 
 
@@ -16,6 +16,10 @@ def test_a_host_begins_again_at_its_port(host: Callable[..., Host]) -> None:
     assert one.ended() == Ran(0, b"", b"")
     one.begin()
     assert one.is_running()
+
+
+def test_a_page_listens(page: Callable[..., Page]) -> None:
+    assert page().is_running()
 
 
 def test_a_private_machine_replies(cam6: str) -> None:

@@ -1,0 +1,83 @@
+"""The browsers that selenium drives, without a window: Chromium by chromedriver, and Firefox by the bridge of firefox.py."""
+
+from __future__ import annotations
+
+import os
+import shutil
+from collections.abc import Iterator
+from contextlib import contextmanager
+from dataclasses import dataclass
+from pathlib import Path
+
+from selenium import webdriver
+from selenium.webdriver.chrome.service import Service
+from selenium.webdriver.remote.file_detector import UselessFileDetector
+from selenium.webdriver.remote.webdriver import WebDriver
+
+from browser.firefox import Bridge, Firefox, Preferences
+
+# The width and the height that a page has of a window.
+WINDOW = (1280, 800)
+OPTIONS = ("--headless=new", "--disable-gpu", "--no-first-run", "--hide-scrollbars")
+# Of each program, the package that has it.
+PACKAGES = {"chromium": "chromium", "chromedriver": "chromium-driver", "firefox-esr": "firefox-esr"}
+
+
+class Missing(Exception):
+    """A program isn't there."""
+
+
+@dataclass(frozen=True)
+class Browser:
+    """A browser under selenium, and the folder of the files that pages give it to keep."""
+
+    name: str
+    driver: WebDriver
+    downloads: Path
+
+    def __str__(self) -> str:
+        return f"{self.name} {self.driver.capabilities['browserVersion']}"
+
+
+def path_of(program: str) -> str:
+    """The path of a program. Raises Missing if it isn't there."""
+    path = shutil.which(program)
+    if path is None:
+        raise Missing(f"there is no {program} on the PATH: install the package {PACKAGES[program]} of packages.txt")
+    return path
+
+
+@contextmanager
+def chromium(downloads: Path) -> Iterator[Browser]:
+    """Chromium, until the end of the context."""
+    options = webdriver.ChromeOptions()
+    options.binary_location = path_of("chromium")
+    # Chromium refuses to sandbox its processes if it runs as root.
+    for option in OPTIONS + (("--no-sandbox",) if os.geteuid() == 0 else ()):
+        options.add_argument(option)
+    options.add_experimental_option("prefs", {"download.default_directory": str(downloads)})
+    options.set_capability("goog:loggingPrefs", {"browser": "ALL"})
+    driver = webdriver.Chrome(service=Service(path_of("chromedriver")), options=options)
+    try:
+        yield Browser("chromium", driver, downloads)
+    finally:
+        driver.quit()
+
+
+@contextmanager
+def firefox(downloads: Path) -> Iterator[Browser]:
+    """Firefox, until the end of the context."""
+    keeps: Preferences = {"browser.download.folderList": 2, "browser.download.dir": str(downloads)}
+    process = Firefox(path_of("firefox-esr"), keeps)
+    try:
+        with Bridge(process) as bridge:
+            driver = webdriver.Remote(command_executor=bridge.address, options=webdriver.FirefoxOptions())
+            # A file that is typed into a field is at hand, since the browser runs here.
+            driver.file_detector = UselessFileDetector()
+            yield Browser("firefox", driver, downloads)
+            bridge.shutdown()
+    finally:
+        process.end()
+
+
+BROWSERS = {"chromium": chromium, "firefox": firefox}

@@ -1,0 +1,58 @@
+"""Browsers that last as long as the tests, and a teacher who uses the page in one of them."""
+
+from __future__ import annotations
+
+from collections.abc import Callable, Iterator
+
+import pytest
+from _pytest.terminal import TerminalReporter
+from support.programs import Host, Page
+
+from browser.browsers import BROWSERS, WINDOW, Browser, Missing
+from browser.teacher import Teacher
+
+
+def pytest_terminal_summary(terminalreporter: TerminalReporter) -> None:
+    """Prints what tests measured, by the second."""
+    reports = [*terminalreporter.getreports("passed"), *terminalreporter.getreports("failed")]
+    for name, told in (one for report in reports for one in report.user_properties):
+        if name == "figures":
+            terminalreporter.write_line(f"a second: {told}")
+
+
+# Side by side, as by `-n 2 --dist loadgroup`, each browser has a worker of its own.
+@pytest.fixture(scope="session", params=[pytest.param(one, marks=pytest.mark.xdist_group(one)) for one in BROWSERS])
+def browser(request: pytest.FixtureRequest, tmp_path_factory: pytest.TempPathFactory) -> Iterator[Browser]:
+    """Each of the browsers, one after another."""
+    downloads = tmp_path_factory.mktemp("downloads")
+    try:
+        with BROWSERS[request.param](downloads) as one:
+            yield one
+    except Missing as missing:
+        pytest.fail(str(missing), pytrace=False)
+
+
+@pytest.fixture
+def teacher(browser: Browser, cam6: str, host: Callable[..., Host], page: Callable[..., Page]) -> Iterator[Teacher]:
+    """A teacher at an empty window. When they are done, no page may have told an error to the console, and the programs still
+    run, so that none has lost its connection."""
+    one = Teacher(browser, cam6)
+    one.size(*WINDOW)
+    first = browser.driver.current_window_handle
+    one.errors()
+    yield one
+    errors = one.errors()
+    for other in browser.driver.window_handles:
+        if other != first:
+            browser.driver.switch_to.window(other)
+            browser.driver.close()
+    browser.driver.switch_to.window(first)
+    browser.driver.get("about:blank")
+    assert errors == []
+
+
+@pytest.fixture
+def own(teacher: Teacher, page: Callable[..., Page]) -> Teacher:
+    """A teacher at a page that has a machine of its own."""
+    teacher.open(page().address)
+    return teacher

@@ -1,0 +1,251 @@
+"""Whoever uses the page: what a hand does with it by mouse and keys, and what an eye sees."""
+
+from __future__ import annotations
+
+import base64
+import time
+from collections.abc import Callable, Iterator
+from contextlib import contextmanager
+from io import BytesIO
+from pathlib import Path
+from typing import Any
+
+from PIL import Image
+from selenium.webdriver.common.action_chains import ActionChains
+from selenium.webdriver.common.actions.action_builder import ActionBuilder
+from selenium.webdriver.common.by import By
+from selenium.webdriver.remote.webelement import WebElement
+from selenium.webdriver.support.wait import WebDriverWait
+from support.programs import PATIENCE, until
+from support.sessions import line_of
+
+from browser import cells
+from browser.browsers import Browser
+
+POLL = 0.03
+# Seconds for which a count has to stay, so that no step is under way.
+STAYS = 1.0
+READY = "document.documentElement.dataset.ready === '1'"
+TORUS = "document.getElementById('torus').dataset"
+# Where the torus is in the window, which place of it is in its left upper corner there, its side, and the pixels of a cell.
+VIEW = f"""(({{ x, y }}, {{ left, top, side, zoom }}) => [x, y, left, top, side, zoom].map(Number))(
+  document.getElementById('torus').getBoundingClientRect(), {TORUS})"""
+# The endings of files that a browser has not written yet.
+UNFINISHED = (".crdownload", ".part", ".tmp")
+
+
+def moved(count: int) -> str:
+    """The line that goes so many steps on, or back if the count is below 0."""
+    return line_of(do="run", n=count) if count >= 0 else line_of(do="back", n=-count)
+
+
+class Teacher:
+    """A user of the page in a browser. What is waited for and doesn't come raises selenium's TimeoutException."""
+
+    def __init__(self, browser: Browser, cam6: str) -> None:
+        self.browser, self.driver, self.cam6 = browser, browser.driver, cam6
+
+    # What an eye sees.
+
+    def script(self, body: str, *values: object) -> Any:
+        """What a function with this body returns. `arguments` has the values. A promise is awaited."""
+        return self.driver.execute_script(body, *values)
+
+    def value(self, expression: str, *values: object) -> Any:
+        """The value of an expression."""
+        return self.script(f"return {expression}", *values)
+
+    def until(self, condition: str, seconds: float = PATIENCE) -> Any:
+        """Waits until an expression has a value that counts, and returns it."""
+        waits = WebDriverWait(self.driver, seconds, POLL)
+        return waits.until(lambda _: self.value(condition), f"it never came to be so: {condition}")
+
+    def torus(self, name: str) -> str:
+        """What the page tells of the torus under a name, as `count` or `state`."""
+        told: str = self.value(f"{TORUS}.{name}")
+        return told
+
+    def text(self, name: str) -> str:
+        """The text of the element with this id."""
+        told: str = self.value("document.getElementById(arguments[0]).textContent.trim()", name)
+        return told
+
+    def canvas(self) -> Image.Image:
+        """The picture on the canvas that has a pixel for each cell."""
+        url: str = self.value("document.getElementById('cells').toDataURL('image/png')")
+        return Image.open(BytesIO(base64.b64decode(url.partition(",")[2]))).convert("RGBA")
+
+    def seen(self, column: int, row: int, size: int) -> Image.Image:
+        """What the window shows of a square of cells from this one on: the pixel in the middle of each cell."""
+        zoom = self.value(VIEW)[-1]
+        x, y = self.place(column, row)
+        window = Image.open(BytesIO(self.driver.get_screenshot_as_png())).convert("RGBA")
+        # A pixel of the new picture is taken half a pixel after its corner.
+        corner = (x + 0.5 - zoom / 2, y + 0.5 - zoom / 2)
+        return window.transform((size, size), Image.Transform.AFFINE, (zoom, 0, corner[0], 0, zoom, corner[1]))
+
+    def errors(self, *pardoned: str) -> list[str]:
+        """What the console got since the last call: errors, and the page's own warnings. Those with one of these texts are
+        left out."""
+        kinds = {("SEVERE", True), ("SEVERE", False), ("WARNING", True)}
+        told = self.driver.get_log("browser")
+        errors = [one["message"] for one in told if (one["level"], one["source"] == "console-api") in kinds]
+        return [error for error in errors if not any(text in error for text in pardoned)]
+
+    def count(self) -> int:
+        """The number of steps since the first state."""
+        return int(self.torus("count"))
+
+    def settled(self) -> int:
+        """The count, as soon as it stays."""
+        seen: list[tuple[float, int]] = []
+
+        def stays() -> bool:
+            now = (time.monotonic(), self.count())
+            if not seen or seen[0][1] != now[1]:
+                seen[:] = [now]
+            return now[0] - seen[0][0] > STAYS and self.torus("state") == "ready"
+
+        assert until(stays, PATIENCE), f"the count doesn't settle: {seen}"
+        return seen[0][1]
+
+    def assert_shows(self, lines: list[str]) -> None:
+        """Fails if the canvas doesn't come to show what a private machine has after these lines."""
+        wanted = cells.picture_of(cells.machine_after(self.cam6, lines))
+        if not until(lambda: self.canvas().tobytes() == wanted.tobytes()):
+            session = "\n".join(lines)
+            raise AssertionError(
+                f"{cells.difference(self.canvas(), wanted)}; wanted is what ./cam6 has after\n{session}"
+            )
+
+    # What a hand does.
+
+    @contextmanager
+    def window(self) -> Iterator[None]:
+        """Another window, in which all happens within the context. It stays open after it."""
+        first = self.driver.current_window_handle
+        self.driver.switch_to.new_window("window")
+        yield
+        self.driver.switch_to.window(first)
+
+    def go(self, address: str) -> None:
+        """Goes to an address. Another text after `#` alone would not load the page anew, so it comes from elsewhere."""
+        self.driver.get("about:blank")
+        self.driver.get(address)
+
+    def open(self, address: str) -> None:
+        """Goes to the page, and waits until it is ready."""
+        self.go(address)
+        self.until(READY)
+
+    def reload(self) -> None:
+        """Loads the page again."""
+        self.driver.refresh()
+        self.until(READY)
+
+    def element(self, selector: str) -> WebElement:
+        """An element that is not disabled, as soon as it is there."""
+        script = "(found => found && !found.disabled)(document.querySelector(arguments[0]))"
+        waits = WebDriverWait(self.driver, PATIENCE, POLL)
+        waits.until(lambda _: self.value(script, selector), f"there is no {selector}, or it stays disabled")
+        return self.driver.find_element(By.CSS_SELECTOR, selector)
+
+    def click(self, selector: str, times: int = 1) -> None:
+        """Clicks an element so many times."""
+        for _ in range(times):
+            self.element(selector).click()
+
+    def fill(self, selector: str, text: str) -> None:
+        """Types a text into a field, in the place of what is there."""
+        field = self.element(selector)
+        field.clear()
+        field.send_keys(text)
+
+    def choose(self, selector: str, value: str) -> None:
+        """Chooses an option of a menu."""
+        option: WebElement = self.value(
+            "[...arguments[0].options].find(one => one.value === arguments[1])", self.element(selector), value
+        )
+        option.click()
+
+    def slide(self, selector: str, value: float) -> None:
+        """Moves a slider, by a script, since mouse and keys don't reach each value."""
+        script = """
+          arguments[0].value = arguments[1];
+          ['input', 'change'].forEach(name => arguments[0].dispatchEvent(new Event(name, { bubbles: true })));
+        """
+        self.script(script, self.element(selector), value)
+
+    def key(self, key: str, times: int = 1) -> None:
+        """Presses a key so many times."""
+        for _ in range(times):
+            ActionChains(self.driver, duration=0).send_keys(key).perform()
+
+    def place(self, column: int, row: int) -> tuple[int, int]:
+        """Where the middle of a cell is in the window."""
+        x, y, left, top, side, zoom = self.value(VIEW)
+        return int(x + ((column - left) % side + 0.5) * zoom), int(y + ((row - top) % side + 0.5) * zoom)
+
+    def drag(self, first: tuple[int, int], *others: tuple[int, int]) -> None:
+        """Presses the button on a cell, moves over the others, and lets it go on the last. One cell alone is clicked."""
+        actions = ActionBuilder(self.driver, duration=0)
+        mouse = actions.pointer_action.move_to_location(*self.place(*first)).pointer_down()
+        for other in others:
+            mouse.move_to_location(*self.place(*other))
+        mouse.pointer_up()
+        actions.perform()
+
+    def pick(self, tool: str, state: int) -> None:
+        """Takes a tool, which draws this state."""
+        self.fill("#draw-state", str(state))
+        self.click(f"[data-tool={tool}]")
+
+    def set_up(self, entry: str) -> list[str]:
+        """Chooses an entry of the gallery, and sees that it is set up. Returns the lines of the entry."""
+        self.click("#gallery")
+        self.click(f"[data-entry={entry}]")
+        lines = cells.lines_of(entry)
+        self.assert_shows(lines)
+        return lines
+
+    def begin_anew(self) -> None:
+        """Makes a new machine, and sees that it is blank."""
+        self.click("#tab-about")
+        self.click("#blank")
+        self.assert_shows([])
+
+    def write_rule(self, rule: dict[str, str]) -> None:
+        """Types a rule into the editor, and defines it."""
+        self.click("#tab-rule")
+        for part in ("half", "hood", "minor"):
+            self.choose(f"#rule-{part}", rule[part])
+        self.fill("#rule-name", rule["name"])
+        self.fill("#rule-text", rule["text"])
+        self.click("#define")
+
+    def pause(self) -> int:
+        """Pauses, if time runs. Returns the count at which it stays."""
+        if self.value("document.getElementById('run').getAttribute('aria-pressed') === 'true'"):
+            self.click("#run")
+        return self.settled()
+
+    def kept(self, press: Callable[[], object]) -> Path:
+        """The file that the page gives to keep after something is pressed."""
+        folder = self.browser.downloads
+        before = {*folder.iterdir()}
+        press()
+
+        def new() -> list[Path]:
+            names = {*folder.iterdir()} - before
+            is_whole = all(path.suffix not in UNFINISHED and path.stat().st_size > 0 for path in names)
+            return [*names] if is_whole else []
+
+        assert until(new), "no file was kept"
+        (path,) = new()
+        return path
+
+    def size(self, width: int, height: int) -> None:
+        """Gives the window another size. The page has so much of it."""
+        more = self.value("[outerWidth - innerWidth, outerHeight - innerHeight]")
+        self.driver.set_window_size(width + more[0], height + more[1])
+        self.until(f"innerWidth === {width} && innerHeight === {height}")

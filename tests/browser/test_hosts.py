@@ -1,0 +1,197 @@
+"""The page with hosts that go and come back, with seats, and beside a page of another server. Nothing is lost."""
+
+from __future__ import annotations
+
+import threading
+import time
+from collections.abc import Callable, Iterator
+from http.server import BaseHTTPRequestHandler, ThreadingHTTPServer
+
+import pytest
+from support.programs import Host, Page, until
+
+from browser.teacher import READY, Teacher, moved
+
+pytestmark = pytest.mark.browser
+BALLS, LETTERS = "billiard_balls", "letters"
+# Seconds for which a program is away, so that the page tries in vain to reach it.
+AWAY = 0.5
+# Seconds within which the page has to go on at another host.
+ELSEWHERE = 5
+SEAT = "document.getElementById('seat').textContent.trim()"
+# Keeps each state of the page from now on, with its time in milliseconds.
+WATCH = """
+const torus = document.getElementById('torus');
+window.states = [];
+new MutationObserver(() => {
+  if (window.states.at(-1)?.[0] !== torus.dataset.state) window.states.push([torus.dataset.state, performance.now()]);
+}).observe(torus, { attributes: true, attributeFilter: ['data-state'] });
+"""
+# Tries to open a socket, and calls back with what became of it.
+OPEN = """(new Promise(done => {
+  const socket = new WebSocket(arguments[0]);
+  socket.onopen = () => done('open');
+  socket.onclose = event => done(`closed ${event.code}`);
+}))"""
+
+
+def state_is(teacher: Teacher, state: str) -> None:
+    """Waits until the page has a state."""
+    teacher.until(f"document.getElementById('torus').dataset.state === '{state}'")
+
+
+def run_on(teacher: Teacher, steps: int) -> None:
+    """Waits until so many more steps are done."""
+    more = teacher.count() + steps
+    assert until(lambda: teacher.count() > more), f"the count doesn't come to {more}"
+
+
+def at_host(teacher: Teacher, address: str) -> list[str]:
+    """Opens the page, sets letters up, and lets them run. Returns the lines that set them up."""
+    teacher.open(address)
+    lines = teacher.set_up(LETTERS)
+    teacher.click("#run")
+    run_on(teacher, 30)
+    return lines
+
+
+def test_time_runs_on_after_a_host_was_killed_twice(
+    teacher: Teacher, host: Callable[..., Host], page: Callable[..., Page]
+) -> None:
+    one = host("--users=4", "--side=512")
+    lines = at_host(teacher, page(one.port).address)
+    for _ in range(2):
+        one.kill()
+        state_is(teacher, "lost")
+        assert "connection is lost" in teacher.text("state-says")
+        time.sleep(AWAY)
+        one.begin()
+        state_is(teacher, "ready")
+        run_on(teacher, 30)
+        teacher.assert_shows([*lines, moved(teacher.pause())])
+        teacher.click("#run")
+        run_on(teacher, 30)
+
+
+def test_each_step_is_done_once_though_a_host_went_while_nobody_asked(
+    teacher: Teacher, host: Callable[..., Host], page: Callable[..., Page]
+) -> None:
+    one = host("--users=4", "--side=512")
+    lines = at_host(teacher, page(one.port).address)
+    count = teacher.pause()
+    one.kill()
+    time.sleep(AWAY)
+    one.begin()
+    teacher.click("#step", 5)
+    teacher.assert_shows([*lines, moved(count + 5)])
+    assert teacher.settled() == count + 5
+
+
+def test_the_page_goes_on_when_its_program_is_started_again(
+    teacher: Teacher, host: Callable[..., Host], page: Callable[..., Page]
+) -> None:
+    site = page(host("--users=4", "--side=512").port)
+    lines = at_host(teacher, site.address)
+    count = teacher.pause()
+    site.kill()
+    state_is(teacher, "lost")
+    site.begin()
+    state_is(teacher, "ready")
+    teacher.click("#back")
+    teacher.assert_shows([*lines, moved(count - 1)])
+    # While no program listened, the browser itself wrote to the console that it can't connect.
+    assert teacher.errors("ERR_CONNECTION_REFUSED", "can’t establish a connection") == []
+
+
+def test_the_page_goes_on_at_another_host(
+    teacher: Teacher, host: Callable[..., Host], page: Callable[..., Page]
+) -> None:
+    one, other = host("--users=4", "--side=512"), host("--users=4", "--side=512")
+    lines = at_host(teacher, page(one.port, other.port).address)
+    teacher.script(WATCH)
+    one.kill()
+    teacher.until("window.states.some(([state]) => state === 'lost')")
+    state_is(teacher, "ready")
+    told = [(state, when) for state, when in teacher.value("window.states") if state in ("lost", "ready")]
+    assert [state for state, _ in told] == ["lost", "ready"]
+    assert told[1][1] - told[0][1] < 1000 * ELSEWHERE
+    assert "of host 2" in teacher.text("state-says")
+    run_on(teacher, 30)
+    count = teacher.pause()
+    teacher.assert_shows([*lines, moved(count)])
+    teacher.click("#back", 3)
+    teacher.assert_shows([*lines, moved(count - 3)])
+
+
+@pytest.fixture
+def classroom(host: Callable[..., Host], page: Callable[..., Page]) -> str:
+    """The address of a page whose host has two seats."""
+    return page(host("--users=2", "--side=512").port).address
+
+
+def test_each_page_takes_the_first_free_seat_and_has_a_machine(teacher: Teacher, classroom: str) -> None:
+    teacher.open(classroom)
+    assert teacher.until(SEAT) == "1"
+    lines = teacher.set_up(LETTERS)
+    with teacher.window():
+        teacher.open(classroom)
+        assert teacher.until(SEAT) == "2"
+        teacher.set_up(BALLS)
+    teacher.click("#step")
+    teacher.assert_shows([*lines, moved(1)])
+
+
+def test_a_page_too_many_says_so_and_takes_a_seat_that_becomes_free(teacher: Teacher, classroom: str) -> None:
+    teacher.open(classroom)
+    with teacher.window():
+        teacher.open(classroom)
+        with teacher.window():
+            teacher.go(classroom)
+            state_is(teacher, "full")
+            assert "seats are taken" in teacher.text("state-says")
+            third = teacher.driver.current_window_handle
+        teacher.driver.get("about:blank")
+        teacher.driver.switch_to.window(third)
+        teacher.until(READY)
+        assert teacher.until(SEAT) == "2"
+
+
+def test_a_page_takes_the_seat_in_its_address(teacher: Teacher, classroom: str) -> None:
+    teacher.open(f"{classroom}#seat=2")
+    assert teacher.until(SEAT) == "2"
+
+
+class Nothing(BaseHTTPRequestHandler):
+    """A server whose page is empty, and has no policy."""
+
+    def do_GET(self) -> None:
+        """Sends an empty page."""
+        self.send_response(200)
+        self.send_header("Content-Type", "text/html")
+        self.end_headers()
+
+    def log_message(self, *_: object) -> None:
+        """Writes nothing."""
+
+
+@pytest.fixture
+def elsewhere() -> Iterator[str]:
+    """The address of a page of another server."""
+    with ThreadingHTTPServer(("127.0.0.1", 0), Nothing) as server:
+        threading.Thread(target=server.serve_forever, daemon=True).start()
+        yield f"http://127.0.0.1:{server.server_port}/"
+        server.shutdown()
+
+
+@pytest.mark.parametrize("is_other", [False, True], ids=["about:blank", "another server"])
+def test_a_page_of_another_server_gets_no_socket(
+    teacher: Teacher, page: Callable[..., Page], elsewhere: str, is_other: bool
+) -> None:
+    site = page()
+    socket = f"ws://127.0.0.1:{site.port}/ws"
+    teacher.driver.get(elsewhere if is_other else "about:blank")
+    assert teacher.value(OPEN, socket) == "closed 1006"
+    teacher.errors()
+    # Its own page gets one.
+    teacher.open(site.address)
+    assert teacher.value(OPEN, socket) == "open"

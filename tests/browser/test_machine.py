@@ -1,0 +1,246 @@
+"""The page with a machine of its own: drawing, rules, time, files. The canvas shows the cells of a private machine."""
+
+from __future__ import annotations
+
+import json
+from typing import NamedTuple
+
+import pytest
+from PIL import Image, ImageChops
+from selenium.webdriver.common.keys import Keys
+from support.programs import TOP, private, until
+from support.readme import session_of_readme
+from support.sessions import line_of
+
+from browser import cells
+from browser.teacher import Teacher, moved
+
+pytestmark = pytest.mark.browser
+BALLS, LETTERS = "billiard_balls", "letters"
+# Steps that balls run, and steps that are done before a reload, or before the window is looked at.
+STEPS, FEW = 60, 17
+GLIDER = "x = 3, y = 3, rule = B3/S23\nbo$2bo$3o!"
+GLIDER_CELLS = {(1, 0), (2, 1), (0, 2), (1, 2), (2, 2)}
+
+
+def test_the_page_is_ready(own: Teacher) -> None:
+    assert own.torus("state") == "ready"
+
+
+def test_the_session_of_readme_is_clicked_and_typed(own: Teacher) -> None:
+    session = session_of_readme()
+    own.begin_anew()
+    own.write_rule(json.loads(session[0]))
+    own.until("document.getElementById('cycle').children.length === 1")
+    own.pick("pencil", 1)
+    own.drag((0, 0))
+    own.assert_shows(session[:3])
+    own.click("#step")
+    own.assert_shows(session)
+    assert private(own.cam6, [*session, line_of(do="count", mask=2)])[-1] == '{"count":5,"ok":"count"}'
+    own.click("#back")
+    # The rule of README can't be undone. The page says why, and nothing has changed.
+    own.until("document.getElementById('trouble').dataset.fault === '64'")
+    own.assert_shows(session)
+
+
+def test_balls_run_and_are_taken_back(own: Teacher) -> None:
+    lines = own.set_up(BALLS)
+    first = own.canvas()
+    own.click("#step", STEPS // 2)
+    own.key(Keys.ARROW_RIGHT, STEPS // 2)
+    own.assert_shows([*lines, moved(STEPS)])
+    assert own.settled() == STEPS
+    own.click("#back", STEPS // 2)
+    own.key(Keys.ARROW_LEFT, STEPS // 2)
+    own.assert_shows(lines)
+    assert own.settled() == 0
+    assert own.canvas().tobytes() == first.tobytes()
+    own.click("#back")
+    own.assert_shows([*lines, moved(-1)])
+    assert own.settled() == -1
+
+
+def test_the_window_shows_the_cells(own: Teacher) -> None:
+    lines = own.set_up(LETTERS)
+    own.key(Keys.ARROW_RIGHT, FEW)
+    own.assert_shows([*lines, moved(FEW)])
+    # The middle of the window is the corner of the torus: letters lie over both seams.
+    shown = cells.picture_of(cells.machine_after(own.cam6, [*lines, moved(FEW)]))
+    middle = ImageChops.offset(shown, 50, 50).crop((0, 0, 100, 100))
+    assert len(cells.drawn(middle)) > 50
+    assert until(lambda: own.seen(-50, -50, 100).tobytes() == middle.tobytes()), cells.difference(
+        own.seen(-50, -50, 100), middle
+    )
+
+
+class Way(NamedTuple):
+    """A way to run: what is clicked or pressed, where the dial stands, and for how many steps."""
+
+    clicked: str
+    pressed: str
+    dial: float
+    steps: int
+
+
+WAYS = {
+    "run": Way("#run", "", 0.5, 40),
+    "space": Way("", " ", 0.5, 20),
+    "b": Way("", "b", 0.5, -30),
+    "dial": Way("#run", "", -1, -30),
+}
+
+
+@pytest.mark.parametrize("way", WAYS.values(), ids=WAYS)
+def test_time_runs_and_pauses(own: Teacher, way: Way) -> None:
+    lines = own.set_up(LETTERS)
+    own.slide("#dial", way.dial)
+    own.value("document.activeElement.blur()")
+
+    def press() -> None:
+        own.click(way.clicked) if way.clicked else own.key(way.pressed)
+
+    press()
+    assert until(lambda: own.count() < way.steps if way.steps < 0 else own.count() > way.steps)
+    press()
+    own.assert_shows([*lines, moved(own.settled())])
+
+
+def test_the_scrubber_goes_to_a_step(own: Teacher) -> None:
+    lines = own.set_up(LETTERS)
+    own.click("#run")
+    assert until(lambda: own.count() > 40)
+    count = own.pause()
+    for step in (count // 2, 0):
+        own.slide("#scrubber", step)
+        own.assert_shows([*lines, *[moved(step)][: step > 0]])
+
+
+FAULTS = {
+    "an unknown word": ": F CENTER FOO >PLN0 ;",
+    "too few numbers": ": F ( a comment ) CENTER + >PLN0 ;",
+    "no THEN": ": F CENTER IF NORTH >PLN0 ;",
+    "no end": ": F CENTER",
+}
+
+
+@pytest.mark.parametrize("text", FAULTS.values(), ids=FAULTS)
+def test_a_fault_is_told_at_its_token(own: Teacher, text: str) -> None:
+    rule = {"name": "F", "half": "A", "hood": "N/VONN", "minor": "&/CENTERS", "text": text}
+    (reply,) = map(json.loads, private(own.cam6, [line_of(do="rule", **rule)]))
+    entries = json.loads((TOP / "docs" / "errors.json").read_text(encoding="utf-8"))["errors"]
+    title = next(entry["title"] for entry in entries if entry["number"] == reply["fault"])
+    own.begin_anew()
+    own.write_rule(rule)
+    own.until("!document.getElementById('rule-fault').hidden")
+    token = reply.get("token", "")
+    told = own.value("({ ...document.getElementById('rule-fault').dataset })")
+    assert told == {"fault": str(reply["fault"]), "token": str(token)}
+    assert title.lower() in own.text("rule-fault").lower()
+    # A fault at the end of the text has the number of the token that is missing.
+    tokens = [*text.split(), ""]
+    marked = own.value(
+        "[...document.querySelectorAll('#rule-marks mark')].map(one => [one.dataset.token, one.textContent])"
+    )
+    assert [(number, text.strip("⏎ \n")) for number, text in marked] == (
+        [(str(token), tokens[min(token, len(tokens)) - 1])] if token else []
+    )
+    own.write_rule(rule | {"text": ": F CENTER >PLN0 ;"})
+    own.until("document.getElementById('rule-fault').hidden")
+
+
+def test_the_pencil_draws_a_line(own: Teacher) -> None:
+    own.begin_anew()
+    own.pick("pencil", 1)
+    own.drag((10, 20), (11, 20), (12, 20), (13, 20), (14, 20))
+    own.assert_shows([line_of(do="set", plane=0, row=20, bits=f"003e{0:060x}")])
+
+
+def test_a_box_is_drawn_in_two_planes_and_cleared(own: Teacher) -> None:
+    own.begin_anew()
+    own.pick("box", 6)
+    own.drag((40, 60), (42, 62), (43, 63))
+    rows = {60: "f", 61: "9", 62: "9", 63: "f"}
+    own.assert_shows(
+        [line_of(do="set", plane=p, row=y, bits=f"{0:010x}{bits}{0:053x}") for p in (1, 2) for y, bits in rows.items()]
+    )
+    own.key(Keys.ESCAPE)
+    own.click("#clear")
+    own.assert_shows([])
+
+
+def test_a_pattern_is_pasted(own: Teacher) -> None:
+    own.begin_anew()
+    own.click("#pattern")
+    own.fill("#paste-text", GLIDER)
+    own.click("#paste")
+    own.until("document.getElementById('torus').dataset.piece && !document.querySelector('dialog[open]')")
+    own.key(Keys.ENTER)
+    assert until(lambda: len(cells.drawn(own.canvas())) == len(GLIDER_CELLS))
+    found = cells.drawn(own.canvas())
+    left, top = (min(places) for places in zip(*found))
+    assert {(x - left, y - top) for x, y in found} == GLIDER_CELLS
+    # It is in the machine too, which the page brings along.
+    own.reload()
+    assert until(lambda: cells.drawn(own.canvas()) == found)
+
+
+def test_a_text_that_is_no_pattern_is_named_with_its_line(own: Teacher) -> None:
+    own.click("#pattern")
+    own.fill("#paste-text", "x = 3, y = 3\nbo$2b?$3o!")
+    own.click("#paste")
+    assert "2" in own.until("(place => !place.hidden && place.textContent)(document.getElementById('paste-fault'))")
+
+
+def test_a_page_that_is_loaded_again_goes_on(own: Teacher) -> None:
+    lines = own.set_up(BALLS)
+    own.click("#step", FEW)
+    assert own.settled() == FEW
+    for _ in range(2):
+        own.reload()
+        own.assert_shows([*lines, moved(FEW)])
+    own.click("#back", FEW)
+    own.assert_shows(lines)
+
+
+def test_a_machine_is_kept_as_a_file_and_loaded(own: Teacher) -> None:
+    lines = [*own.set_up(LETTERS), moved(3)]
+    own.click("#step", 3)
+    own.assert_shows(lines)
+    path = own.kept(lambda: own.click("#save-file"))
+    line = path.read_text(encoding="utf-8").strip()
+    machine = json.loads(line)
+    assert machine.get("machine", machine) == cells.machine_after(own.cam6, lines)
+    assert private(own.cam6, [line]) == ['{"ok":"load"}']
+    own.begin_anew()
+    own.driver.find_element("id", "load-file").send_keys(str(path))
+    own.assert_shows(lines)
+
+
+def test_a_picture_has_a_pixel_for_each_cell(own: Teacher) -> None:
+    lines = own.set_up(LETTERS)
+    own.click("#keep-picture")
+    own.choose("#picture-scale", "1")
+    with Image.open(own.kept(lambda: own.click("#picture"))) as picture:
+        wanted = cells.picture_of(cells.machine_after(own.cam6, lines))
+        assert cells.difference(picture.convert("RGBA"), wanted) == ""
+
+
+def test_a_film_has_the_states_one_after_another(own: Teacher) -> None:
+    lines = own.set_up(LETTERS)
+    own.click("#keep-picture")
+    own.choose("#picture-scale", "1")
+    own.fill("#film-frames", "5")
+    with Image.open(own.kept(lambda: own.click("#film"))) as film:
+        assert film.n_frames == 5
+        for step in range(film.n_frames):
+            film.seek(step)
+            wanted = cells.picture_of(cells.machine_after(own.cam6, [*lines, *[moved(1)] * step]))
+            assert cells.difference(film.convert("RGBA"), wanted) == "", f"frame {step}"
+
+
+@pytest.mark.parametrize("entry, each, is_hidden", [("critters", "2", False), (LETTERS, "1", True)])
+def test_a_rule_that_flashes_has_a_warning(own: Teacher, entry: str, each: str, is_hidden: bool) -> None:
+    own.set_up(entry)
+    own.until(f"document.getElementById('warning').hidden === {str(is_hidden).lower()}")
+    assert own.value("document.getElementById('each').value") == each
