@@ -61,6 +61,12 @@ def free_port() -> int:
         return port
 
 
+def of_process(pid: int, name: str) -> int:
+    """A number that the system knows of a process, as VmRSS (in kB) or Threads."""
+    with open(f"/proc/{pid}/status", encoding="utf-8") as lines:
+        return next((int(line.split()[1]) for line in lines if line.startswith(f"{name}:")), 0)
+
+
 def until(is_so: Callable[[], Any], seconds: float = PATIENCE, pause: float = 0.02) -> bool:
     """Waits until something is so, for so many seconds at most. Returns whether it came to be so."""
     end = time.monotonic() + seconds
@@ -75,6 +81,8 @@ class Listener:
     """A program that listens at a port until it is ended. Raises OSError if it doesn't begin to."""
 
     process: subprocess.Popen[bytes]
+    # The first line of its errors.
+    first = "listening on 127.0.0.1:{}"
 
     def __init__(self, command: Callable[[int], list[str]], port: int | None, env: Mapping[str, str] | None) -> None:
         self.command_at, self.port, self.env = command, port or free_port(), dict(env or {})
@@ -104,7 +112,7 @@ class Listener:
         self.reader = threading.Thread(target=listen, daemon=True)
         self.reader.start()
         is_told.wait(START)
-        if self.said[:1] == [f"listening on 127.0.0.1:{self.port}"]:
+        if self.said[:1] == [self.first.format(self.port)]:
             return True
         self.ended(START)
         self.kill()
@@ -137,9 +145,8 @@ class Listener:
         return self.process.poll() is None
 
     def of_process(self, name: str) -> int:
-        """A number that the system knows of the process, as VmRSS (in kB) or Threads."""
-        with open(f"/proc/{self.process.pid}/status", encoding="utf-8") as lines:
-            return next((int(line.split()[1]) for line in lines if line.startswith(f"{name}:")), 0)
+        """A number that the system knows of the process."""
+        return of_process(self.process.pid, name)
 
     def __enter__(self: Self) -> Self:
         return self
@@ -157,6 +164,8 @@ class Host(Listener):
 
 class Page(Listener):
     """`cam6_web`, with hosts at these ports, or with a machine for each socket if there are none."""
+
+    first = "listening on http://127.0.0.1:{}/"
 
     def __init__(self, cam6_web: str, *ports: int, port: int | None = None, options: tuple[str, ...] = ()) -> None:
         hosts = [word for at in ports for word in ("--host", f"127.0.0.1:{at}")]
