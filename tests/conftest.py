@@ -25,6 +25,13 @@ def pytest_addoption(parser: pytest.Parser) -> None:
     for name, crate in CRATES.items():
         option = f"--{name.replace('_', '-')}"
         parser.addoption(option, metavar="PATH", help=f"the program {name} (crates/{crate}/out/{crate})")
+    fleet = parser.getgroup("fleet", "a fleet behind HAProxy")
+    fleet.addoption("--fleet-seconds", type=int, default=10, metavar="N", help="how long there is trouble")
+    fleet.addoption("--fleet-seed", type=int, default=1, metavar="N", help="which trouble there is")
+    fleet.addoption(
+        "--fleet-sessions", type=int, default=8, metavar="N", help="how many sessions go on meanwhile, 1 to 64"
+    )
+    fleet.addoption("--fleet-ports", action="store_true", help="no network namespaces, and so no cables")
 
 
 def program(request: pytest.FixtureRequest, name: str) -> str:

@@ -2,13 +2,15 @@
 
 from __future__ import annotations
 
+import re
 from collections.abc import Iterator
 from contextlib import ExitStack
 
 import pytest
-from support.programs import Host
+from support.programs import TOP, Host, Page, private
 
 from .steady import Hosts, steady
+from .steady_page import Session
 
 
 @pytest.fixture
@@ -22,3 +24,18 @@ def beside(cam6: str, host: Hosts) -> Iterator[Hosts]:
             return one
 
         yield begin
+
+
+@pytest.fixture(scope="session")
+def readme(cam6: str) -> Session:
+    """The session of README, with the replies of a private machine."""
+    lines = re.findall(r"^    > (.+)$", (TOP / "README.md").read_text(encoding="utf-8"), re.M)
+    assert len(lines) > 3, "README has a session"
+    return Session(lines, private(cam6, lines))
+
+
+@pytest.fixture(scope="module")
+def bare(cam6_web: str) -> Iterator[Page]:
+    """A page without a host."""
+    with Page(cam6_web) as page:
+        yield page

@@ -61,6 +61,12 @@ def free_port() -> int:
         return port
 
 
+def of_process(pid: int, name: str) -> int:
+    """A number that the system knows of a process, as VmRSS (in kB) or Threads."""
+    with open(f"/proc/{pid}/status", encoding="utf-8") as lines:
+        return next((int(line.split()[1]) for line in lines if line.startswith(f"{name}:")), 0)
+
+
 def until(is_so: Callable[[], Any], seconds: float = PATIENCE, pause: float = 0.02) -> bool:
     """Waits until something is so, for so many seconds at most. Returns whether it came to be so."""
     end = time.monotonic() + seconds
@@ -139,9 +145,8 @@ class Listener:
         return self.process.poll() is None
 
     def of_process(self, name: str) -> int:
-        """A number that the system knows of the process, as VmRSS (in kB) or Threads."""
-        with open(f"/proc/{self.process.pid}/status", encoding="utf-8") as lines:
-            return next((int(line.split()[1]) for line in lines if line.startswith(f"{name}:")), 0)
+        """A number that the system knows of the process."""
+        return of_process(self.process.pid, name)
 
     def __enter__(self: Self) -> Self:
         return self

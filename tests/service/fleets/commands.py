@@ -7,7 +7,7 @@ from __future__ import annotations
 
 import json
 import random
-from collections.abc import Iterator
+from collections.abc import Callable
 from typing import Any
 
 SAVED, LOAD = b'{"machine":', b'{"do":"load","machine":'
@@ -60,24 +60,26 @@ class Commands:
     def some(self) -> list[bytes]:
         """One command, or several that are sent at once."""
         count = 1 if self.rng.random() < 0.8 else self.rng.randrange(2, 8 if self.is_small else 30)
-        return [next(self.one()) for _ in range(count)]
+        return [self.one() for _ in range(count)]
 
-    def one(self) -> Iterator[bytes]:
+    def one(self) -> bytes:
         """A command of any kind."""
-        rng, number = self.rng, self.rng.randrange
         kinds = [self.set, self.steps, self.shown, self.rule, self.cycle, self.rest]
-        kind = rng.choices(kinds, [30, 30, 20, 5, 5, 10])[0]
-        yield kind(number)
+        return self.rng.choices(kinds, [30, 30, 20, 5, 5, 10])[0]()
 
-    def set(self, number: Any) -> bytes:
+    def set(self) -> bytes:
+        """A row's cells."""
+        number = self.rng.randrange
         bits = f"{self.rng.getrandbits(self.side):0{self.side // 4}x}"
         return line(self.rng, do="set", plane=number(4), row=number(self.side), bits=bits)
 
-    def steps(self, number: Any) -> bytes:
-        del number
+    def steps(self) -> bytes:
+        """Steps, or steps back."""
         return line(self.rng, do=self.rng.choice(["run", "run", "back"]), n=self.rng.choice(self.most_steps))
 
-    def shown(self, number: Any) -> bytes:
+    def shown(self) -> bytes:
+        """What is seen of the cells."""
+        number = self.rng.randrange
         said = [
             {"do": "count", "mask": number(65536)},
             {"do": "row", "plane": number(4), "row": number(self.side + 4)},
@@ -86,12 +88,14 @@ class Commands:
         ]
         return line(self.rng, **self.rng.choices(said, [8, 8, 3, 2])[0])
 
-    def rule(self, number: Any) -> bytes:
-        del number
+    def rule(self) -> bytes:
+        """A rule, or a text that is none."""
         half, hood, minor, text = self.rng.choice(RULES)
         return line(self.rng, do="rule", name=self.rng.choice(NAMES), half=half, hood=hood, minor=minor, text=text)
 
-    def cycle(self, number: Any) -> bytes:
+    def cycle(self) -> bytes:
+        """A cycle of rules, which need not be there."""
+        number = self.rng.randrange
         names = [*NAMES, "C", "C", "-", "-"]
         entries = []
         for _ in range(number(4) + 1):
@@ -99,10 +103,10 @@ class Commands:
             entries.append({"a": first, "b": second, "grid": self.rng.choice(["EVEN", "ODD"]), "phase": number(4)})
         return line(self.rng, do="cycle", entries=entries)
 
-    def rest(self, number: Any) -> bytes:
+    def rest(self) -> bytes:
         """What comes now and then."""
-        rng = self.rng
-        ways = [
+        rng, number = self.rng, self.rng.randrange
+        ways: list[Callable[[], bytes]] = [
             lambda: line(rng, do="rules"),
             lambda: line(rng, do="drop", name=rng.choice(NAMES)),
             lambda: line(rng, do="map", colours=[number(16) for _ in range(16)]),
@@ -115,7 +119,7 @@ class Commands:
         return rng.choices(ways, [4, 4, 4, 2, 3, 2, 1, 1])[0]()
 
     def heard(self, sent: list[bytes], replies: list[bytes]) -> None:
-        """What came of it."""
+        """Reads what came of it."""
         for command, reply in zip(sent, replies):
             if reply.startswith(SAVED):
                 self.saved = LOAD + reply[len(SAVED) : -len(b',"ok":"save"}')] + b"}"

@@ -1,0 +1,221 @@
+"""The programs of a fleet: hosts, their doors, and the front. They run by the files of deploy/, as these stand.
+
+What the tests give other values than deploy/ does stands in `Fleet.all_values`, and nowhere else.
+"""
+
+from __future__ import annotations
+
+import csv
+import io
+import os
+import signal
+import socket
+import subprocess
+from pathlib import Path
+from typing import TypeVar
+
+from support.programs import TOP, of_process, until
+
+from .grounds import Ground
+
+Self = TypeVar("Self", bound="Service")
+DEPLOY = TOP / "deploy"
+HOSTS = ("one", "two", "three")
+NAME = "cam6.example"
+# Seconds in which a program has to be there.
+START = 20
+
+
+class Service:
+    """A program at a node, which can be killed, stopped and started again."""
+
+    def __init__(
+        self, ground: Ground, node: str, words: list[str], log: Path, env: dict[str, str] | None = None
+    ) -> None:
+        self.words, self.log, self.env = [*ground.words(node), *words], log, os.environ | (env or {})
+        self.process: subprocess.Popen[bytes] | None = None
+
+    def start(self, *more: str) -> None:
+        """Starts the program."""
+        with self.log.open("ab") as log:
+            words = [*self.words, *more]
+            self.process = subprocess.Popen(words, stdin=subprocess.DEVNULL, stdout=log, stderr=log, env=self.env)
+
+    def kill(self) -> None:
+        """Ends it by SIGKILL. It can't do anything about that."""
+        if self.process is not None:
+            self.process.kill()
+            self.process.wait()
+            self.process = None
+
+    def send(self, number: signal.Signals) -> None:
+        """Sends a signal, if it is there. What is sent to it waits from SIGSTOP to SIGCONT."""
+        if self.process is not None:
+            self.process.send_signal(number)
+
+    def __enter__(self: Self) -> Self:
+        self.start()
+        return self
+
+    def __exit__(self, *_: object) -> None:
+        self.kill()
+
+    def status(self) -> int | None:
+        """The status that it ended with, or None."""
+        return self.process.poll() if self.process else None
+
+    def of_process(self, name: str) -> int:
+        """A number that the system knows of the process."""
+        assert self.process is not None
+        return of_process(self.process.pid, name)
+
+    def seconds(self) -> float:
+        """Its processor time so far."""
+        assert self.process is not None
+        fields = Path(f"/proc/{self.process.pid}/stat").read_text(encoding="utf-8").rpartition(")")[2].split()
+        return (int(fields[11]) + int(fields[12])) / os.sysconf("SC_CLK_TCK")
+
+
+class Proxy(Service):
+    """HAProxy with a file of deploy/. It answers commands at the socket `admin`."""
+
+    def __init__(self, ground: Ground, node: str, file: str, admin: str, log: Path, values: dict[str, str]) -> None:
+        super().__init__(ground, node, ["haproxy", "-db", "-f", str(DEPLOY / file)], log, values)
+        self.admin = admin
+        # Processes of before a reload, whose users have not gone yet.
+        self.older: list[subprocess.Popen[bytes]] = []
+
+    def start(self, *more: str) -> None:
+        super().start(*more)
+        until(lambda: self.is_there() or self.status() is not None, START)
+        assert self.is_there(), f"{' '.join(self.words)} is not there; {self.log} says why"
+
+    def is_there(self) -> bool:
+        """Whether this very process answers."""
+        try:
+            return f"Pid: {self.process.pid}\n" in self.ask("show info") if self.process else False
+        except OSError:
+            return False
+
+    def reload(self) -> None:
+        """Starts a new process, which takes the listeners over. The old one ends when its users have gone."""
+        assert self.process is not None
+        self.older.append(self.process)
+        self.start("-x", self.admin, "-sf", str(self.process.pid))
+
+    def kill(self) -> None:
+        super().kill()
+        while self.older:
+            self.older[-1].kill()
+            self.older.pop().wait()
+
+    def ask(self, command: str) -> str:
+        """The answer to a command."""
+        with socket.socket(socket.AF_UNIX) as admin:
+            admin.settimeout(5)
+            admin.connect(self.admin)
+            admin.sendall(command.encode() + b"\n")
+            with admin.makefile(encoding="utf-8") as file:
+                return file.read()
+
+    def stats(self, backend: str, server: str) -> dict[str, str]:
+        """What it counts of a server."""
+        rows = csv.DictReader(io.StringIO(self.ask("show stat").lstrip("# ")))
+        return next((row for row in rows if (row["pxname"], row["svname"]) == (backend, server)), {})
+
+    def state(self, server: str, backend: str = "fleet") -> str:
+        """Whether a server is UP, DOWN, in DRAIN or in MAINT."""
+        return self.stats(backend, server).get("status", "").partition(" ")[0]
+
+
+class Fleet:
+    """Three hosts with their doors, and a front."""
+
+    def __init__(self, ground: Ground, cam6: str, folder: Path, users: int, boards: int) -> None:
+        self.ground, self.cam6, self.folder, self.users = ground, cam6, folder, users
+        self.ports = {name: ground.port(7001) for name in HOSTS}
+        self.doors = {name: ground.port(7200) for name in HOSTS}
+        self.plain, self.tls = ground.port(6006), ground.port(6443)
+        self.certificates = folder / "certificates"
+        subprocess.run(
+            [DEPLOY / "certificates", self.certificates, NAME, *HOSTS], check=True, stdout=subprocess.DEVNULL
+        )
+        self.authority = self.certificates / "ca.pem"
+        self.values = self.all_values()
+        self.hosts = {name: self.host(name, boards) for name in HOSTS}
+        self.edges = {name: self.edge(name, self.doors[name], f"127.0.0.1:{self.ports[name]}") for name in HOSTS}
+        self.front = self.proxy("front", "haproxy.cfg", "CAM6_ADMIN")
+
+    def all_values(self) -> dict[str, str]:
+        """All that the tests set in place of what deploy/ has: where things are, and how long is waited."""
+        ground = self.ground
+        ends = enumerate(("", *(f"_{name.upper()}" for name in HOSTS)))
+        seats = {f"CAM6_SEATS{end}": f"127.0.0.1:{ground.port(6100 + at)}" for at, end in ends}
+        doors = {f"CAM6_{name.upper()}": f"{ground.address(name)}:{self.doors[name]}" for name in HOSTS}
+        where = {
+            "CAM6_PLAIN": f"127.0.0.1:{self.plain}",
+            "CAM6_TLS": f"{ground.address('front')}:{self.tls}",
+            "CAM6_SEATS_TLS": f"{ground.address('front')}:{ground.port(6444)}",
+            "CAM6_METRICS": f"127.0.0.1:{ground.port(8404)}",
+            "CAM6_CERTIFICATES": str(self.certificates),
+            "CAM6_LUA": str(DEPLOY / "renumber.lua"),
+        }
+        waits = {"CAM6_WAIT": "2s", "CAM6_SILENT": "2s", "CAM6_ASKED": "1s", "CAM6_UNREAD": "5s", "CAM6_STOPPING": "5s"}
+        return {**where, **doors, **seats, **waits, "CAM6_USERS": str(self.users), "CAM6_MOST": "1000"}
+
+    def port_of(self, value: str) -> int:
+        """The port of a value that is an address."""
+        return int(self.values[value].rpartition(":")[2])
+
+    def service(self, node: str, name: str, words: list[str], env: dict[str, str] | None = None) -> Service:
+        """A program at a node, with a log of this name."""
+        return Service(self.ground, node, words, self.folder / f"{name}.log", env)
+
+    def host(self, name: str, boards: int) -> Service:
+        """A host."""
+        options = [
+            "--port",
+            str(self.ports[name]),
+            "--users",
+            str(self.users),
+            "--boards",
+            str(boards),
+            "--side",
+            "256",
+        ]
+        return self.service(name, name, [self.cam6, "serve", *options])
+
+    def edge(self, node: str, port: int, host: str) -> Proxy:
+        """The door of a host."""
+        own = {"CAM6_EDGE": f"{self.ground.address(node)}:{port}", "CAM6_HOST": host, "CAM6_NODE": node}
+        return self.proxy(node, "haproxy-edge.cfg", "CAM6_EDGE_ADMIN", f"{node}-{port}", own)
+
+    def proxy(self, node: str, file: str, admin: str, name: str = "", own: dict[str, str] | None = None) -> Proxy:
+        """HAProxy at a node, with a file of deploy/, and with further values. The variable `admin` has its own socket."""
+        name = name or file.removesuffix(".cfg")
+        place = str(self.folder / f"{name}.sock")
+        values = {**self.values, admin: place, **(own or {})}
+        return Proxy(self.ground, node, file, place, self.folder / f"{name}.log", values)
+
+    def start(self) -> None:
+        """Starts all programs, and waits until the front has all hosts."""
+        for service in (*self.hosts.values(), *self.edges.values(), self.front):
+            service.start()
+        assert self.is_ready(START), f"the hosts are {self.states()}; {self.folder} has the logs"
+
+    def kill(self) -> None:
+        """Ends all programs."""
+        for service in (self.front, *self.edges.values(), *self.hosts.values()):
+            service.kill()
+
+    def set(self, name: str, state: str) -> None:
+        """Has the front take a host as `ready`, `drain` or `maint`."""
+        self.front.ask(f"set server fleet/{name} state {state}")
+
+    def states(self) -> list[str]:
+        """How the front sees each host."""
+        return [self.front.state(name) for name in HOSTS]
+
+    def is_ready(self, seconds: float) -> bool:
+        """Whether all hosts are up, within so many seconds."""
+        return until(lambda: self.states() == ["UP"] * len(HOSTS), seconds)
