@@ -65,7 +65,7 @@ class Speller:
 
     def keys(self, value: dict[str, Any]) -> list[str]:
         """The keys of an object, in some order."""
-        return self.random.sample(list(value), len(value)) if self.random.random() < 0.6 else list(value)
+        return self.random.sample(list(value), len(value)) if value and self.random.random() < 0.6 else list(value)
 
     def joined(self, first: bytes, parts: list[bytes], last: bytes) -> bytes:
         """Parts with commas, between brackets."""
