@@ -25,14 +25,12 @@ from support.programs import until
 # The commands that the tests use: WebDriver's method and path within a session, and Marionette's name.
 ENDPOINTS = {
     "POST /url": "WebDriver:Navigate",
-    "GET /url": "WebDriver:GetCurrentURL",
     "POST /refresh": "WebDriver:Refresh",
     "GET /window": "WebDriver:GetWindowHandle",
     "GET /window/handles": "WebDriver:GetWindowHandles",
     "POST /window": "WebDriver:SwitchToWindow",
     "POST /window/new": "WebDriver:NewWindow",
     "DELETE /window": "WebDriver:CloseWindow",
-    "GET /window/rect": "WebDriver:GetWindowRect",
     "POST /window/rect": "WebDriver:SetWindowRect",
     "POST /element": "WebDriver:FindElement",
     "POST /element/ID/click": "WebDriver:ElementClick",
@@ -157,11 +155,11 @@ class Bridge(ThreadingHTTPServer):
         threading.Thread(target=self.serve_forever, daemon=True).start()
 
     def value_of(self, method: str, path: str, parameters: dict[str, Any]) -> Any:
-        """The value of a request for /session, /session/SESSION, or a path within it."""
+        """The value of a request for /session, or for a path within /session/SESSION."""
+        if path == "/session":
+            return self.firefox.ask("WebDriver:NewSession")
         words = path.split("/")[3:]
-        if not words:
-            return self.firefox.ask("WebDriver:NewSession") if method == "POST" else self.firefox.end()
-        if words[0] == "element" and len(words) > 2:
+        if words[:1] == ["element"] and len(words) > 2:
             parameters["id"], words[1] = words[1], "ID"
         endpoint = f"{method} /{'/'.join(words)}"
         if endpoint == "POST /se/log":
