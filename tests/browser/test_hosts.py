@@ -181,13 +181,13 @@ def elsewhere() -> Iterator[str]:
         server.shutdown()
 
 
-@pytest.mark.parametrize("is_other", [False, True], ids=["about:blank", "another server"])
-def test_a_page_of_another_server_gets_no_socket(teacher: Teacher, page: Pages, elsewhere: str, is_other: bool) -> None:
+def test_a_page_of_another_server_gets_no_socket(teacher: Teacher, page: Pages, elsewhere: str) -> None:
     site = page()
     socket = f"ws://127.0.0.1:{site.port}/ws"
-    teacher.driver.get(elsewhere if is_other else "about:blank")
+    # An empty tab would show nothing: Chromium opens no socket to this computer for it, whatever the server says.
+    teacher.driver.get(elsewhere)
     assert teacher.value(OPEN, socket) == "closed 1006"
     teacher.errors()
-    # Its own page gets one.
+    # The server's own page gets one.
     teacher.open(site.address)
     assert teacher.value(OPEN, socket) == "open"
