@@ -1,4 +1,4 @@
-"""What all tests share: the programs under test, and hosts, pages and libraries that go when their test ends."""
+"""What tests/ and clients/python/tests share: the programs, and hosts, pages and libraries that go when their test ends."""
 
 from __future__ import annotations
 
@@ -10,7 +10,7 @@ from pathlib import Path
 import pytest
 from support.programs import CRATES, Host, Page, built
 
-SUPPORT = Path(__file__).parent / "support"
+SUPPORT = Path(__file__).parent / "tests" / "support"
 
 
 def pytest_addoption(parser: pytest.Parser) -> None:
