@@ -4,11 +4,25 @@ from __future__ import annotations
 
 from collections.abc import Callable
 
-from examples import majority
+from examples import banks_signals, counts, critters, dendrites, echoes, gases, interaction_gate, majority, sand
+from examples import second_order, short_texts, steps, tron, wireworld
 from examples.writing import Writer
 
 SESSIONS, EVENTS, RULES = "crates/cam6_host/sessions", "crates/cam6_host/events", "crates/cam6_try_rules/data"
 
 FILES: dict[str, Callable[[], Writer]] = {
+    f"{SESSIONS}/banks_signals.example": banks_signals.banks_signals,
+    f"{SESSIONS}/counts_without_a_pattern.example": counts.counts_without_a_pattern,
+    f"{SESSIONS}/critters.example": critters.critters,
+    f"{SESSIONS}/dendrites.example": dendrites.dendrites,
+    f"{SESSIONS}/echoes.example": echoes.echoes,
+    f"{SESSIONS}/gases.example": gases.gases,
+    f"{SESSIONS}/interaction_gate.example": interaction_gate.interaction_gate,
     f"{SESSIONS}/majority.example": majority.majority,
+    f"{SESSIONS}/sand.example": sand.sand,
+    f"{SESSIONS}/second_order.example": second_order.second_order,
+    f"{SESSIONS}/short_texts.example": short_texts.short_texts,
+    f"{SESSIONS}/steps_without_a_pattern.example": steps.steps_without_a_pattern,
+    f"{SESSIONS}/tron.example": tron.tron,
+    f"{SESSIONS}/wireworld.example": wireworld.wireworld,
 }
