@@ -5,7 +5,7 @@ from __future__ import annotations
 from collections.abc import Callable
 
 from examples import banks_signals, counts, critters, dendrites, echoes, gases, interaction_gate, majority, sand
-from examples import second_order, short_texts, steps, tron, wireworld
+from examples import second_order, short_texts, steps, tron, undoing, wireworld
 from examples.writing import Writer
 
 SESSIONS, EVENTS, RULES = "crates/cam6_host/sessions", "crates/cam6_host/events", "crates/cam6_try_rules/data"
@@ -24,5 +24,8 @@ FILES: dict[str, Callable[[], Writer]] = {
     f"{SESSIONS}/short_texts.example": short_texts.short_texts,
     f"{SESSIONS}/steps_without_a_pattern.example": steps.steps_without_a_pattern,
     f"{SESSIONS}/tron.example": tron.tron,
+    f"{SESSIONS}/gases_undone.example": undoing.gases_undone,
+    f"{SESSIONS}/halves_undone.example": undoing.halves_undone,
+    f"{SESSIONS}/into_the_past.example": undoing.into_the_past,
     f"{SESSIONS}/wireworld.example": wireworld.wireworld,
 }
