@@ -4,8 +4,8 @@ from __future__ import annotations
 
 from collections.abc import Callable
 
-from examples import banks_signals, counts, critters, dendrites, echoes, gases, interaction_gate, majority, sand
-from examples import second_order, short_texts, steps, tron, undoing, wireworld
+from examples import banks_signals, caches, counts, critters, dendrites, echoes, gases, interaction_gate, inverses
+from examples import majority, sand, second_order, short_texts, steps, tables, tron, undoing, wireworld
 from examples.writing import Writer
 
 SESSIONS, EVENTS, RULES = "crates/cam6_host/sessions", "crates/cam6_host/events", "crates/cam6_try_rules/data"
@@ -28,4 +28,8 @@ FILES: dict[str, Callable[[], Writer]] = {
     f"{SESSIONS}/halves_undone.example": undoing.halves_undone,
     f"{SESSIONS}/into_the_past.example": undoing.into_the_past,
     f"{SESSIONS}/wireworld.example": wireworld.wireworld,
+    f"{RULES}/caches.example": caches.caches,
+    f"{RULES}/inverses.example": inverses.inverses,
+    f"{RULES}/inverses_refused.example": inverses.inverses_refused,
+    f"{RULES}/tables.example": tables.tables,
 }
