@@ -4,14 +4,16 @@ from __future__ import annotations
 
 from collections.abc import Callable
 
-from examples import banks_signals, caches, counts, critters, dendrites, echoes, gases, interaction_gate, inverses
-from examples import majority, sand, second_order, short_texts, steps, tables, tron, undoing, wireworld
+from examples import banks_signals, caches, corner_cells, counts, critters, dendrites, echoes, gases
+from examples import interaction_gate, inverses, majority, sand, second_order, short_texts, steps, tables
+from examples import tron, undoing, wireworld, wirings
 from examples.writing import Writer
 
 SESSIONS, EVENTS, RULES = "crates/cam6_host/sessions", "crates/cam6_host/events", "crates/cam6_try_rules/data"
 
 FILES: dict[str, Callable[[], Writer]] = {
     f"{SESSIONS}/banks_signals.example": banks_signals.banks_signals,
+    f"{SESSIONS}/corner_cells.example": corner_cells.corner_cells,
     f"{SESSIONS}/counts_without_a_pattern.example": counts.counts_without_a_pattern,
     f"{SESSIONS}/critters.example": critters.critters,
     f"{SESSIONS}/dendrites.example": dendrites.dendrites,
@@ -28,6 +30,7 @@ FILES: dict[str, Callable[[], Writer]] = {
     f"{SESSIONS}/halves_undone.example": undoing.halves_undone,
     f"{SESSIONS}/into_the_past.example": undoing.into_the_past,
     f"{SESSIONS}/wireworld.example": wireworld.wireworld,
+    f"{SESSIONS}/wirings.example": wirings.wirings,
     f"{RULES}/caches.example": caches.caches,
     f"{RULES}/inverses.example": inverses.inverses,
     f"{RULES}/inverses_refused.example": inverses.inverses_refused,
