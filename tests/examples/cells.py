@@ -2,17 +2,27 @@
 
 from __future__ import annotations
 
-from collections.abc import Callable, Iterable
+from collections.abc import Callable, Iterable, Iterator
+from itertools import product
+from typing import TypeVar
 
-from examples.writing import Cell
+from examples.writing import Cell, CellWriter
 from oracle.wirings import PLACES
 
 SIDE = 128
 FOUR = [(0, -1), (0, 1), (-1, 0), (1, 0)]
 EIGHT = FOUR + [(-1, -1), (1, -1), (-1, 1), (1, 1)]
+# The cells of a block, clockwise from the upper left one.
 Block = tuple[Cell, ...]
-# The n-th step of cells on a torus of this side.
-Step = Callable[[set[Cell], int, int], set[Cell]]
+# What is stepped: a plane, or several.
+State = TypeVar("State")
+# Makes of a state the next one, in the step of this number, from 0 on.
+Step = Callable[[State, int], State]
+
+
+def all_cells(side: int = SIDE) -> set[Cell]:
+    """A full plane."""
+    return set(product(range(side), repeat=2))
 
 
 def beside(cell: Cell, ways: list[Cell], side: int = SIDE) -> list[Cell]:
@@ -25,13 +35,13 @@ def near(cells: set[Cell], ways: list[Cell]) -> set[Cell]:
     return cells.union(*(beside(cell, ways) for cell in cells))
 
 
-def set_beside(cell: Cell, cells: set[Cell], ways: list[Cell]) -> int:
+def set_beside(cell: Cell, cells: set[Cell], ways: list[Cell], side: int = SIDE) -> int:
     """How many of a cell's neighbours are set."""
-    return sum(one in cells for one in beside(cell, ways))
+    return sum(one in cells for one in beside(cell, ways, side))
 
 
 def block_of(cell: Cell, n: int, side: int = SIDE) -> Block:
-    """The cells of a cell's block, clockwise from the upper left one: in even steps of the even grid."""
+    """The block of a cell: in even steps of the even grid."""
     x, y = cell
     return tuple(beside((x - (x + n) % 2, y - (y + n) % 2), PLACES, side))
 
@@ -41,16 +51,55 @@ def blocks(cells: set[Cell], n: int, side: int = SIDE) -> set[Block]:
     return {block_of(cell, n, side) for cell in cells}
 
 
-def after(step: Step, cells: set[Cell], steps: int, side: int) -> set[Cell]:
-    """What so many steps make of the cells."""
+def all_blocks(n: int, side: int = SIDE) -> list[Block]:
+    """All blocks of a step."""
+    return [block_of(cell, n, side) for cell in product(range(n % 2, side, 2), repeat=2)]
+
+
+def changed(cells: set[Cell], blocks: Iterable[Block], becomes: Callable[[set[int]], set[int]]) -> set[Cell]:
+    """What blocks make of the cells, if the set places of a block become these places."""
+    stepped = set[Cell]()
+    for block in blocks:
+        places = {place for place in range(4) if block[place] in cells}
+        stepped.update(block[place] for place in becomes(places))
+    return stepped
+
+
+def turned(places: set[int], turn: int) -> set[int]:
+    """Places of a block, moved on by so many, clockwise."""
+    return {(place + turn) % 4 for place in places}
+
+
+def after(step: Step[State], state: State, steps: int) -> State:
+    """What so many steps make of a state."""
     for n in range(steps):
-        cells = step(cells, n, side)
-    return cells
+        state = step(state, n)
+    return state
 
 
-def moved(cells: set[Cell], columns: int, rows: int) -> set[Cell]:
+def course(
+    example: CellWriter, step: Step[State], state: State, times: Iterable[int], entries: int = 1
+) -> Iterator[State]:
+    """Writes runs to each of these times, by a cycle of so many entries. Gives the state at each."""
+    done = 0
+    for time in times:
+        for n in range(done, time):
+            state = step(state, n)
+        example.steps(time - done, time % entries)
+        yield state
+        done = time
+
+
+def show(example: CellWriter, step: Step[set[Cell]], cells: set[Cell], times: Iterable[int], entries: int = 1) -> None:
+    """Sets these cells of plane 0, and shows it at each of these times."""
+    example.put(0, cells)
+    for cells in course(example, step, cells, times, entries):
+        example.plane(0, cells)
+
+
+def moved(cells: set[Cell], columns: int, rows: int, side: int = SIDE) -> set[Cell]:
     """The cells, moved over the torus."""
-    return {((x + columns) % SIDE, (y + rows) % SIDE) for x, y in cells}
+    return {((x + columns) % side, (y + rows) % side) for x, y in cells}
 
 
 def drawn(column: int, row: int, picture: str, mark: str = "#") -> set[Cell]:
@@ -65,6 +114,12 @@ def mixed(number: int) -> int:
     return (number ^ number >> 29) * 0xBF58476D1CE4E5B9 % 2**64
 
 
-def without_a_pattern(columns: Iterable[int], rows: Iterable[int], eighths: int) -> set[Cell]:
-    """About so many eighths of an area's cells, at random."""
-    return {(x, y) for x in columns for y in rows if mixed(x + 512 * y + 1) >> 61 < eighths}
+def without_a_pattern(columns: Iterable[int], rows: Iterable[int], eighths: int, plane: int = 0) -> set[Cell]:
+    """About so many eighths of an area's cells, at random. Each plane has others."""
+    first = 512 * 512 * plane + 1
+    return {(x, y) for x, y in product(columns, rows) if mixed(x + 512 * y + first) >> 61 < eighths}
+
+
+def scattered(columns: Iterable[int], rows: Iterable[int], width: int = 512) -> set[Cell]:
+    """About three eighths of an area's cells, by a simpler number of each."""
+    return {(x, y) for x, y in product(columns, rows) if (x + width * y) * 0x9E3779B97F4A7C15 % 2**64 >> 61 < 3}

@@ -2,14 +2,16 @@
 
 from __future__ import annotations
 
-from examples.cells import EIGHT, near, set_beside, without_a_pattern
+from functools import partial
+
+from examples.cells import EIGHT, course, near, set_beside, without_a_pattern
 from examples.writing import Cell, CellWriter
 
 MAJORITY, ANNEALING = {5, 6, 7, 8, 9}, {4, 6, 7, 8, 9}
 NINE = ": SUM CENTER NORTH + SOUTH + WEST + EAST + N.WEST + N.EAST + S.WEST + S.EAST + ;"
 
 
-def step(planes: tuple[set[Cell], ...], votes: set[int]) -> tuple[set[Cell], ...]:
+def step(votes: set[int], planes: tuple[set[Cell], ...], n: int) -> tuple[set[Cell], ...]:
     """The cells that win, those before, and those that have changed before that."""
     cells, before, changed = planes
     voted = {cell for cell in near(cells, EIGHT) if (cell in cells) + set_beside(cell, cells, EIGHT) in votes}
@@ -23,14 +25,9 @@ def votes(example: CellWriter, name: str, votes: set[int], picture: set[Cell], t
     example.put(0, picture)
     example.put(2, picture)
     planes: tuple[set[Cell], ...] = (picture, picture, set())
-    done = 0
-    for time in times:
-        for _ in range(time - done):
-            planes = step(planes, votes)
-        example.steps(time - done)
+    for planes in course(example, partial(step, votes), planes, times):
         example.count({1, 5, 9, 13}, len(planes[0]))
         example.count({8, 9, 12, 13}, len(planes[2]))
-        done = time
     for plane, cells in zip((0, 2, 3), planes):
         example.plane(plane, cells)
 

@@ -7,7 +7,8 @@ from __future__ import annotations
 
 import json
 import re
-from collections.abc import Iterable, Sequence
+from collections import Counter
+from collections.abc import Callable, Iterable, Mapping, Sequence
 from textwrap import wrap
 from typing import Any
 
@@ -71,6 +72,16 @@ def shown(text: str) -> str:
     return re.sub("^ +| +$", lambda blanks: f"«{len(blanks[0])}* »", text)
 
 
+def rule_command(name: str, half: str, hood: str, minor: str, text: str) -> Command:
+    """The command that keeps a rule."""
+    return {"do": "rule", "name": name, "half": half, "hood": hood, "minor": minor, "text": text}
+
+
+def cycle_command(*entries: tuple[str, str, str, int]) -> Command:
+    """The command that keeps a cycle, by the two rules, the grid and the phase of each entry."""
+    return {"do": "cycle", "entries": [dict(zip(("a", "b", "grid", "phase"), entry)) for entry in entries]}
+
+
 def rows_of(cells: set[Cell], side: int) -> list[str]:
     """The digits of the rows of set cells."""
     bits = [0] * side
@@ -79,14 +90,21 @@ def rows_of(cells: set[Cell], side: int) -> list[str]:
     return [f"{row:0{side // 4}x}" for row in bits]
 
 
+def common_row(rows: list[str]) -> str:
+    """The digits that more than half of the rows have, or those of a blank row."""
+    digits, times = Counter(rows).most_common(1)[0]
+    return digits if 2 * times > len(rows) else "0" * len(digits)
+
+
 class Writer:
     """An example: first what it shows and where its answers come from, and texts that have names; then its lines."""
 
     def __init__(self, *head: str, **named: str) -> None:
-        self.named = named
-        self.lines = [f"# {line}" for paragraph in head for line in wrap(paragraph, WIDTH)]
+        self.named: dict[str, str] = {}
+        self.lines: list[str] = []
+        self.note(*head)
         for word, text in named.items():
-            self.say(f"let {word} {shown(text)}")
+            self.name(word, text)
 
     def text(self) -> str:
         """The whole file."""
@@ -95,6 +113,11 @@ class Writer:
     def say(self, line: str) -> None:
         """A line of the file, as it stands."""
         self.lines.append(line)
+
+    def name(self, word: str, text: str) -> None:
+        """A text that has a name from here on."""
+        self.named[word] = shown(text)
+        self.say(f"let {word} {self.named[word]}")
 
     def title(self, *sentences: str) -> None:
         """A comment before a part, after a blank line."""
@@ -110,12 +133,25 @@ class Writer:
         """A text as this example says it, by the texts that have names in it."""
         text = shown(text)
         for word, named in self.named.items():
-            text = text.replace(shown(named), f"«{word}»")
+            text = text.replace(named, f"«{word}»")
         return text
 
     def line(self, sent: str, wanted: str) -> None:
         """A line that is sent, and the one that must come back."""
         self.say(f"> {self.shown(sent)} => {self.shown(wanted)}")
+
+    def digits(self, rows: Mapping[int, str]) -> None:
+        """Rows, by their digits."""
+        for y, digits in rows.items():
+            self.say(f"= {y} {short(digits)}")
+
+    def all_digits(self, rows: list[str]) -> None:
+        """The rows of a plane, by their digits: first those of most even rows and of most odd ones."""
+        common = common_row(rows[::2]), common_row(rows[1::2])
+        for word, digits in zip(("even", "odd"), common):
+            if digits.strip("0"):
+                self.say(f"= {word} {short(digits)}")
+        self.digits({y: digits for y, digits in enumerate(rows) if digits != common[y % 2]})
 
 
 class CellWriter(Writer):
@@ -125,20 +161,19 @@ class CellWriter(Writer):
         super().__init__(*head, **named)
         self.size = side
 
-    def side(self) -> None:
-        """A blank torus of the example's side."""
+    def side(self, side: int | None = None) -> None:
+        """A blank torus of the example's side, or of this side, which is the example's from here on."""
+        self.size = side or self.size
         self.say(f"side {self.size}")
         self.line(compact({"do": "side", "side": self.size}), '{"ok":"side"}')
 
     def rule(self, name: str, hood: str, minor: str, text: str, half: str = "A") -> None:
         """A rule."""
-        rule = {"do": "rule", "name": name, "half": half, "hood": hood, "minor": minor, "text": text}
-        self.line(compact(rule), '{"ok":"rule"}')
+        self.line(compact(rule_command(name, half, hood, minor, text)), '{"ok":"rule"}')
 
     def cycle(self, *entries: tuple[str, str, str, int]) -> None:
         """A cycle, by the two rules, the grid and the phase of each entry."""
-        words = [dict(zip(("a", "b", "grid", "phase"), entry)) for entry in entries]
-        self.line(compact({"do": "cycle", "entries": words}), '{"ok":"cycle"}')
+        self.line(compact(cycle_command(*entries)), '{"ok":"cycle"}')
 
     def on_both_grids(self, name: str) -> None:
         """The cycle of one rule of half A, on both grids in turn."""
@@ -155,13 +190,13 @@ class CellWriter(Writer):
 
     def rows(self, cells: set[Cell]) -> None:
         """Rows, by their digits."""
-        rows = rows_of(cells, self.size)
-        common = ("f" if 2 * len(cells) > self.size**2 else "0") * (self.size // 4)
-        if "f" in common:
-            self.say(f"= even {short(common)}\n= odd {short(common)}")
-        for y, digits in enumerate(rows):
-            if digits != common:
-                self.say(f"= {y} {short(digits)}")
+        self.all_digits(rows_of(cells, self.size))
+
+    def whole_rows(self, cells: set[Cell], rows: Iterable[int]) -> None:
+        """These rows, by all their digits."""
+        digits = rows_of(cells, self.size)
+        for y in rows:
+            self.say(f"= {y} {digits[y]}")
 
     def picture(self, cells: set[Cell]) -> None:
         """Rows: as a picture if the cells lie close together, or else by their digits."""
@@ -182,6 +217,14 @@ class CellWriter(Writer):
         """A plane that must have these set cells."""
         self.say(f"> {compact({'do': 'plane', 'plane': plane})}\n< plane")
         self.picture(cells)
+
+
+class RowWriter(CellWriter):
+    """An example of one machine that shows no pictures."""
+
+    def picture(self, cells: set[Cell]) -> None:
+        """Rows, by their digits."""
+        self.rows(cells)
 
 
 class SessionWriter(Writer):
@@ -213,9 +256,7 @@ class SessionWriter(Writer):
             self.line(text, plain(answer).decode())
             return
         self.say(f"> {self.shown(text)}\n< plane")
-        for y, digits in enumerate(answer["rows"]):
-            if digits.strip("0"):
-                self.say(f"= {y} {short(digits)}")
+        self.digits({y: digits for y, digits in enumerate(answer["rows"]) if digits.strip("0")})
 
     def tell_last(self, text: str, meaning: int | Command) -> None:
         """A line without an LF after it."""
@@ -279,3 +320,31 @@ class EventWriter(Writer):
             self.bands(0, self.host.users[user].left)
         for user in self.host.with_status("finished"):
             self.event("collect", user=user)
+
+
+class Plain(Writer):
+    """A file that is no example, with this text."""
+
+    def __init__(self, content: str) -> None:
+        super().__init__()
+        self.content = content
+
+    def text(self) -> str:
+        """The whole file."""
+        return self.content
+
+
+def do(word: str, **named: Any) -> Command:
+    """A command."""
+    return {"do": word} | named
+
+
+def docstring_of(function: Callable[..., object]) -> str:
+    """What a function says of itself, on one line."""
+    return " ".join(str(function.__doc__).split())
+
+
+def head_of(make: Callable[[], Writer], how: str) -> tuple[str, str]:
+    """The head of an example: what it shows, which the function that makes it says of itself, and where its answers come
+    from."""
+    return docstring_of(make), f"Answers: by tests/examples/{make.__module__.split('.')[-1]}.py, {how}."
