@@ -2,8 +2,8 @@
 
 from __future__ import annotations
 
-from collections.abc import Callable, Iterable, Iterator
-from itertools import product
+from collections.abc import Callable, Iterable, Iterator, Sequence
+from itertools import accumulate, product
 from typing import TypeVar
 
 from examples.writing import Cell, CellWriter
@@ -16,13 +16,13 @@ EIGHT = FOUR + [(-1, -1), (1, -1), (-1, 1), (1, 1)]
 Block = tuple[Cell, ...]
 # What is stepped: a plane, or several.
 State = TypeVar("State")
-# Makes of a state the next one, in the step of this number, from 0 on.
+# Makes of a state the next one, in a step of this number, from 0 on.
 Step = Callable[[State, int], State]
 
 
 def all_cells(side: int = SIDE) -> set[Cell]:
     """A full plane."""
-    return set(product(range(side), repeat=2))
+    return set(product(range(side), range(side)))
 
 
 def beside(cell: Cell, ways: list[Cell], side: int = SIDE) -> list[Cell]:
@@ -53,7 +53,8 @@ def blocks(cells: set[Cell], n: int, side: int = SIDE) -> set[Block]:
 
 def all_blocks(n: int, side: int = SIDE) -> list[Block]:
     """All blocks of a step."""
-    return [block_of(cell, n, side) for cell in product(range(n % 2, side, 2), repeat=2)]
+    ends = range(n % 2, side, 2)
+    return [block_of(corner, n, side) for corner in product(ends, ends)]
 
 
 def changed(cells: set[Cell], blocks: Iterable[Block], becomes: Callable[[set[int]], set[int]]) -> set[Cell]:
@@ -70,30 +71,22 @@ def turned(places: set[int], turn: int) -> set[int]:
     return {(place + turn) % 4 for place in places}
 
 
-def after(step: Step[State], state: State, steps: int) -> State:
-    """What so many steps make of a state."""
-    for n in range(steps):
-        state = step(state, n)
-    return state
+def history(step: Step[State], state: State, steps: int) -> list[State]:
+    """A state, and what each of so many steps makes of it."""
+    return list(accumulate(range(steps), step, initial=state))
 
 
-def course(
-    example: CellWriter, step: Step[State], state: State, times: Iterable[int], entries: int = 1
-) -> Iterator[State]:
-    """Writes runs to each of these times, by a cycle of so many entries. Gives the state at each."""
-    done = 0
-    for time in times:
-        for n in range(done, time):
-            state = step(state, n)
-        example.steps(time - done, time % entries)
-        yield state
-        done = time
+def course(example: CellWriter, states: list[State], times: Sequence[int], entries: int = 1) -> Iterator[State]:
+    """Writes a run to each of these times, by a cycle of so many entries. Gives the state at each."""
+    for before, time in zip((0, *times), times):
+        example.steps(time - before, time % entries)
+        yield states[time]
 
 
-def show(example: CellWriter, step: Step[set[Cell]], cells: set[Cell], times: Iterable[int], entries: int = 1) -> None:
-    """Sets these cells of plane 0, and shows it at each of these times."""
-    example.put(0, cells)
-    for cells in course(example, step, cells, times, entries):
+def show(example: CellWriter, states: list[set[Cell]], times: Sequence[int], entries: int = 1) -> None:
+    """Sets the first state of plane 0, and shows the plane at each of these times."""
+    example.put(0, states[0])
+    for cells in course(example, states, times, entries):
         example.plane(0, cells)
 
 

@@ -5,17 +5,10 @@ from __future__ import annotations
 from collections.abc import Callable
 from functools import partial
 
-from examples import (
-    boards,
-    failing_boards,
-    frames,
-    hostile_events,
-    hostile_lines,
-    hostile_loads,
-    hostile_words,
-    majority,
-)
-from examples import never_saved, picture_lines, programs, saved_machines, schedules
+from examples import banks_signals, boards, caches, corner_cells, counts, critters, dendrites, echoes, failing_boards
+from examples import frames, gases, hostile_events, hostile_lines, hostile_loads, hostile_words, interaction_gate
+from examples import inverses, majority, never_saved, picture_lines, programs, sand, saved_machines, schedules
+from examples import second_order, short_texts, steps, tables, tron, undoing, wireworld, wirings
 from examples.writing import Writer
 
 SESSIONS, EVENTS, RULES = "crates/cam6_host/sessions", "crates/cam6_host/events", "crates/cam6_try_rules/data"
@@ -30,7 +23,18 @@ FILES: dict[str, Callable[[], Writer]] = {
     f"{EVENTS}/saved_by_events.example": saved_machines.saved_by_events,
     f"{EVENTS}/schedules_of_events.example": schedules.schedules_of_events,
     f"{EVENTS}/schedules_of_runs.example": schedules.schedules_of_runs,
+    f"{SESSIONS}/banks_signals.example": banks_signals.banks_signals,
     f"{SESSIONS}/blanks_in_lines.example": hostile_lines.blanks_in_lines,
+    f"{SESSIONS}/corner_cells.example": corner_cells.corner_cells,
+    f"{SESSIONS}/counts_without_a_pattern.example": counts.counts_without_a_pattern,
+    f"{SESSIONS}/critters.example": critters.critters,
+    f"{SESSIONS}/dendrites.example": dendrites.dendrites,
+    f"{SESSIONS}/echoes.example": echoes.echoes,
+    f"{SESSIONS}/gases.example": gases.gases,
+    f"{SESSIONS}/gases_undone.example": undoing.gases_undone,
+    f"{SESSIONS}/halves_undone.example": undoing.halves_undone,
+    f"{SESSIONS}/interaction_gate.example": interaction_gate.interaction_gate,
+    f"{SESSIONS}/into_the_past.example": undoing.into_the_past,
     f"{SESSIONS}/keys_in_lines.example": hostile_words.keys_in_lines,
     f"{SESSIONS}/loads_in_lines.example": hostile_loads.loads_in_lines,
     f"{SESSIONS}/long_loads.example": hostile_loads.long_loads,
@@ -39,10 +43,21 @@ FILES: dict[str, Callable[[], Writer]] = {
     f"{SESSIONS}/majority.example": majority.majority,
     f"{SESSIONS}/nested_lines.example": hostile_lines.nested_lines,
     f"{SESSIONS}/numbers_in_lines.example": hostile_lines.numbers_in_lines,
+    f"{SESSIONS}/sand.example": sand.sand,
     f"{SESSIONS}/saved_and_loaded.example": saved_machines.saved_and_loaded,
     f"{SESSIONS}/saved_machines.example": saved_machines.saved_machines,
+    f"{SESSIONS}/second_order.example": second_order.second_order,
+    f"{SESSIONS}/short_texts.example": short_texts.short_texts,
+    f"{SESSIONS}/steps_without_a_pattern.example": steps.steps_without_a_pattern,
     f"{SESSIONS}/tables_with_programs.example": programs.tables_with_programs,
     f"{SESSIONS}/texts_in_lines.example": hostile_words.texts_in_lines,
+    f"{SESSIONS}/tron.example": tron.tron,
+    f"{SESSIONS}/wireworld.example": wireworld.wireworld,
+    f"{SESSIONS}/wirings.example": wirings.wirings,
+    f"{RULES}/caches.example": caches.caches,
+    f"{RULES}/inverses.example": inverses.inverses,
+    f"{RULES}/inverses_refused.example": inverses.inverses_refused,
+    f"{RULES}/tables.example": tables.tables,
     "crates/cam6_draw/stdin": frames.replies,
     "crates/cam6_draw/stdout": frames.drawn,
 }

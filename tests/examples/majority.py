@@ -4,7 +4,7 @@ from __future__ import annotations
 
 from functools import partial
 
-from examples.cells import EIGHT, course, near, set_beside, without_a_pattern
+from examples.cells import EIGHT, course, history, near, set_beside, without_a_pattern
 from examples.writing import Cell, CellWriter
 
 MAJORITY, ANNEALING = {5, 6, 7, 8, 9}, {4, 6, 7, 8, 9}
@@ -25,7 +25,7 @@ def votes(example: CellWriter, name: str, votes: set[int], picture: set[Cell], t
     example.put(0, picture)
     example.put(2, picture)
     planes: tuple[set[Cell], ...] = (picture, picture, set())
-    for planes in course(example, partial(step, votes), planes, times):
+    for planes in course(example, history(partial(step, votes), planes, times[-1]), times):
         example.count({1, 5, 9, 13}, len(planes[0]))
         example.count({8, 9, 12, 13}, len(planes[2]))
     for plane, cells in zip((0, 2, 3), planes):
