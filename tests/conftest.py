@@ -8,10 +8,16 @@ from collections.abc import Callable, Iterator
 from contextlib import ExitStack
 from pathlib import Path
 
+import hypothesis
 import pytest
 from support.programs import CRATES, Host, Page, built
 
 SUPPORT = Path(__file__).parent / "support"
+# Programs take their time, and more of it on a busy computer.
+hypothesis.settings.register_profile(
+    "programs", deadline=None, print_blob=True, suppress_health_check=list(hypothesis.HealthCheck)
+)
+hypothesis.settings.load_profile("programs")
 
 
 def pytest_addoption(parser: pytest.Parser) -> None:

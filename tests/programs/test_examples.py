@@ -6,92 +6,17 @@ of the program play them.
 
 from __future__ import annotations
 
-import os
-import select
 import subprocess
-import time
 from collections.abc import Callable
 from pathlib import Path
 
 import pytest
 from oracle.examples import Example, Part, limit_of, outcome_of, sizes_of
 from support.playing import assert_answers, examples
-from support.programs import PATIENCE, ran
+from support.programs import ran
+from support.talk import Talk, how_it_ended
 
 SESSIONS, EVENTS = "crates/cam6_host/sessions", "crates/cam6_host/events"
-
-
-class Talk:
-    """A program that is sent a line when it has answered the one before. All lines and answers are kept.
-
-    Nothing is waited for without end. A line that doesn't come in time is `nothing`, and so are all after it.
-    """
-
-    def __init__(self, command: list[str]) -> None:
-        pipe = subprocess.PIPE
-        self.process = subprocess.Popen(command, bufsize=0, stdin=pipe, stdout=pipe, stderr=pipe)
-        assert self.process.stdin and self.process.stdout
-        self.input, self.output = self.process.stdin.fileno(), self.process.stdout.fileno()
-        os.set_blocking(self.input, False)
-        self.lines: list[bytes] = []
-        self.answers: list[bytes] = []
-        self.unread, self.end = b"", 0.0
-
-    def left(self) -> float:
-        """The seconds that are left for what is being sent, and for what comes back for it."""
-        return max(0.0, self.end - time.monotonic())
-
-    def say(self, data: bytes) -> None:
-        """Sends bytes. If the program takes no more of them, what comes back shows it."""
-        self.end = time.monotonic() + PATIENCE
-        try:
-            while data and select.select([], [self.input], [], self.left())[1]:
-                data = data[os.write(self.input, data) :]
-        except BrokenPipeError:
-            pass
-
-    def more(self) -> bytes:
-        """Some more bytes; or none, at the end or if nothing comes."""
-        return os.read(self.output, 1 << 16) if select.select([self.output], [], [], self.left())[0] else b""
-
-    def reply(self, line: bytes) -> bytes:
-        """The next line that comes back once this one is sent."""
-        self.say(line + b"\n")
-        while b"\n" not in self.unread and (more := self.more()):
-            self.unread += more
-        reply, end, self.unread = self.unread.partition(b"\n")
-        return reply if end else b"nothing"
-
-    def answer(self, line: bytes) -> bytes:
-        """What comes back for a line."""
-        is_silent = self.answers[-1:] == [b"nothing"]
-        self.lines.append(line)
-        self.answers.append(b"nothing" if is_silent else self.reply(line))
-        return self.answers[-1]
-
-    def rest(self, data: bytes = b"") -> bytes:
-        """What comes back for the last bytes. It is a line more if the program doesn't end well after them."""
-        if self.answers[-1:] == [b"nothing"]:
-            return b"nothing\n"
-        self.say(data)
-        try:
-            said, told = self.process.communicate(timeout=self.left())
-        except subprocess.TimeoutExpired:
-            return self.unread + b"nothing\n"
-        return self.unread + said + how_it_ended(self.process.returncode, told)
-
-    def __enter__(self) -> Talk:
-        return self
-
-    def __exit__(self, *_: object) -> None:
-        """The program is gone after this, also if it did not end."""
-        with self.process:
-            self.process.kill()
-
-
-def how_it_ended(status: int, told: bytes) -> bytes:
-    """A line more if a program didn't end well."""
-    return b"" if (status, told) == (0, b"") else b"the program: status %d, %r\n" % (status, told)
 
 
 def written_for(command: list[str], data: bytes, env: dict[str, str] | None = None) -> bytes:
@@ -169,6 +94,6 @@ def test_events(either_cam6: str, path: Path) -> None:
 
 @pytest.mark.parametrize("script", ["read line; exec sleep 600", "exec cat > /dev/null"])
 def test_a_program_that_says_nothing_is_not_waited_for(script: str, monkeypatch: pytest.MonkeyPatch) -> None:
-    monkeypatch.setattr("programs.test_examples.PATIENCE", 0.1)
+    monkeypatch.setattr("support.talk.PATIENCE", 0.1)
     with Talk(["sh", "-c", script]) as talk:
         assert [talk.answer(b"{}"), talk.answer(b"{}"), talk.rest()] == [b"nothing", b"nothing", b"nothing\n"]
