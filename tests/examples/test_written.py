@@ -7,6 +7,7 @@ from pathlib import Path
 
 import pytest
 from examples.files import FILES
+from support.playing import first_other, line_of
 from support.programs import TOP
 
 FOLDERS = ("crates/*/data", "crates/cam6_host/connections", "crates/cam6_host/sessions", "crates/cam6_host/events")
@@ -14,7 +15,9 @@ FOLDERS = ("crates/*/data", "crates/cam6_host/connections", "crates/cam6_host/se
 
 @pytest.mark.parametrize("path", FILES, ids=lambda path: Path(path).stem)
 def test_the_script_makes_the_file_that_is_there(path: str) -> None:
-    assert FILES[path]().text() == (TOP / path).read_text(encoding="utf-8")
+    made, there = FILES[path]().text().encode(), (TOP / path).read_bytes()
+    line = first_other(made, there)
+    assert not line, f"line {line} is {line_of(made, line)}, and in the file {line_of(there, line)}"
 
 
 def test_each_example_is_made_by_the_script_that_its_head_names() -> None:
