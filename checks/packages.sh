@@ -23,15 +23,12 @@ parts() {
   package_lines | awk '$2 != "all" { print $2 }' | LC_ALL=C sort -u
 }
 
-# The interpreter of Python whose modules a part needs. For the part `all` it is the python3 on the PATH, which the checks run.
-# For another part it is the one that PYTHON names. If PYTHON isn't set, it is python3 if that has all modules of the part, or
-# else Debian's own, to which the packages belong.
+# The interpreter of Python whose modules a part needs, with those of the part `all`. It is python3 if that has all of them, or
+# else Debian's own, to which the packages belong. For a part other than `all` PYTHON may name another one.
 python_of() {
   local modules
-  modules=$(package_lines | awk -v part="$1" '$2 == part && sub("^import:", "", $3) { print $3 }' | paste -sd ,)
-  if [[ $1 == all ]]; then
-    echo python3
-  elif [[ -n ${PYTHON-} ]]; then
+  modules=$(package_lines | awk -v part="$1" '($2 == part || $2 == "all") && sub("^import:", "", $3) { print $3 }' | paste -sd ,)
+  if [[ $1 != all && -n ${PYTHON-} ]]; then
     echo "$PYTHON"
   elif python3 -c "import $modules" 2> /dev/null; then
     echo python3
@@ -79,11 +76,11 @@ needs() {
   done
 }
 
-# Compiles a library of checks/scripts, with these options, into the folder `work`. Ends a check if it can't.
+# Compiles a library of tests/support, with these options, into the folder `work`. Ends a check if it can't.
 compile_library() {
   [[ -n ${CC-} ]] || needs gcc
-  if ! "${CC:-cc}" -shared -fPIC -O2 -o "${work:?}/$1.so" "checks/scripts/$1.c" "${@:2}"; then
-    echo "$script: checks/scripts/$1.c can't be compiled, which takes the packages gcc and libc6-dev of packages.txt"
+  if ! "${CC:-cc}" -shared -fPIC -O2 -o "${work:?}/$1.so" "tests/support/$1.c" "${@:2}"; then
+    echo "$script: tests/support/$1.c can't be compiled, which takes the packages gcc and libc6-dev of packages.txt"
     echo "0 passed, 1 failed"
     exit 1
   fi
