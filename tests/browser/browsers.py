@@ -19,8 +19,12 @@ from browser.firefox import Bridge, Firefox, Preferences
 # The width and the height that a page has of a window.
 WINDOW = (1280, 800)
 OPTIONS = ("--headless=new", "--disable-gpu", "--no-first-run", "--hide-scrollbars")
-# Of each program, the package that has it.
-PACKAGES = {"chromium": "chromium", "chromedriver": "chromium-driver", "firefox-esr": "firefox-esr"}
+# The program of each package. Other systems have some of them under another name.
+PROGRAMS = {
+    "chromium": ("chromium", "chromium-browser", "google-chrome"),
+    "chromium-driver": ("chromedriver",),
+    "firefox-esr": ("firefox-esr", "firefox"),
+}
 
 
 class Missing(Exception):
@@ -39,12 +43,13 @@ class Browser:
         return f"{self.name} {self.driver.capabilities['browserVersion']}"
 
 
-def path_of(program: str) -> str:
-    """The path of a program. Raises Missing if it isn't there."""
-    path = shutil.which(program)
-    if path is None:
-        raise Missing(f"there is no {program} on the PATH: install the package {PACKAGES[program]} of packages.txt")
-    return path
+def path_of(package: str) -> str:
+    """The path of a package's program. Raises Missing if it isn't there."""
+    names = PROGRAMS[package]
+    for name in names:
+        if path := shutil.which(name):
+            return path
+    raise Missing(f"there is no {' or '.join(names)} on the PATH: install the package {package} of packages.txt")
 
 
 @contextmanager
@@ -57,7 +62,7 @@ def chromium(downloads: Path) -> Iterator[Browser]:
         options.add_argument(option)
     options.add_experimental_option("prefs", {"download.default_directory": str(downloads)})
     options.set_capability("goog:loggingPrefs", {"browser": "ALL"})
-    driver = webdriver.Chrome(service=Service(path_of("chromedriver")), options=options)
+    driver = webdriver.Chrome(service=Service(path_of("chromium-driver")), options=options)
     try:
         yield Browser("chromium", driver, downloads)
     finally:

@@ -23,8 +23,8 @@ from browser import cells
 from browser.browsers import Browser
 
 POLL = 0.03
-# Seconds for which a count has to stay, so that no step is under way.
-STAYS = 1.0
+# The seconds and the looks for which a count has to stay, so that no step is under way.
+STAYS, LOOKS = 1.0, 25
 READY = "document.documentElement.dataset.ready === '1'"
 TORUS = "document.getElementById('torus').dataset"
 # Where the torus is in the window, which place of it is in its left upper corner there, its side, and the pixels of a cell.
@@ -97,17 +97,22 @@ class Teacher:
         return int(self.torus("count"))
 
     def settled(self) -> int:
-        """The count, as soon as it stays."""
-        seen: list[tuple[float, int]] = []
+        """The count, as soon as it stays: for a second, and for so many looks, since steps take longer on a busy computer."""
+        looks: list[tuple[float, int]] = []
 
         def stays() -> bool:
-            now = (time.monotonic(), self.count())
-            if not seen or seen[0][1] != now[1]:
-                seen[:] = [now]
-            return now[0] - seen[0][0] > STAYS and self.torus("state") == "ready"
+            looks.append((time.monotonic(), self.count()))
+            if looks[0][1] != looks[-1][1] or self.torus("state") != "ready":
+                looks[:-1] = []
+            return len(looks) > LOOKS and looks[-1][0] - looks[0][0] > STAYS
 
-        assert until(stays, PATIENCE), f"the count doesn't settle: {seen}"
-        return seen[0][1]
+        assert until(stays), f"the count doesn't settle: {looks}"
+        return looks[0][1]
+
+    def assert_count(self, count: int) -> None:
+        """Fails if the count doesn't come to be this one, and stay."""
+        until(lambda: self.count() == count)
+        assert self.settled() == count
 
     def assert_shows(self, lines: list[str]) -> None:
         """Fails if the canvas doesn't come to show what a private machine has after these lines."""

@@ -17,7 +17,7 @@ from support.page_sockets import answers, page_socket
 from support.sessions import line_of
 
 from browser import cells
-from browser.teacher import Teacher
+from browser.teacher import TORUS, Teacher
 
 pytestmark = [pytest.mark.browser, pytest.mark.slow]
 ENTRIES = ("letters", "echoes", "critters", "rings", "time_tunnel")
@@ -68,9 +68,7 @@ def frames_of_page(teacher: Teacher, dial: float) -> tuple[float, float]:
     # To choose a side that is there already does nothing.
     for side in ("128", "256"):
         teacher.choose("#side", side)
-        teacher.until(
-            f"(({{ side, count }}) => side === '{side}' && count === '0')(document.getElementById('torus').dataset)"
-        )
+        teacher.until(f"{TORUS}.side === '{side}' && {TORUS}.count === '0'")
     teacher.click("[data-tool=random]")
     teacher.drag((60, 60), (100, 100), (190, 190))
     teacher.slide("#dial", dial)
@@ -92,11 +90,11 @@ def test_frames_are_many_enough(own: Teacher, record_property: Callable[[str, st
         if frames >= (wanted := min(WANTED, before * SHARE, after * SHARE)):
             break
     most = frames_of_page(own, FAST)
-    record_property("figures", f"{own.browser}, {entry}, a step a frame: {frames:.1f} frames, {steps:.0f} steps")
-    record_property(
-        "figures", f"{own.browser}, {entry}, as many steps as there may be: {most[0]:.1f} frames, {most[1]:.0f} steps"
-    )
-    record_property(
-        "figures", f"{own.browser}, {entry}, a client in Python before and after: {before:.1f}, {after:.1f} frames"
-    )
+    figures = {
+        "a step a frame": f"{frames:.1f} frames, {steps:.0f} steps",
+        "as many steps as there may be": f"{most[0]:.1f} frames, {most[1]:.0f} steps",
+        "a client in Python, before and after": f"{before:.1f} and {after:.1f} frames",
+    }
+    for what, told in figures.items():
+        record_property("figures", f"{own.browser}, {entry}, {what}: {told}")
     assert frames >= wanted
