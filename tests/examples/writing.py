@@ -8,7 +8,7 @@ from __future__ import annotations
 import json
 import re
 from collections import Counter
-from collections.abc import Iterable, Mapping, Sequence
+from collections.abc import Callable, Iterable, Mapping, Sequence
 from textwrap import wrap
 from typing import Any
 
@@ -320,3 +320,31 @@ class EventWriter(Writer):
             self.bands(0, self.host.users[user].left)
         for user in self.host.with_status("finished"):
             self.event("collect", user=user)
+
+
+class Plain(Writer):
+    """A file that is no example, with this text."""
+
+    def __init__(self, content: str) -> None:
+        super().__init__()
+        self.content = content
+
+    def text(self) -> str:
+        """The whole file."""
+        return self.content
+
+
+def do(word: str, **named: Any) -> Command:
+    """A command."""
+    return {"do": word} | named
+
+
+def docstring_of(function: Callable[..., object]) -> str:
+    """What a function says of itself, on one line."""
+    return " ".join(str(function.__doc__).split())
+
+
+def head_of(make: Callable[[], Writer], how: str) -> tuple[str, str]:
+    """The head of an example: what it shows, which the function that makes it says of itself, and where its answers come
+    from."""
+    return docstring_of(make), f"Answers: by tests/examples/{make.__module__.split('.')[-1]}.py, {how}."
