@@ -31,6 +31,9 @@ from service.fleets.services import HOSTS, Fleet, Service  # noqa: E402
 
 RULES = {"Critters": ("N/MARG", "&/PHASES", CRITTERS), "Life": ("N/MOORE", "&/CENTERS", LIFE)}
 SECONDS = 4
+Connect = Callable[[Fleet], Peer]
+# How a client comes to the front.
+WAYS: dict[str, Connect] = {"without TLS": peers.user, "by TLS": peers.tls_user}
 
 
 @contextmanager
@@ -69,7 +72,10 @@ def prepared(port: int, seat: int, rule: str, side: int) -> Peer:
     lines = ['{"do":"side","side":%d}' % side]
     lines += ['{"do":"rule","name":"R","half":"A","hood":"%s","minor":"%s","text":"%s"}' % (hood, minor, text)]
     lines += ['{"do":"cycle","entries":[%s]}' % entries]
-    lines += ['{"do":"set","plane":0,"row":%d,"bits":"%s"}' % (y, "0123456789abcdef" * (side // 64)) for y in range(0, side, 2)]
+    lines += [
+        '{"do":"set","plane":0,"row":%d,"bits":"%s"}' % (y, "0123456789abcdef" * (side // 64))
+        for y in range(0, side, 2)
+    ]
     for line in lines:
         reply = one.ask(line)
         assert reply is not None and "fault" not in reply, (line, reply)
@@ -108,8 +114,9 @@ def memory(cam6: str, folder: Path) -> None:
                 saved = one.ask('{"do":"save"}')
             then = service.of_process("VmRSS")
             assert saved is not None
-            machine = saved.removeprefix('{"machine":').removesuffix(',"ok":"save"}')
-            asked_for(ones, [f'{{"do":"load","machine":{machine}}}'], 1)
+            asked_for(
+                ones, [b'{"do":"load","machine":' + saved[len(b'{"machine":') : -len(b',"ok":"save"}')] + b"}"], 1
+            )
             print(f"memory: side {side}: {first / 1024:.1f} MB at first, {then / 1024:.1f} MB with 32 users", end="")
             print(f": {(then - first) / 32:.0f} KB a user; {service.of_process('Threads')} threads", end="")
             print(f"; at most {service.of_process('VmHWM') / 1024:.1f} MB")
@@ -172,11 +179,15 @@ def spent_by(fleet: Fleet, play: Callable[[], int]) -> tuple[int, float, float]:
 
 def round_trips(fleet: Fleet) -> None:
     """A line and its reply: at a host, by the front without TLS, and by TLS."""
-    ways = {"at a host": lambda fleet: peers.at_host(fleet, "one"), "by the front": peers.user, "by TLS": peers.tls_user}
+    ways: dict[str, Connect] = {
+        "at a host": lambda fleet: peers.at_host(fleet, "one"),
+        "by the front": peers.user,
+        "by TLS": peers.tls_user,
+    }
     for what, connect in ways.items():
         with connect(fleet) as one:
             one.ask('{"seat":9}')
-            times = []
+            times: list[float] = []
 
             def play(one: Peer = one, times: list[float] = times) -> int:
                 for _ in range(5000):
@@ -192,9 +203,9 @@ def round_trips(fleet: Fleet) -> None:
 
 def connections(fleet: Fleet) -> None:
     """New connections, one after another, each with a seat that isn't there."""
-    for what, connect in (("without TLS", peers.user), ("by TLS", peers.tls_user)):
+    for what, connect in WAYS.items():
 
-        def play(connect: Callable[[Fleet], Peer] = connect) -> int:
+        def play(connect: Connect = connect) -> int:
             for _ in range(300):
                 with connect(fleet) as one:
                     one.ask('{"seat":99}')
@@ -209,14 +220,16 @@ def connections(fleet: Fleet) -> None:
 
 def open_connections(fleet: Fleet) -> None:
     """Memory for connections that stay."""
-    for what, connect in (("without TLS", peers.user), ("by TLS", peers.tls_user)):
+    for what, connect in WAYS.items():
         with ExitStack() as open_:
             before = fleet.front.of_process("VmRSS")
             held = 0
             for seat in list(range(1, 33)) * len(HOSTS):
                 one = open_.enter_context(connect(fleet))
                 held += one.ask(f'{{"seat":{seat}}}') == peers.SEATED
-            print(f"front: {(fleet.front.of_process('VmRSS') - before) / held:.0f} KB for each of {held} connections {what}")
+            print(
+                f"front: {(fleet.front.of_process('VmRSS') - before) / held:.0f} KB for each of {held} connections {what}"
+            )
 
 
 PARTS = {"memory": memory, "steps": steps, "frames": frames, "rest": rest, "front": front}

@@ -285,7 +285,7 @@ def by_dask(plan: Plan, tasks: Sequence[Task], asked: argparse.Namespace) -> Don
                 to_kill = 0
                 print(f"a worker was killed after {len(found)} of {len(tasks) * plan.parts} parts")
         seconds = time.perf_counter() - began
-    counts = {task: sum((found[task, number] for number in range(plan.parts)), []) for task in tasks}
+    counts = {task: [count for number in range(plan.parts) for count in found[task, number]] for task in tasks}
     return Done(counts, seconds, within, workers)
 
 
@@ -428,7 +428,7 @@ def main() -> int:
             return ran(asked, folder)
         except (cam6.Cam6Error, Failed, OSError) as error:
             print(f"ensemble.py: {error}", file=sys.stderr)
-            return 1
+    return 1
 
 
 if __name__ == "__main__":

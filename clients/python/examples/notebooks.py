@@ -45,8 +45,10 @@ def lines_of(text: str) -> List[str]:
 def executed(text: str, number: int, names: Dict[str, Any]) -> List[Dict[str, Any]]:
     """The outputs of a cell."""
     tree, last = ast.parse(text), None
-    if tree.body and isinstance(tree.body[-1], ast.Expr):
-        last = ast.Expression(tree.body.pop().value)  # type: ignore[attr-defined]
+    end = tree.body[-1] if tree.body else None
+    if isinstance(end, ast.Expr):
+        del tree.body[-1]
+        last = ast.Expression(end.value)
     printed = io.StringIO()
     with contextlib.redirect_stdout(printed):
         exec(compile(tree, f"cell {number}", "exec"), names)

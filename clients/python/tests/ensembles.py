@@ -16,12 +16,13 @@ import sys
 import tempfile
 from subprocess import PIPE
 from types import SimpleNamespace
-from typing import Any, Optional
+from typing import Any
 
 import plain
-import support
+from support.programs import TOP
 
-SCRIPT = os.path.join(os.path.dirname(support.HERE), "examples", "ensemble.py")
+SCRIPT = str(TOP / "clients" / "python" / "examples" / "ensemble.py")
+SOURCE = str(TOP / "clients" / "python" / "src")
 SIDE = 128
 # Seconds in which a run has to end.
 PATIENCE = 600
@@ -95,13 +96,13 @@ def unlike_plain(counts: dict[str, list[int]]) -> list[str]:
     return wrong
 
 
-def environment(program: Optional[str] = None, first: str = "") -> dict[str, str]:
+def environment(program: str, first: str = "") -> dict[str, str]:
     """An environment with the package, and the program. `first` is a folder whose modules hide others."""
-    path = [first, support.SOURCE] if first else [support.SOURCE]
-    return dict(os.environ, PYTHONPATH=os.pathsep.join(path), CAM6=program or support.program())
+    path = [first, SOURCE] if first else [SOURCE]
+    return dict(os.environ, PYTHONPATH=os.pathsep.join(path), CAM6=program)
 
 
-def run(*words: str, program: Optional[str] = None, first: str = "") -> subprocess.CompletedProcess[str]:
+def run(program: str, *words: str, first: str = "") -> subprocess.CompletedProcess[str]:
     """Runs the script to its end. One that doesn't come to it fails with what it has written."""
     command = [sys.executable, SCRIPT, *words]
     with subprocess.Popen(command, env=environment(program, first), stdout=PIPE, stderr=PIPE, text=True) as process:
@@ -113,11 +114,11 @@ def run(*words: str, program: Optional[str] = None, first: str = "") -> subproce
     return subprocess.CompletedProcess(command, process.returncode, *told)
 
 
-def counts_by(*words: str, program: Optional[str] = None) -> dict[str, list[int]]:
+def counts_by(program: str, *words: str) -> dict[str, list[int]]:
     """The counts that the script writes."""
     with tempfile.TemporaryDirectory() as folder:
         path = os.path.join(folder, "counts")
-        done = run(*words, "--output", path, program=program)
+        done = run(program, *words, "--output", path)
         assert done.returncode == 0, f"{done.stdout}{done.stderr}"
         with open(path, encoding="utf-8") as file:
             counts: dict[str, list[int]] = json.load(file)

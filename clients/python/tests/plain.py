@@ -8,18 +8,10 @@ from __future__ import annotations
 
 import functools
 import json
-import os
 import re
-import subprocess
-import sys
 from typing import Any, Callable, Dict, List, Optional, Sequence, Tuple
 
-HERE = os.path.dirname(os.path.abspath(__file__))
-ROOT = os.path.dirname(os.path.dirname(os.path.dirname(HERE)))
-SOURCE = os.path.join(os.path.dirname(HERE), "src")
-
-if SOURCE not in sys.path:
-    sys.path.insert(0, SOURCE)
+from support.programs import private
 
 BESIDE = {
     "NORTH": (0, -1),
@@ -177,23 +169,10 @@ class Torus:
         return self.planes[first + upper][(y + dy) % self.side][(x + dx) % self.side]
 
 
-def program() -> Optional[str]:
-    """The built program, or None: the environment's CAM6, ./cam6, or the host's own folder."""
-    places = [
-        os.environ.get("CAM6", ""),
-        os.path.join(ROOT, "cam6"),
-        os.path.join(ROOT, "crates/cam6_host/out/cam6_host"),
-    ]
-    return next((place for place in places if place and os.access(place, os.X_OK) and os.path.isfile(place)), None)
-
-
-def played(commands: Sequence[Dict[str, Any]], side: int = 128) -> List[Dict[str, Any]]:
-    """The program's replies to commands."""
-    told = program()
-    assert told is not None
-    lines = "".join(json.dumps(command, separators=(",", ":")) + "\n" for command in commands)
-    done = subprocess.run([told, "alone", "--side", str(side)], input=lines, capture_output=True, text=True, check=True)
-    return [json.loads(line) for line in done.stdout.splitlines()]
+def played(program: str, commands: Sequence[Dict[str, Any]], side: int = 128) -> List[Dict[str, Any]]:
+    """A program's replies to commands."""
+    lines = [json.dumps(command, separators=(",", ":")) for command in commands]
+    return [json.loads(reply) for reply in private(program, lines, side)]
 
 
 def digits(row: Sequence[int]) -> str:

@@ -1,20 +1,18 @@
 #!/usr/bin/env python3
 """`cam6 alone` and `cam6 serve` by the plain machine of checks/scripts: slow, unproved, and for the tests alone.
 
-With CAM6 unset and nothing built the tests run this in place of the program. Then they try the client, and no program.
+`pytest clients/python/tests --cam6 clients/python/tests/plain_program.py` tries the client where no program is built.
 """
 
 from __future__ import annotations
 
 import argparse
 import json
-import os
 import socket
 import sys
 import threading
 
-sys.path.insert(0, os.path.dirname(os.path.abspath(__file__)))
-from support import Plain
+from fakes import Plain
 
 
 def alone(limit: int) -> None:

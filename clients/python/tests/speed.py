@@ -1,18 +1,16 @@
 #!/usr/bin/env python3
-"""Measures the client: 256 rows set in one write, and a frame of a run, at sides 256 and 512. Prints least and median.
-
-usage: CAM6=path/to/cam6 tests/speed.py [REPEATS]
-"""
+"""Measures the client: 256 rows set in one write, and a frame of a run, at sides 256 and 512. Prints least and median."""
 
 from __future__ import annotations
 
+import argparse
 import statistics
-import sys
 import time
 from collections.abc import Callable
 from typing import Any
 
-import support
+from fakes import BALLS
+from support.programs import Host
 
 import cam6
 from cam6 import cells
@@ -51,21 +49,25 @@ def measure(machine: cam6.Machine, where: str, times: int) -> None:
 
 
 def main() -> None:
-    times = int(sys.argv[1]) if len(sys.argv) > 1 else 50
-    print(f"numpy: {'yes' if cells.numpy() else 'no'}; {support.program()}; least and median of {times}")
+    """Measures a program's machine, a connection, and a connection with a journal."""
+    parser = argparse.ArgumentParser(description=__doc__)
+    parser.add_argument("cam6", help="the program cam6")
+    parser.add_argument("times", type=int, nargs="?", default=50, help="how often each act is measured (50)")
+    asked = parser.parse_args()
+    print(f"numpy: {'yes' if cells.numpy() else 'no'}; {asked.cam6}; least and median of {asked.times}")
     for side in (256, 512):
-        with support.Host(side=side) as host:
-            starts = {
-                "local": lambda: cam6.local(support.program(), side_limit=side),
+        with Host(asked.cam6, "--users=4", f"--side={side}", "--boards=1") as host:
+            starts: dict[str, Callable[[], cam6.Machine]] = {
+                "local": lambda: cam6.local(asked.cam6, side_limit=side),
                 "connection": lambda: cam6.connect("127.0.0.1", host.port, seat=1),
                 "journal in memory": lambda: cam6.connect("127.0.0.1", host.port, limit=side, journal=":memory:"),
             }
             for where, start in starts.items():
                 with start() as machine:
                     machine.set_side(side)
-                    machine.rule("B", support.BALLS, hood="N/MARG", minor="&/PHASES")
+                    machine.rule("B", BALLS, hood="N/MARG", minor="&/PHASES")
                     machine.cycle(("B", "-", "EVEN"), ("B", "-", "ODD"))
-                    measure(machine, where, times)
+                    measure(machine, where, asked.times)
 
 
 if __name__ == "__main__":

@@ -138,9 +138,7 @@ def film(asked: argparse.Namespace) -> int:
     with local(asked.program, asked.side_limit) as machine:
         if played(machine, lines_of(path), path, False):
             return 1
-        pictures = machine.film(
-            asked.frames, asked.every, asked.plane, asked.back, ms=asked.ms, scale=asked.scale
-        )
+        pictures = machine.film(asked.frames, asked.every, asked.plane, asked.back, ms=asked.ms, scale=asked.scale)
         data = pictures.apng()
     write_whole(asked.output, data)
     print(f"{asked.output}: {asked.frames} pictures, {len(data):,} bytes")

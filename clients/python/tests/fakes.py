@@ -1,4 +1,4 @@
-"""What the tests share: the plain machine of checks/scripts, the program under test, and hosts that break.
+"""Stands for the program: the plain machine of checks/scripts, and hosts by it that break.
 
 The plain machine shares nothing with the program, and nothing with this package. What a test expects comes from it.
 """
@@ -7,26 +7,20 @@ from __future__ import annotations
 
 import importlib
 import json
-import os
-import signal
 import socket
 import ssl
-import subprocess
 import sys
 import threading
 import time
 from collections.abc import Callable, Iterable
+from pathlib import Path
 from typing import Any, Optional
 
-HERE = os.path.dirname(os.path.abspath(__file__))
-ROOT = os.path.dirname(os.path.dirname(os.path.dirname(HERE)))
-SCRIPTS = os.path.join(ROOT, "checks", "scripts")
-PLAIN_PROGRAM = os.path.join(HERE, "plain_program.py")
-SOURCE = os.path.join(os.path.dirname(HERE), "src")
-
-if SOURCE not in sys.path:
-    sys.path.insert(0, SOURCE)
-
+HERE = Path(__file__).parent
+SCRIPTS = HERE.parents[2] / "checks" / "scripts"
+PLAIN_PROGRAM = HERE / "plain_program.py"
+# Seconds for which a silent host is silent.
+SILENT = 30
 PARITY = ": P CENTER NORTH XOR SOUTH XOR WEST XOR EAST XOR >PLN0 ;"
 BALLS = (
     ": S4 CENTER CW + CCW + OPP + ; : D CENTER OPP = IF CW ELSE CENTER THEN ; "
@@ -36,25 +30,14 @@ BALLS = (
 
 def script(name: str) -> Any:
     """A script of checks/, as a module. They import each other by plain names, so they are all found in one folder."""
-    if SCRIPTS not in sys.path:
-        sys.path.append(SCRIPTS)
+    if str(SCRIPTS) not in sys.path:
+        sys.path.append(str(SCRIPTS))
     return importlib.import_module(name)
 
 
-def program() -> str:
-    """The program under test: what CAM6 names, or the one that was built last, or the plain one."""
-    named = os.environ.get("CAM6")
-    if named:
-        return os.path.abspath(named)
-    for path in ("cam6", "crates/cam6_host/out/cam6_host"):
-        if os.access(os.path.join(ROOT, path), os.X_OK):
-            return os.path.join(ROOT, path)
-    return PLAIN_PROGRAM
-
-
-def is_plain() -> bool:
-    """Whether the program is the plain one, which is too slow for much."""
-    return program() == PLAIN_PROGRAM
+def is_plain(program: str) -> bool:
+    """Whether a program is the plain one, which is too slow for much."""
+    return program == str(PLAIN_PROGRAM)
 
 
 class Plain:
@@ -81,60 +64,17 @@ def answers(sent: Iterable[bytes], limit: int = 256) -> list[bytes]:
 
 def load_line(plain: Plain) -> bytes:
     """The line that loads a plain machine, made as the manual says."""
-    reply = plain.answer(b'{"do":"save"}')
+    return load_of(plain.answer(b'{"do":"save"}'))
+
+
+def load_of(reply: bytes) -> bytes:
+    """The line that loads what a reply to `save` has."""
     return b'{"do":"load","machine":' + reply[len(b'{"machine":') : -len(b',"ok":"save"}')] + b"}"
 
 
 def compact(**said: Any) -> bytes:
     """A command as a line."""
     return json.dumps(said, separators=(",", ":")).encode()
-
-
-def free_port() -> int:
-    """A port that nobody has."""
-    with socket.socket() as free:
-        free.bind(("127.0.0.1", 0))
-        number: int = free.getsockname()[1]
-        return number
-
-
-class Host:
-    """The program as a host, which can be killed and started again at the same port."""
-
-    def __init__(self, users: int = 4, side: int = 128, boards: int = 1) -> None:
-        self.words = ["--users", str(users), "--side", str(side), "--boards", str(boards)]
-        self.port = free_port()
-        self.kills = 0
-        self.process: Optional[subprocess.Popen[bytes]] = None
-        self.start()
-
-    def start(self) -> None:
-        """Starts the program, and waits until it listens."""
-        command = [program(), "serve", "--port", str(self.port), *self.words]
-        for _ in range(100):
-            self.process = subprocess.Popen(command, stdin=subprocess.DEVNULL, stderr=subprocess.PIPE)
-            assert self.process.stderr
-            if self.process.stderr.readline().startswith(b"listening on"):
-                return
-            self.stop()
-            time.sleep(0.05)
-        raise AssertionError(f"no host: {' '.join(command)}")
-
-    def stop(self) -> None:
-        """Kills the program. It can't do anything about that."""
-        if self.process:
-            self.process.send_signal(signal.SIGKILL)
-            self.process.wait()
-            assert self.process.stderr
-            self.process.stderr.close()
-            self.process = None
-            self.kills += 1
-
-    def __enter__(self) -> Host:
-        return self
-
-    def __exit__(self, *_: object) -> None:
-        self.stop()
 
 
 class Breaking:
@@ -216,7 +156,7 @@ class Breaking:
         if what == "after":
             return False
         if what == "silent":
-            time.sleep(30)
+            time.sleep(SILENT)
             return False
         if what is not None:
             stream.sendall(reply[: int(what)])
@@ -238,3 +178,13 @@ class Breaking:
 
     def __exit__(self, *_: object) -> None:
         self.stop()
+
+
+class Once:
+    """Breaks at one line alone."""
+
+    def __init__(self, number: int, what: Any) -> None:
+        self.number, self.what = number, what
+
+    def __call__(self, number: int, line: bytes) -> Any:
+        return self.what if number == self.number else None

@@ -1,4 +1,4 @@
-"""What all tests share: the programs under test, and hosts, pages and libraries that go when their test ends."""
+"""What tests/ and clients/python/tests share: the programs, and hosts, pages and libraries that go when their test ends."""
 
 from __future__ import annotations
 
@@ -12,7 +12,7 @@ import hypothesis
 import pytest
 from support.programs import CRATES, Host, Page, built
 
-SUPPORT = Path(__file__).parent / "support"
+SUPPORT = Path(__file__).parent / "tests" / "support"
 # Programs take their time, and more of it on a busy computer.
 hypothesis.settings.register_profile(
     "programs", deadline=None, print_blob=True, suppress_health_check=list(hypothesis.HealthCheck)

@@ -1,0 +1,158 @@
+"""The example of an ensemble by Dask, where workers, computers and programs die, or don't answer.
+
+Serial runs are those of the plain machine (test_ensemble.py). Here runs by Dask have to be equal to both.
+"""
+
+from __future__ import annotations
+
+import os
+import re
+import shlex
+import signal
+import subprocess
+import sys
+import time
+from collections.abc import Callable, Iterator
+from pathlib import Path
+from typing import Any
+
+import ensembles
+import pytest
+from support.programs import free_port, until
+
+pytestmark = pytest.mark.slow
+
+SOME = ["--seeds=4", "--rules=all", "--steps=600", "--every=100", "--part=200"]
+ONE = ["--seeds=1", "--rules=life"]
+# A program that dies when it is started for the first time.
+DYING = 'mkdir "$0.died" 2> /dev/null && kill -9 $$\nexec PROGRAM "$@"\n'
+Start = Callable[..., "subprocess.Popen[bytes]"]
+Made = Callable[[str, str], str]
+
+
+@pytest.fixture(autouse=True)
+def dask(module: Callable[[str], Any]) -> None:
+    """Each test fails if Dask is not there."""
+    module("distributed")
+
+
+@pytest.fixture
+def shell_program(cam6: str, tmp_path: Path) -> Made:
+    """Makes a program of the shell. PROGRAM in its text stands for the one under test."""
+
+    def made(name: str, text: str) -> str:
+        path = tmp_path / name
+        path.write_text("#!/bin/sh\n" + text.replace("PROGRAM", shlex.quote(cam6)))
+        path.chmod(0o755)
+        return str(path)
+
+    return made
+
+
+@pytest.fixture
+def start(cam6: str) -> Iterator[Start]:
+    """Starts a command of Dask in a group of processes of its own, which ends with the test."""
+    started: list[subprocess.Popen[bytes]] = []
+
+    def begun(name: str, *words: str) -> subprocess.Popen[bytes]:
+        command = [sys.executable, "-m", f"distributed.cli.{name}", *words]
+        how: dict[str, Any] = {"stdout": subprocess.DEVNULL, "stderr": subprocess.DEVNULL, "start_new_session": True}
+        started.append(subprocess.Popen(command, env=ensembles.environment(cam6), **how))
+        return started[-1]
+
+    yield begun
+    for process in reversed(started):
+        if process.poll() is None:
+            os.killpg(process.pid, signal.SIGKILL)
+        process.wait()
+
+
+def processes_of(path: str) -> list[int]:
+    """The processes whose first word is this path."""
+    found = []
+    for name in filter(str.isdigit, os.listdir("/proc")):
+        try:
+            if Path(f"/proc/{name}/cmdline").read_bytes().split(b"\0")[0] == path.encode():
+                found.append(int(name))
+        except OSError:
+            pass
+    return found
+
+
+def test_the_counts_are_those_of_the_plain_machine(cam6: str) -> None:
+    assert ensembles.unlike_plain(ensembles.counts_by(cam6, *ensembles.FEW)) == []
+
+
+def test_a_worker_is_killed(cam6: str, tmp_path: Path) -> None:
+    program = tmp_path / "cam6"
+    program.symlink_to(cam6)
+    done = ensembles.run(str(program), "--compare", "--kill=12", *SOME)
+    assert done.returncode == 0, done.stdout + done.stderr
+    after = re.search(r"a worker was killed after (\d+) of 96 parts", done.stdout)
+    # No worker may be within a part when the twelfth has come. Then it is tried again after the next one.
+    assert after and 12 <= int(after[1]) < 96, done.stdout
+    assert "parts that were cut off and done anew: 1\n" in done.stdout
+    assert "equal: 224 counts" in done.stdout
+    assert processes_of(str(program)) == []
+
+
+def test_a_part_whose_program_dies_is_tried_again(cam6: str, shell_program: Made) -> None:
+    dying = shell_program("dying", DYING)
+    assert ensembles.counts_by(dying, *SOME) == ensembles.counts_by(cam6, "--serial", *SOME)
+    assert os.path.isdir(f"{dying}.died")
+
+
+def test_a_part_whose_program_dies_may_not_be_tried_again(shell_program: Made) -> None:
+    done = ensembles.run(shell_program("dying", DYING), "--retries=0", *SOME)
+    assert (done.returncode, done.stdout) == (1, "")
+    assert re.search(r"^ensemble.py: [a-z-]+\.seed-\d\..*status -9 \(signal 9\)", done.stderr)
+
+
+def test_a_program_does_not_answer(shell_program: Made) -> None:
+    silent = shell_program("silent", "exec sleep 600\n")
+    began = time.monotonic()
+    done = ensembles.run(silent, "--limit=1", "--retries=0", *ONE)
+    assert time.monotonic() - began < 60
+    assert (done.returncode, done.stdout) == (1, "")
+    assert "No reply came in time" in done.stderr
+
+
+def test_a_second_run_goes_on(cam6: str, tmp_path: Path) -> None:
+    kept = tmp_path / "kept"
+    words = ["--folder", str(kept), *SOME]
+
+    def times() -> dict[str, int]:
+        return {path.name: path.stat().st_mtime_ns for path in kept.iterdir()}
+
+    first = ensembles.counts_by(cam6, *words)
+    assert first == ensembles.counts_by(cam6, "--serial", *SOME)
+    made = times()
+    assert len(made) == 96
+    gone = {name for name in made if name.startswith("tron.seed-2.") and not name.endswith(".steps-0-200")}
+    for name in gone:
+        (kept / name).unlink()
+    assert ensembles.counts_by(cam6, *words) == first
+    again = times()
+    assert {name for name in again if again[name] != made[name]} == gone
+    assert sorted(again) == sorted(made)
+
+
+def test_a_computer_is_lost(cam6: str, tmp_path: Path, start: Start) -> None:
+    """Two computers work for a scheduler. One of them, a worker with its nanny, is gone for good in the middle."""
+    port, kept = free_port(), tmp_path / "kept"
+    address = f"tcp://127.0.0.1:{port}"
+    start("dask_scheduler", "--host=127.0.0.1", f"--port={port}", "--no-dashboard")
+    worker = [address, "--host=127.0.0.1", "--nthreads=1", "--no-dashboard", f"--local-directory={tmp_path}"]
+    lost = start("dask_worker", *worker)
+    start("dask_worker", *worker)
+    steps = ["--seeds=4", "--rules=all", "--steps=3000", "--every=500", "--part=1000"]
+    command = [sys.executable, ensembles.SCRIPT, "--compare", "--scheduler", address, "--folder", str(kept), *steps]
+    how: dict[str, Any] = {"stdout": subprocess.PIPE, "stderr": subprocess.STDOUT, "text": True}
+    with subprocess.Popen(command, env=ensembles.environment(cam6), **how) as run:
+        until(lambda: run.poll() is not None or kept.is_dir() and len(os.listdir(kept)) > 12, 600, 0.01)
+        assert run.poll() is None
+        os.killpg(lost.pid, signal.SIGKILL)
+        said = run.communicate(timeout=600)[0]
+    assert run.returncode == 0, said
+    assert "equal: 224 counts" in said
+    assert "Dask: 32 tasks, 2 at once" in said
