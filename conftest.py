@@ -10,7 +10,7 @@ from pathlib import Path
 
 import hypothesis
 import pytest
-from support.programs import CRATES, Host, Page, built
+from support.programs import CRATES, PLAYERS, Host, Page, built
 
 SUPPORT = Path(__file__).parent / "tests" / "support"
 # Programs take their time, and more of it on a busy computer.
@@ -18,11 +18,13 @@ hypothesis.settings.register_profile(
     "programs", deadline=None, print_blob=True, suppress_health_check=list(hypothesis.HealthCheck)
 )
 hypothesis.settings.load_profile("programs")
+# Where Debian's golly has its patterns.
+PATTERNS = "/usr/share/golly/Patterns"
 
 
 def pytest_addoption(parser: pytest.Parser) -> None:
     """An option for each program, by which another build is tested."""
-    for name, crate in CRATES.items():
+    for name, crate in (CRATES | PLAYERS).items():
         option = f"--{name.replace('_', '-')}"
         parser.addoption(option, metavar="PATH", help=f"the program {name} (crates/{crate}/out/{crate})")
     fleet = parser.getgroup("fleet", "a fleet behind HAProxy")
@@ -32,13 +34,15 @@ def pytest_addoption(parser: pytest.Parser) -> None:
         "--fleet-sessions", type=int, default=8, metavar="N", help="how many sessions go on meanwhile, 1 to 64"
     )
     fleet.addoption("--fleet-ports", action="store_true", help="no network namespaces, and so no cables")
+    parser.addoption("--patterns", metavar="FOLDER", default=PATTERNS, help="patterns of another program (%(default)s)")
 
 
 def program(request: pytest.FixtureRequest, name: str) -> str:
     """The path of a program: the one that an option names, or the one that `./build` left."""
     path = built(name, request.config.getoption(name))
     if path is None:
-        pytest.fail(f"there is no program {name}: ./build builds it", pytrace=False)
+        builder = f"rt run in crates/{PLAYERS[name]}" if name in PLAYERS else "./build"
+        pytest.fail(f"there is no program {name}: {builder} builds it", pytrace=False)
     return str(path)
 
 
@@ -75,6 +79,12 @@ def cam6_web(request: pytest.FixtureRequest) -> str:
     return program(request, "cam6_web")
 
 
+@pytest.fixture(scope="session")
+def cam6_try_rules(request: pytest.FixtureRequest) -> str:
+    """The path of the player of rules."""
+    return program(request, "cam6_try_rules")
+
+
 @pytest.fixture
 def host(cam6: str) -> Iterator[Callable[..., Host]]:
     """Starts `cam6 serve` with options, as often as it is called: `host("--users=4")`."""
@@ -98,7 +108,7 @@ def library(tmp_path_factory: pytest.TempPathFactory) -> Callable[[str], str]:
         path = folder / f"{name}.so"
         if not path.exists():
             source = SUPPORT / f"{name}.c"
-            subprocess.run(["cc", "-shared", "-fPIC", "-O2", "-o", path, source, "-ldl"], check=True)
+            subprocess.run([os.environ.get("CC", "cc"), "-shared", "-fPIC", "-O2", "-o", path, source, "-ldl"], check=True)
         return str(path)
 
     return compiled

@@ -6,6 +6,7 @@ import os
 import socket
 import struct
 import subprocess
+import tempfile
 import threading
 import time
 from collections.abc import Callable, Iterable, Mapping
@@ -14,8 +15,9 @@ from pathlib import Path
 from typing import Any, TypeVar
 
 TOP = Path(__file__).parents[2]
-# The crate of each program.
+# The crate of each program, and the players, which ./build doesn't build.
 CRATES = {"cam6": "cam6_host", "cam6_draw": "cam6_draw", "cam6_rle": "cam6_rle", "cam6_web": "cam6_web"}
+PLAYERS = {"cam6_try_rules": "cam6_try_rules"}
 Self = TypeVar("Self", bound="Listener")
 # Seconds within which a program has to listen, to answer a line, and to end.
 START, PATIENCE, END = 20.0, 60.0, 600.0
@@ -25,7 +27,7 @@ NETWORK_FAILED, STARTS = 7, 5
 
 def built(name: str, named: str | None = None) -> Path | None:
     """The path of a program, if it is there: the one that is named, or else the one that the gate built."""
-    crate = CRATES[name]
+    crate = (CRATES | PLAYERS)[name]
     places = [Path(named)] if named else [TOP / "crates" / crate / "out" / crate, TOP / name]
     return next((path.resolve() for path in places if os.access(path, os.X_OK)), None)
 
@@ -42,8 +44,14 @@ class Ran:
 def ran(command: Iterable[str], data: bytes = b"", env: Mapping[str, str] | None = None, patience: float = END) -> Ran:
     """Runs a program to its end, with these bytes as its input."""
     all_env = os.environ | dict(env or {})
-    done = subprocess.run([*command], input=data, capture_output=True, timeout=patience, env=all_env, check=False)
-    return Ran(done.returncode, done.stdout, done.stderr)
+    # By files, since megabytes go through a pipe in thousands of turns of two processes.
+    with tempfile.TemporaryFile() as given, tempfile.TemporaryFile() as output:
+        given.write(data)
+        given.seek(0)
+        how: dict[str, Any] = {"stdin": given, "stdout": output, "stderr": subprocess.PIPE}
+        done = subprocess.run([*command], timeout=patience, env=all_env, check=False, **how)
+        output.seek(0)
+        return Ran(done.returncode, output.read(), done.stderr)
 
 
 def private(cam6: str, lines: Iterable[str], side: int = 512) -> list[str]:
@@ -77,6 +85,12 @@ def until(is_so: Callable[[], Any], seconds: float = PATIENCE, pause: float = 0.
     return bool(is_so())
 
 
+def of_process(process: int, name: str) -> int:
+    """A number that the system knows of a process, as VmRSS (in kB) or Threads."""
+    with open(f"/proc/{process}/status", encoding="utf-8") as lines:
+        return next((int(line.split()[1]) for line in lines if line.startswith(f"{name}:")), 0)
+
+
 class Listener:
     """A program that listens at a port until it is ended. Raises OSError if it doesn't begin to."""
 
@@ -84,8 +98,14 @@ class Listener:
     # The first line of its errors.
     first = "listening on 127.0.0.1:{}"
 
-    def __init__(self, command: Callable[[int], list[str]], port: int | None, env: Mapping[str, str] | None) -> None:
-        self.command_at, self.port, self.env = command, port or free_port(), dict(env or {})
+    def __init__(
+        self,
+        command: Callable[[int], list[str]],
+        port: int | None,
+        env: Mapping[str, str] | None,
+        stdin: int = subprocess.DEVNULL,
+    ) -> None:
+        self.command_at, self.port, self.env, self.stdin = command, port or free_port(), dict(env or {}), stdin
         self.said: list[str] = []
         for _ in range(1 if port else STARTS):
             if self.begins():
@@ -98,7 +118,7 @@ class Listener:
     def begins(self) -> bool:
         """Starts the program. Returns whether it listens."""
         self.said = []
-        how: dict[str, Any] = {"stdin": subprocess.DEVNULL, "stdout": subprocess.PIPE, "stderr": subprocess.PIPE}
+        how: dict[str, Any] = {"stdin": self.stdin, "stdout": subprocess.PIPE, "stderr": subprocess.PIPE}
         self.process = subprocess.Popen(self.command_at(self.port), env=os.environ | self.env, **how)
         is_told = threading.Event()
 
@@ -145,7 +165,7 @@ class Listener:
         return self.process.poll() is None
 
     def of_process(self, name: str) -> int:
-        """A number that the system knows of the process."""
+        """A number that the system knows of the process, as VmRSS (in kB) or Threads."""
         return of_process(self.process.pid, name)
 
     def __enter__(self: Self) -> Self:
@@ -158,8 +178,15 @@ class Listener:
 class Host(Listener):
     """`cam6 serve`, with options such as `--users=4`."""
 
-    def __init__(self, cam6: str, *options: str, port: int | None = None, env: Mapping[str, str] | None = None) -> None:
-        super().__init__(lambda at: [cam6, "serve", f"--port={at}", *options], port, env)
+    def __init__(
+        self,
+        cam6: str,
+        *options: str,
+        port: int | None = None,
+        env: Mapping[str, str] | None = None,
+        stdin: int = subprocess.DEVNULL,
+    ) -> None:
+        super().__init__(lambda at: [cam6, "serve", f"--port={at}", *options], port, env, stdin)
 
 
 class Page(Listener):

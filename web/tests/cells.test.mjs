@@ -12,9 +12,9 @@ const { commandOf, lineOf } = lines;
 const inRepository = path => readFileSync(new URL(`../../${path}`, import.meta.url), 'utf8');
 
 test('the palette is that of the pictures', () => {
-  const [, said] = /LIGHTS = "([0-9a-f,]+)"/.exec(inRepository('checks/examples'));
+  const [, ...said] = /PALETTE = \(\s*"([0-9a-f ]+)"\s*"([0-9a-f ]+)"/.exec(inRepository('checks/scripts/frames.py'));
   const spelled = PALETTE.map(light => light.map(part => part.toString(16).padStart(2, '0')).join(''));
-  assert.deepEqual(spelled, said.split(','));
+  assert.deepEqual(spelled, said.join('').split(' '));
 });
 
 test('pixels have the lights of their states, of the planes that are shown', () => {

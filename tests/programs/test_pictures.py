@@ -1,0 +1,215 @@
+"""`cam6_draw` draws the pictures of the gallery, and `tools/film` packs its films.
+
+A plain renderer draws the same. The gallery shows each picture. What can't be drawn or packed is refused.
+"""
+
+from __future__ import annotations
+
+import json
+import re
+from io import BytesIO
+from pathlib import Path
+from typing import Any
+
+import pytest
+from PIL import Image, ImageSequence
+from support.plain_scripts import plain_script
+from support.programs import TOP, ran
+from support.tools import tool
+
+FILM = str(TOP / "tools" / "film")
+FOLDER, GALLERY = TOP / "docs" / "pictures", TOP / "docs" / "GALLERY.md"
+LARGEST, LARGEST_FILM = 20_000, 100_000
+
+gallery = tool("tools/gallery-pictures")
+plain = plain_script("frames")
+PICTURES: list[str] = gallery.names_of(".lines")
+FILMS: list[str] = gallery.names_of(".frames")
+FILES: list[str] = gallery.names_of(".png")
+
+
+def entries_of_gallery() -> dict[str, list[str]]:
+    """The pictures that are shown in each entry of the gallery. An entry has the name of the line that shows it."""
+    entries = {}
+    for part in re.split(r"^### ", GALLERY.read_text(encoding="utf-8"), flags=re.M)[1:]:
+        if entry := re.search(r"^    \./look (\w+)$", part, re.M):
+            entries[entry[1]] = re.findall(r"!\[[^]]+\]\(pictures/(\w+)\.png\)", part)
+    return entries
+
+
+ENTRIES = entries_of_gallery()
+SHOWN = [name for names in ENTRIES.values() for name in names]
+
+
+@pytest.mark.parametrize("entry", ENTRIES)
+def test_an_entry_shows_its_picture(entry: str) -> None:
+    assert entry in ENTRIES[entry]
+
+
+def test_the_gallery_shows_each_picture_once() -> None:
+    assert sorted(SHOWN) == PICTURES
+
+
+def test_each_picture_and_each_film_has_a_file() -> None:
+    assert FILES == sorted(PICTURES + FILMS)
+
+
+@pytest.mark.parametrize("name", FILES)
+def test_a_file_is_small(name: str) -> None:
+    assert (FOLDER / f"{name}.png").stat().st_size < (LARGEST_FILM if name in FILMS else LARGEST)
+
+
+def ppm_of(image: Image.Image) -> bytes:
+    """A picture as a P6 file."""
+    pixels: bytes = image.convert("RGB").tobytes()
+    return f"P6\n{image.width} {image.height}\n255\n".encode() + pixels
+
+
+def pictures_in(file: Path | BytesIO) -> list[bytes]:
+    """The pictures of a PNG file as P6 files: one, or those of an animation."""
+    with Image.open(file) as image:
+        assert image.format == "PNG"
+        return [ppm_of(frame) for frame in ImageSequence.Iterator(image)]
+
+
+def files_in(drawn: bytes) -> list[bytes]:
+    """The P6 files that follow one another. All have one size."""
+    head = re.match(rb"P6\n([0-9]+) ([0-9]+)\n255\n", drawn)
+    assert head, drawn[:40]
+    size = head.end() + 3 * int(head[1]) * int(head[2])
+    assert len(drawn) % size == 0
+    return [drawn[at : at + size] for at in range(0, len(drawn), size)]
+
+
+def drawn_plainly(replies: bytes, options: list[str]) -> list[Image.Image]:
+    """The pictures that the plain renderer draws of replies, with these options of cam6_draw."""
+    words, scale, window, palette = list(options), 1, None, plain.default_palette()
+    while words:
+        word = words.pop(0)
+        if word == "--scale":
+            scale = int(words.pop(0))
+        elif word == "--crop":
+            window, words = tuple(map(int, words[:4])), words[4:]
+        else:
+            assert word == "--palette", f"no option of a picture: {word}"
+            palette = [tuple(bytes.fromhex(light)) for light in words.pop(0).split(",")]
+    images = []
+    for frame in plain.frames(replies.decode().splitlines()):
+        rows: list[list[tuple[int, int, int]]] = plain.pixels(frame, window, scale, palette)
+        data = bytes(part for row in rows for light in row for part in light)
+        images.append(Image.frombytes("RGB", (len(rows[0]), len(rows)), data))
+    return images
+
+
+def beside(images: list[Image.Image], gap: int) -> Image.Image:
+    """Pictures side by side on white, with so many pixels between two."""
+    width = sum(image.width + gap for image in images) - gap
+    strip = Image.new("RGB", (width, images[0].height), "white")
+    for number, image in enumerate(images):
+        strip.paste(image, (number * (image.width + gap), 0))
+    return strip
+
+
+class TestDrawing:
+    """A picture or a film, as the programs draw it."""
+
+    @pytest.fixture(scope="class", params=PICTURES + FILMS)
+    def drawing(self, request: pytest.FixtureRequest) -> Any:
+        """How it is drawn."""
+        return gallery.drawing_of(request.param)
+
+    @pytest.fixture(scope="class")
+    def replies(self, drawing: Any, cam6: str) -> bytes:
+        """The replies of cam6 to its lines."""
+        done = ran([cam6], "".join(f"{line}\n" for line in drawing.lines).encode())
+        assert done.status == 0
+        return done.output
+
+    @pytest.fixture(scope="class")
+    def wanted(self, drawing: Any) -> list[bytes]:
+        """The pictures of its file."""
+        return pictures_in(FOLDER / f"{drawing.name}.png")
+
+    def test_each_of_its_lines_is_done(self, drawing: Any, replies: bytes) -> None:
+        told = [json.loads(reply) for reply in replies.splitlines()]
+        assert len(told) == len(drawing.lines)
+        assert not [reply for reply in told if "fault" in reply]
+
+    def test_the_programs_draw_it(self, drawing: Any, replies: bytes, wanted: list[bytes], cam6_draw: str) -> None:
+        drawn = ran([cam6_draw, "--ppm", *drawing.draw], replies)
+        assert drawn.status == 0
+        if not drawing.is_film:
+            assert files_in(drawn.output)[-1:] == wanted
+            return
+        packed = ran([FILM, *drawing.film], drawn.output)
+        assert packed.status == 0
+        assert pictures_in(BytesIO(packed.output)) == wanted
+
+    def test_a_plain_renderer_draws_it(self, drawing: Any, replies: bytes, wanted: list[bytes]) -> None:
+        images = drawn_plainly(replies, drawing.draw)
+        if not drawing.is_film:
+            images = images[-1:]
+        elif "--strip" in drawing.film:
+            images = [beside(images, int(drawing.film[drawing.film.index("--gap") + 1]))]
+        assert list(map(ppm_of, images)) == wanted
+
+
+# Arguments that are refused, and lines that show no pictures: the status, and what stands on standard error.
+ROW = '{"colours":"' + 128 * "0" + '","ok":"colours"}\n'
+FAULTS = [
+    ("", "", 2, "one of --ppm and --text is wanted, and not both\n"),
+    ("--ppm --text", "", 2, "one of --ppm and --text is wanted, and not both\n"),
+    ("--ppm --frames 5", "", 2, "--frames goes with --text alone\n"),
+    ("--text --frames 0", "", 2, "--frames takes a whole number from 1 to 1000\n"),
+    ("--text --frames 1001", "", 2, "--frames takes a whole number from 1 to 1000\n"),
+    ("--ppm --scale 17", "", 2, "--scale takes a whole number from 1 to 16\n"),
+    ("--ppm --crop 512 0 1 1", "", 2, "--crop takes a column and a row from 0 to 511"),
+    ("--ppm --crop 0 0 1 0", "", 2, "--crop takes a column and a row from 0 to 511"),
+    ("--ppm --crop 1 2 3", "", 2, "--crop <X> <Y> <W> <H>"),
+    ("--ppm --palette 000000", "", 2, "--palette takes sixteen groups"),
+    ("--pmp", "", 2, "--pmp"),
+    ("--ppm", "x\n", 3, "cam6_draw: line 1 is no reply\n"),
+    ("--text", '{"ok":"run","position":0}\n[]\n', 3, "cam6_draw: line 2 is no reply\n"),
+    ("--ppm", ROW, 3, "cam6_draw: line 1 breaks off a frame\n"),
+    ("--ppm", ROW + ROW + '{"ok":"run","position":0}\n', 3, "cam6_draw: line 3 breaks off a frame\n"),
+    ("--ppm", 127 * ROW, 3, "cam6_draw: line 127 breaks off a frame\n"),
+]
+
+
+@pytest.mark.parametrize(
+    ("words", "text", "status", "told"), FAULTS, ids=[f"{fault[0]}: {fault[3]}" for fault in FAULTS]
+)
+def test_nothing_is_drawn_of_a_fault(words: str, text: str, status: int, told: str, cam6_draw: str) -> None:
+    done = ran([cam6_draw, *words.split()], text.encode())
+    assert (done.status, done.output) == (status, b"")
+    assert told in done.errors.decode()
+
+
+@pytest.mark.parametrize(("word", "front"), [("--version", b"cam6_draw 1 ("), ("--help", b"Draws the cells")])
+def test_the_program_tells_of_itself(word: str, front: bytes, cam6_draw: str) -> None:
+    done = ran([cam6_draw, word])
+    assert (done.status, done.output[: len(front)]) == (0, front)
+
+
+# What `tools/film` refuses: its options, standard input, the status, and what stands on standard error.
+DOT = b"P6\n1 1\n255\n\1\2\3"
+FILM_FAULTS = [
+    ("", b"", 3, "film: there is no picture on standard input\n"),
+    ("", b"P5\n1 1\n255\n\1", 3, "film: picture 1 is no P6 file of 255 levels\n"),
+    ("", DOT + DOT[:-1], 3, "film: picture 2 breaks off\n"),
+    ("", DOT + b"P6\n1 2\n255\n" + bytes(6), 3, "film: the pictures have different sizes\n"),
+    ("--strip", DOT + b"P6\n1 2\n255\n" + bytes(6), 3, "film: the pictures have different heights\n"),
+    ("", b"P6\n257 1\n255\n" + bytes(b for n in range(257) for b in (n % 256, n // 256, 0)), 3, "257 colours"),
+    ("--pause 0", DOT, 2, "0 is no whole number from 1 to 65535"),
+    ("--pause 65536", DOT, 2, "65536 is no whole number from 1 to 65535"),
+    ("--reel", DOT, 2, "--reel"),
+]
+
+
+@pytest.mark.parametrize(
+    ("words", "data", "status", "told"), FILM_FAULTS, ids=[fault[3].strip() for fault in FILM_FAULTS]
+)
+def test_a_film_is_refused(words: str, data: bytes, status: int, told: str) -> None:
+    done = ran([FILM, *words.split()], data)
+    assert (done.status, done.output) == (status, b"")
+    assert told in done.errors.decode()
