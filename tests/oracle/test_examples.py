@@ -5,6 +5,7 @@ from __future__ import annotations
 from collections.abc import Callable, Iterable, Iterator
 from itertools import product
 from pathlib import Path
+from typing import Any
 
 import pytest
 from oracle import wirings
@@ -79,7 +80,7 @@ def part_answers(part: Part) -> list[bytes]:
     return [reading(line) if word == "readings" else ways[word](line.decode(), *rest) for line, _ in part.sent]
 
 
-def is_known(path: Path) -> bool:
+def is_known(path: Any) -> bool:
     """Whether the oracle knows the ways of an example."""
     ways = {part.way.split()[0] for part in Example(path).parts}
     return ways <= {"session", "events", "readings", "texts", "tables", "inverses"}
@@ -91,8 +92,10 @@ def all_answers(example: Example) -> Iterator[bytes]:
         yield b"".join(answer + b"\n" for answer in part_answers(part))
 
 
-@pytest.mark.parametrize("path", examples(f"{HOST}/sessions", f"{HOST}/events", PLAYER))
+FOLDERS = (f"{HOST}/sessions", f"{HOST}/events", PLAYER)
+
+
+@pytest.mark.parametrize("path", [one for one in examples(*FOLDERS) if is_known(one.values[0])])
 def test_the_oracle_says_what_the_file_says(path: Path) -> None:
-    if is_known(path):
-        example = Example(path)
-        assert_answers(example, all_answers(example))
+    example = Example(path)
+    assert_answers(example, all_answers(example))
