@@ -13,7 +13,7 @@ import { Piece } from './piece.js';
 import { Screen } from './screen.js';
 import { Tools } from './tools.js';
 import { Torus } from './torus.js';
-import { at, joinClicks, keep, note, recall, storageOf } from './dom.js';
+import { at, element, joinClicks, keep, note, recall, storageOf } from './dom.js';
 import { coloursShown } from './palette.js';
 import { FlashMeter, flashes } from './dial.js';
 import { giveKeysBack, joinKeys } from './keys.js';
@@ -23,10 +23,15 @@ import { nameOfTab } from './journal.js';
 
 const DIVERGED = 'A command that was done again had another reply. The page shows what the machine has now.';
 const NOT_KEPT = 'The browser keeps no more. Save the machine as a file.';
+/**
+ * @typedef {import('./gallery.js').Entry} Entry
+ * @typedef {{title: string, lookFor: string, name?: string}} Shown what is said of a machine
+ */
+
 const BLANK = Object.freeze({ title: 'New machine', lookFor: 'Define a rule, draw some cells, and press Run.' });
 const CALM = 4;         // frames a second at first, if somebody asked for less motion
 
-/** The seat that the address asks for. @returns {number|null} */
+/** @returns {number|null} the seat that the address asks for */
 function seatOfAddress() {
   const found = /[#&]seat=(\d+)/.exec(location.hash);
   return found ? Number(found[1]) : null;
@@ -54,12 +59,15 @@ class Page {
   constructor(machine) {
     this.machine = machine;
     this.tab = storageOf('sessionStorage');
-    this.torus = new Torus(at('torus'), at('cells'));
+    this.isNew = false;
+    this.sides = element('side', HTMLSelectElement);
+    this.torus = new Torus(element('torus', HTMLCanvasElement), element('cells', HTMLCanvasElement));
     this.screen = new Screen(machine, this.torus);
     this.time = new Controls(machine, error => showError(error, machine), () => this.piece.put());
-    this.piece = new Piece(machine, this.screen, this.time);
+    /** @type {Piece} */
+    this.piece = new Piece(machine, this.screen, this.time, () => this.tools);
+    /** @type {Tools} */
     this.tools = new Tools(machine, this.screen, this.piece, this.time);
-    this.piece.tools = this.tools;
     this.about = new About(machine);
     this.editor = new Editor(machine, this.time);
     this.cycle = new Cycle(machine, this.time);
@@ -73,18 +81,18 @@ class Page {
   /** Joins the parts to what the machine tells, and to keys. */
   join() {
     const { machine } = this;
-    machine.addEventListener('state', event => tellState(machine, event.detail.text));
-    machine.addEventListener('planes', () => this.planesChanged());
-    machine.addEventListener('position', () => this.positionChanged());
-    machine.addEventListener('rules', () => this.rulesChanged());
-    machine.addEventListener('diverged', () => note(DIVERGED));
-    machine.addEventListener('kept', event => event.detail.isKept || note(NOT_KEPT));
+    machine.on('state', ({ text }) => tellState(machine, text));
+    machine.on('planes', () => this.planesChanged());
+    machine.on('position', () => this.positionChanged());
+    machine.on('rules', () => this.rulesChanged());
+    machine.on('diverged', () => note(DIVERGED));
+    machine.on('kept', ({ isKept }) => isKept || note(NOT_KEPT));
     joinClicks({
       fit: () => this.torus.fit(),
       blank: () => this.change(() => machine.startOver(), BLANK),
       'turn-round': () => this.turnRound(),
     });
-    at('side').addEventListener('change', () => this.change(() => machine.setSide(Number(at('side').value))));
+    this.sides.addEventListener('change', () => this.change(() => machine.setSide(Number(this.sides.value))));
     joinTabs(() => this.about.changed());
     joinHelp();
     joinTheme(() => {
@@ -100,11 +108,11 @@ class Page {
     return GALLERY.find(({ name }) => name === recall(this.tab, 'cam6-entry'));
   }
 
-  /** What the keys do. */
+  /** @returns {import('./keys.js').Actions} what the keys do */
   actions() {
     const { time, piece, tools } = this;
-    const moves = (byX, byY) => piece.floating && piece.moveTo(piece.frame.x + byX, piece.frame.y + byY);
-    const step = (by, event) => piece.floating ? moves(by, 0)
+    /** @type {(by: number, event: KeyboardEvent) => unknown} */
+    const step = (by, event) => piece.floating && piece.frame ? piece.moveTo(piece.frame.x + by, piece.frame.y)
       : event.repeat ? time.frame(by * time.least) : time.step(by);
     const choices = ['pencil', 'line', 'box', 'fill', 'random', 'select', 'pan'];
     return {
@@ -167,7 +175,7 @@ class Page {
     this.tools.tell();
     this.screen.tell();
     this.screen.change();
-    this.editor.update(this.isNew === true);
+    this.editor.update(this.isNew);
     this.isNew = false;
     this.cycle.update();
     this.about.update();
@@ -179,7 +187,7 @@ class Page {
   /**
    * Makes another machine while no step is under way.
    * @param {() => Promise<void>} make
-   * @param {{title: string, lookFor: string, name?: string}} [about]
+   * @param {Shown} [about]
    */
   async change(make, about) {
     const { time } = this;
@@ -202,14 +210,20 @@ class Page {
     }
   }
 
-  /** Says what is on the torus, and keeps it for a reload. */
+  /**
+   * Says what is on the torus, and keeps it for a reload.
+   * @param {Shown} shown
+   */
   describe({ title, lookFor, name = '' }) {
     keep(this.tab, 'cam6-entry', name);
     keep(this.tab, 'cam6-title', title);
     this.about.setTitle(title, lookFor);
   }
 
-  /** Sets an entry of the gallery up. */
+  /**
+   * Sets an entry of the gallery up.
+   * @param {Entry} entry
+   */
   async choose(entry) {
     this.torus.canvas.focus({ preventScroll: true });
     await this.change(() => this.machine.setUp(entry.commands), entry);
@@ -217,7 +231,10 @@ class Page {
     this.time.setRate(matchMedia('(prefers-reduced-motion: reduce)').matches ? Math.min(entry.rate, CALM) : entry.rate);
   }
 
-  /** Another machine was loaded from a file. */
+  /**
+   * Another machine was loaded from a file.
+   * @param {string} name
+   */
   loaded(name) {
     this.describe({ title: name, lookFor: '' });
     this.editor.update(true);
@@ -229,8 +246,12 @@ class Page {
   async turnRound() {
     const { machine } = this;
     await this.change(async () => {
-      for (const { do: name, entries, n } of this.entry.turn) {
-        await (name === 'cycle' ? machine.setCycle(entries) : machine.run(n));
+      for (const command of this.entry?.turn ?? []) {
+        if (command.do === 'cycle') {
+          await machine.setCycle(command.entries);
+        } else if (command.do === 'run') {
+          await machine.run(command.n);
+        }
       }
     });
     note('The rule is turned round. Run takes the steps back now.');
@@ -239,10 +260,11 @@ class Page {
   /** Connects. A new page begins with the first entry of the gallery, an old one goes on. */
   async start() {
     await this.machine.start();
-    if (recall(this.tab, 'cam6-title') === null) {
+    const title = recall(this.tab, 'cam6-title');
+    if (title === null) {
       await this.choose(GALLERY[0]);
     } else {
-      this.about.setTitle(recall(this.tab, 'cam6-title'), this.entry?.lookFor ?? '');
+      this.about.setTitle(title, this.entry?.lookFor ?? '');
       this.torus.centreOn(this.machine.planes);
       this.time.begin();
     }

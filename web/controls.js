@@ -1,6 +1,6 @@
 // Time: run, pause, step, back, the speed dial, and the way to any step since the first state.
 
-import { announce, at, grouped, joinClicks, numberOf, setPressed, setText } from './dom.js';
+import { announce, at, element, first, grouped, joinClicks, numberOf, setPressed, setText } from './dom.js';
 import { Pace, positionOf, stepsASecond } from './dial.js';
 
 const MOST_UNDER_WAY = 2;       // frames that the machine is asked for at once
@@ -11,11 +11,18 @@ const MEASURED = 4;             // steps a second from which on the page says so
 export class Controls {
   /**
    * @param {import('./machine.js').Machine} machine
-   * @param {(error: Error) => void} fail shows why something wasn't done
+   * @param {(error: unknown) => void} fail shows why something wasn't done
    * @param {() => unknown} before what is to be done before a step, as to put down a piece that floats
    */
   constructor(machine, fail, before) {
-    Object.assign(this, { machine, fail, before });
+    this.machine = machine;
+    this.fail = fail;
+    this.before = before;
+    this.fields = {
+      dial: element('dial', HTMLInputElement),
+      each: element('each', HTMLInputElement),
+      scrubber: element('scrubber', HTMLInputElement),
+    };
     /** Which way time runs: 0 if it stands still. */
     this.way = 0;
     /** The half of the dial that it stands in. */
@@ -23,13 +30,19 @@ export class Controls {
     /** Whether each step inverts the torus. */
     this.flashes = false;
     this.held = 0;
+    /** @type {Set<Promise<unknown>>} */
     this.underWay = new Set();
     this.pace = new Pace();
     this.last = 0;
-    /** The frames of the last second: when each was shown, and its steps. @type {{when: number, steps: number}[]} */
+    /** @type {{when: number, steps: number}[]} the frames of the last second: when each was shown, and its steps */
     this.shown = [];
     this.bounds = { low: 0, high: 0 };
-    /** The step that the scrubber goes to. @type {number|null} */
+    /** The half second that was measured last, and for how many of them the machine was too slow. */
+    this.measured = -1;
+    this.slowFor = 0;
+    /** @type {number|null} the steps of the last second, if the machine can't keep up */
+    this.reached = null;
+    /** @type {number|null} the step that the scrubber goes to */
     this.target = null;
     this.listen();
     requestAnimationFrame(now => this.tick(now));
@@ -44,34 +57,35 @@ export class Controls {
       back: () => this.step(-1),
       start: () => this.seek(0),
     });
-    at('dial').addEventListener('input', () => this.turned());
-    at('each').addEventListener('input', () => this.eachChanged());
-    at('each').addEventListener('change', () => this.setEach(numberOf(at('each'))));
+    const { dial, each, scrubber } = this.fields;
+    dial.addEventListener('input', () => this.turned());
+    each.addEventListener('input', () => this.eachChanged());
+    each.addEventListener('change', () => this.setEach(numberOf(each)));
     for (const type of ['input', 'change']) {
-      at('scrubber').addEventListener(type, () => this.seek(Number(at('scrubber').value)));
+      scrubber.addEventListener(type, () => this.seek(Number(scrubber.value)));
     }
   }
 
-  /** Where the dial stands: from -1, the fastest way back, to 1. @returns {number} */
+  /** @returns {number} where the dial stands: from -1, the fastest way back, to 1 */
   get dial() {
-    return Number(at('dial').value);
+    return Number(this.fields.dial.value);
   }
 
-  /** Steps a frame: two at least, and an even number, if each step inverts the torus. @returns {number} */
+  /** @returns {number} steps a frame: two at least, and an even number, if each step inverts the torus */
   get each() {
-    const each = numberOf(at('each'));
+    const each = numberOf(this.fields.each);
     return this.flashes ? each + each % 2 : each;
   }
 
-  /** The fewest steps that may be shown at once again and again. @returns {number} */
+  /** @returns {number} the fewest steps that may be shown at once again and again */
   get least() {
     return this.flashes ? 2 : 1;
   }
 
   /** @param {number} each steps a frame, or more if the dial asks for it */
   setEach(each) {
-    at('each').value = String(each);
-    at('each').value = String(this.each);
+    this.fields.each.value = String(each);
+    this.fields.each.value = String(this.each);
     this.eachChanged();
   }
 
@@ -80,21 +94,27 @@ export class Controls {
     const { pace, each } = this;
     if (pace.stepsAFrame === pace.each && each !== pace.each) {
       const speed = Math.abs(pace.speed) / pace.each * each;
-      at('dial').value = String(Math.sign(this.dial) * positionOf(speed));
+      this.fields.dial.value = String(Math.sign(this.dial) * positionOf(speed));
     }
     this.turned();
   }
 
-  /** Turns the dial to so many frames a second. @param {number} rate */
+  /**
+   * Turns the dial to so many frames a second.
+   * @param {number} rate
+   */
   setRate(rate) {
-    at('dial').value = String(positionOf(rate * this.each));
+    this.fields.dial.value = String(positionOf(rate * this.each));
     this.turned();
   }
 
-  /** Whether each step inverts the torus. Then a frame has two steps. @param {boolean} flashes */
+  /**
+   * Whether each step inverts the torus. Then a frame has two steps.
+   * @param {boolean} flashes
+   */
   setFlashes(flashes) {
     this.flashes = flashes;
-    Object.assign(at('each'), { min: this.least, step: this.least });
+    Object.assign(this.fields.each, { min: this.least, step: this.least });
     at('warning').hidden = !flashes;
     this.setEach(this.each);
   }
@@ -107,7 +127,10 @@ export class Controls {
     this.tell();
   }
 
-  /** Runs that way, or pauses if it does so already. @param {number} way 1 or -1 */
+  /**
+   * Runs that way, or pauses if it does so already.
+   * @param {number} way 1 or -1
+   */
   toggle(way) {
     if (this.way === way) {
       this.pause();
@@ -139,20 +162,29 @@ export class Controls {
     this.tell();
   }
 
-  /** Turns the dial by so much. @param {number} by */
+  /**
+   * Turns the dial by so much.
+   * @param {number} by
+   */
   turn(by) {
-    at('dial').value = String(this.dial + by);
+    this.fields.dial.value = String(this.dial + by);
     this.turned();
   }
 
-  /** Does some steps, or undoes them, and stands still then. @param {number} steps below 0 to undo */
+  /**
+   * Does some steps, or undoes them, and stands still then.
+   * @param {number} steps below 0 to undo
+   */
   async step(steps) {
     this.pause();
     await this.before();
     await this.follow(steps < 0 ? this.machine.back(-steps) : this.machine.run(steps), Math.abs(steps));
   }
 
-  /** Does some steps as a frame, unless two frames are under way. @param {number} steps below 0 to undo */
+  /**
+   * Does some steps as a frame, unless two frames are under way.
+   * @param {number} steps below 0 to undo
+   */
   frame(steps) {
     return this.follow(this.machine.frame(steps), Math.abs(steps));
   }
@@ -175,7 +207,10 @@ export class Controls {
     }
   }
 
-  /** Lets no more frames begin, and waits for those that have. @returns {Promise<void>} */
+  /**
+   * Lets no more frames begin, and waits for those that have.
+   * @returns {Promise<void>}
+   */
   async hold() {
     this.held++;
     if (this.machine.state === 'ready') {
@@ -214,7 +249,10 @@ export class Controls {
     }
   }
 
-  /** Begins the frames that are due. @param {number} now */
+  /**
+   * Begins the frames that are due.
+   * @param {number} now
+   */
   tick(now) {
     const { pace } = this;
     const isRunning = this.way !== 0 && this.held === 0 && this.machine.state === 'ready';
@@ -231,7 +269,11 @@ export class Controls {
     requestAnimationFrame(next => this.tick(next));
   }
 
-  /** Counts the frames and the steps of the last second, of so many steps that are wanted. */
+  /**
+   * Counts the frames and the steps of the last second.
+   * @param {number} now
+   * @param {number} wanted how many steps there should be
+   */
   measure(now, wanted) {
     this.shown = this.shown.filter(({ when }) => when > now - 1000);
     if (Math.floor(now / 500) === this.measured) {
@@ -239,8 +281,7 @@ export class Controls {
     }
     this.measured = Math.floor(now / 500);
     const steps = this.shown.reduce((sum, frame) => sum + frame.steps, 0);
-    this.slowFor = wanted > MEASURED && steps < SLOW * wanted ? (this.slowFor ?? 0) + 1 : 0;
-    /** The steps of the last second, if the machine can't keep up. @type {number|null} */
+    this.slowFor = wanted > MEASURED && steps < SLOW * wanted ? this.slowFor + 1 : 0;
     this.reached = this.slowFor > 3 ? steps : null;
     setText(at('frames'), this.shown.length);
     at('frames').classList.toggle('is-slow', this.reached !== null);
@@ -255,7 +296,7 @@ export class Controls {
     bounds.high = Math.max(bounds.high, count);
     setText(at('count'), grouped(count));
     setText(at('position'), entries.length > 0 ? `${position} of ${entries.length}` : '-');
-    const scrubber = at('scrubber');
+    const { scrubber } = this.fields;
     Object.assign(scrubber, { min: bounds.low, max: bounds.high });
     if (this.target === null) {
       scrubber.value = String(count);
@@ -267,22 +308,21 @@ export class Controls {
 
   /** Shows on the buttons and at the dial which way time goes, and how fast. */
   tellWay() {
-    const { way, pace } = this;
+    const { way, pace, reached } = this;
     pace.each = this.each;
     pace.speed = (way || Math.sign(this.dial)) * Math.abs(stepsASecond(this.dial));
     const run = at('run');
     const isRunning = way !== 0 && (way > 0 || this.dial < 0);
     setPressed(run, isRunning);
     setPressed(at('run-back'), way < 0);
-    setText(run.querySelector('span'), isRunning ? 'Pause' : 'Run');
-    run.querySelector('use').setAttribute('href', isRunning ? '#i-pause' : '#i-run');
+    setText(first(run, 'span'), isRunning ? 'Pause' : 'Run');
+    run.querySelector('use')?.setAttribute('href', isRunning ? '#i-pause' : '#i-run');
     const steps = Math.abs(pace.speed);
     const rounded = steps < 10 ? Number(steps.toFixed(1)) : Math.round(steps);
     const speed = steps === 0 ? 'stands still' : `${grouped(rounded)} steps/s`;
-    const isSlow = typeof this.reached === 'number';
-    const said = this.dial < 0 ? `back, ${speed}` : speed;
-    setText(at('dial-says'), isSlow ? `${grouped(this.reached)} of ${speed}` : said);
-    at('dial-says').title = isSlow ? "The machine can't keep up with the speed." : '';
-    at('dial').setAttribute('aria-valuetext', at('dial-says').textContent);
+    const said = reached !== null ? `${grouped(reached)} of ${speed}` : this.dial < 0 ? `back, ${speed}` : speed;
+    setText(at('dial-says'), said);
+    at('dial-says').title = reached !== null ? "The machine can't keep up with the speed." : '';
+    this.fields.dial.setAttribute('aria-valuetext', said);
   }
 }

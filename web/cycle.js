@@ -1,6 +1,6 @@
 // The cycle: up to sixteen entries as a list that can be dragged, and moved by keys.
 
-import { announce, at, make, makeButton, makeSelect, spelled } from './dom.js';
+import { all, announce, at, element, make, makeButton, makeSelect, spelled } from './dom.js';
 import { sentenceOf } from './explain.js';
 import { FAULTS } from './faults.js';
 import { Fault, IDLE } from './lines.js';
@@ -8,17 +8,21 @@ import { Fault, IDLE } from './lines.js';
 const MOST = 16;
 const GRIP = 'Drag, or press the up and down arrows';
 
-/** @typedef {import('./lines.js').Entry} Entry */
+/**
+ * @typedef {import('./lines.js').Entry} Entry
+ * @typedef {'a'|'b'|'grid'|'phase'} Part of an entry
+ */
 
 /** The panel of the cycle. */
 export class Cycle {
   /**
    * @param {import('./machine.js').Machine} machine
-   * @param {{hold(): Promise<void>, release(): void}} time
+   * @param {import('./controls.js').Controls} time
    */
   constructor(machine, time) {
-    Object.assign(this, { machine, time });
-    /** The entry that is dragged. @type {number|null} */
+    this.machine = machine;
+    this.time = time;
+    /** @type {number|null} the entry that is dragged */
     this.dragged = null;
     at('cycle-add').addEventListener('click', () => {
       const { entries } = this.machine;
@@ -26,26 +30,37 @@ export class Cycle {
     });
   }
 
+  /** @returns {HTMLElement[]} the entries as they are listed */
+  get items() {
+    return all(at('cycle'), 'li');
+  }
+
   /** Lists the entries anew. */
   update() {
     const { entries } = this.machine;
     at('cycle').replaceChildren(...entries.map((entry, index) => this.makeEntry(entry, index)));
-    at('cycle-add').disabled = entries.length >= MOST;
+    element('cycle-add', HTMLButtonElement).disabled = entries.length >= MOST;
     this.tellPosition();
   }
 
   /** Shows which entry does the next step. */
   tellPosition() {
-    [...at('cycle').children].forEach((element, index) => {
+    this.items.forEach((item, index) => {
       const isNext = index === this.machine.position;
-      element.classList.toggle('is-next', isNext);
-      isNext ? element.setAttribute('aria-current', 'step') : element.removeAttribute('aria-current');
+      item.classList.toggle('is-next', isNext);
+      isNext ? item.setAttribute('aria-current', 'step') : item.removeAttribute('aria-current');
     });
   }
 
-  /** An entry of the list. */
+  /**
+   * An entry of the list.
+   * @param {Entry} entry
+   * @param {number} index
+   */
   makeEntry(entry, index) {
+    /** @param {string} half */
     const names = half => ['-', ...this.machine.rules.filter(rule => rule.half === half).map(rule => rule.name)];
+    /** @type {(key: Part, title: string, choices: string[]) => HTMLElement} */
     const part = (key, title, choices) => {
       const select = makeSelect(choices, String(entry[key]), { data: { part: key } });
       select.addEventListener('change', () => {
@@ -54,7 +69,7 @@ export class Cycle {
       return make('label', {}, title, select);
     };
     const grip = make('button', {
-      className: 'grip', textContent: index, title: GRIP, ariaLabel: `Entry ${index}. Arrows move it.`,
+      className: 'grip', textContent: String(index), title: GRIP, ariaLabel: `Entry ${index}. Arrows move it.`,
     });
     this.listen(grip, index);
     const remove = makeButton({
@@ -65,11 +80,15 @@ export class Cycle {
       part('grid', 'Grid', ['EVEN', 'ODD']), part('phase', 'Phase', ['0', '1', '2', '3']));
   }
 
-  /** Joins the number of an entry, by which it is moved. */
+  /**
+   * Joins the number of an entry, by which it is moved.
+   * @param {HTMLElement} grip
+   * @param {number} index
+   */
   listen(grip, index) {
     grip.addEventListener('keydown', event => {
-      const by = { ArrowUp: -1, ArrowDown: 1 }[event.key];
-      if (by) {
+      const by = event.key === 'ArrowUp' ? -1 : event.key === 'ArrowDown' ? 1 : 0;
+      if (by !== 0) {
         event.preventDefault();
         event.stopPropagation();
         this.move(index, index + by);
@@ -78,44 +97,54 @@ export class Cycle {
     grip.addEventListener('pointerdown', event => {
       grip.setPointerCapture(event.pointerId);
       this.dragged = index;
-      grip.parentElement.classList.add('is-dragged');
+      grip.parentElement?.classList.add('is-dragged');
     });
     grip.addEventListener('pointermove', event => this.dragOver(event));
     grip.addEventListener('pointerup', () => this.drop(index));
     grip.addEventListener('pointercancel', () => this.update());
   }
 
-  /** The dragged entry goes to the place under the pointer. */
+  /**
+   * The dragged entry goes to the place under the pointer.
+   * @param {PointerEvent} event
+   */
   dragOver(event) {
     if (this.dragged === null) {
       return;
     }
     const list = at('cycle');
     const moved = list.querySelector('.is-dragged');
-    const below = [...list.children].find(element => {
-      const box = element.getBoundingClientRect();
-      return element !== moved && event.clientY < box.top + box.height / 2;
-    });
-    if (moved && moved.nextElementSibling !== (below ?? null)) {
-      list.insertBefore(moved, below ?? null);
+    const below = this.items.find(item => {
+      const box = item.getBoundingClientRect();
+      return item !== moved && event.clientY < box.top + box.height / 2;
+    }) ?? null;
+    if (moved && moved.nextElementSibling !== below) {
+      list.insertBefore(moved, below);
     }
   }
 
-  /** The drag ends: the cycle takes the order of the list. */
+  /**
+   * The drag ends: the cycle takes the order of the list.
+   * @param {number} index
+   */
   drop(index) {
     if (this.dragged === null) {
       return;
     }
     this.dragged = null;
-    const order = [...at('cycle').children].map(element => Number(element.dataset.index));
+    const order = this.items.map(item => Number(item.dataset.index));
     if (order.every((old, i) => old === i)) {
-      at('cycle').children[index]?.classList.remove('is-dragged');
+      this.items[index]?.classList.remove('is-dragged');
     } else {
       this.set(order.map(old => this.machine.entries[old]));
     }
   }
 
-  /** Moves an entry to another place. */
+  /**
+   * Moves an entry to another place.
+   * @param {number} from
+   * @param {number} to
+   */
   async move(from, to) {
     const entries = [...this.machine.entries];
     if (to < 0 || to >= entries.length) {
@@ -123,11 +152,16 @@ export class Cycle {
     }
     entries.splice(to, 0, ...entries.splice(from, 1));
     await this.set(entries);
-    at('cycle').children[to]?.querySelector('.grip').focus();
+    all(at('cycle'), '.grip')[to]?.focus();
     announce(`Entry ${from} is entry ${to} now.`);
   }
 
-  /** Changes a part of an entry. */
+  /**
+   * Changes a part of an entry.
+   * @param {number} index
+   * @param {Part} key
+   * @param {string|number} value
+   */
   change(index, key, value) {
     return this.set(this.machine.entries.map((entry, other) => other === index ? { ...entry, [key]: value } : entry));
   }

@@ -71,9 +71,15 @@ export class Pace {
   }
 }
 
-// The bit that a rule writes to a plane of its half if all cells are blank or all are set, wherever the cell lies.
+/**
+ * Whether a rule inverts a plane of its half if all cells are blank or all are set, wherever a cell lies.
+ * @param {import('./lines.js').Rule} rule
+ * @param {number} plane
+ * @param {number} phase
+ */
 function inverts(rule, plane, phase) {
   const names = namesOf(rule.hood, rule.minor, rule.half);
+  /** @type {Record<string, number>[]} */
   const places = [0, 1, 2, 3].map(place => ({ HORZ: place & 1, VERT: place >> 1 }));
   return places.every(place => [0, 1].every(cell => {
     const address = names.reduce((sum, { name, bit }) => {
@@ -88,6 +94,9 @@ function inverts(rule, plane, phase) {
   }));
 }
 
+/** @type {['a'|'b', number][]} each plane, after the half whose rule writes it */
+const WRITTEN = [['a', 0], ['a', 1], ['b', 2], ['b', 3]];
+
 /**
  * Whether each step inverts a plane: a blank one is full after it, and a full one is blank.
  * @param {import('./lines.js').Rule[]} rules
@@ -95,7 +104,7 @@ function inverts(rule, plane, phase) {
  * @returns {boolean}
  */
 export function flashes(rules, entries) {
-  return [['a', 0], ['a', 1], ['b', 2], ['b', 3]].some(([half, plane]) => entries.length > 0 && entries.every(entry => {
+  return WRITTEN.some(([half, plane]) => entries.length > 0 && entries.every(entry => {
     const rule = rules.find(({ name }) => name === entry[half]);
     return rule !== undefined && inverts(rule, plane, entry.phase);
   }));
@@ -106,8 +115,10 @@ const MOST_FLASHES = 3;
 
 /** Measures whether what is shown flashes more than three times a second, whatever the rule. */
 export class FlashMeter {
+  /** @type {number|null} */
   #last = null;
   #direction = 0;
+  /** @type {number[]} */
   #turns = [];
 
   /**

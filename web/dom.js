@@ -1,43 +1,90 @@
 // Small helps over the document that all parts of the page use.
 
 /**
- * The element with this id.
- * @param {string} id
- * @returns {any}
+ * An element, if it is there and of a type.
+ * @template {Element} T
+ * @param {Element|null} found
+ * @param {new () => T} type
+ * @param {string} name how the page calls it
+ * @returns {T}
  */
-export function at(id) {
-  const element = document.getElementById(id);
-  if (!element) {
-    throw new Error(`the page has no element ${id}`);
+function checked(found, type, name) {
+  if (found instanceof type) {
+    return found;
   }
-  return element;
+  throw new Error(found ? `the element ${name} is no ${type.name}` : `the page has no element ${name}`);
 }
 
 /**
- * Makes an element.
- * @param {string} tag
- * @param {Record<string, unknown>} [properties] its properties; `data` and `attributes` are objects of their own
- * @param {...(Node|string)} children
- * @returns {any}
+ * The element with this id, which has to be of a type.
+ * @template {HTMLElement} T
+ * @param {string} id
+ * @param {new () => T} type
  */
-export function make(tag, { data, attributes, ...properties } = {}, ...children) {
-  const element = document.createElement(tag);
-  Object.assign(element, properties);
-  Object.assign(element.dataset, data);
-  for (const [name, value] of Object.entries(attributes ?? {})) {
-    element.setAttribute(name, value);
+export const element = (id, type) => checked(document.getElementById(id), type, id);
+
+/**
+ * The element with this id.
+ * @param {string} id
+ */
+export const at = id => element(id, HTMLElement);
+
+/**
+ * The first element in another one that fits a selector.
+ * @param {Element} parent
+ * @param {string} selector
+ */
+export const first = (parent, selector) => checked(parent.querySelector(selector), HTMLElement, selector);
+
+/**
+ * All elements in another one that fit a selector.
+ * @param {ParentNode} parent
+ * @param {string} selector
+ */
+export const all = (parent, selector) =>
+  [...parent.querySelectorAll(selector)].map(found => checked(found, HTMLElement, selector));
+
+/**
+ * What draws on a canvas.
+ * @param {HTMLCanvasElement} canvas
+ * @param {CanvasRenderingContext2DSettings} [settings]
+ */
+export function contextOf(canvas, settings) {
+  const context = canvas.getContext('2d', settings);
+  if (!context) {
+    throw new Error('the browser draws on no canvas');
   }
-  element.append(...children);
-  return element;
+  return context;
+}
+
+/**
+ * @template {keyof HTMLElementTagNameMap} K
+ * @typedef {Partial<Omit<HTMLElementTagNameMap[K], 'data'>> & {data?: Record<string, unknown>}} Properties
+ * those of an element; `data` goes into its dataset
+ */
+
+/**
+ * Makes an element.
+ * @template {keyof HTMLElementTagNameMap} K
+ * @param {K} tag
+ * @param {Properties<K>} properties
+ * @param {(Node|string)[]} children
+ */
+export function make(tag, { data, ...properties } = {}, ...children) {
+  const made = document.createElement(tag);
+  Object.assign(made, properties);
+  Object.assign(made.dataset, data);
+  made.append(...children);
+  return made;
 }
 
 /**
  * Makes an element that has a text and nothing else.
- * @param {string} tag
- * @param {string|number} textContent
- * @returns {any}
+ * @template {keyof HTMLElementTagNameMap} K
+ * @param {K} tag
+ * @param {string|number} text
  */
-export const say = (tag, textContent) => make(tag, { textContent });
+export const say = (tag, text) => make(tag, {}, String(text));
 
 /**
  * A text whose parts between backticks are words of the machine.
@@ -46,14 +93,16 @@ export const say = (tag, textContent) => make(tag, { textContent });
  */
 export const spelled = text => text.split('`').map((part, i) => i % 2 === 1 ? say('code', part) : part);
 
-/** A text that begins with a capital letter. @param {string} text */
+/**
+ * A text that begins with a capital letter.
+ * @param {string} text
+ */
 export const capital = text => text.charAt(0).toUpperCase() + text.slice(1);
 
 /**
  * Makes a button.
- * @param {Record<string, unknown>} properties as `make` takes them
+ * @param {Properties<'button'>} properties
  * @param {() => unknown} act what a click does
- * @returns {HTMLButtonElement}
  */
 export function makeButton(properties, act) {
   const button = make('button', properties);
@@ -75,8 +124,7 @@ export function joinClicks(actions) {
  * A list of choices.
  * @param {Iterable<string|[string, string]>} choices each a value, or a value and what is shown
  * @param {string} value the one that is chosen
- * @param {Record<string, unknown>} [properties]
- * @returns {HTMLSelectElement}
+ * @param {Properties<'select'>} [properties]
  */
 export function makeSelect(choices, value, properties) {
   const select = make('select', properties);
@@ -109,13 +157,13 @@ export function setPressed(button, isPressed) {
 
 /**
  * Sets a text only if it has changed, so that nothing is laid out or read aloud in vain.
- * @param {Element} element
+ * @param {Node} node
  * @param {string|number} text
  */
-export function setText(element, text) {
+export function setText(node, text) {
   const said = String(text);
-  if (element.textContent !== said) {
-    element.textContent = said;
+  if (node.textContent !== said) {
+    node.textContent = said;
   }
 }
 
@@ -212,5 +260,8 @@ export function keep(storage, name, text) {
   }
 }
 
-/** A number as people read it, as 12,345. @param {number} value */
+/**
+ * A number as people read it, as 12,345.
+ * @param {number} value
+ */
 export const grouped = value => String(value).replace(/\B(?=(\d{3})+$)/g, ',');

@@ -1,21 +1,27 @@
 // The editor of rules: the text with its words in colours, what may be written beside it, and a fault at its token.
 
-import { at, capital, fillSelect, joinClicks, make, makeButton, note, say, setText, spelled } from './dom.js';
+import { at, capital, element, fillSelect, joinClicks, make, makeButton, note, say, setText, spelled } from './dom.js';
 import { HOODS, MINORS, WORDS, namesOf, tokens } from './forth.js';
 import { sentenceOf } from './explain.js';
 import { FAULTS } from './faults.js';
 import { Fault } from './lines.js';
 
 const CONTROL = new Set([':', ';', 'IF', 'ELSE', 'THEN', '{', '}']);
+/** @type {(keyof Rule)[]} */
 const PARTS = ['name', 'half', 'hood', 'minor', 'text'];
 const FIRST_TEXT = ': R CENTER NORTH XOR SOUTH XOR WEST XOR EAST XOR >PLN0 ;';
 
 /**
+ * @typedef {import('./lines.js').Refusal} Refusal
  * @typedef {import('./lines.js').Rule} Rule
+ * @typedef {import('./forth.js').Word} Word
  * @typedef {import('./machine.js').Machine} Machine
  */
 
-/** Whether a rule sees blocks of two by two cells. @param {Rule} rule */
+/**
+ * Whether a rule sees blocks of two by two cells.
+ * @param {Rule} rule
+ */
 export const seesBlocks = rule => rule.hood.startsWith('N/MARG');
 
 /**
@@ -33,22 +39,31 @@ export function cycleOf(rule) {
 export class Editor {
   /**
    * @param {Machine} machine
-   * @param {{hold(): Promise<void>, release(): void}} time
+   * @param {import('./controls.js').Controls} time
    */
   constructor(machine, time) {
-    Object.assign(this, { machine, time });
-    /** The rule as the machine has it, or as the panel began with it. @type {Rule|null} */
+    this.machine = machine;
+    this.time = time;
+    this.fields = {
+      name: element('rule-name', HTMLInputElement),
+      half: element('rule-half', HTMLSelectElement),
+      hood: element('rule-hood', HTMLSelectElement),
+      minor: element('rule-minor', HTMLSelectElement),
+      text: element('rule-text', HTMLTextAreaElement),
+    };
+    this.pick = element('rule-pick', HTMLSelectElement);
+    /** @type {Rule|null} the rule as the machine has it, or as the panel began with it */
     this.shown = null;
-    /** @type {{fault: number, token?: number, address?: number}|null} */
+    /** @type {Refusal|null} */
     this.fault = null;
-    fillSelect(at('rule-hood'), Object.keys(HOODS), 'N/VONN');
-    fillSelect(at('rule-minor'), Object.keys(MINORS), '&/CENTERS');
+    fillSelect(this.fields.hood, Object.keys(HOODS), 'N/VONN');
+    fillSelect(this.fields.minor, Object.keys(MINORS), '&/CENTERS');
     this.listen();
   }
 
   /** Joins the fields and the buttons. */
   listen() {
-    const text = at('rule-text');
+    const { text, half, hood, minor } = this.fields;
     text.addEventListener('input', () => this.edited());
     text.addEventListener('keydown', event => {
       if (event.key === 'Enter' && (event.ctrlKey || event.metaKey)) {
@@ -56,30 +71,32 @@ export class Editor {
         this.define();
       }
     });
-    for (const id of ['rule-half', 'rule-hood', 'rule-minor']) {
-      at(id).addEventListener('change', () => this.edited());
+    for (const list of [half, hood, minor]) {
+      list.addEventListener('change', () => this.edited());
     }
-    at('rule-pick').addEventListener('change', event => {
-      this.open(this.machine.rules.find(rule => rule.name === event.target.value));
+    this.pick.addEventListener('change', () => {
+      const rule = this.machine.rules.find(({ name }) => name === this.pick.value);
+      rule && this.open(rule);
     });
     joinClicks({
       'rule-new': () => this.begin(),
-      'rule-drop': () => this.act(() => this.machine.drop(this.shown.name)),
+      'rule-drop': () => this.act(() => this.machine.drop(this.shown?.name ?? '')),
       define: () => this.define(),
       'use-rule': () => this.define(true),
     });
   }
 
-  /** The rule in the fields. @returns {Rule} */
+  /** @returns {Rule} the rule in the fields */
   read() {
-    const [name, half, hood, minor, text] = PARTS.map(part => at(`rule-${part}`).value);
-    return { name: name.trim(), half, hood, minor, text };
+    const { name, half, hood, minor, text } = this.fields;
+    return { name: name.value.trim(), half: half.value, hood: hood.value, minor: minor.value, text: text.value };
   }
 
   /** Whether the fields differ from the rule that was opened. */
   get isChanged() {
     const now = this.read();
-    return this.shown !== null && Object.keys(now).some(part => now[part] !== this.shown[part]);
+    const { shown } = this;
+    return shown !== null && PARTS.some(part => now[part] !== shown[part]);
   }
 
   /**
@@ -87,10 +104,10 @@ export class Editor {
    * @param {Rule} rule
    */
   open(rule) {
-    const text = rule.text.replace(/ ; : /g, ' ;\n: ');
-    this.shown = { ...rule, text };
+    const shown = { ...rule, text: rule.text.replace(/ ; : /g, ' ;\n: ') };
+    this.shown = shown;
     for (const part of PARTS) {
-      at(`rule-${part}`).value = this.shown[part];
+      this.fields[part].value = shown[part];
     }
     this.edited();
     this.tell();
@@ -126,8 +143,10 @@ export class Editor {
     const { rules } = this.machine;
     const name = this.shown?.name ?? '';
     const isKnown = rules.some(rule => rule.name === name);
-    fillSelect(at('rule-pick'), [...rules.map(rule => rule.name), ...isKnown ? [] : [[name, `${name} (new)`]]], name);
-    at('rule-drop').disabled = !isKnown;
+    /** @type {[string, string][]} */
+    const known = rules.map(rule => [rule.name, rule.name]);
+    fillSelect(this.pick, isKnown ? known : [...known, [name, `${name} (new)`]], name);
+    element('rule-drop', HTMLButtonElement).disabled = !isKnown;
   }
 
   /** The text or what it sees was changed: the marks, the words and the old fault go with it. */
@@ -142,7 +161,8 @@ export class Editor {
   mark() {
     const { text, hood, minor, half } = this.read();
     const names = new Set(namesOf(hood, minor, half).map(({ name }) => name));
-    const wrong = this.fault?.token;
+    const wrong = this.fault?.token ?? 0;
+    /** @type {(Node|string)[]} */
     const pieces = [];
     let end = 0;
     tokens(text).forEach((token, i) => {
@@ -156,7 +176,12 @@ export class Editor {
     at('rule-marks').replaceChildren(...pieces, '\n');
   }
 
-  /** A token as it is shown. */
+  /**
+   * A token as it is shown.
+   * @param {import('./forth.js').Token} token
+   * @param {Set<string>} names
+   * @param {number} wrong its number if it has a fault, else 0
+   */
   markOf({ text, isComment }, names, wrong) {
     if (wrong) {
       return make('mark', { textContent: text, data: { token: String(wrong) } });
@@ -175,6 +200,7 @@ export class Editor {
     const words = WORDS.filter(({ word }) => !other.test(word));
     const names = [...text.matchAll(/(?:^|\s):\s+(\S+)/g)].map(([, word]) => word);
     const defined = names.map(word => ({ word, sentence: 'A word that this text defines.' }));
+    /** @type {Record<string, Word[]>} */
     const groups = {
       'It sees': namesOf(hood, minor, half).map(({ name, sentence }) => ({ word: name, sentence })),
       'It writes': words.filter(({ word }) => word.startsWith('>PLN')),
@@ -187,7 +213,10 @@ export class Editor {
     ]));
   }
 
-  /** A button that puts a word into the text. */
+  /**
+   * A button that puts a word into the text.
+   * @param {Word} word
+   */
   wordButton({ word, before, after, sentence }) {
     const stack = before || after ? ` Stack: ${before || 'nothing'} → ${after || 'nothing'}.` : '';
     const inserted = word === '0 .. 65535' ? '1' : word;
@@ -203,7 +232,7 @@ export class Editor {
    * @param {string} word
    */
   insert(word) {
-    const field = at('rule-text');
+    const field = this.fields.text;
     const { selectionStart: start, selectionEnd: end, value } = field;
     const left = start === 0 || /\s/.test(value[start - 1]) ? '' : ' ';
     const right = end < value.length && /\s/.test(value[end]) ? '' : ' ';
@@ -230,7 +259,10 @@ export class Editor {
     });
   }
 
-  /** Does something while no step is under way, and shows its fault. */
+  /**
+   * Does something while no step is under way, and shows its fault.
+   * @param {() => Promise<void>} doing
+   */
   async act(doing) {
     await this.time.hold();
     try {
@@ -246,7 +278,10 @@ export class Editor {
     }
   }
 
-  /** Shows a fault at its token, with its sentence. */
+  /**
+   * Shows a fault at its token, with its sentence.
+   * @param {Refusal} answer
+   */
   showFault(answer) {
     this.fault = answer;
     this.mark();

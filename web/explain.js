@@ -3,11 +3,22 @@
 import { bitsOf, evaluate, namesOf, tokenAt } from './forth.js';
 
 /**
+ * @typedef {import('./lines.js').Body} Body
+ * @typedef {import('./lines.js').OneWay} OneWay
+ * @typedef {import('./lines.js').Refusal} Refusal
+ *
  * @typedef {{title: string, happened: string, todo: string}} Said
  * @typedef {object} Known what the page knows of the command that was refused
- * @property {import('./lines.js').Rule} [rule] the rule that was to be defined
+ * @property {Body} [rule] the rule that was to be defined
  * @property {import('./lines.js').Rule[]} [rules] the machine's rules
  * @property {import('./lines.js').Entry[]} [entries] the machine's cycle
+ *
+ * @typedef {{state: number, cells: number[][]}} Block a state of a block, and its cells as two rows of two
+ * @typedef {object} More what is said besides
+ * @property {number} number
+ * @property {import('./forth.js').Place & {number: number}} [token]
+ * @property {Block[]} [blocks] the two that become one
+ * @property {Block} [meeting] the one that they become
  */
 
 const CAUSES = Object.freeze({
@@ -31,32 +42,41 @@ const LEFT_OUT = Object.freeze({
   todo: 'Your machine is as it was before the command. Try a smaller one.',
 });
 
+/** @param {number} corner */
 const placeOf = corner => [[0, 0], [0, 1], [1, 1], [1, 0]][corner];
 
-// The cells of a block's state, as rows of states of a torus.
+/**
+ * A block's state, with its cells as states of a torus.
+ * @param {number} state
+ * @param {string} half
+ * @returns {Block}
+ */
 function drawn(state, half) {
   const cells = [[0, 0], [0, 0]];
   for (let corner = 0; corner < 4; corner++) {
     const [y, x] = placeOf(corner);
     cells[y][x] = ((state >> corner & 1) + 2 * (state >> corner + 4 & 1)) << (half === 'B' ? 2 : 0);
   }
-  return cells;
+  return { state, cells };
 }
 
 /**
- * The two states of a block that become one, as two rows of two cells.
- * @param {import('./lines.js').Refusal} answer of fault 64
- * @returns {{state: number, cells: number[][]}[] | null} null if the cause is another one
+ * The two states of a block that become one.
+ * @param {Refusal} answer
+ * @returns {Block[] | null} null if the cause is another one
  */
 export function blocksOf(answer) {
-  return answer.cause !== 'meeting' ? null
-    : answer.states.map(state => ({ state, cells: drawn(state, answer.half) }));
+  return 'states' in answer ? answer.states.map(state => drawn(state, answer.half)) : null;
 }
 
+/** @type {Record<string, number>} the corners from a cell to the one that it sees, clockwise */
+const TURNS = { CENTER: 0, CW: 1, OPP: 2, CCW: 3 };
+
+/** @type {(name: string, state: number, corner: number, phase: number) => number} */
 function bitSeen(name, state, corner, phase) {
   const level = name.endsWith("'") ? 1 : 0;
   const plain = name.replace(/^&/, '').replace(/'$/, '');
-  const turn = { CENTER: 0, CW: 1, OPP: 2, CCW: 3 }[plain];
+  const turn = TURNS[plain];
   return plain === 'PHASE' ? phase >> level & 1
     : plain === 'HORZ' ? Number(corner === 1 || corner === 2)
       : plain === 'VERT' ? Number(corner >= 2)
@@ -66,7 +86,7 @@ function bitSeen(name, state, corner, phase) {
 /**
  * What a block's state becomes by a rule of blocks.
  * @param {number} state 0 to 255
- * @param {import('./lines.js').Rule} rule
+ * @param {Body} rule
  * @param {number} phase
  * @returns {number}
  */
@@ -86,23 +106,32 @@ export function becomes(state, rule, phase) {
 }
 
 /**
- * The block that both states of a meeting become.
- * @param {import('./lines.js').Refusal} answer of fault 64
+ * The name of the rule that can't be undone.
+ * @param {OneWay} answer
  * @param {Known} known
- * @returns {{state: number, cells: number[][]} | null} null if it can't be known
+ * @returns {string | undefined}
  */
-export function meetingOf(answer, { rules = [], entries = [] }) {
-  const name = entries[answer.entry]?.[answer.half === 'B' ? 'b' : 'a'];
-  const rule = rules.find(other => other.name === name);
-  if (answer.cause !== 'meeting' || rule === undefined) {
+const nameOf = ({ entry, half }, { entries = [] }) => entries[entry]?.[half === 'B' ? 'b' : 'a'];
+
+/**
+ * The block that both states of a meeting become.
+ * @param {Refusal} answer
+ * @param {Known} known
+ * @returns {Block | null} null if it can't be known
+ */
+export function meetingOf(answer, known) {
+  if (!('states' in answer)) {
     return null;
   }
-  const state = becomes(answer.states[0], rule, answer.phase);
-  return { state, cells: drawn(state, answer.half) };
+  const name = nameOf(answer, known);
+  const rule = known.rules?.find(other => other.name === name);
+  return rule ? drawn(becomes(answer.states[0], rule, answer.phase), answer.half) : null;
 }
 
+/** @param {string[]} names */
 const listed = names => names.length < 2 ? names.join('') : `${names.slice(0, -1).join(', ')} and ${names.at(-1)}`;
 
+/** @param {number} address @param {Body} [rule] */
 function whereItStops(address, rule) {
   if (rule === undefined) {
     return ` It happens at the address ${address}.`;
@@ -112,9 +141,15 @@ function whereItStops(address, rule) {
     : ` It happens if ${listed(names)} ${names.length === 1 ? 'is' : 'are'} 1 and all other names are 0.`;
 }
 
-function undoingSaid(answer, said, { entries = [] }) {
+/**
+ * @param {OneWay} answer
+ * @param {Said} said what is said of an unknown cause
+ * @param {Known} known
+ * @returns {Said}
+ */
+function undoingSaid(answer, said, known) {
   const cause = CAUSES[answer.cause];
-  const name = entries[answer.entry]?.[answer.half === 'B' ? 'b' : 'a'];
+  const name = nameOf(answer, known);
   const rule = name === undefined ? `The rule of half ${answer.half}` : `Rule ${name} of half ${answer.half}`;
   return cause === undefined ? said : {
     title: said.title,
@@ -125,27 +160,27 @@ function undoingSaid(answer, said, { entries = [] }) {
 
 /**
  * A fault in words.
- * @param {import('./lines.js').Refusal} answer
- * @param {Object<number, Said>} faults those of faults.js
+ * @param {Refusal} answer
+ * @param {Record<number, Said>} faults those of faults.js
  * @param {Known} [known]
- * @returns {Said & {number: number, token?: {number: number, text: string, start: number, end: number},
- *   blocks?: {state: number, cells: number[][]}[], meeting?: {state: number, cells: number[][]}}}
+ * @returns {Said & More}
  */
 export function sentenceOf(answer, faults, known = {}) {
   const number = answer.fault;
   const unknown = { title: `fault ${number}`, happened: `The machine refused the command with fault ${number}.`, todo: '' };
   const { title, happened, todo } = number === 0 ? LEFT_OUT : faults[number] ?? unknown;
+  /** @type {Said & More} */
   const said = { number, title, happened, todo };
-  if (number === 64) {
+  if ('cause' in answer) {
     Object.assign(said, undoingSaid(answer, said, known));
     const blocks = blocksOf(answer);
     const meeting = meetingOf(answer, known);
     Object.assign(said, blocks === null ? {} : { blocks }, meeting === null ? {} : { meeting });
   }
-  if ('token' in answer) {
+  if (answer.token !== undefined) {
     said.token = { number: answer.token, ...tokenAt(known.rule?.text ?? '', answer.token) };
   }
-  if ('address' in answer) {
+  if (answer.address !== undefined) {
     said.happened += whereItStops(answer.address, known.rule);
   }
   return said;

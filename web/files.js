@@ -1,11 +1,21 @@
 // Files and texts: machines, patterns, pictures and films.
 
-import { at, download, joinClicks, note, numberOf, setText, takesText } from './dom.js';
+import { at, download, element, joinClicks, note, numberOf, setText, takesText } from './dom.js';
 import { coloursShown } from './palette.js';
 import { Film, picture } from './film.js';
+import { messageOf } from './trouble.js';
 
-/** Whether a text is a machine or a list of commands, and no pattern. @param {string} text */
+/**
+ * Whether a text is a machine or a list of commands, and no pattern.
+ * @param {string} text
+ */
 const isMachine = text => text.trimStart().startsWith('{');
+
+/**
+ * Whether an event belongs to a dialog or to a field that takes text.
+ * @param {Event} event
+ */
+const isBusy = event => document.querySelector('dialog[open]') !== null || takesText(event.target);
 
 /** Everything that comes into the page, or leaves it, as a file or a text. */
 export class Files {
@@ -17,7 +27,14 @@ export class Files {
    * @param {(name: string) => void} loaded called after another machine was loaded
    */
   constructor(machine, screen, piece, time, loaded) {
-    Object.assign(this, { machine, screen, piece, time, loaded });
+    this.machine = machine;
+    this.screen = screen;
+    this.piece = piece;
+    this.time = time;
+    this.loaded = loaded;
+    this.text = element('paste-text', HTMLTextAreaElement);
+    this.patterns = element('pattern-dialog', HTMLDialogElement);
+    this.pictures = element('picture-dialog', HTMLDialogElement);
     this.isFilming = false;
     this.listen();
     this.listenToTexts();
@@ -25,52 +42,58 @@ export class Files {
 
   /** Joins the buttons. */
   listen() {
+    const input = element('load-file', HTMLInputElement);
     joinClicks({
       'save-file': () => this.save(),
-      'load-button': () => at('load-file').click(),
-      pattern: () => at('pattern-dialog').showModal(),
+      'load-button': () => input.click(),
+      pattern: () => this.patterns.showModal(),
       paste: () => this.paste(),
       'take-text': () => {
-        at('paste-text').value = this.piece.asText();
+        this.text.value = this.piece.asText();
       },
-      'keep-picture': () => at('picture-dialog').showModal(),
+      'keep-picture': () => this.pictures.showModal(),
       picture: () => this.keepPicture(),
       film: () => this.keepFilm(),
     });
-    at('load-file').addEventListener('change', async event => {
-      const [file] = event.target.files;
+    input.addEventListener('change', async () => {
+      const file = input.files?.[0];
       if (file) {
         await this.take(await file.text(), file.name);
       }
-      event.target.value = '';
+      input.value = '';
     });
   }
 
   /** Joins the clipboard, and files that are dropped on the page. */
   listenToTexts() {
-    const isBusy = event => document.querySelector('dialog[open]') || takesText(event.target);
     document.addEventListener('paste', event => {
       if (!isBusy(event)) {
         event.preventDefault();
-        this.take(event.clipboardData.getData('text/plain'), 'the clipboard');
+        this.take(event.clipboardData?.getData('text/plain') ?? '', 'the clipboard');
       }
     });
-    for (const type of ['copy', 'cut']) {
-      document.addEventListener(type, event => {
-        if (!isBusy(event) && this.piece.frame) {
-          event.preventDefault();
-          event.clipboardData.setData('text/plain', this.piece.copy());
-          type === 'cut' && this.piece.erase();
-        }
-      });
-    }
+    document.addEventListener('copy', event => this.copy(event));
+    document.addEventListener('cut', event => this.copy(event) && this.piece.erase());
     document.addEventListener('dragover', event => event.preventDefault());
     document.addEventListener('drop', async event => {
       event.preventDefault();
-      const [file] = event.dataTransfer.files;
-      const text = file ? await file.text() : event.dataTransfer.getData('text/plain');
-      await this.take(text, file?.name ?? 'the text');
+      const file = event.dataTransfer?.files[0];
+      const text = file ? await file.text() : event.dataTransfer?.getData('text/plain');
+      await this.take(text ?? '', file?.name ?? 'the text');
     });
+  }
+
+  /**
+   * Copies the selection to the clipboard, if there is one. Returns whether it did.
+   * @param {ClipboardEvent} event
+   */
+  copy(event) {
+    if (isBusy(event) || !this.piece.frame) {
+      return false;
+    }
+    event.preventDefault();
+    event.clipboardData?.setData('text/plain', this.piece.copy());
+    return true;
   }
 
   /**
@@ -98,19 +121,22 @@ export class Files {
     const place = at('paste-fault');
     place.hidden = true;
     try {
-      await this.piece.pasteText(at('paste-text').value);
-      at('pattern-dialog').close();
+      await this.piece.pasteText(this.text.value);
+      this.patterns.close();
       this.screen.torus.canvas.focus({ preventScroll: true });
       note('Drag the piece to its place. Enter puts it there.');
     } catch (error) {
-      place.textContent = error.message;
+      place.textContent = messageOf(error);
       place.hidden = false;
     }
   }
 
-  /** A name for a file of what is on the torus. */
+  /**
+   * A name for a file of what is on the torus.
+   * @param {string} ending
+   */
   nameOf(ending) {
-    const title = at('title').textContent.toLowerCase().replace(/[^a-z0-9]+/g, '-').replace(/^-|-$/g, '');
+    const title = (at('title').textContent ?? '').toLowerCase().replace(/[^a-z0-9]+/g, '-').replace(/^-|-$/g, '');
     return `${title || 'cam6'}-${this.machine.count}.${ending}`;
   }
 
@@ -121,15 +147,18 @@ export class Files {
     note('The file has the whole machine. Load brings it back.');
   }
 
-  /** The colours of cells, as they are shown. @param {Uint8Array} cells */
+  /**
+   * The colours of cells, as they are shown.
+   * @param {Uint8Array} cells
+   */
   coloursOf(cells) {
     const colours = coloursShown(this.machine.colours, this.screen.shown);
     return cells.map(state => colours[state]);
   }
 
-  /** The pixels of a file for each cell. @returns {number} */
+  /** @returns {number} the pixels of a file for each cell */
   get scale() {
-    return Number(at('picture-scale').value);
+    return Number(element('picture-scale', HTMLSelectElement).value);
   }
 
   /** Keeps a picture of the torus. */
@@ -137,7 +166,7 @@ export class Files {
     const { side, cells } = this.screen.cells;
     const bytes = await picture(this.coloursOf(cells), side, side, { scale: this.scale });
     download(this.nameOf('png'), new Blob([bytes], { type: 'image/png' }));
-    at('picture-dialog').close();
+    this.pictures.close();
   }
 
   /** Makes a film from here on, and perhaps back again. A second press ends it early. */
@@ -149,24 +178,40 @@ export class Files {
     this.isFilming = true;
     this.time.pause();
     await this.time.hold();
-    setText(at('film').lastChild, 'Stop');
+    this.tellFilm('Stop');
     try {
       const { side } = this.machine;
-      const film = new Film(side, side, { scale: this.scale, rate: numberOf(at('film-rate')) });
-      await this.shoot(film, numberOf(at('film-frames')), at('film-back').checked);
+      /** @param {string} id */
+      const field = id => element(`film-${id}`, HTMLInputElement);
+      const film = new Film(side, side, { scale: this.scale, rate: numberOf(field('rate')) });
+      await this.shoot(film, numberOf(field('frames')), field('back').checked);
       download(this.nameOf('png'), new Blob([await film.bytes()], { type: 'image/png' }));
       setText(at('film-says'), `The film has ${film.length} frames.`);
     } catch (error) {
-      at('picture-dialog').close();
+      this.pictures.close();
       this.time.fail(error);
     } finally {
       this.isFilming = false;
       this.time.release();
-      setText(at('film').lastChild, 'Film');
+      this.tellFilm('Film');
     }
   }
 
-  /** Adds the frames of a film. */
+  /**
+   * Says on the button what it does.
+   * @param {string} text
+   */
+  tellFilm(text) {
+    const button = at('film');
+    setText(button.lastChild ?? button, text);
+  }
+
+  /**
+   * Adds the frames of a film.
+   * @param {Film} film
+   * @param {number} count
+   * @param {boolean} goesBack
+   */
   async shoot(film, count, goesBack) {
     const { each } = this.time;
     const add = () => {

@@ -7,6 +7,14 @@ const DEPTH = 4;
 const INDEXED = 3;
 const STORED_BYTES = 65535;
 
+/**
+ * @typedef {ArrayLike<number>} Bytes
+ * @typedef {{x: number, y: number, wide: number, high: number}} Box some pixels of a picture
+ * @typedef {typeof CompressionStream | null} Stream null to do without, as if the browser has none
+ */
+
+const STREAM = globalThis.CompressionStream ?? null;
+
 function crcTable() {
   return Uint32Array.from({ length: 256 }, (_, n) => {
     for (let bit = 0; bit < 8; bit++) {
@@ -16,8 +24,10 @@ function crcTable() {
   });
 }
 
+/** @type {Uint32Array|undefined} */
 let crcs;
 
+/** @param {Uint8Array} bytes */
 function crcOf(bytes) {
   crcs ??= crcTable();
   let crc = 0xffffffff;
@@ -27,6 +37,7 @@ function crcOf(bytes) {
   return ~crc >>> 0;
 }
 
+/** @param {Uint8Array} bytes */
 function adlerOf(bytes) {
   let low = 1;
   let high = 0;
@@ -37,9 +48,12 @@ function adlerOf(bytes) {
   return (high << 16 | low) >>> 0;
 }
 
+/** @param {number} n */
 const number32 = n => [n >>> 24, n >>> 16 & 255, n >>> 8 & 255, n & 255];
+/** @param {number} n */
 const number16 = n => [n >>> 8 & 255, n & 255];
 
+/** @param {Bytes[]} parts */
 function joined(parts) {
   const bytes = new Uint8Array(parts.reduce((sum, part) => sum + part.length, 0));
   let at = 0;
@@ -50,6 +64,7 @@ function joined(parts) {
   return bytes;
 }
 
+/** @param {string} type @param {Bytes} data */
 function chunk(type, data) {
   const body = joined([[...type].map(letter => letter.charCodeAt(0)), data]);
   return joined([number32(data.length), body, number32(crcOf(body))]);
@@ -61,6 +76,7 @@ function chunk(type, data) {
  * @returns {Uint8Array}
  */
 export function stored(bytes) {
+  /** @type {Bytes[]} */
   const parts = [[0x78, 0x01]];
   for (let at = 0; at === 0 || at < bytes.length; at += STORED_BYTES) {
     const block = bytes.subarray(at, at + STORED_BYTES);
@@ -74,10 +90,10 @@ export function stored(bytes) {
 /**
  * Packs bytes as zlib data.
  * @param {Uint8Array} bytes
- * @param {typeof CompressionStream|null} [Stream] null to do without, as if the browser has none
+ * @param {Stream} [Stream]
  * @returns {Promise<Uint8Array>}
  */
-export async function deflated(bytes, Stream = globalThis.CompressionStream) {
+export async function deflated(bytes, Stream = STREAM) {
   if (!Stream) {
     return stored(bytes);
   }
@@ -85,7 +101,10 @@ export async function deflated(bytes, Stream = globalThis.CompressionStream) {
   return new Uint8Array(await new Response(stream).arrayBuffer());
 }
 
-// The rows of a box of pixels, two pixels a byte, each row after its filter 0; each pixel `scale` wide and high.
+/**
+ * The rows of a box of pixels, two pixels a byte, each row after its filter 0; each pixel `scale` wide and high.
+ * @type {(pixels: Uint8Array, width: number, box: Box, scale: number) => Uint8Array}
+ */
 function packed(pixels, width, { x, y, wide, high }, scale) {
   const stride = 1 + Math.ceil(wide * scale / 2);
   const bytes = new Uint8Array(stride * high * scale);
@@ -102,6 +121,11 @@ function packed(pixels, width, { x, y, wide, high }, scale) {
   return bytes;
 }
 
+/**
+ * @param {number} width
+ * @param {number} height
+ * @returns {Bytes[]}
+ */
 function heading(width, height) {
   const lights = PALETTE.flat();
   return [SIGNATURE, chunk('IHDR', [...number32(width), ...number32(height), DEPTH, INDEXED, 0, 0, 0]), chunk('PLTE', lights)];
@@ -112,15 +136,18 @@ function heading(width, height) {
  * @param {Uint8Array} pixels colours 0 to 15, row by row
  * @param {number} width
  * @param {number} height
- * @param {{scale?: number, Stream?: typeof CompressionStream|null}} [how] pixels of the file for each pixel, 1 to 16
+ * @param {{scale?: number, Stream?: Stream}} how pixels of the file for each pixel, 1 to 16
  * @returns {Promise<Uint8Array>}
  */
-export async function picture(pixels, width, height, { scale = 1, Stream = globalThis.CompressionStream } = {}) {
+export async function picture(pixels, width, height, { scale = 1, Stream = STREAM } = {}) {
   const data = await deflated(packed(pixels, width, { x: 0, y: 0, wide: width, high: height }, scale), Stream);
   return joined([...heading(width * scale, height * scale), chunk('IDAT', data), chunk('IEND', [])]);
 }
 
-// The smallest box with all pixels that changed, or one pixel if none did.
+/**
+ * The smallest box with all pixels that changed, or one pixel if none did.
+ * @type {(last: Uint8Array, pixels: Uint8Array, width: number, height: number) => Box}
+ */
 function changedBox(last, pixels, width, height) {
   let [left, top, right, bottom] = [width, height, -1, -1];
   for (let i = 0; i < pixels.length; i++) {
@@ -139,16 +166,22 @@ function changedBox(last, pixels, width, height) {
 
 /** A film as an animated PNG file. */
 export class Film {
+  /** @type {Uint8Array|null} */
   #last = null;
+  /** @type {{box: Box, delay: number[], data: Promise<Uint8Array>}[]} */
   #frames = [];
 
   /**
    * @param {number} width
    * @param {number} height
-   * @param {{scale?: number, rate?: number, Stream?: typeof CompressionStream|null}} [how] rate: frames a second, 1 to 1,000
+   * @param {{scale?: number, rate?: number, Stream?: Stream}} how rate: frames a second, 1 to 1,000
    */
-  constructor(width, height, { scale = 1, rate = 12, Stream = globalThis.CompressionStream } = {}) {
-    Object.assign(this, { width, height, scale, rate, Stream });
+  constructor(width, height, { scale = 1, rate = 12, Stream = STREAM } = {}) {
+    this.width = width;
+    this.height = height;
+    this.scale = scale;
+    this.rate = rate;
+    this.Stream = Stream;
   }
 
   /** @returns {number} the frames that were added */

@@ -1,6 +1,10 @@
 // The language of rules: its tokens, its words and what a cell sees.
 
-/** @typedef {{text: string, start: number, end: number, isComment: boolean}} Token */
+/**
+ * @typedef {import('./lines.js').Body} Body
+ * @typedef {{text: string, start: number, end: number}} Place a part of a text, and where it stands
+ * @typedef {Place & {isComment: boolean}} Token
+ */
 
 /**
  * The tokens of a text, as the machine counts them: those of comments count too. Token n of a fault is the n-th,
@@ -11,7 +15,9 @@
 export function tokens(text) {
   let isComment = false;
   return [...text.matchAll(/[^ \t\r\n]+/g)].map(match => {
-    const token = { text: match[0], start: match.index, end: match.index + match[0].length, isComment };
+    const [text] = match;
+    const start = match.index ?? 0;
+    const token = { text, start, end: start + text.length, isComment };
     if (isComment) {
       isComment = !token.text.endsWith(')');
     } else if (token.text === '(') {
@@ -26,7 +32,7 @@ export function tokens(text) {
  * Where the token of a fault stands in a text, or its end.
  * @param {string} text
  * @param {number} number counted from 1; 0 stands for the whole text
- * @returns {{text: string, start: number, end: number}}
+ * @returns {Place}
  */
 export function tokenAt(text, number) {
   if (number === 0) {
@@ -38,7 +44,7 @@ export function tokenAt(text, number) {
 const BLOCKS = ['CENTER', "CENTER'", 'CW', 'CCW', 'OPP', "CW'", "CCW'", "OPP'"];
 const CROSS = ['CENTER', "CENTER'", 'NORTH', 'SOUTH', 'WEST', 'EAST'];
 
-/** The neighbourhoods: their names by the bit of the address. */
+/** @type {Readonly<Record<string, string[]>>} the names of each neighbourhood, by the bit of the address */
 export const HOODS = Object.freeze({
   'N/MOORE': [...CROSS, 'N.WEST', 'N.EAST', 'S.WEST', 'S.EAST'],
   'N/VONN': [...CROSS, "NORTH'", "SOUTH'", "WEST'", "EAST'"],
@@ -47,13 +53,14 @@ export const HOODS = Object.freeze({
   'N/MARG-HV': [...BLOCKS, 'HORZ', 'VERT'],
 });
 
-/** The minor assignments: their names of the bits 10 and 11 of the address. */
+/** @type {Readonly<Record<string, string[]>>} the names of each minor assignment, of the bits 10 and 11 of the address */
 export const MINORS = Object.freeze({
   '&/CENTERS': ['&CENTER', "&CENTER'"],
   '&/PHASES': ['&PHASE', "&PHASE'"],
   '&/HV': ['&HORZ', '&VERT'],
 });
 
+/** @type {Readonly<Record<string, string>>} */
 const SEEN = Object.freeze({
   CENTER: 'The cell itself.',
   NORTH: 'The cell above.',
@@ -77,6 +84,7 @@ const SEEN = Object.freeze({
   "&PHASE'": "The high bit of the entry's phase.",
 });
 
+/** @param {string} name @param {string} half */
 function sentenceOfName(name, half) {
   const [lower, upper] = half === 'B' ? [2, 3] : [0, 1];
   if (name.startsWith('&CENTER')) {
@@ -97,11 +105,15 @@ function sentenceOfName(name, half) {
  * @returns {{name: string, bit: number, sentence: string}[]}
  */
 export function namesOf(hood, minor, half) {
+  /** @type {(name: string, bit: number) => {name: string, bit: number, sentence: string}} */
   const said = (name, bit) => ({ name, bit, sentence: sentenceOfName(name, half) });
   return [...HOODS[hood].map(said), ...MINORS[minor].map((name, i) => said(name, 10 + i))];
 }
 
-const word = (spelling, before, after, sentence) => Object.freeze({ word: spelling, before, after, sentence });
+/** @typedef {{word: string, before?: string, after?: string, sentence: string}} Word */
+
+/** @type {(word: string, before: string, after: string, sentence: string) => Readonly<Word>} */
+const word = (word, before, after, sentence) => Object.freeze({ word, before, after, sentence });
 
 /** The words of the language: what they take from the stack, what they leave there, and what they do. */
 export const WORDS = Object.freeze([
@@ -134,6 +146,7 @@ export const WORDS = Object.freeze([
   word('( words )', '', '', 'A comment.'),
 ]);
 
+/** @type {Readonly<Record<string, number[]>>} the planes that each output word writes */
 const OUTPUTS = Object.freeze({
   '>PLN0': [0], '>PLN1': [1], '>PLNA': [0, 1], '>PLN2': [2], '>PLN3': [3], '>PLNB': [2, 3],
 });
@@ -144,6 +157,7 @@ const OUTPUTS = Object.freeze({
  * @returns {number[]} in order
  */
 export function writes(text) {
+  /** @type {Set<number>} */
   const found = new Set();
   for (const token of tokens(text)) {
     if (!token.isComment && Object.hasOwn(OUTPUTS, token.text)) {
@@ -164,12 +178,14 @@ export function bitsOf(address, hood, minor) {
   return namesOf(hood, minor, 'A').filter(({ bit }) => address >> bit & 1).map(({ name }) => name);
 }
 
+/** @type {Readonly<Record<string, (stack: number[], a: number) => unknown>>} */
 const ONE_VALUE = Object.freeze({
   DUP: (stack, a) => stack.push(a, a),
   DROP: () => {},
   '0=': (stack, a) => stack.push(Number(a === 0)),
 });
 
+/** @type {Readonly<Record<string, (stack: number[], a: number, b: number) => unknown>>} */
 const TWO_VALUES = Object.freeze({
   SWAP: (stack, a, b) => stack.push(b, a),
   OVER: (stack, a, b) => stack.push(a, b, a),
@@ -184,19 +200,26 @@ const TWO_VALUES = Object.freeze({
   '>': (stack, a, b) => stack.push(Number(a > b)),
 });
 
+/**
+ * The body of each definition of a text, and that of the last one, which is the rule.
+ * @param {string} text
+ */
 function definitionsOf(text) {
   const spelled = tokens(text).filter(token => !token.isComment).map(token => token.text);
+  /** @type {Map<string, string[]>} */
   const definitions = new Map();
-  let last;
+  /** @type {string[]} */
+  let last = [];
   for (let i = 0; i < spelled.length;) {
     const end = spelled.indexOf(';', i);
-    last = spelled[i + 1];
-    definitions.set(last, spelled.slice(i + 2, end));
+    last = spelled.slice(i + 2, end);
+    definitions.set(spelled[i + 1], last);
     i = end + 1;
   }
   return { definitions, last };
 }
 
+/** @param {string[]} body @param {number} at @param {string[]} ends */
 function skip(body, at, ends) {
   for (let depth = 0; ; at++) {
     if (depth === 0 && ends.includes(body[at])) {
@@ -207,43 +230,60 @@ function skip(body, at, ends) {
 }
 
 class Evaluation {
+  /** @type {number[]} */
+  stack = [];
+  /** @type {Map<number, number>} the bit of each plane that is written */
+  written = new Map();
+
+  /** @param {Map<string, string[]>} definitions @param {Map<string, number>} seen */
   constructor(definitions, seen) {
     this.definitions = definitions;
     this.seen = seen;
-    this.stack = [];
-    this.written = new Map();
   }
 
+  // The value on top, which a rule without a fault has.
+  pop() {
+    return this.stack.pop() ?? 0;
+  }
+
+  /** @param {string} spelling */
   word(spelling) {
     const { stack } = this;
     if (Object.hasOwn(ONE_VALUE, spelling)) {
-      ONE_VALUE[spelling](stack, stack.pop());
+      ONE_VALUE[spelling](stack, this.pop());
     } else if (Object.hasOwn(TWO_VALUES, spelling)) {
-      const b = stack.pop();
-      TWO_VALUES[spelling](stack, stack.pop(), b);
+      const b = this.pop();
+      TWO_VALUES[spelling](stack, this.pop(), b);
     } else if (spelling === 'ROT') {
       stack.push(...stack.splice(-3, 1));
     } else if (Object.hasOwn(OUTPUTS, spelling)) {
-      const value = stack.pop();
+      const value = this.pop();
       OUTPUTS[spelling].forEach((plane, i) => this.written.set(plane, value >> i & 1));
-    } else if (this.seen.has(spelling)) {
-      stack.push(this.seen.get(spelling));
-    } else if (this.definitions.has(spelling)) {
-      this.body(this.definitions.get(spelling));
     } else {
-      stack.push(Number(spelling));
+      this.named(spelling);
     }
   }
 
+  /** @param {string} name of what a cell sees, or of a definition, or else a number */
+  named(name) {
+    const body = this.seen.has(name) ? undefined : this.definitions.get(name);
+    if (body === undefined) {
+      this.stack.push(this.seen.get(name) ?? Number(name));
+    } else {
+      this.body(body);
+    }
+  }
+
+  /** @param {string[]} words */
   body(words) {
     for (let at = 0; at < words.length; at++) {
       if (words[at] === 'IF') {
-        at = this.stack.pop() === 0 ? skip(words, at + 1, ['ELSE', 'THEN']) : at;
+        at = this.pop() === 0 ? skip(words, at + 1, ['ELSE', 'THEN']) : at;
       } else if (words[at] === 'ELSE') {
         at = skip(words, at + 1, ['THEN']);
       } else if (words[at] === '{') {
         const end = words.indexOf('}', at);
-        this.word(words[at + 1 + this.stack.pop()]);
+        this.word(words[at + 1 + this.pop()]);
         at = end;
       } else if (words[at] !== 'THEN') {
         this.word(words[at]);
@@ -254,14 +294,15 @@ class Evaluation {
 
 /**
  * What a rule without a fault writes at an address, for pictures and warnings: the machine has the last word.
- * @param {{hood: string, minor: string, half: string, text: string}} rule
+ * @param {Body} rule
  * @param {number} address 0 to 4,095
  * @returns {Map<number, number>} the bit of each plane that is written
  */
 export function evaluate({ hood, minor, half, text }, address) {
+  /** @type {Map<string, number>} */
   const seen = new Map(namesOf(hood, minor, half).map(({ name, bit }) => [name, address >> bit & 1]));
   const { definitions, last } = definitionsOf(text);
   const evaluation = new Evaluation(definitions, seen);
-  evaluation.body(definitions.get(last));
+  evaluation.body(last);
   return evaluation.written;
 }

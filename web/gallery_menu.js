@@ -1,6 +1,6 @@
 // The gallery: twenty rules as a menu with pictures.
 
-import { at, make, makeButton, say } from './dom.js';
+import { at, element, make, makeButton, say } from './dom.js';
 
 /** @typedef {import('./gallery.js').Entry} Entry */
 
@@ -11,7 +11,9 @@ export class GalleryMenu {
    * @param {(entry: Entry) => void} choose what a chosen entry does
    */
   constructor(entries, choose) {
-    Object.assign(this, { entries, choose });
+    this.entries = entries;
+    this.choose = choose;
+    this.dialog = element('gallery-dialog', HTMLDialogElement);
     at('gallery').addEventListener('click', () => this.open());
   }
 
@@ -21,15 +23,18 @@ export class GalleryMenu {
     if (list.children.length === 0) {
       list.append(...this.entries.map(entry => this.makeCard(entry)));
     }
-    at('gallery-dialog').showModal();
+    this.dialog.showModal();
   }
 
-  /** A picture with its title and what to look for. */
+  /**
+   * A picture with its title and what to look for.
+   * @param {Entry} entry
+   */
   makeCard(entry) {
     const tags = [...entry.back ? ['can be undone'] : [], ...entry.flashes ? ['two steps a frame'] : []]
       .map(textContent => make('i', { className: 'tag', textContent }));
     const card = makeButton({ data: { entry: entry.name } }, () => {
-      at('gallery-dialog').close();
+      this.dialog.close();
       this.choose(entry);
     });
     card.append(

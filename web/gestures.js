@@ -4,7 +4,7 @@ const WHEEL_STEP = 60;      // pixels of a wheel that make one step of zoom
 const WHEEL_LINE = 30;      // pixels that a line of a wheel counts
 
 /**
- * @typedef {[number, number]} Point
+ * @typedef {import('./shapes.js').Point} Point
  * @typedef {{movesView: boolean, start(at: Point, event: PointerEvent): void, move(at: Point): void, end(): void,
  *   cancel(): void, hover(at: Point|null): void}} Handler what strokes of one pointer do
  */
@@ -18,7 +18,7 @@ export class Gestures {
   constructor(torus, handler) {
     this.torus = torus;
     this.handler = handler;
-    /** Where each pointer is that is down, in pixels of the canvas. @type {Map<number, {x: number, y: number}>} */
+    /** @type {Map<number, {x: number, y: number}>} where each pointer is that is down, in pixels of the canvas */
     this.pointers = new Map();
     /** @type {'none'|'stroke'|'view'} */
     this.mode = 'none';
@@ -68,7 +68,10 @@ export class Gestures {
     }
   }
 
-  /** One pointer moves the view. Two also make it larger or smaller. */
+  /**
+   * One pointer moves the view. Two also make it larger or smaller.
+   * @param {PointerEvent} event
+   */
   moveView(event) {
     const { torus, pointers } = this;
     const spread = () => {

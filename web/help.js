@@ -1,6 +1,6 @@
 // The help panel, and dark and light.
 
-import { at, keep, make, recall, say, storageOf } from './dom.js';
+import { at, element, first, keep, make, recall, say, storageOf } from './dom.js';
 import { KEYS } from './keys.js';
 
 const FIRST_STEPS = [
@@ -29,16 +29,17 @@ export function joinHelp() {
     if (place.children.length === 0) {
       place.append(...helpSections());
     }
-    at('help-dialog').showModal();
+    element('help-dialog', HTMLDialogElement).showModal();
   };
   at('help').addEventListener('click', open);
   for (const dialog of document.querySelectorAll('dialog')) {
-    dialog.querySelector('[data-close]').addEventListener('click', () => dialog.close());
+    first(dialog, '[data-close]').addEventListener('click', () => dialog.close());
   }
 }
 
 /** What the help says. */
 function helpSections() {
+  /** @type {(title: string, items: string[]) => HTMLElement[]} */
   const list = (title, items) => [say('h3', title), make('ul', {}, ...items.map(item => say('li', item)))];
   const rows = KEYS.map(([, shown, , does]) => make('tr', {}, make('td', {}, say('kbd', shown)), say('td', does)));
   const keys = make('table', {}, make('tbody', {}, ...rows));

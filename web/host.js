@@ -1,6 +1,12 @@
 // One connection to whatever answers lines, and how the page takes a seat.
 
-import { answerOf, lineOf, seat as seatOf } from './lines.js';
+import { faultOf, lineOf, seat as seatOf } from './lines.js';
+
+/**
+ * @typedef {new (url: string) => Pick<WebSocket, 'onopen'|'onmessage'|'onclose'|'send'|'close'>} SocketClass
+ * @typedef {InstanceType<SocketClass>} Socket
+ * @typedef {{answered: (text: string) => void, failed: (lost: Lost) => void}} Waiting
+ */
 
 /** A connection that is over, or that never was. */
 export class Lost extends Error {
@@ -21,11 +27,14 @@ export class Lost extends Error {
 /** Lines and their replies over one WebSocket: a text message is a line, and each has one reply, in order. */
 export class Host {
   #socket;
+  /** @type {Waiting[]} */
   #waiting = [];
+  /** @type {((lost: Lost) => void)[]} */
   #whenLost = [];
+  /** @type {Lost|null} */
   #lost = null;
 
-  /** @param {WebSocket} socket one that is open */
+  /** @param {Socket} socket one that is open */
   constructor(socket) {
     this.#socket = socket;
     socket.onmessage = message => this.#answered(message.data);
@@ -35,7 +44,7 @@ export class Host {
   /**
    * Opens a connection.
    * @param {string} url
-   * @param {typeof WebSocket} WebSocketClass
+   * @param {SocketClass} WebSocketClass
    * @returns {Promise<Host>} rejects with `Lost`
    */
   static open(url, WebSocketClass) {
@@ -46,6 +55,7 @@ export class Host {
     });
   }
 
+  /** @param {unknown} text */
   #answered(text) {
     const waiting = this.#waiting.shift();
     if (waiting === undefined || typeof text !== 'string') {
@@ -55,6 +65,7 @@ export class Host {
     }
   }
 
+  /** @param {Lost} lost */
   #end(lost) {
     if (this.#lost !== null) {
       return;
@@ -109,48 +120,66 @@ export class Host {
   }
 }
 
+/** @typedef {'lost'|'full'|'refused'} Why */
+
 /** No seat could be taken. */
 export class NoSeat extends Error {
   /**
-   * @param {'lost'|'full'|'refused'} why no host was reached, or all seats are taken, or no host takes the machine
+   * @param {Why} why no host was reached, or all seats are taken, or no host takes the machine
    * @param {string} reason
    */
   constructor(why, reason) {
     super(reason);
     this.name = 'NoSeat';
-    /** @type {'lost'|'full'|'refused'} */
+    /** @type {Why} */
     this.why = why;
   }
 }
 
 /**
+ * @typedef {{host: number, seat: number}} At a host's number and a seat's
  * @typedef {{host: Host, number: number, seat: number, missed: number}} Seat
  * The host's number from 1 on, the seat's number from 1 on, and the fault with which the seat that was asked
  * for first was refused. Each is 0 if there is none. A machine of the page's own has host 0 and seat 0.
+ *
+ * @typedef {object} Where where hosts are
+ * @property {(host: number) => string} urlOf the address of a host's socket; of host 0 for a machine of the page's own
+ * @property {number} hosts how many hosts there are; 0 for a machine of the page's own
+ * @property {SocketClass} WebSocketClass
+ *
+ * @typedef {object} Wanted
+ * @property {At[]} preferred
+ * @property {(host: Host) => Promise<boolean>} accepts whether the host takes the page's machine
  */
 
 class Search {
-  constructor({ urlOf, hosts, WebSocketClass, preferred, accepts }) {
-    Object.assign(this, { urlOf, hosts, WebSocketClass, preferred, accepts });
-    this.missed = 0;
-    this.why = 'lost';
-    this.reason = '';
+  missed = 0;
+  /** @type {Why} */
+  why = 'lost';
+  reason = '';
+
+  /** @param {Where & Wanted} how */
+  constructor(how) {
+    this.how = how;
   }
 
+  /** @param {number} number @param {number} seat */
   async ask(number, seat) {
-    const host = await Host.open(this.urlOf(number), this.WebSocketClass);
+    const { urlOf, WebSocketClass } = this.how;
+    const host = await Host.open(urlOf(number), WebSocketClass);
     if (number === 0) {
       return { host, fault: 0 };
     }
-    const { fault = 0 } = answerOf(await host.ask(lineOf(seatOf(seat))));
+    const fault = faultOf(await host.ask(lineOf(seatOf(seat))));
     if (fault !== 0) {
       host.close();
     }
     return { host, fault };
   }
 
+  /** @type {(host: Host, number: number, seat: number) => Promise<Seat|null>} */
   async settle(host, number, seat) {
-    if (await this.accepts(host)) {
+    if (await this.how.accepts(host)) {
       return { host, number, seat, missed: this.missed };
     }
     host.close();
@@ -158,12 +187,13 @@ class Search {
     return null;
   }
 
+  /** @param {number} number */
   async at(number) {
-    const wanted = this.preferred.filter(at => at.host === number).map(at => at.seat);
+    const wanted = this.how.preferred.filter(at => at.host === number).map(at => at.seat);
     let fault = 0;
     for (let seat = 1; fault !== 81;) {
       const isWanted = wanted.length > 0;
-      const asked = isWanted ? wanted.shift() : seat++;
+      const asked = wanted.shift() ?? seat++;
       const reply = await this.ask(number, asked);
       if (reply.fault === 0) {
         return this.settle(reply.host, number, asked);
@@ -178,12 +208,7 @@ class Search {
 
 /**
  * Sits down at a free seat: at a preferred one if it can be had, else at the first one of the first host that has one.
- * @param {object} how
- * @param {(host: number) => string} how.urlOf the address of a host's socket; of host 0 for a machine of the page's own
- * @param {number} how.hosts how many hosts there are; 0 for a machine of the page's own
- * @param {typeof WebSocket} how.WebSocketClass
- * @param {{host: number, seat: number}[]} how.preferred
- * @param {(host: Host) => Promise<boolean>} how.accepts whether the host takes the page's machine
+ * @param {Where & Wanted} how
  * @returns {Promise<Seat>} rejects with `NoSeat`
  */
 export async function sitDown(how) {

@@ -1,45 +1,67 @@
 // What a page keeps of its machine: the last save, and the commands since that change it.
 
-import { back, commandOf, lineOf, run } from './lines.js';
+import { back, commandOf, isSteps, lineOf, run } from './lines.js';
 import { Shelf } from './shelf.js';
 
 export { kept, nameOfTab } from './shelf.js';
 
 const SLOT_LETTERS = 4096;
 const MOST_STEPS = 65535;
+/** @type {Command['do'][]} */
 const ZEROING = ['set', 'clear', 'side', 'cycle', 'load'];
 
 /**
- * @typedef {{command: import('./lines.js').Command, line: string}} Asked a command and its line
+ * @typedef {import('./lines.js').Command} Command
+ * @typedef {{command: Command, line: string}} Asked a command and its line
  *
  * @typedef {object} Noted a command that was noted
  * @property {number} number counted from 1 on
- * @property {import('./lines.js').Command} command
+ * @property {Command} command
  * @property {string} line
  * @property {string|null} reply null before there is one
  * @property {boolean} isZero whether the count is 0 after it, whatever it does
  * @property {number} slot
  */
 
+/**
+ * The steps that a command does or undoes.
+ * @param {Command} command which may have come as a text without a number
+ */
+const stepsOf = command => isSteps(command) ? command.n ?? 0 : 0;
+
 /** The journal of one page. It keeps on in memory if the storage is full or missing. */
 export class Journal {
   #shelf;
+  /** @type {Noted[][]} */
   #slots = [];
+  /** @type {number[]} of the commands of each slot */
   #letters = [];
+  /** @type {Set<number>} slots that are not written */
   #dirty = new Set();
   #base = 0;
   #noted = 0;
+  /** @type {string|null} the last save as a load line */
+  loadLine = null;
+  /** @type {string|null} the load line of the state at count 0, if it is known */
+  first = null;
+  /** @type {Noted[]} the commands since the last save */
+  entries = [];
+  /** @type {number} steps since the first state, by all commands that have a reply */
+  count = 0;
+  /** @type {number} letters of the commands since the last save */
+  size = 0;
+  /** @type {number} steps of the commands since the last save */
+  steps = 0;
 
   /**
    * Reads what the storage has under this name.
-   * @param {Storage|null} storage null if there is none
+   * @param {import('./shelf.js').Store|null} storage null if there is none
    * @param {string} name
-   * @param {{random?: () => number, now?: () => number, onRenamed?: (name: string) => void}} [by]
+   * @param {{random?: () => number, now?: () => number, onRenamed?: (name: string) => void}} by
    */
   constructor(storage, name, { random, now, onRenamed = () => {} } = {}) {
     this.#shelf = new Shelf(storage, name, { random, now });
     this.onRenamed = onRenamed;
-    this.#blank();
     const content = this.#shelf.read();
     /** @type {boolean} whether the storage has all of the journal, but for replies */
     this.isKept = content !== null;
@@ -55,17 +77,11 @@ export class Journal {
   }
 
   #blank() {
-    /** @type {string|null} the last save as a load line */
     this.loadLine = null;
-    /** @type {string|null} the load line of the state at count 0, if it is known */
     this.first = null;
-    /** @type {Noted[]} the commands since the last save */
     this.entries = [];
-    /** @type {number} steps since the first state, by all commands that have a reply */
     this.count = 0;
-    /** @type {number} letters of the commands since the last save */
     this.size = 0;
-    /** @type {number} steps of the commands since the last save */
     this.steps = 0;
     this.#base = 0;
     this.#slots = [];
@@ -78,6 +94,7 @@ export class Journal {
     return this.#shelf.name;
   }
 
+  /** @type {(asked: Asked, reply: string|null, isZero: boolean) => void} */
   #read(asked, reply, isZero) {
     const entry = this.#add(asked, isZero);
     if (reply !== null) {
@@ -86,13 +103,16 @@ export class Journal {
     }
   }
 
+  /** @type {(asked: Asked, isZero: boolean) => Noted} */
   #add({ command, line }, isZero) {
     return this.#put({ number: ++this.#noted, command, line, reply: null, isZero, slot: 0 });
   }
 
+  /** @param {Noted} entry */
   #put(entry) {
     const { command, line } = entry;
-    if (this.#slots.length === 0 || this.#letters.at(-1) + line.length > SLOT_LETTERS) {
+    const letters = this.#letters[this.#letters.length - 1];
+    if (this.#slots.length === 0 || letters + line.length > SLOT_LETTERS) {
       this.#slots.push([]);
       this.#letters.push(0);
     }
@@ -102,14 +122,14 @@ export class Journal {
     this.#letters[entry.slot] += line.length;
     this.#dirty.add(entry.slot);
     this.size += line.length;
-    this.steps += command.n ?? 0;
+    this.steps += stepsOf(command);
     return entry;
   }
 
   /**
    * Notes commands before they are sent.
    * @param {Asked[]} all
-   * @param {{isZero?: boolean}} [how]
+   * @param {{isZero?: boolean}} how
    * @returns {Noted[]}
    */
   noteAll(all, { isZero = false } = {}) {
@@ -148,24 +168,29 @@ export class Journal {
     }
   }
 
-  #counted({ command: { do: name, n }, isZero }) {
-    if (isZero || ZEROING.includes(name)) {
+  /** @param {Noted} entry */
+  #counted({ command, isZero }) {
+    if (isZero || ZEROING.includes(command.do)) {
       this.count = 0;
       this.first = null;
     } else {
-      this.count += name === 'run' ? n : name === 'back' ? -n : 0;
+      this.count += command.do === 'back' ? -stepsOf(command) : stepsOf(command);
     }
   }
 
+  /** @param {Noted} entry */
   #remove(entry) {
     this.entries.splice(this.entries.indexOf(entry), 1);
     const slot = this.#slots[entry.slot];
     slot.splice(slot.indexOf(entry), 1);
     this.size -= entry.line.length;
-    this.steps -= entry.command.n ?? 0;
+    this.steps -= stepsOf(entry.command);
   }
 
-  // Steps after steps of the same kind are one command.
+  /**
+   * Steps after steps of the same kind are one command.
+   * @param {Noted} entry
+   */
   #join(entry) {
     const slot = this.#slots[entry.slot];
     const before = slot[slot.indexOf(entry) - 1];
@@ -174,17 +199,17 @@ export class Journal {
     }
     const { command: one } = before;
     const { command: other } = entry;
-    const steps = { run, back }[other.do];
-    if (steps !== undefined && one.do === other.do && one.n + other.n <= MOST_STEPS) {
+    if (isSteps(one) && isSteps(other) && one.do === other.do && one.n + other.n <= MOST_STEPS) {
       this.#remove(before);
       this.size -= entry.line.length;
-      entry.command = steps(one.n + other.n);
+      entry.command = (one.do === 'run' ? run : back)(one.n + other.n);
       entry.line = lineOf(entry.command);
       this.size += entry.line.length;
       this.steps += one.n;
     }
   }
 
+  /** @param {number} slot @returns {import('./shelf.js').Row[]} */
   #rows(slot) {
     return this.#slots[slot].map(({ line, reply, isZero }) => [line, reply, isZero ? 1 : 0]);
   }
@@ -207,7 +232,7 @@ export class Journal {
   #replace() {
     const { loadLine, first } = this;
     const slots = this.#slots.map((_, slot) => this.#rows(slot));
-    this.isKept = this.#shelf.replace({ loadLine, first, count: this.#base, slots });
+    this.isKept = loadLine !== null && this.#shelf.replace({ loadLine, first, count: this.#base, slots });
     this.#dirty.clear();
   }
 

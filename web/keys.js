@@ -2,7 +2,10 @@
 
 import { takesText } from './dom.js';
 
-/** The keys: how a key is called by the browser and by people, the action and its words. */
+/**
+ * The keys: how a key is called by the browser and by people, the action and its words.
+ * @type {ReadonlyArray<[key: string, shown: string, action: string, does: string]>}
+ */
 export const KEYS = Object.freeze([
   [' ', 'Space', 'run', 'run, or pause'],
   ['b', 'B', 'runBack', 'run back'],
@@ -29,12 +32,15 @@ export const KEYS = Object.freeze([
   ['h', 'H', 'help', 'open this page'],
 ]);
 
+/** @type {Readonly<Record<string, string>>} keys that do what other keys do */
 const SAME = Object.freeze({ '=': '+', _: '-', '?': 'h', Backspace: 'Delete' });
 const ON_BUTTONS = new Set(['Enter']);
 
+/** @typedef {Record<string, (event: KeyboardEvent) => unknown>} Actions by the names of KEYS */
+
 /**
  * Joins the keys to what they do. Keys that a field, a list or a dialog takes are left to it.
- * @param {Record<string, (event: KeyboardEvent) => unknown>} actions by the names of KEYS
+ * @param {Actions} actions
  */
 export function joinKeys(actions) {
   const byKey = new Map(KEYS.map(([key, , action]) => [key, action]));
@@ -49,17 +55,24 @@ export function joinKeys(actions) {
     }
     const pressed = event.key.length === 1 ? event.key.toLowerCase() : event.key;
     const key = /^[1-9]$/.test(pressed) ? '1' : SAME[pressed] ?? pressed;
-    const isOfButton = ON_BUTTONS.has(key) && event.target.matches('button, a, [role="tab"]');
-    const isOfRange = event.target.matches('input[type="range"]') && /^(Arrow|Home)/.test(key);
-    if (byKey.has(key) && !isOfButton && !isOfRange && actions[byKey.get(key)](event) !== false) {
+    const target = event.target instanceof Element ? event.target : null;
+    const isOfButton = ON_BUTTONS.has(key) && target?.matches('button, a, [role="tab"]');
+    const isOfRange = target?.matches('input[type="range"]') && /^(Arrow|Home)/.test(key);
+    const action = byKey.get(key);
+    if (action !== undefined && !isOfButton && !isOfRange && actions[action](event) !== false) {
       event.preventDefault();
     }
   });
 }
 
-/** Keys with Ctrl. Copies and pastes come as events of the clipboard. */
+/**
+ * Keys with Ctrl. Copies and pastes come as events of the clipboard.
+ * @param {KeyboardEvent} event
+ * @param {Actions} actions
+ */
 function withControl(event, actions) {
-  const act = { z: actions.undo, a: actions.selectAll }[event.key.toLowerCase()];
+  const key = event.key.toLowerCase();
+  const act = key === 'z' ? actions.undo : key === 'a' ? actions.selectAll : null;
   if (act) {
     event.preventDefault();
     act(event);

@@ -1,7 +1,8 @@
 // Commands, their lines, and what replies say. A command is an object from where it is made to where its line goes out.
 
 /**
- * @typedef {{name: string, half: string, hood: string, minor: string, text: string}} Rule
+ * @typedef {{half: string, hood: string, minor: string, text: string}} Body what a rule is without its name
+ * @typedef {Body & {name: string}} Rule
  * @typedef {{a: string, b: string, grid: string, phase: number}} Entry
  * @typedef {object} Saved a machine as `save` shows it
  * @property {number[]} colours
@@ -14,30 +15,32 @@
  */
 
 /**
+ * @typedef {{do: 'run'|'back', n: number}} Steps
  * @typedef {{do: 'set', plane: number, row: number, bits: string} | {do: 'clear'|'plane', plane: number}
  *   | {do: 'row', plane: number, row: number} | {do: 'side', side: number} | {do: 'map', colours: number[]}
- *   | {do: 'rule'} & Rule | {do: 'drop', name: string} | {do: 'cycle', entries: Entry[]}
- *   | {do: 'run'|'back', n: number} | {do: 'count', mask: number} | {do: 'save'} | {do: 'load', machine: Saved}} Command
- * Its keys have the order of its line. One that came as a text may have any keys.
+ *   | {do: 'rule'} & Rule | {do: 'drop', name: string} | {do: 'cycle', entries: Entry[]} | Steps
+ *   | {do: 'count', mask: number} | {do: 'save'} | {do: 'load', machine?: Saved} | {do?: undefined}} Command
+ * Its keys have the order of its line. One that came as a text may have any keys, or no name.
  */
 
 /**
- * @typedef {{ok: string, position?: number, rows?: string[], count?: number, machine?: Saved}} Done
- * @typedef {object} Refusal
+ * @typedef {{ok: string, position?: number, rows?: string[]}} Done
+ * @typedef {object} Plain
  * @property {number} fault
  * @property {number} [token] the token of a rule's text that is refused
  * @property {number} [address] the least address at which a rule stops
- * @property {string} [cause] why an entry of the cycle can't be undone
- * @property {number} [entry]
- * @property {string} [half]
- * @property {number} [phase]
- * @property {number[]} [states]
+ * @typedef {Plain & {entry: number, half: string}
+ *   & ({cause: 'hood'|'centres'} | {cause: 'meeting', phase: number, states: number[]})} OneWay an entry that can't be undone
+ * @typedef {Plain | OneWay} Refusal
  * @typedef {Done | Refusal} Reply
  */
 
 const LOAD = '{"do":"load",';
 
-// The texts of commands that came as texts. A host may refuse what JSON.parse takes, so each goes out as it came.
+/**
+ * The texts of commands that came as texts. A host may refuse what JSON.parse takes, so each goes out as it came.
+ * @type {WeakMap<object, string>}
+ */
 const texts = new WeakMap();
 
 /**
@@ -46,11 +49,13 @@ const texts = new WeakMap();
  * @returns {Command} with nothing but its name for a load, which is long
  */
 export function commandOf(line) {
+  /** @type {Command} */
   const command = line.startsWith(LOAD) ? { do: 'load' } : parsed(line);
   texts.set(command, line);
   return command;
 }
 
+/** @param {string} line @returns {Command} */
 function parsed(line) {
   try {
     return Object(JSON.parse(line));
@@ -66,56 +71,58 @@ function parsed(line) {
  */
 export const lineOf = command => texts.get(command) ?? JSON.stringify(command);
 
-/** Whether a line loads a machine, spelled as the page spells it. @param {string} line */
+/**
+ * Whether a line loads a machine, spelled as the page spells it.
+ * @param {string} line
+ */
 export const isLoad = line => line.startsWith(LOAD);
-
-const command = (name, keys) => ({ do: name, ...keys });
 
 /** @param {number} number a seat, from 1 on */
 export const seat = number => ({ seat: number });
 
-/** @param {number} plane @param {number} row @param {string} bits */
-export const set = (plane, row, bits) => command('set', { plane, row, bits });
+/** @type {(plane: number, row: number, bits: string) => Command} */
+export const set = (plane, row, bits) => ({ do: 'set', plane, row, bits });
 
-/** @param {number} plane */
-export const clear = plane => command('clear', { plane });
+/** @type {(plane: number) => Command} */
+export const clear = plane => ({ do: 'clear', plane });
 
-/** @param {number} plane @param {number} row */
-export const row = (plane, row) => command('row', { plane, row });
+/** @type {(plane: number, row: number) => Command} */
+export const row = (plane, row) => ({ do: 'row', plane, row });
 
-/** @param {number} plane */
-export const plane = plane => command('plane', { plane });
+/** @type {(plane: number) => Command} */
+export const plane = plane => ({ do: 'plane', plane });
 
-/** @param {number} side 128, 256 or 512 */
-export const side = side => command('side', { side });
+/** @type {(side: number) => Command} of 128, 256 or 512 */
+export const side = side => ({ do: 'side', side });
 
-/** @param {number[]} colours sixteen colours of 0 to 15 */
-export const map = colours => command('map', { colours: [...colours] });
+/** @type {(colours: number[]) => Command} of sixteen colours of 0 to 15 */
+export const map = colours => ({ do: 'map', colours: [...colours] });
 
-/** @param {Rule} rule */
-export const rule = ({ name, half, hood, minor, text }) => command('rule', { name, half, hood, minor, text });
+/** @type {(rule: Rule) => Command} */
+export const rule = ({ name, half, hood, minor, text }) => ({ do: 'rule', name, half, hood, minor, text });
 
-/** @param {string} name */
-export const drop = name => command('drop', { name });
+/** @type {(name: string) => Command} */
+export const drop = name => ({ do: 'drop', name });
 
-/** @param {Entry[]} entries */
-export const cycle = entries => command('cycle', {
-  entries: entries.map(({ a, b, grid, phase }) => ({ a, b, grid, phase })),
+/** @type {(entries: readonly Entry[]) => Command} */
+export const cycle = entries => ({
+  do: 'cycle', entries: entries.map(({ a, b, grid, phase }) => ({ a, b, grid, phase })),
 });
 
-/** @param {number} n 0 to 65,535 */
-export const run = n => command('run', { n });
+/** @type {(n: number) => Command} of 0 to 65,535 steps */
+export const run = n => ({ do: 'run', n });
 
-/** @param {number} n 0 to 65,535 */
-export const back = n => command('back', { n });
+/** @type {(n: number) => Command} of 0 to 65,535 steps */
+export const back = n => ({ do: 'back', n });
 
-export const save = () => command('save', {});
+/** @type {() => Command} */
+export const save = () => ({ do: 'save' });
 
-/** @param {number} mask bit s for state s */
-export const count = mask => command('count', { mask });
+/** @type {(mask: number) => Command} with bit s for state s */
+export const count = mask => ({ do: 'count', mask });
 
-/** @param {Saved} machine its keys keep their order */
-export const load = machine => command('load', { machine });
+/** @type {(machine: Saved) => Command} whose keys keep their order */
+export const load = machine => ({ do: 'load', machine });
 
 /**
  * A load line of a reply to `save`, byte for byte.
@@ -139,6 +146,14 @@ export function blank(side) {
 /** The cycle that leaves each cell as it is and uses no rule. */
 export const IDLE = Object.freeze([Object.freeze({ a: '-', b: '-', grid: 'EVEN', phase: 0 })]);
 
+/**
+ * Whether a command does or undoes steps.
+ * @param {Command} command
+ * @returns {command is Steps}
+ */
+export const isSteps = command => command.do === 'run' || command.do === 'back';
+
+/** @type {Command['do'][]} */
 const CHANGING = ['set', 'clear', 'side', 'map', 'rule', 'drop', 'cycle', 'load'];
 
 /**
@@ -147,7 +162,7 @@ const CHANGING = ['set', 'clear', 'side', 'map', 'rule', 'drop', 'cycle', 'load'
  * @returns {boolean}
  */
 export function changes(command) {
-  return CHANGING.includes(command.do) || (command.do === 'run' || command.do === 'back') && command.n !== 0;
+  return isSteps(command) ? command.n !== 0 : CHANGING.includes(command.do);
 }
 
 /** A reply that is a fault. */
@@ -171,6 +186,22 @@ export class Fault extends Error {
 export function answerOf(text) {
   return JSON.parse(text);
 }
+
+/**
+ * The number of a reply's fault, or 0.
+ * @param {string} text
+ */
+export function faultOf(text) {
+  const answer = answerOf(text);
+  return 'fault' in answer ? answer.fault : 0;
+}
+
+/**
+ * The machine in a reply to `save`, or in a load line.
+ * @param {string} text
+ * @returns {Saved}
+ */
+export const machineIn = text => JSON.parse(text).machine;
 
 /**
  * What a reply says, unless it is a fault.

@@ -1,6 +1,6 @@
 // Lines to a machine that stays the same whatever becomes of connections: each command is done once in it.
 
-import { answerOf, changes, lineOf, loadLineOf, save } from './lines.js';
+import { changes, faultOf, lineOf, loadLineOf, save } from './lines.js';
 import { NoSeat, sitDown } from './host.js';
 
 const FIRST_PAUSE = 200;
@@ -11,13 +11,33 @@ const LEFT_OUT = '{"fault":0}';
 const SAVE = lineOf(save());
 
 /**
+ * @typedef {import('./host.js').At} At
+ * @typedef {import('./host.js').Host} Host
+ * @typedef {import('./journal.js').Noted} Noted
+ *
+ * @typedef {object} More
+ * @property {(milliseconds: number) => Promise<void>} wait
+ * @property {number|null} seat the seat that is asked for first
+ * @typedef {import('./host.js').Where & More} How
+ *
+ * @typedef {object} Pending a line that has no reply yet
+ * @property {string} line
+ * @property {import('./lines.js').Command} [command] none for a checkpoint
+ * @property {Noted|null} entry
+ * @property {boolean} [isCheckpoint]
+ * @property {number} through the number of the last command that was noted before
+ * @property {(text: string) => void} answered
+ * @property {number} [losses]
+ *
+ * @typedef {'connecting'|'playing back'|'ready'|'lost'|'full'} State
  * @typedef {object} Told what a link tells its owner
- * @property {(state: 'connecting'|'playing back'|'ready'|'lost'|'full', text: string) => void} state
+ * @property {(state: State, text: string) => void} state
  * @property {(reply: string) => void} restored with the reply to `save` of the machine that is there
  * @property {(line: string, wanted: string, got: string) => void} diverged
  * @property {() => void} answered after each command that has its reply
  */
 
+/** @type {(seat: import('./host.js').Seat, hosts: number, preferred: At[]) => string} */
 function sentenceOfSeat({ number, seat, missed }, hosts, preferred) {
   if (number === 0) {
     return 'This page has a machine of its own.';
@@ -35,6 +55,7 @@ const UNSEATED = Object.freeze({
   tooLarge: 'Your machine is larger than the hosts allow. The page keeps it and tries again.',
 });
 
+/** @param {string} reason */
 const sentenceOfLoss = reason =>
   `The connection is lost${reason === '' ? '' : `: ${reason}`}. ${UNSEATED.lost}`;
 
@@ -43,19 +64,16 @@ export class Link {
   #how;
   #journal;
   #told;
+  /** @type {Pending[]} */
   #pending = [];
+  /** @type {Host|null} */
   #host = null;
   #isStopped = false;
   #isSaving = false;
   #refusal = 0;
 
   /**
-   * @param {object} how
-   * @param {(host: number) => string} how.urlOf
-   * @param {number} how.hosts
-   * @param {typeof WebSocket} how.WebSocketClass
-   * @param {(milliseconds: number) => Promise<void>} how.wait
-   * @param {number|null} how.seat the seat that is asked for first
+   * @param {How} how
    * @param {import('./journal.js').Journal} journal
    * @param {Told} told
    */
@@ -63,7 +81,7 @@ export class Link {
     this.#how = how;
     this.#journal = journal;
     this.#told = told;
-    /** @type {{host: number, seat: number}|null} */
+    /** @type {At|null} */
     this.at = null;
   }
 
@@ -71,10 +89,11 @@ export class Link {
    * Asks for commands in order, with nothing between them. They become lines here, are noted, then sent; if the
    * connection ends they are sent again over the next one, to the machine that has all commands before them.
    * @param {import('./lines.js').Command[]} commands
-   * @param {{isZero?: boolean}} [how] whether the machine after them is a first state
+   * @param {{isZero?: boolean}} how whether the machine after them is a first state
    * @returns {Promise<string>[]} the replies
    */
   askAll(commands, { isZero = false } = {}) {
+    /** @type {(import('./journal.js').Asked & {entry: Noted|null})[]} */
     const all = commands.map(command => ({ command, line: lineOf(command), entry: null }));
     const changing = all.filter(({ command }) => changes(command));
     const entries = changing.length > 0 ? this.#journal.noteAll(changing, { isZero }) : [];
@@ -100,6 +119,7 @@ export class Link {
     return this.#isSaving;
   }
 
+  /** @param {Pending} asked */
   #push(asked) {
     this.#pending.push(asked);
     if (this.#host !== null) {
@@ -107,15 +127,17 @@ export class Link {
     }
   }
 
+  /** @param {Pending} asked */
   #send(asked) {
     this.#host?.send(asked.line, text => this.#answered(asked, text));
   }
 
+  /** @param {Pending} asked @param {string} text */
   #answered(asked, text) {
     this.#pending.shift();
     if (asked.entry !== null) {
       this.#journal.answer(asked.entry, text);
-      if (asked.command.do === 'load' && text.startsWith('{"ok":')) {
+      if (asked.command?.do === 'load' && text.startsWith('{"ok":')) {
         this.#journal.checkpoint(asked.line, asked.entry.number);
       }
     } else if (asked.isCheckpoint) {
@@ -155,6 +177,7 @@ export class Link {
     this.#host?.close();
   }
 
+  /** @param {State} state @param {string} text */
   #tell(state, text) {
     if (!this.#isStopped) {
       this.#told.state(state, text);
@@ -175,6 +198,7 @@ export class Link {
     const seat = await sitDown({ urlOf, hosts, WebSocketClass, preferred, accepts: host => this.#restore(host) });
     this.at = { host: seat.number, seat: seat.seat };
     this.#host = seat.host;
+    /** @type {Promise<import('./host.js').Lost>} */
     const lost = new Promise(ended => seat.host.onLost(loss => {
       this.#host = null;
       this.#countLoss();
@@ -199,16 +223,18 @@ export class Link {
     }
   }
 
-  // Makes the machine at the host the page's, and returns whether the host takes it.
+  /**
+   * Makes the machine at the host the page's, and returns whether the host takes it.
+   * @param {Host} host
+   */
   async #restore(host) {
     const journal = this.#journal;
     const pending = new Set(this.#pending.map(({ entry }) => entry));
     const played = journal.entries.filter(entry => !pending.has(entry));
     if (journal.loadLine !== null) {
       this.#tell('playing back', 'The page loads its machine and plays the commands since again.');
-      const { fault = 0 } = answerOf(await host.ask(journal.loadLine));
-      this.#refusal = fault;
-      if (fault !== 0) {
+      this.#refusal = faultOf(await host.ask(journal.loadLine));
+      if (this.#refusal !== 0) {
         return false;
       }
     }
@@ -220,6 +246,7 @@ export class Link {
     return true;
   }
 
+  /** @param {Noted} entry @param {string} reply */
   #compare(entry, reply) {
     if (entry.reply === null) {
       this.#journal.answer(entry, reply);

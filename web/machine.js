@@ -15,6 +15,7 @@ const MOST_LETTERS = 262144;
 // Cells that all steps since a save may have together, so that playing them again takes seconds.
 const MOST_WORK = 2 ** 30;
 
+/** @type {(milliseconds: number) => Promise<void>} */
 const pause = milliseconds => new Promise(resolve => setTimeout(resolve, milliseconds));
 
 /** A text that is no machine and no list of commands. */
@@ -38,9 +39,42 @@ export function planesOf(rules, entries) {
 }
 
 /**
- * The page's machine. Its events: `state` {state, text}, `planes`, `position`, `rules`, `diverged` {line, wanted, got},
- * `kept` {isKept}.
+ * Throws the first fault of replies. Its `line` is its place among them, counted from 0.
+ * @param {lines.Reply[]} answers
  */
+function throwFirst(answers) {
+  for (const [line, answer] of answers.entries()) {
+    if ('fault' in answer) {
+      throw Object.assign(new lines.Fault(answer), { line });
+    }
+  }
+}
+
+/**
+ * @typedef {import('./link.js').State} State
+ * @typedef {{isZero?: boolean}} How whether the machine after commands is a first state
+ *
+ * @typedef {object} Events what a machine tells
+ * @property {{state: State, text: string}} state
+ * @property {undefined} planes
+ * @property {undefined} position
+ * @property {undefined} rules
+ * @property {{line: string, wanted: string, got: string}} diverged
+ * @property {{isKept: boolean}} kept
+ *
+ * @typedef {object} Setting
+ * @property {(host: number) => string} urlOf the address of a host's socket; of 0 for a machine of the page's own
+ * @property {number} [hosts] how many hosts there are; 0 for a machine of the page's own
+ * @property {import('./host.js').SocketClass} WebSocketClass
+ * @property {import('./shelf.js').Store|null} [storage] where the journal is kept
+ * @property {string} [name] the journal's name
+ * @property {(name: string) => void} [onRenamed] called with another name if another page has the journal
+ * @property {number|null} [seat] the seat that is asked for first
+ * @property {() => number} [now]
+ * @property {(milliseconds: number) => Promise<void>} [wait]
+ */
+
+/** The page's machine. */
 export class Machine extends EventTarget {
   #link;
   #journal;
@@ -48,18 +82,7 @@ export class Machine extends EventTarget {
   #isHalted = false;
   #wasKept = true;
 
-  /**
-   * @param {object} how
-   * @param {(host: number) => string} how.urlOf the address of a host's socket; of 0 for a machine of the page's own
-   * @param {number} [how.hosts] how many hosts there are; 0 for a machine of the page's own
-   * @param {typeof WebSocket} how.WebSocketClass
-   * @param {Storage|null} [how.storage] where the journal is kept
-   * @param {string} [how.name] the journal's name
-   * @param {(name: string) => void} [how.onRenamed] called with another name if another page has the journal
-   * @param {number|null} [how.seat] the seat that is asked for first
-   * @param {() => number} [how.now]
-   * @param {(milliseconds: number) => Promise<void>} [how.wait]
-   */
+  /** @param {Setting} setting */
   constructor({
     urlOf, hosts = 0, WebSocketClass, storage = null, name = 'page', onRenamed, seat = null, now, wait = pause,
   }) {
@@ -71,7 +94,7 @@ export class Machine extends EventTarget {
       diverged: (line, wanted, got) => this.#emit('diverged', { line, wanted, got }),
       answered: () => this.#answered(),
     });
-    /** @type {'connecting'|'playing back'|'ready'|'lost'|'full'} */
+    /** @type {State} */
     this.state = 'connecting';
     /** @type {string} the state in words */
     this.text = '';
@@ -156,12 +179,29 @@ export class Machine extends EventTarget {
 
   // What the page is told.
 
+  /**
+   * Calls a function with what each event of a type tells.
+   * @template {keyof Events} K
+   * @param {K} type
+   * @param {(detail: Events[K]) => void} tell
+   */
+  on(type, tell) {
+    this.addEventListener(type, event => event instanceof CustomEvent && tell(event.detail));
+  }
+
+  /**
+   * @template {keyof Events} K
+   * @param {K} type
+   * @param {Events[K]} [detail]
+   */
   #emit(type, detail) {
     this.dispatchEvent(new CustomEvent(type, { detail }));
   }
 
+  /** @param {State} state @param {string} text */
   #stateIs(state, text) {
-    Object.assign(this, { state, text });
+    this.state = state;
+    this.text = text;
     this.#emit('state', { state, text });
   }
 
@@ -172,8 +212,9 @@ export class Machine extends EventTarget {
     }
   }
 
+  /** @param {string} reply to `save` */
   #learn(reply) {
-    const { machine } = lines.answerOf(reply);
+    const machine = lines.machineIn(reply);
     this.planes = new Planes(machine.side);
     machine.planes.forEach((rows, plane) => this.planes.setPlane(plane, rows));
     this.colours = machine.colours;
@@ -189,10 +230,12 @@ export class Machine extends EventTarget {
 
   // Asking.
 
-  async #ask(command, how) {
-    return lines.doneOf(await this.#link.askAll([command], how)[0]);
+  /** @param {lines.Command} command */
+  async #ask(command) {
+    return lines.doneOf(await this.#link.askAll([command])[0]);
   }
 
+  /** @param {lines.Command[]} all @param {How} [how] */
   async #askAll(all, how) {
     const replies = await Promise.all(this.#link.askAll(all, how));
     return replies.map(lines.answerOf);
@@ -221,6 +264,7 @@ export class Machine extends EventTarget {
     return Math.min(65535, MOST_WORK / this.side ** 2);
   }
 
+  /** @param {number} n steps; below 0 they are undone */
   #pieces(n) {
     const most = this.#piece();
     const steps = n < 0 ? lines.back : lines.run;
@@ -231,24 +275,30 @@ export class Machine extends EventTarget {
     return pieces.length > 0 ? pieces : [steps(0)];
   }
 
-  // Commands of steps, and then the planes that they may change, in one go.
+  /**
+   * Asks for commands of steps, and then for the planes that they may change, in one go.
+   * @param {lines.Command[]} commands
+   */
   async #stepsAndPlanes(commands) {
     const moves = this.moves;
     this.#keepFirst();
     const answers = await this.#askAll([...commands, ...moves.map(lines.plane)]);
     this.#keepShort();
     const done = answers.slice(0, commands.length);
-    answers.slice(commands.length).forEach(({ rows }, i) => rows && this.planes.setPlane(moves[i], rows));
+    answers.slice(commands.length).forEach((answer, i) => {
+      if ('rows' in answer && answer.rows) {
+        this.planes.setPlane(moves[i], answer.rows);
+      }
+    });
     this.#emit('planes');
-    const last = done.findLast(answer => 'ok' in answer);
-    this.position = last?.position ?? this.position;
-    this.#emit('position');
-    const fault = done.find(answer => 'fault' in answer);
-    if (fault !== undefined) {
-      throw new lines.Fault(fault);
+    for (const answer of done) {
+      this.position = 'ok' in answer ? answer.position ?? this.position : this.position;
     }
+    this.#emit('position');
+    throwFirst(done);
   }
 
+  /** @param {number} n steps; below 0 they are undone */
   async #steps(n) {
     this.#isHalted = false;
     const pieces = this.#pieces(n);
@@ -308,16 +358,19 @@ export class Machine extends EventTarget {
       } else if (count < 0 || this.firstLine === null) {
         throw new lines.Fault(fault);
       } else {
-        await this.#rewind();
+        await this.#rewind(this.firstLine);
         await this.#steps(count);
       }
     });
   }
 
-  // The cells and the position of the first state, with all else as it is now.
-  async #rewind() {
-    const { planes, position } = JSON.parse(this.firstLine).machine;
-    const { machine } = lines.answerOf(await this.#link.checkpoint());
+  /**
+   * Brings the cells and the position of the first state, with all else as it is now.
+   * @param {string} first its load line
+   */
+  async #rewind(first) {
+    const { planes, position } = lines.machineIn(first);
+    const machine = lines.machineIn(await this.#link.checkpoint());
     await this.#ask(lines.load({ ...machine, planes, position }));
     await this.#refresh();
   }
@@ -367,7 +420,10 @@ export class Machine extends EventTarget {
     });
   }
 
-  // A copy, as the page may go on with its planes.
+  /**
+   * Shows a copy, as the page may go on with its planes.
+   * @param {Planes} planes
+   */
   #showPlanes(planes) {
     this.planes = planes.clone();
     this.#emit('planes');
@@ -393,20 +449,22 @@ export class Machine extends EventTarget {
 
   // Rules and the cycle.
 
-  // Commands in one go, and what the machine is after them. The first fault is thrown.
+  /**
+   * Does commands in one go, and learns what the machine is after them. The first fault is thrown.
+   * @param {lines.Command[]} all
+   * @param {How} [how]
+   */
   #change(all, how) {
     return this.#queue.command(() => this.#changed(all, how));
   }
 
+  /** @param {lines.Command[]} all @param {How} [how] */
   async #changed(all, how) {
     const asked = this.#askAll(all, how);
     const refreshed = this.#refresh();
     const answers = await asked;
     await refreshed;
-    const index = answers.findIndex(answer => 'fault' in answer);
-    if (index >= 0) {
-      throw Object.assign(new lines.Fault(answers[index]), { line: index });
-    }
+    throwFirst(answers);
   }
 
   /**
@@ -430,7 +488,10 @@ export class Machine extends EventTarget {
     });
   }
 
-  // Defines and drops the rule under a name that is free, so that a fault of its text comes before anything changes.
+  /**
+   * Defines and drops the rule under a name that is free, so that a fault of its text comes before anything changes.
+   * @param {lines.Rule} rule
+   */
   async #tryOut(rule) {
     let name = '?';
     while (this.rules.some(other => other.name === name)) {
@@ -469,7 +530,12 @@ export class Machine extends EventTarget {
     return this.#begin([lines.blank(128), ...commands[0]?.do === 'side' ? [] : [lines.side(256)]], commands);
   }
 
-  // Commands after those that make a blank machine. The `line` of a fault doesn't count these.
+  /**
+   * Does commands after those that make a blank machine. The `line` of a fault doesn't count these.
+   * @param {lines.Command[]} before
+   * @param {lines.Command[]} commands
+   * @returns {Promise<void>}
+   */
   #begin(before, commands) {
     return this.#change([...before, ...commands], { isZero: true }).catch(error => {
       throw 'line' in error ? Object.assign(error, { line: error.line - before.length + 1 }) : error;

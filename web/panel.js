@@ -1,6 +1,6 @@
 // The panels at the right: their tabs, and what is said about the machine that is shown.
 
-import { at, grouped, make, say, setText } from './dom.js';
+import { all, at, element, grouped, make, say, setText } from './dom.js';
 import { cssOf, planesOf } from './screen.js';
 import { reasonOf } from './trouble.js';
 
@@ -11,20 +11,21 @@ const EVERY = 250;      // milliseconds between two counts of the cells
  * @param {() => void} shown called after another panel is shown
  */
 export function joinTabs(shown) {
-  const tabs = [...document.querySelectorAll('[role="tab"]')];
+  const tabs = all(document, '[role="tab"]');
+  /** @param {HTMLElement} chosen */
   const show = chosen => {
     for (const tab of tabs) {
       tab.setAttribute('aria-selected', String(tab === chosen));
       tab.tabIndex = tab === chosen ? 0 : -1;
-      at(tab.getAttribute('aria-controls')).hidden = tab !== chosen;
+      at(tab.getAttribute('aria-controls') ?? '').hidden = tab !== chosen;
     }
     shown();
   };
   tabs.forEach((tab, index) => {
     tab.addEventListener('click', () => show(tab));
     tab.addEventListener('keydown', event => {
-      const by = { ArrowLeft: -1, ArrowRight: 1 }[event.key];
-      if (by) {
+      const by = event.key === 'ArrowLeft' ? -1 : event.key === 'ArrowRight' ? 1 : 0;
+      if (by !== 0) {
         const next = tabs[(index + by + tabs.length) % tabs.length];
         event.stopPropagation();
         show(next);
@@ -39,7 +40,10 @@ export class About {
   /** @param {import('./machine.js').Machine} machine */
   constructor(machine) {
     this.machine = machine;
-    this.counted = 0;
+    /** The latest question whether steps can be undone. */
+    this.asked = {};
+    /** The timer of the next count, or 0. */
+    this.waits = 0;
   }
 
   /**
@@ -57,12 +61,12 @@ export class About {
   /** Says whether steps can be undone, and why not. */
   async update() {
     const { machine } = this;
-    at('side').value = String(machine.side);
+    element('side', HTMLSelectElement).value = String(machine.side);
     this.count();
     const asked = this.asked = {};
     const back = await machine.canGoBack();
     if (asked === this.asked) {
-      at('about-back').replaceChildren(back.yes ? this.undoes() : this.forgets(back.fault));
+      at('about-back').replaceChildren('fault' in back ? this.forgets(back.fault) : this.undoes());
     }
   }
 
@@ -71,7 +75,10 @@ export class About {
     return make('div', { className: 'card' }, say('strong', 'Time can run back.'), ' Back undoes each step exactly.');
   }
 
-  /** What is said of a cycle that can't be undone. */
+  /**
+   * What is said of a cycle that can't be undone.
+   * @param {import('./lines.js').Refusal} answer
+   */
   forgets(answer) {
     if (answer.fault === 63) {
       return say('p', 'There is no cycle yet. Define a rule, and it becomes the cycle.');
@@ -93,15 +100,21 @@ export class About {
   /** Counts the cells of each state. */
   count() {
     const { planes, colours } = this.machine;
+    /** @type {number[]} */
     const counts = new Array(16).fill(0);
     for (const state of planes.cells) {
       counts[state]++;
     }
     const rows = counts.flatMap((count, state) => count === 0 ? [] : [this.makeRow(state, count, colours[state])]);
-    at('about-cells').tBodies[0].replaceChildren(...rows);
+    element('about-cells', HTMLTableElement).tBodies[0].replaceChildren(...rows);
   }
 
-  /** A line of the table of states. */
+  /**
+   * A line of the table of states.
+   * @param {number} state
+   * @param {number} count
+   * @param {number} colour
+   */
   makeRow(state, count, colour) {
     const dot = make('span', { className: 'dot' });
     dot.style.background = cssOf(colour);

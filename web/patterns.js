@@ -4,6 +4,8 @@ const MOST_CELLS = 512;
 const MOST_STATES = 16;
 const LINE_LETTERS = 70;
 
+/** @typedef {keyof typeof SENTENCES} Cause */
+
 const SENTENCES = Object.freeze({
   badHeader: 'The header is not one. Write it as "x = 3, y = 3", with a comma before anything more.',
   unexpected: 'This sign says nothing of cells. Use b and o, or a dot and A to O, with $ after a row and ! at the end.',
@@ -17,14 +19,17 @@ const SENTENCES = Object.freeze({
 /** Why a text is no pattern: the first place that is wrong. */
 export class PatternFault extends Error {
   /**
-   * @param {string} cause
+   * @param {Cause} cause
    * @param {number} line counted from 1
    * @param {number} column counted from 1
    */
   constructor(cause, line, column) {
     super(`Line ${line}, column ${column}: ${SENTENCES[cause]}`);
     this.name = 'PatternFault';
-    Object.assign(this, { cause, line, column, sentence: SENTENCES[cause] });
+    this.cause = cause;
+    this.line = line;
+    this.column = column;
+    this.sentence = SENTENCES[cause];
   }
 }
 
@@ -36,8 +41,16 @@ export class PatternFault extends Error {
  * @property {string} [rule] the rule that the header names
  * @property {number} [x] where the text says that the upper left corner lies
  * @property {number} [y]
+ * @typedef {Omit<Pattern, 'cells'>} Header
+ *
+ * @typedef {(cause: Cause) => never} Fail throws a fault of the place that is read
  */
 
+/**
+ * @param {string} line
+ * @param {number} number
+ * @returns {Header}
+ */
 function headerOf(line, number) {
   const match = /^[ \t]*x[ \t]*=[ \t]*(\d+)[ \t]*,[ \t]*y[ \t]*=[ \t]*(\d+)[ \t]*(?:,(.*))?$/.exec(line);
   if (match === null) {
@@ -47,21 +60,37 @@ function headerOf(line, number) {
   return { width: Number(match[1]), height: Number(match[2]), ...rule === null ? {} : { rule: rule[1] } };
 }
 
+/** @param {string} remark */
 function cornerOf(remark) {
   const match = /^#CXRLE .*?Pos=(-?\d+),(-?\d+)/.exec(remark) ?? /^#[PR] (-?\d+) (-?\d+)/.exec(remark);
   return match === null ? {} : { x: Number(match[1]), y: Number(match[2]) };
 }
 
+/** @param {string} sign */
 function stateOf(sign) {
   return sign === 'b' || sign === '.' ? 0 : sign === 'o' ? 1
     : sign >= 'A' && sign <= 'X' ? sign.charCodeAt(0) - 64 : -1;
 }
 
 class Body {
+  /** @type {number[][]} */
+  rows = [[]];
+  /** @type {number|null} */
+  count = null;
+  isOver = false;
+
+  /** @param {number} width @param {number} height */
   constructor(width, height) {
-    Object.assign(this, { width, height, rows: [[]], count: null, isOver: false });
+    this.width = width;
+    this.height = height;
   }
 
+  /** @returns {number[]} the last row */
+  get row() {
+    return this.rows[this.rows.length - 1];
+  }
+
+  /** @param {string} sign @param {Fail} fail */
   sign(sign, fail) {
     if (sign >= '0' && sign <= '9') {
       this.count = 10 * (this.count ?? 0) + Number(sign);
@@ -80,6 +109,7 @@ class Body {
     return this.putCells(stateOf(sign), times, fail);
   }
 
+  /** @param {number} times @param {Fail} fail */
   endRows(times, fail) {
     for (let i = 0; i < times; i++) {
       this.rows.push([]);
@@ -87,8 +117,9 @@ class Body {
     return this.rows.length - 1 > this.height && fail('tooHigh');
   }
 
+  /** @param {number} state @param {number} times @param {Fail} fail */
   putCells(state, times, fail) {
-    const row = this.rows.at(-1);
+    const { row } = this;
     return state < 0 && fail('unexpected')
       || state >= MOST_STATES && fail('tooManyStates')
       || row.length + times > this.width && fail('tooWide')
@@ -97,6 +128,7 @@ class Body {
   }
 }
 
+/** @param {number[][]} rows @param {Header} header */
 function patternOf(rows, { width, height, ...rest }) {
   const cells = new Uint8Array(width * height);
   rows.forEach((row, y) => cells.set(row, y * width));
@@ -112,9 +144,12 @@ function patternOf(rows, { width, height, ...rest }) {
  */
 export function read(text, side = MOST_CELLS) {
   const all = text.replace(/\n$/, '').split('\n');
+  /** @type {Partial<Header>} */
   let head = {};
+  /** @type {Body|null} */
   let body = null;
   for (const [i, line] of all.entries()) {
+    /** @type {(cause: Cause, column: number) => never} */
     const fail = (cause, column) => { throw new PatternFault(cause, i + 1, column); };
     if (body === null && (line.startsWith('#') || line.trim() === '')) {
       head = { ...head, ...line.startsWith('#') ? cornerOf(line) : {} };
@@ -129,8 +164,8 @@ export function read(text, side = MOST_CELLS) {
       for (const [column, sign] of [...line, '\n'].entries()) {
         body.sign(sign, cause => fail(cause, column + 1));
         if (body.isOver) {
-          const { rows } = body;
-          const last = rows.at(-1).length === 0 ? rows.length - 1 : rows.length;
+          const { rows, row: { length } } = body;
+          const last = length === 0 ? rows.length - 1 : rows.length;
           const size = { width: Math.max(1, ...rows.map(row => row.length)), height: Math.max(1, last) };
           return patternOf(rows.slice(0, last), { ...size, ...head });
         }
@@ -140,7 +175,9 @@ export function read(text, side = MOST_CELLS) {
   throw new PatternFault('noEnd', all.length, 1);
 }
 
+/** @param {Uint8Array} row @param {boolean} isTwoState */
 function runsOf(row, isTwoState) {
+  /** @param {number} state */
   const letter = state => isTwoState ? 'bo'[state] : state === 0 ? '.' : String.fromCharCode(64 + state);
   const runs = [];
   const end = row.findLastIndex(state => state !== 0) + 1;
@@ -155,6 +192,7 @@ function runsOf(row, isTwoState) {
   return runs;
 }
 
+/** @type {(times: number, letter: string) => string} */
 const counted = (times, letter) => times === 1 ? letter : `${times}${letter}`;
 
 /**
@@ -179,7 +217,7 @@ export function write(cells, width, height, rule = '') {
   }
   const lines = [''];
   for (const part of [...parts, '!']) {
-    if (lines.at(-1).length + part.length > LINE_LETTERS) {
+    if (lines[lines.length - 1].length + part.length > LINE_LETTERS) {
       lines.push('');
     }
     lines[lines.length - 1] += part;

@@ -5,12 +5,17 @@ import { boxOf, cut, mirrored, place as put, turned } from './shapes.js';
 import { read, write } from './patterns.js';
 
 /**
- * @typedef {[number, number]} Point
+ * @typedef {import('./shapes.js').Point} Point
+ * @typedef {import('./shapes.js').Box} Box
  * @typedef {import('./shapes.js').Piece} Cells
- * @typedef {{cells: Cells, base: import('./planes.js').Planes}} Floating
+ * @typedef {import('./planes.js').Planes} Planes
+ * @typedef {{cells: Cells, base: Planes}} Floating
  */
 
-/** A piece that lies upside down: upper and lower rows have changed places. @param {Cells} piece */
+/**
+ * A piece that lies upside down: upper and lower rows have changed places.
+ * @param {Cells} piece
+ */
 const flipped = piece => turned(turned(mirrored(piece)));
 
 /** The selected cells, and what can be done with them. */
@@ -18,24 +23,27 @@ export class Piece {
   /**
    * @param {import('./machine.js').Machine} machine
    * @param {import('./screen.js').Screen} screen
-   * @param {{hold(): Promise<void>, release(): void}} time
+   * @param {import('./controls.js').Controls} time
+   * @param {() => import('./tools.js').Tools} toolsOf the tool bar, which is made after this
    */
-  constructor(machine, screen, time) {
-    Object.assign(this, { machine, screen, time });
-    /** The tool bar, which is made after this. @type {import('./tools.js').Tools} */
-    this.tools = undefined;
+  constructor(machine, screen, time, toolsOf) {
+    this.machine = machine;
+    this.screen = screen;
+    this.time = time;
+    this.toolsOf = toolsOf;
     /** @type {import('./torus.js').Frame|null} */
     this.frame = null;
     /** @type {Floating|null} */
     this.floating = null;
     /** @type {Cells|null} */
     this.clip = null;
-    /** Where a drag began, and the corner of the piece then. @type {{from: Point, corner: Point|null}|null} */
+    /** @type {{from: Point, corner: Point|null}|null} where a drag began, and the corner of the piece then */
     this.drag = null;
   }
 
-  /** The buttons of the selection. @returns {HTMLElement[]} */
+  /** @returns {HTMLElement[]} the buttons of the selection */
   options() {
+    /** @type {(id: string, textContent: string, title: string, act: () => unknown, disabled?: boolean) => HTMLElement} */
     const button = (id, textContent, title, act, disabled = false) =>
       makeButton({ id, textContent, title, disabled }, act);
     const none = !this.frame;
@@ -62,7 +70,7 @@ export class Piece {
 
   /**
    * Selects some cells, or none.
-   * @param {{x: number, y: number, width: number, height: number}|null} frame
+   * @param {Box|null} frame
    */
   select(frame) {
     const { side } = this.machine;
@@ -83,22 +91,30 @@ export class Piece {
   /** Selects the whole torus. */
   selectAll() {
     const { side } = this.machine;
-    this.tools.choose('select');
+    this.toolsOf().choose('select');
     this.select({ x: 0, y: 0, width: side, height: side });
   }
 
-  /** Whether a place lies in the frame, in any copy of the torus. */
+  /**
+   * Whether a place lies in the frame, in any copy of the torus.
+   * @param {Point} place
+   */
   holds([x, y]) {
     const { side } = this.machine;
     const { frame } = this;
+    /** @type {(value: number, start: number, length: number) => boolean} */
     const within = (value, start, length) => ((value - start) % side + side) % side < length;
     return frame !== null && within(x, frame.x, frame.width) && within(y, frame.y, frame.height);
   }
 
-  /** A drag moves the piece that floats, or else selects. @param {Point} place */
+  /**
+   * A drag moves the piece that floats, or else selects.
+   * @param {Point} place
+   */
   start(place) {
-    if (this.floating && this.holds(place)) {
-      this.drag = { from: place, corner: [this.frame.x, this.frame.y] };
+    const { floating, frame } = this;
+    if (floating && frame && this.holds(place)) {
+      this.drag = { from: place, corner: [frame.x, frame.y] };
       return;
     }
     this.put();
@@ -115,8 +131,10 @@ export class Piece {
     if (corner) {
       this.moveTo(corner[0] + place[0] - from[0], corner[1] + place[1] - from[1]);
     } else {
-      this.select(boxOf(from, place));
-      at('where').textContent = `${this.frame.width} by ${this.frame.height}`;
+      const box = boxOf(from, place);
+      this.select(box);
+      const { width, height } = this.frame ?? box;
+      at('where').textContent = `${width} by ${height}`;
     }
   }
 
@@ -130,35 +148,56 @@ export class Piece {
     this.drag = null;
   }
 
-  /** Moves the piece that floats. */
+  /**
+   * Moves the piece, if one floats. A drag may go on after the piece was put down.
+   * @param {number} x
+   * @param {number} y
+   */
   moveTo(x, y) {
-    this.select({ ...this.frame, x, y });
-    this.sketch();
+    if (this.floating && this.frame) {
+      this.select({ ...this.frame, x, y });
+      this.sketch();
+    }
   }
 
   /** Shows the piece that floats over the cells below it. */
   sketch() {
-    const { cells, base } = this.floating;
-    const draft = base.clone();
-    put(draft, cells, [this.frame.x, this.frame.y], true);
-    this.screen.setDraft(draft);
+    this.screen.setDraft(this.drawing());
   }
 
-  /** The selected cells. @returns {Cells} */
-  taken() {
-    return this.floating ? this.floating.cells : cut(this.machine.planes, this.frame);
+  /** @returns {Planes|null} the cells with the piece that floats, or null if none does */
+  drawing() {
+    const { floating, frame } = this;
+    if (!floating || !frame) {
+      return null;
+    }
+    const draft = floating.base.clone();
+    put(draft, floating.cells, [frame.x, frame.y], true);
+    return draft;
   }
 
-  /** Keeps the selected cells for a paste, also as a text for other programs. @returns {string} */
+  /**
+   * The selected cells.
+   * @param {Box} frame
+   * @returns {Cells}
+   */
+  taken(frame) {
+    return this.floating ? this.floating.cells : cut(this.machine.planes, frame);
+  }
+
+  /**
+   * Keeps the selected cells for a paste, also as a text for other programs.
+   * @returns {string}
+   */
   copy() {
     if (!this.frame) {
       return '';
     }
-    this.clip = this.taken();
-    const text = write(this.clip.cells, this.clip.width, this.clip.height);
+    const { width, height, cells } = this.clip = this.taken(this.frame);
+    const text = write(cells, width, height);
     navigator.clipboard?.writeText(text).catch(() => {});
     this.select(this.frame);
-    note(`${this.clip.width} by ${this.clip.height} cells are copied.`);
+    note(`${width} by ${height} cells are copied.`);
     return text;
   }
 
@@ -174,11 +213,15 @@ export class Piece {
     if (this.floating) {
       this.giveUp();
     } else if (frame) {
-      await this.tools.change(planes => this.clearIn(planes, frame));
+      await this.toolsOf().change(planes => this.clearIn(planes, frame));
     }
   }
 
-  /** Clears a frame. */
+  /**
+   * Clears a frame.
+   * @param {Planes} planes
+   * @param {Box} frame
+   */
   clearIn(planes, { x, y, width, height }) {
     put(planes, { width, height, cells: new Uint8Array(width * height) }, [x, y]);
   }
@@ -199,11 +242,16 @@ export class Piece {
     await this.put();
     const { frame } = this;
     const [x, y] = frame ? [frame.x + frame.width / 2, frame.y + frame.height / 2] : this.screen.torus.middle;
-    this.tools.choose('select');
+    this.toolsOf().choose('select');
     await this.float(cells, [Math.floor(x - cells.width / 2), Math.floor(y - cells.height / 2)]);
   }
 
-  /** Holds the machine, and lets a piece float. `clear` is the frame that it was taken from. */
+  /**
+   * Holds the machine, and lets a piece float.
+   * @param {Cells} cells
+   * @param {Point} corner
+   * @param {Box|null} clear the frame that it was taken from
+   */
   async float(cells, [x, y], clear = null) {
     await this.time.hold();
     const base = this.machine.planes.clone();
@@ -234,7 +282,8 @@ export class Piece {
       return;
     }
     const { x, y, width, height } = this.frame;
-    const cells = shape(this.taken());
+    const cells = shape(this.taken(this.frame));
+    /** @type {Point} */
     const corner = [x + Math.floor((width - cells.width) / 2), y + Math.floor((height - cells.height) / 2)];
     if (this.floating) {
       this.floating.cells = cells;
@@ -247,13 +296,13 @@ export class Piece {
 
   /** Puts the piece down: the machine takes it. */
   async put() {
-    if (!this.floating) {
+    const draft = this.drawing();
+    if (!draft) {
       return;
     }
-    const draft = this.screen.draft;
     this.floating = null;
     this.select(this.frame);
-    await this.tools.take(this.machine.planes.clone(), draft);
+    await this.toolsOf().take(this.machine.planes.clone(), draft);
     this.time.release();
   }
 
@@ -276,11 +325,11 @@ export class Piece {
     await this.paste(read(text));
   }
 
-  /** The selection, or the whole torus, as a run-length text. @returns {string} */
+  /** @returns {string} the selection, or the whole torus, as a run-length text */
   asText() {
     const { planes, side } = this.machine;
     const whole = { x: 0, y: 0, width: side, height: side };
-    const { width, height, cells } = this.frame ? this.taken() : cut(planes, whole);
+    const { width, height, cells } = this.frame ? this.taken(this.frame) : cut(planes, whole);
     return write(cells, width, height);
   }
 }

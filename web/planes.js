@@ -18,13 +18,12 @@ function spreadDigits() {
   return table;
 }
 
-let spread;
+const SPREAD = spreadDigits();
 
 /** The cells of a machine. */
 export class Planes {
   /** @param {number} side 128, 256 or 512 */
   constructor(side) {
-    spread ??= spreadDigits();
     /** @type {number} */
     this.side = side;
     /** @type {Uint8Array} states 0 to 15, row by row */
@@ -43,7 +42,7 @@ export class Planes {
     const start = y * this.side / 4;
     const digits = this.side / 4;
     for (let i = 0; i < digits; i++) {
-      this.words[start + i] = this.words[start + i] & keep | spread[bits.charCodeAt(i) & 255] << plane;
+      this.words[start + i] = this.words[start + i] & keep | SPREAD[bits.charCodeAt(i) & 255] << plane;
     }
   }
 

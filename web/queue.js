@@ -2,8 +2,10 @@
 
 /** Commands and frames that take turns. */
 export class Queue {
+  /** @type {Promise<unknown>} */
   #last = Promise.resolve();
   #commands = 0;
+  /** @type {Set<Promise<unknown>>} */
   #frames = new Set();
   #mostFrames;
 
@@ -46,6 +48,7 @@ export class Queue {
     if (this.#commands > 0 || this.#frames.size >= this.#mostFrames) {
       return null;
     }
+    /** @type {Promise<T>} */
     const done = work().finally(() => { this.#frames.delete(done); });
     this.#frames.add(done);
     return done;

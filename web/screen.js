@@ -3,10 +3,16 @@
 import { at, makeButton, setPressed } from './dom.js';
 import { lights, PALETTE } from './palette.js';
 
-/** The light of a colour, as CSS has it. @param {number} colour 0 to 15 */
+/**
+ * The light of a colour, as CSS has it.
+ * @param {number} colour 0 to 15
+ */
 export const cssOf = colour => `rgb(${PALETTE[colour].join(' ')})`;
 
-/** The planes in which a state is set, as words. @param {number} state */
+/**
+ * The planes in which a state is set, as words.
+ * @param {number} state
+ */
 export function planesOf(state) {
   return [0, 1, 2, 3].filter(plane => state >> plane & 1).join(', ') || 'none';
 }
@@ -20,7 +26,7 @@ export class Screen {
   constructor(machine, torus) {
     this.machine = machine;
     this.torus = torus;
-    /** Cells that are not the machine's yet. @type {import('./planes.js').Planes|null} */
+    /** @type {import('./planes.js').Planes|null} cells that are not the machine's yet */
     this.draft = null;
     /** The planes that are shown: bit p for plane p. */
     this.shown = 15;
@@ -29,7 +35,10 @@ export class Screen {
     at('planes').append(...this.buttons);
   }
 
-  /** A button that shows and hides a plane. */
+  /**
+   * A button that shows and hides a plane.
+   * @param {number} plane
+   */
   makeButton(plane) {
     return makeButton({ textContent: String(plane), data: { plane } }, () => {
       this.shown ^= 1 << plane;
@@ -38,7 +47,7 @@ export class Screen {
     });
   }
 
-  /** The cells that are shown. @returns {import('./planes.js').Planes} */
+  /** @returns {import('./planes.js').Planes} the cells that are shown */
   get cells() {
     return this.draft ?? this.machine.planes;
   }

@@ -1,6 +1,10 @@
 // The points that a tool touches. Points are [x, y], and may lie beyond the seams.
 
-/** @typedef {[number, number]} Point */
+/**
+ * @typedef {[number, number]} Point
+ * @typedef {{x: number, y: number, width: number, height: number}} Box its upper left cell, and its size
+ * @typedef {{width: number, height: number, cells: Uint8Array}} Piece cells in states, row by row
+ */
 
 /**
  * A line from one point to another, both with it: also the piece of a pencil's stroke between two places.
@@ -13,6 +17,7 @@ export function line([x, y], [endX, endY]) {
   const stepY = Math.sign(endY - y);
   const wide = Math.abs(endX - x);
   const high = Math.abs(endY - y);
+  /** @type {Point[]} */
   const points = [[x, y]];
   for (let error = wide - high; x !== endX || y !== endY;) {
     const double = 2 * error;
@@ -36,11 +41,13 @@ export function line([x, y], [endX, endY]) {
  * @returns {Point[]}
  */
 export function stroke(places, size = 1) {
+  /** @type {Map<string, Point>} */
   const seen = new Map();
   const reach = Math.floor((size - 1) / 2);
   places.forEach((place, i) => {
     for (const [x, y] of line(places[Math.max(i - 1, 0)], place)) {
       for (const [dx, dy] of box([0, 0], [size - 1, size - 1], true)) {
+        /** @type {Point} */
         const point = [x + dx - reach, y + dy - reach];
         seen.set(point.join(), point);
       }
@@ -50,10 +57,10 @@ export function stroke(places, size = 1) {
 }
 
 /**
- * The corner, width and height of the box between two points, both with it.
+ * The box between two points, both with it.
  * @param {Point} from
  * @param {Point} to
- * @returns {{x: number, y: number, width: number, height: number}}
+ * @returns {Box}
  */
 export function boxOf([x, y], [endX, endY]) {
   return {
@@ -73,6 +80,7 @@ export function boxOf([x, y], [endX, endY]) {
  */
 export function box(from, to, isFull = false) {
   const { x, y, width, height } = boxOf(from, to);
+  /** @type {Point[]} */
   const points = [];
   for (let row = 0; row < height; row++) {
     const isEdge = row === 0 || row === height - 1;
@@ -141,12 +149,10 @@ export function random(from, to, density, seed) {
   return box(from, to, true).filter(() => next() < density);
 }
 
-/** @typedef {{width: number, height: number, cells: Uint8Array}} Piece cells in states, row by row */
-
 /**
  * A piece of a torus, over its seams.
  * @param {import('./planes.js').Planes} planes
- * @param {{x: number, y: number, width: number, height: number}} where
+ * @param {Box} where
  * @returns {Piece}
  */
 export function cut(planes, { x, y, width, height }) {
@@ -172,6 +178,7 @@ export function place(planes, { width, cells }, [x, y], isClear = false) {
   });
 }
 
+/** @type {(width: number, height: number, stateAt: (x: number, y: number) => number) => Piece} */
 function made(width, height, stateAt) {
   const cells = Uint8Array.from({ length: width * height }, (_, i) => stateAt(i % width, Math.floor(i / width)));
   return { width, height, cells };

@@ -6,15 +6,26 @@
 
 const MOST_KEPT = 8;
 
+/**
+ * @typedef {Pick<Storage, 'length'|'key'|'getItem'|'setItem'|'removeItem'>} Store what the page needs of a storage
+ * @typedef {[line: string, reply: string|null, isZero: 0|1]} Row a command as it is kept
+ * @typedef {{loadLine: string, first: string|null, count: number, slots: Row[][]}} Content
+ * @typedef {{generation: number, first: string|null, count: number, when: number}} Head
+ */
+
+/** @param {string} name */
 const headOf = name => `cam6/${name}`;
 
 /**
  * The name of a tab's journal: the one that the tab has, or else a new one.
- * @param {Storage|null} session the tab's own storage, if there is one
+ * @param {Pick<Storage, 'getItem'|'setItem'>|null} session the tab's own storage, if there is one
  * @param {() => number} [random]
  * @returns {string}
  */
 export function nameOfTab(session, random = Math.random) {
+  if (session === null) {
+    return 'page';
+  }
   try {
     const name = session.getItem('cam6') ?? newName(random);
     session.setItem('cam6', name);
@@ -24,13 +35,24 @@ export function nameOfTab(session, random = Math.random) {
   }
 }
 
+/** @param {() => number} random */
 const newName = random => Math.floor(random() * 2 ** 48).toString(36);
 
+/** @param {Store} storage @param {string} prefix */
 function keysOf(storage, prefix) {
-  const keys = Array.from({ length: storage.length }, (_, i) => storage.key(i));
-  return keys.filter(key => key !== null && key.startsWith(prefix));
+  const keys = Array.from({ length: storage.length }, (_, i) => storage.key(i) ?? '');
+  return keys.filter(key => key.startsWith(prefix));
 }
 
+/**
+ * What lies at a head's key.
+ * @param {Store} storage
+ * @param {string} key
+ * @returns {Head|null}
+ */
+const headAt = (storage, key) => JSON.parse(storage.getItem(key) ?? 'null');
+
+/** @param {Store} storage @param {string} name */
 function forget(storage, name) {
   storage.removeItem(headOf(name));
   keysOf(storage, `${headOf(name)}/`).forEach(key => storage.removeItem(key));
@@ -38,19 +60,14 @@ function forget(storage, name) {
 
 /**
  * The journals of a storage, the latest first.
- * @param {Storage} storage
+ * @param {Store} storage
  * @returns {{name: string, when: number}[]} when each was last kept, in milliseconds since 1970
  */
 export function kept(storage) {
   const heads = keysOf(storage, 'cam6/').filter(key => key.split('/').length === 2);
-  const found = heads.map(key => ({ name: key.slice(5), when: JSON.parse(storage.getItem(key)).when }));
+  const found = heads.map(key => ({ name: key.slice(5), when: headAt(storage, key)?.when ?? 0 }));
   return found.sort((one, other) => other.when - one.when);
 }
-
-/**
- * @typedef {[line: string, reply: string|null, isZero: 0|1]} Row a command as it is kept
- * @typedef {{loadLine: string, first: string|null, count: number, slots: Row[][]}} Content
- */
 
 /** The place of one journal. Each method that writes returns whether the storage took it. */
 export class Shelf {
@@ -58,13 +75,15 @@ export class Shelf {
   #random;
   #now;
   #owner;
+  /** @type {Head|null} */
   #head = null;
+  /** @type {string|null} */
   #first = null;
 
   /**
-   * @param {Storage|null} storage
+   * @param {Store|null} storage
    * @param {string} name
-   * @param {{random?: () => number, now?: () => number}} [by]
+   * @param {{random?: () => number, now?: () => number}} by
    */
   constructor(storage, name, { random = Math.random, now = Date.now } = {}) {
     this.#storage = storage;
@@ -75,13 +94,18 @@ export class Shelf {
     this.name = name;
   }
 
+  /** @param {(string|number)[]} parts */
   #key(...parts) {
     return [headOf(this.name), ...parts].join('/');
   }
 
+  /**
+   * Does something with the storage, and returns whether that went well.
+   * @param {(storage: Store) => unknown} work may also return false
+   */
   #tried(work) {
     try {
-      return this.#storage !== null && work() !== false;
+      return this.#storage !== null && work(this.#storage) !== false;
     } catch {
       return false;
     }
@@ -93,19 +117,20 @@ export class Shelf {
    */
   read() {
     let content = null;
-    this.#tried(() => { content = this.#content(); });
-    this.#tried(() => this.#storage.setItem(this.#key('owner'), this.#owner));
-    this.#tried(() => kept(this.#storage).slice(MOST_KEPT).forEach(({ name }) => forget(this.#storage, name)));
+    this.#tried(storage => { content = this.#content(storage); });
+    this.#tried(storage => storage.setItem(this.#key('owner'), this.#owner));
+    this.#tried(storage => kept(storage).slice(MOST_KEPT).forEach(({ name }) => forget(storage, name)));
     return content;
   }
 
-  #content() {
-    const storage = this.#storage;
-    const head = JSON.parse(storage.getItem(this.#key()));
+  /** @param {Store} storage */
+  #content(storage) {
+    const head = headAt(storage, this.#key());
     const loadLine = head && storage.getItem(this.#key(head.generation, 'save'));
     if (!loadLine) {
       return null;
     }
+    /** @type {Row[][]} */
     const slots = [];
     for (let text; (text = storage.getItem(this.#key(head.generation, slots.length))) !== null;) {
       slots.push(JSON.parse(text));
@@ -118,7 +143,7 @@ export class Shelf {
   /** @returns {boolean} whether no other page took the place over, as a duplicated tab does */
   isOurs() {
     let isOurs = true;
-    this.#tried(() => { isOurs = this.#storage.getItem(this.#key('owner')) === this.#owner; });
+    this.#tried(storage => { isOurs = storage.getItem(this.#key('owner')) === this.#owner; });
     return isOurs;
   }
 
@@ -136,7 +161,9 @@ export class Shelf {
    * @returns {boolean}
    */
   write(slot, rows) {
-    return this.#tried(() => this.#storage.setItem(this.#key(this.#head.generation, slot), JSON.stringify(rows)));
+    const head = this.#head;
+    return head !== null
+      && this.#tried(storage => storage.setItem(this.#key(head.generation, slot), JSON.stringify(rows)));
   }
 
   /**
@@ -145,10 +172,10 @@ export class Shelf {
    * @returns {boolean} if false, what was here is here still
    */
   replace(content) {
-    while (!this.#tried(() => this.#replaced(content))) {
-      const hasRoom = this.#tried(() => {
-        const others = kept(this.#storage).filter(({ name }) => name !== this.name);
-        return others.length > 0 && forget(this.#storage, others.at(-1).name);
+    while (!this.#tried(storage => this.#replaced(storage, content))) {
+      const hasRoom = this.#tried(storage => {
+        const oldest = kept(storage).filter(({ name }) => name !== this.name).pop();
+        return oldest !== undefined && forget(storage, oldest.name);
       });
       if (!hasRoom) {
         return false;
@@ -157,16 +184,16 @@ export class Shelf {
     return true;
   }
 
-  #replaced({ loadLine, first, count, slots }) {
-    const storage = this.#storage;
+  /** @param {Store} storage @param {Content} content */
+  #replaced(storage, { loadLine, first, count, slots }) {
     const generation = (this.#head?.generation ?? 0) + 1;
     const firstKey = first === null ? null
       : first === loadLine ? this.#key(generation, 'save')
-        : first === this.#first ? this.#head.first : this.#key(generation, 'first');
+        : this.#head && first === this.#first ? this.#head.first : this.#key(generation, 'first');
     try {
       storage.setItem(this.#key('owner'), this.#owner);
       storage.setItem(this.#key(generation, 'save'), loadLine);
-      if (firstKey === this.#key(generation, 'first')) {
+      if (first !== null && firstKey === this.#key(generation, 'first')) {
         storage.setItem(firstKey, first);
       }
       slots.forEach((rows, slot) => storage.setItem(this.#key(generation, slot), JSON.stringify(rows)));
@@ -178,14 +205,15 @@ export class Shelf {
       keysOf(storage, this.#key(generation, '')).forEach(key => storage.removeItem(key));
       throw full;
     }
+    /** @param {string} key */
     const isLive = key => key.startsWith(this.#key(generation, '')) || key === firstKey || key === this.#key('owner');
     keysOf(storage, this.#key('')).filter(key => !isLive(key)).forEach(key => storage.removeItem(key));
   }
 
   /** Forgets all. */
   clear() {
-    this.#tried(() => forget(this.#storage, this.name));
-    this.#tried(() => this.#storage.setItem(this.#key('owner'), this.#owner));
+    this.#tried(storage => forget(storage, this.name));
+    this.#tried(storage => storage.setItem(this.#key('owner'), this.#owner));
     this.#head = null;
     this.#first = null;
   }

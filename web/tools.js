@@ -1,24 +1,30 @@
 // The tools that draw on the torus, and the states that they draw.
 
-import { at, joinClicks, make, makeButton, note, numberOf, setPressed } from './dom.js';
+import { all, at, element, joinClicks, make, makeButton, note, numberOf, setPressed } from './dom.js';
 import { cssOf, planesOf } from './screen.js';
 import { box, boxOf, fill, line, random, stroke } from './shapes.js';
 
 const KEPT = 40;        // drawings that can be undone
 
 /**
- * @typedef {[number, number]} Point
+ * @typedef {import('./shapes.js').Point} Point
  * @typedef {import('./planes.js').Planes} Planes
- * @typedef {{tool: string, places: Point[], seed: number, ready: Promise<void>, base?: Planes, state?: number}} Stroke
+ *
+ * @typedef {object} Stroke
+ * @property {string} tool
+ * @property {Point[]} places
+ * @property {number} seed
+ * @property {Promise<void>} ready resolves after the machine is held
+ * @property {Planes|null} base the cells that it began with; null before it is ready
+ * @property {number} state the state that it draws
  */
 
-/** What a stroke makes of the cells. @type {Record<string, (stroke: Stroke, density: number) => Point[]>} */
+/** @type {Record<string, (stroke: Stroke, base: Planes) => Point[]>} the cells that a stroke gives its state */
 const POINTS = {
   pencil: ({ places }) => stroke(places),
   line: ({ places }) => line(places[0], places[places.length - 1]),
   box: ({ places }) => box(places[0], places[places.length - 1]),
-  fill: ({ base, places }) => fill(base, places[0]),
-  random: ({ places, seed }, density) => random(places[0], places[places.length - 1], density, seed),
+  fill: ({ places }, base) => fill(base, places[0]),
 };
 
 /** The tool bar, and what a pointer does on the torus. */
@@ -30,7 +36,12 @@ export class Tools {
    * @param {import('./controls.js').Controls} time holds the machine while somebody draws
    */
   constructor(machine, screen, piece, time) {
-    Object.assign(this, { machine, screen, piece, time });
+    this.machine = machine;
+    this.screen = screen;
+    this.piece = piece;
+    this.time = time;
+    this.field = element('draw-state', HTMLInputElement);
+    this.buttons = all(at('tools'), '[data-tool]');
     this.tool = 'pencil';
     this.density = 0.3;
     /** @type {Stroke|null} */
@@ -39,28 +50,31 @@ export class Tools {
     this.drawings = [];
     this.swatches = Array.from({ length: 16 }, (_, state) => this.makeSwatch(state));
     at('swatches').append(...this.swatches);
-    for (const button of at('tools').querySelectorAll('[data-tool]')) {
-      button.addEventListener('click', () => this.choose(button.dataset.tool));
+    for (const button of this.buttons) {
+      button.addEventListener('click', () => this.choose(button.dataset.tool ?? ''));
     }
-    at('draw-state').addEventListener('input', () => this.tell());
+    this.field.addEventListener('input', () => this.tell());
     joinClicks({ undo: () => this.undo(), clear: () => this.change(planes => planes.cells.fill(0)) });
     this.choose('pencil');
   }
 
-  /** The state that is drawn. @returns {number} */
+  /** @returns {number} the state that is drawn */
   get state() {
-    return numberOf(at('draw-state'));
+    return numberOf(this.field);
   }
 
-  /** Whether a drag moves the view. @returns {boolean} */
+  /** @returns {boolean} whether a drag moves the view */
   get movesView() {
     return this.tool === 'pan';
   }
 
-  /** A button that chooses a state. */
+  /**
+   * A button that chooses a state.
+   * @param {number} state
+   */
   makeSwatch(state) {
     return makeButton({ title: `State ${state}: planes ${planesOf(state)}`, ariaLabel: `State ${state}` }, () => {
-      at('draw-state').value = String(state);
+      this.field.value = String(state);
       this.tell();
     });
   }
@@ -80,7 +94,7 @@ export class Tools {
   choose(tool) {
     this.tool = tool;
     this.screen.torus.canvas.dataset.tool = tool;
-    for (const button of at('tools').querySelectorAll('[data-tool]')) {
+    for (const button of this.buttons) {
       setPressed(button, button.dataset.tool === tool);
     }
     if (tool !== 'select') {
@@ -104,7 +118,7 @@ export class Tools {
   /** How dense random cells are, and a button that fills the torus with them. */
   densityOptions() {
     const said = make('output', { textContent: `${Math.round(100 * this.density)} %` });
-    const range = make('input', { id: 'density', type: 'range', min: 1, max: 99, value: 100 * this.density });
+    const range = make('input', { id: 'density', type: 'range', min: '1', max: '99', value: `${100 * this.density}` });
     range.addEventListener('input', () => {
       this.density = Number(range.value) / 100;
       said.textContent = `${range.value} %`;
@@ -116,13 +130,24 @@ export class Tools {
     return [make('label', {}, 'Density', range, said), all];
   }
 
-  /** Gives the cells of a box random states: the one that is drawn, or 0. */
+  /**
+   * Gives the cells of a box random states: the one that is drawn, or 0.
+   * @param {Planes} planes
+   * @param {Point} from
+   * @param {Point} to
+   * @param {number} seed
+   */
   scatter(planes, from, to, seed) {
     this.put(planes, box(from, to, true), 0);
     this.put(planes, random(from, to, this.density, seed), this.state);
   }
 
-  /** Draws a state on points. */
+  /**
+   * Draws a state on points.
+   * @param {Planes} planes
+   * @param {Point[]} points
+   * @param {number} state
+   */
   put(planes, points, state) {
     for (const [x, y] of points) {
       planes.put(x, y, this.screen.drawn(planes.get(x, y), state));
@@ -139,12 +164,12 @@ export class Tools {
       return;
     }
     /** @type {Stroke} */
-    const begun = { tool: this.tool, places: [place], seed: Date.now(), ready: this.time.hold() };
+    const begun = { tool: this.tool, places: [place], seed: Date.now(), ready: this.time.hold(), base: null, state: 0 };
     this.stroke = begun;
     begun.ready.then(() => {
-      begun.base = this.screen.cells.clone();
-      const erases = begun.tool !== 'random' && begun.base.get(...place) === this.state;
-      begun.state = erases ? 0 : this.state;
+      const base = this.screen.cells.clone();
+      const erases = begun.tool !== 'random' && base.get(...place) === this.state;
+      Object.assign(begun, { base, state: erases ? 0 : this.state });
       this.sketch(begun);
     });
   }
@@ -156,34 +181,44 @@ export class Tools {
       return;
     }
     const begun = this.stroke;
-    const last = begun?.places[begun.places.length - 1];
-    if (begun && (last[0] !== place[0] || last[1] !== place[1])) {
+    const [x, y] = begun?.places[begun.places.length - 1] ?? place;
+    if (begun && (x !== place[0] || y !== place[1])) {
       begun.places.push(place);
       this.sketch(begun);
     }
   }
 
-  /** Shows what a stroke has made so far. */
+  /**
+   * Shows what a stroke has made so far.
+   * @param {Stroke} begun
+   */
   sketch(begun) {
     if (!begun.base || this.stroke !== begun) {
       return;
     }
-    this.screen.setDraft(this.drawingOf(begun));
+    this.screen.setDraft(this.drawingOf(begun, begun.base));
     this.tellSize(begun);
   }
 
-  /** The cells after a stroke. @returns {Planes} */
-  drawingOf(begun) {
-    const planes = begun.base.clone();
+  /**
+   * The cells after a stroke.
+   * @param {Stroke} begun
+   * @param {Planes} base
+   */
+  drawingOf(begun, base) {
+    const planes = base.clone();
     if (begun.tool === 'random') {
       this.scatter(planes, begun.places[0], begun.places[begun.places.length - 1], begun.seed);
     } else {
-      this.put(planes, POINTS[begun.tool](begun, this.density), begun.state);
+      this.put(planes, POINTS[begun.tool](begun, base), begun.state);
     }
     return planes;
   }
 
-  /** Says how large a box or a line is. */
+  /**
+   * Says how large a box or a line is.
+   * @param {Stroke} begun
+   */
   tellSize({ tool, places }) {
     if (tool !== 'pencil' && tool !== 'fill') {
       const { width, height } = boxOf(places[0], places[places.length - 1]);
@@ -202,9 +237,9 @@ export class Tools {
       return;
     }
     await begun.ready;
-    if (this.stroke === begun) {
+    if (this.stroke === begun && begun.base) {
       this.stroke = null;
-      await this.take(begun.base, this.drawingOf(begun));
+      await this.take(begun.base, this.drawingOf(begun, begun.base));
       this.time.release();
     }
   }
@@ -224,7 +259,7 @@ export class Tools {
    * @param {Point|null} place
    */
   hover(place) {
-    if (this.stroke || !this.machine.planes) {
+    if (this.stroke) {
       return;
     }
     const mask = this.machine.side - 1;
@@ -245,7 +280,11 @@ export class Tools {
     this.time.release();
   }
 
-  /** Gives the machine new cells, and keeps the old ones for undo. */
+  /**
+   * Gives the machine new cells, and keeps the old ones for undo.
+   * @param {Planes} before
+   * @param {Planes} after
+   */
   async take(before, after) {
     this.screen.setDraft(after);
     try {

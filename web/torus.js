@@ -1,13 +1,15 @@
 // The torus on a canvas: cells, the grid, blocks, seams and the selection.
 
 import { View, middleOf } from './view.js';
+import { contextOf } from './dom.js';
 import { paint } from './palette.js';
 
 const GRID_FROM = 7;    // pixels of the page a cell from which on lines are drawn between cells
 
 /**
  * @typedef {import('./planes.js').Planes} Planes
- * @typedef {{x: number, y: number, width: number, height: number, isFloating: boolean}} Frame a frame round some cells
+ * @typedef {import('./shapes.js').Box & {isFloating: boolean}} Frame a frame round some cells
+ * @typedef {{left: number, top: number}} Corner the upper left pixel of a copy of the torus
  */
 
 /** Shows planes on a canvas, and all cells at a pixel each on another one. */
@@ -20,9 +22,11 @@ export class Torus {
     this.canvas = canvas;
     this.cells = cells;
     this.view = new View(256);
+    /** @type {{image: ImageData, words: Uint32Array}|null} the pixels of all cells */
+    this.pixels = null;
     /** @type {Frame|null} */
     this.frame = null;
-    /** Where blocks of two by two cells begin in the next step: 0, 1, or null for no blocks. @type {number|null} */
+    /** @type {number|null} where blocks of two by two cells begin in the next step: 0, 1, or null for no blocks */
     this.blocks = null;
     /** The colour that makes copies of the torus dim. */
     this.veil = '#111b';
@@ -54,18 +58,21 @@ export class Torus {
    */
   show(planes, lights) {
     const { side } = planes;
-    if (this.cells.width !== side || !this.image) {
+    if (this.cells.width !== side || !this.pixels) {
       Object.assign(this.cells, { width: side, height: side });
-      this.image = new ImageData(side, side);
-      this.pixels = new Uint32Array(this.image.data.buffer);
+      const image = new ImageData(side, side);
+      this.pixels = { image, words: new Uint32Array(image.data.buffer) };
     }
     this.setSide(side);
-    paint(planes.cells, lights, this.pixels);
-    this.cells.getContext('2d').putImageData(this.image, 0, 0);
+    paint(planes.cells, lights, this.pixels.words);
+    contextOf(this.cells).putImageData(this.pixels.image, 0, 0);
     this.draw();
   }
 
-  /** Takes a torus of another side. @param {number} side */
+  /**
+   * Takes a torus of another side.
+   * @param {number} side
+   */
   setSide(side) {
     if (this.view.side !== side) {
       const { width, height } = this.view;
@@ -120,7 +127,7 @@ export class Torus {
     return [Math.floor(place.x), Math.floor(place.y)];
   }
 
-  /** The cell in the middle of the window. @returns {[number, number]} */
+  /** @returns {[number, number]} the cell in the middle of the window */
   get middle() {
     return [Math.floor(this.view.x), Math.floor(this.view.y)];
   }
@@ -145,7 +152,7 @@ export class Torus {
   /** Draws all. */
   draw() {
     const { canvas, view } = this;
-    const context = canvas.getContext('2d', { alpha: false });
+    const context = contextOf(canvas, { alpha: false });
     const size = view.side * view.scale;
     context.imageSmoothingEnabled = view.scale < 1;
     const copies = view.copies();
@@ -161,13 +168,17 @@ export class Torus {
     this.tell();
   }
 
-  /** Lines between cells, and stronger ones between the blocks of the next step. */
+  /**
+   * Lines between cells, and stronger ones between the blocks of the next step.
+   * @param {CanvasRenderingContext2D} context
+   */
   drawLines(context) {
     const { scale } = this.view;
     if (scale < GRID_FROM * (devicePixelRatio || 1)) {
       return;
     }
     const { left, top } = this.view.origin;
+    /** @type {(every: number, from: number, colour: string) => void} */
     const lines = (every, from, colour) => {
       const step = every * scale;
       context.fillStyle = colour;
@@ -184,7 +195,12 @@ export class Torus {
     }
   }
 
-  /** The seams: before column 0 and above row 0. */
+  /**
+   * The seams: before column 0 and above row 0.
+   * @param {CanvasRenderingContext2D} context
+   * @param {Corner[]} copies
+   * @param {number} size
+   */
   drawSeams(context, copies, size) {
     const dash = 4 * (devicePixelRatio || 1);
     context.setLineDash([dash, 2 * dash]);
@@ -201,7 +217,10 @@ export class Torus {
     context.setLineDash([]);
   }
 
-  /** Makes all beyond the square of one torus dim: it is the same torus again. */
+  /**
+   * Makes all beyond the square of one torus dim: it is the same torus again.
+   * @param {CanvasRenderingContext2D} context
+   */
   drawVeil(context) {
     const { left, top, size } = this.view.square();
     const { width, height } = this.view;
@@ -223,7 +242,7 @@ export class Torus {
   /**
    * The frame of the selection, or of a piece that floats, in each copy of the torus.
    * @param {CanvasRenderingContext2D} context
-   * @param {{left: number, top: number}[]} copies
+   * @param {Corner[]} copies
    * @param {Frame} frame
    */
   drawFrame(context, copies, { x, y, width, height, isFloating }) {
@@ -235,7 +254,9 @@ export class Torus {
     context.lineWidth = 2;
     const shifts = [[0, 0], [size, 0], [0, size], [size, size]];
     const places = copies.flatMap(({ left, top }) => shifts.map(([byX, byY]) => [left - byX, top - byY]));
-    for (const [colour, shift] of [['#000', 0], [isFloating ? '#ffd23f' : '#fff', dash]]) {
+    /** @type {[colour: string, shift: number][]} */
+    const dashes = [['#000', 0], [isFloating ? '#ffd23f' : '#fff', dash]];
+    for (const [colour, shift] of dashes) {
       context.strokeStyle = colour;
       context.setLineDash([dash]);
       context.lineDashOffset = shift;

@@ -1,10 +1,12 @@
 // What went wrong, in words: the connection, the seat, a refused command, and a rule that can't be undone.
 
-import { announce, at, capital, make, makeButton, note, say, setText, spelled } from './dom.js';
+import { announce, at, capital, contextOf, first, make, makeButton, note, say, setText, spelled } from './dom.js';
 import { sentenceOf } from './explain.js';
 import { FAULTS } from './faults.js';
 import { Fault } from './lines.js';
 import { lights } from './palette.js';
+
+/** @typedef {import('./explain.js').Block} Block */
 
 /**
  * Shows the state of the connection and of the seat.
@@ -17,7 +19,7 @@ export function tellState(machine, text) {
   place.dataset.state = state;
   at('torus').dataset.state = state;
   setText(at('seat'), host > 0 ? seat : '-');
-  at('seat').parentElement.hidden = host === 0;
+  first(at('state'), '.seat').hidden = host === 0;
   setText(at('state-says'), text);
   place.title = text;
   if (state === 'lost' || state === 'full') {
@@ -51,8 +53,14 @@ export function hideTrouble() {
 }
 
 /**
+ * What an error says.
+ * @param {unknown} error
+ */
+export const messageOf = error => error instanceof Error ? error.message : String(error);
+
+/**
  * Shows why something wasn't done.
- * @param {Error} error
+ * @param {unknown} error
  * @param {import('./machine.js').Machine} machine
  */
 export function showError(error, machine) {
@@ -60,9 +68,9 @@ export function showError(error, machine) {
     const { title } = sentenceOf(error.answer, FAULTS);
     const head = say('strong', `${capital(title)}.`);
     showTrouble('fault', [head, ...reasonOf(error.answer, machine)], error.answer.fault);
-    announce(at('trouble').textContent);
+    announce(at('trouble').textContent ?? '');
   } else {
-    showTrouble('fault', [say('strong', 'That was not done.'), error.message]);
+    showTrouble('fault', [say('strong', 'That was not done.'), messageOf(error)]);
   }
 }
 
@@ -78,18 +86,29 @@ export function reasonOf(answer, { rules, entries, colours }) {
   return [make('p', {}, ...spelled(happened)), ...pictures, make('p', {}, ...spelled(todo))];
 }
 
-/** The two blocks that become one, and the one that they become, as pictures. */
-function picturesOf([first, second], meeting, table) {
+/**
+ * The two blocks that become one, and the one that they become, as pictures.
+ * @param {Block[]} blocks
+ * @param {Block|undefined} meeting
+ * @param {Uint32Array} table
+ */
+function picturesOf([one, other], meeting, table) {
+  /** @type {(block: Block, text: string) => HTMLElement} */
   const draw = (block, text) => make('figure', {}, pictureOf(block.cells.flat(), table), text);
   const end = meeting ? ['→', draw(meeting, 'one block')] : [];
-  return make('div', { className: 'blocks' }, draw(first, 'one state'), 'and', draw(second, 'another'), ...end);
+  return make('div', { className: 'blocks' }, draw(one, 'one state'), 'and', draw(other, 'another'), ...end);
 }
 
-/** A block of two by two cells. */
+/**
+ * A block of two by two cells.
+ * @param {number[]} states
+ * @param {Uint32Array} table
+ */
 function pictureOf(states, table) {
-  const canvas = make('canvas', { width: 2, height: 2, role: 'img', ariaLabel: `cells ${states.join(', ')}` });
+  const canvas = make('canvas', { width: 2, height: 2, ariaLabel: `cells ${states.join(', ')}` });
+  canvas.setAttribute('role', 'img');
   const image = new ImageData(2, 2);
   new Uint32Array(image.data.buffer).set(states.map(state => table[state]));
-  canvas.getContext('2d').putImageData(image, 0, 0);
+  contextOf(canvas).putImageData(image, 0, 0);
   return canvas;
 }

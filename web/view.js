@@ -19,12 +19,12 @@ export class View {
     this.height = 1;
   }
 
-  /** Pixels a cell: whole from 1 on, so that all cells are equal and sharp. @returns {number} */
+  /** @returns {number} pixels a cell: whole from 1 on, so that all cells are equal and sharp */
   get scale() {
     return this.zoom < 1 ? this.zoom : Math.round(this.zoom);
   }
 
-  /** The pixel of the upper left corner of cell (0, 0), whole. @returns {{left: number, top: number}} */
+  /** @returns {{left: number, top: number}} the pixel of the upper left corner of cell (0, 0), whole */
   get origin() {
     return {
       left: Math.round(this.width / 2 - this.x * this.scale),

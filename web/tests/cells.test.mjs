@@ -1,20 +1,19 @@
 // Cells, colours, points of tools and lines, by values worked by hand.
 
 import assert from 'node:assert/strict';
-import { readFileSync } from 'node:fs';
 import { test } from 'node:test';
 import * as lines from '../lines.js';
 import { PALETTE, brightness, coloursShown, lights, paint } from '../palette.js';
 import { Planes } from '../planes.js';
 import * as shapes from '../shapes.js';
+import { inRepository } from './repository.mjs';
 
 const { commandOf, lineOf } = lines;
-const inRepository = path => readFileSync(new URL(`../../${path}`, import.meta.url), 'utf8');
 
 test('the palette is that of the pictures', () => {
-  const [, ...said] = /PALETTE = \(\s*"([0-9a-f ]+)"\s*"([0-9a-f ]+)"/.exec(inRepository('checks/scripts/frames.py'));
+  const said = /PALETTE = \(\s*"([0-9a-f ]+)"\s*"([0-9a-f ]+)"/.exec(inRepository('tests/examples/frames.py'));
   const spelled = PALETTE.map(light => light.map(part => part.toString(16).padStart(2, '0')).join(''));
-  assert.deepEqual(spelled, said.join('').split(' '));
+  assert.deepEqual(spelled, said?.slice(1).join('').split(' '));
 });
 
 test('pixels have the lights of their states, of the planes that are shown', () => {
@@ -81,7 +80,7 @@ test('a plane of side 256 is read in less than two milliseconds', () => {
   const times = [];
   for (let i = 0; i < 60; i++) {
     const begin = performance.now();
-    planes.setPlane(i % 4, lines.answerOf(reply).rows);
+    planes.setPlane(i % 4, lines.doneOf(reply).rows ?? []);
     times.push(performance.now() - begin);
   }
   times.sort((one, other) => one - other);
@@ -101,7 +100,8 @@ test('lines are those of the manual', () => {
   assert.equal(lineOf(lines.count(2)), '{"do":"count","mask":2}');
   assert.equal(lineOf(lines.drop('P')), '{"do":"drop","name":"P"}');
   assert.equal(lineOf(lines.map([1, 0])), '{"do":"map","colours":[1,0]}');
-  assert.equal(lineOf(lines.rule({ text: ': R 1 >PLN0 ;', name: 'R', half: 'A', hood: 'N/VONN', minor: '&/HV', more: 1 })),
+  const rule = { text: ': R 1 >PLN0 ;', name: 'R', half: 'A', hood: 'N/VONN', minor: '&/HV', more: 1 };
+  assert.equal(lineOf(lines.rule(rule)),
     '{"do":"rule","name":"R","half":"A","hood":"N/VONN","minor":"&/HV","text":": R 1 >PLN0 ;"}');
   assert.equal(lineOf(lines.cycle([{ phase: 2, b: '-', a: 'P', grid: 'ODD' }])),
     '{"do":"cycle","entries":[{"a":"P","b":"-","grid":"ODD","phase":2}]}');
@@ -114,7 +114,9 @@ test('a text goes out as it came, and a command as it was when it was made', () 
   }
   assert.deepEqual(commandOf('{"do":"load","machine":{}}'), { do: 'load' }, 'a load is not read');
   assert.deepEqual(commandOf('{ "n" : 3.0, "do" : "run" }'), lines.run(3));
-  assert.equal(lineOf({ ...commandOf('{ "do" : "run", "n" : 3 }'), n: 4 }), '{"do":"run","n":4}');
+  const run = commandOf('{ "do" : "run", "n" : 3 }');
+  assert.ok(lines.isSteps(run));
+  assert.equal(lineOf({ ...run, n: 4 }), '{"do":"run","n":4}');
   const colours = [1, 2];
   const entries = [{ a: 'P', b: '-', grid: 'ODD', phase: 2 }];
   const made = [lines.map(colours), lines.cycle(entries)];
@@ -129,13 +131,14 @@ test('commands that change a machine are told from those that don\'t', () => {
   const zero = [lines.run(0), lines.back(0), lines.save(), lines.row(0, 0), lines.plane(0), lines.count(1),
     ...['{"do":"rules"}', '{"do":"colours","row":0}', 'no', 'null', '{"seat":1}'].map(commandOf)];
   const changing = [lines.run(1), lines.back(1), lines.set(0, 0, '0'), lines.clear(0), lines.side(128), lines.map([]),
-    lines.rule({}), lines.drop('P'), lines.cycle([]), lines.load({}),
+    lines.rule({ name: '', half: '', hood: '', minor: '', text: '' }), lines.drop('P'), lines.cycle([]), lines.blank(128),
     ...['{ "n" : 3, "do" : "run" }', '{"do":"load","machine":{}}'].map(commandOf)];
   assert.deepEqual(zero.filter(lines.changes), []);
   assert.deepEqual(changing.filter(command => !lines.changes(command)), []);
   assert.throws(() => lines.doneOf('{"address":3,"fault":40}'), { number: 40, answer: { address: 3, fault: 40 } });
 });
 
+/** @param {shapes.Point[]} points */
 const text = points => points.map(point => point.join()).sort();
 
 test('lines, boxes and strokes', () => {

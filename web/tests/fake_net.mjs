@@ -4,35 +4,49 @@ import { PlainMachine } from './plain_machine.mjs';
 
 /** What is at the other end of sockets: machines of their own, or hosts with seats. */
 export class FakeNet {
-  /** @param {{hosts?: {seats: number, limit?: number, isUp?: boolean}[], limit?: number}} [what] */
+  isUp = true;
+  messages = 0;
+  opened = 0;
+  /** @type {Set<FakeSocket>} */
+  sockets = new Set();
+  /** @type {Map<number, 'before'|'after'>} */
+  cuts = new Map();
+  /** The machine at the last connection. */
+  machine = new PlainMachine();
+  /** @type {string[]} */
+  heard = [];
+
+  /** @param {{hosts?: {seats: number, limit?: number, isUp?: boolean}[], limit?: number}} what */
   constructor({ hosts = [], limit = 512 } = {}) {
     this.limit = limit;
+    /** @type {{isUp: boolean, machines: PlainMachine[], taken: Set<number>}[]} */
     this.hosts = hosts.map(({ seats, limit: most = 256, isUp = true }) => ({
       isUp,
       machines: Array.from({ length: seats }, () => new PlainMachine(most)),
       taken: new Set(),
     }));
-    this.isUp = true;
-    this.messages = 0;
-    this.opened = 0;
-    this.sockets = new Set();
-    this.cuts = new Map();
-    this.machine = null;
-    this.heard = [];
     const net = this;
     this.WebSocket = class extends FakeSocket {
+      /** @param {string} url */
       constructor(url) {
         super(net, url);
       }
     };
   }
 
-  /** Where the page finds host number n. */
+  /**
+   * Where the page finds a host.
+   * @param {number} number
+   */
   urlOf(number) {
     return number === 0 ? 'ws://test/ws' : `ws://test/ws/${number}`;
   }
 
-  /** Cuts the connection at the n-th message that is sent, counted from 1: before it is done, or after. */
+  /**
+   * Cuts the connection at a message, before it is done or after.
+   * @param {number} n which message of all that are sent, counted from 1
+   * @param {'before'|'after'} when
+   */
   cutAt(n, when) {
     this.cuts.set(n, when);
   }
@@ -44,12 +58,22 @@ export class FakeNet {
 }
 
 class FakeSocket {
+  /** @type {((opened: Event) => void)|null} */
+  onopen = null;
+  /** @type {((message: MessageEvent) => void)|null} */
+  onmessage = null;
+  /** @type {((closed: CloseEvent) => void)|null} */
+  onclose = null;
+  isOpen = false;
+  /** @type {number|null} */
+  seat = null;
+  /** @type {PlainMachine|null} */
+  machine = null;
+
+  /** @param {FakeNet} net @param {string} url */
   constructor(net, url) {
     this.net = net;
     this.number = Number(url.split('/ws/')[1] ?? 0);
-    this.isOpen = false;
-    this.seat = null;
-    this.machine = null;
     net.opened++;
     setImmediate(() => this.open());
   }
@@ -57,7 +81,7 @@ class FakeSocket {
   open() {
     const host = this.number === 0 ? this.net : this.net.hosts[this.number - 1];
     if (!this.net.isUp || !host.isUp) {
-      this.onclose?.({ code: 1001, reason: 'the host is gone' });
+      this.tellClosed(1001, 'the host is gone');
       return;
     }
     this.isOpen = true;
@@ -65,13 +89,15 @@ class FakeSocket {
     if (this.number === 0) {
       this.machine = this.net.machine = new PlainMachine(this.net.limit);
     }
-    this.onopen?.();
+    this.onopen?.(new Event('open'));
   }
 
+  /** @param {string} line */
   send(line) {
     setImmediate(() => this.arrived(line));
   }
 
+  /** @param {string} line */
   arrived(line) {
     if (!this.isOpen) {
       return;
@@ -89,7 +115,7 @@ class FakeSocket {
     }
     setImmediate(() => {
       if (this.isOpen) {
-        this.onmessage?.({ data: reply });
+        this.onmessage?.(new MessageEvent('message', { data: reply }));
         if (reply === '{"fault":80}' || reply === '{"fault":81}') {
           this.end(1001, 'the host ended');
         }
@@ -97,6 +123,7 @@ class FakeSocket {
     });
   }
 
+  /** @param {string} line */
   sitDown(line) {
     const host = this.net.hosts[this.number - 1];
     const { seat } = JSON.parse(line);
@@ -112,6 +139,12 @@ class FakeSocket {
     return '{"ok":"seat"}';
   }
 
+  /** @param {number} code @param {string} reason */
+  tellClosed(code, reason) {
+    this.onclose?.(Object.assign(new Event('close'), { code, reason, wasClean: true }));
+  }
+
+  /** @param {number} code @param {string} reason */
   end(code, reason) {
     if (!this.isOpen) {
       return;
@@ -121,7 +154,7 @@ class FakeSocket {
     if (this.seat !== null) {
       this.net.hosts[this.number - 1].taken.delete(this.seat);
     }
-    this.onclose?.({ code, reason });
+    this.tellClosed(code, reason);
   }
 
   close() {

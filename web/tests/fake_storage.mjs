@@ -2,24 +2,29 @@
 
 /** Keys and texts, as localStorage has them. */
 export class FakeStorage {
+  /** @type {Map<string, string>} */
+  texts = new Map();
+  writes = 0;
+
   constructor(room = 5000000) {
     this.room = room;
-    this.texts = new Map();
-    this.writes = 0;
   }
 
   get length() {
     return this.texts.size;
   }
 
+  /** @param {number} i */
   key(i) {
     return [...this.texts.keys()][i] ?? null;
   }
 
+  /** @param {string} key */
   getItem(key) {
     return this.texts.get(String(key)) ?? null;
   }
 
+  /** @param {string} key @param {string} value */
   setItem(key, value) {
     const text = String(value);
     const used = [...this.texts].reduce((sum, [name, other]) => name === key ? sum : sum + name.length + other.length, 0);
@@ -30,6 +35,7 @@ export class FakeStorage {
     this.texts.set(String(key), text);
   }
 
+  /** @param {string} key */
   removeItem(key) {
     this.texts.delete(String(key));
   }

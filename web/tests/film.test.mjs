@@ -8,11 +8,13 @@ import { PALETTE } from '../palette.js';
 import { randomFrom } from '../shapes.js';
 import { readPng } from './png_reader.mjs';
 
+/** @type {(count: number, seed: number) => Uint8Array} */
 const noise = (count, seed) => {
   const next = randomFrom(seed);
   return Uint8Array.from({ length: count }, () => Math.floor(16 * next()));
 };
 
+/** @type {(pixels: Uint8Array, width: number, scale?: number) => number[][]} */
 const rowsOf = (pixels, width, scale = 1) => {
   const height = pixels.length / width;
   return Array.from({ length: height * scale }, (_, y) => Array.from({ length: width * scale }, (_, x) =>
@@ -47,7 +49,9 @@ test('a film has each frame, whatever changes between them', async () => {
   for (const [width, height, scale] of [[64, 32, 1], [9, 5, 4]]) {
     const film = new Film(width, height, { scale, rate: 12 });
     const pixels = noise(width * height, 3);
+    /** @type {number[][][]} */
     const wanted = [];
+    /** @param {number[]} indices */
     const change = (...indices) => {
       indices.forEach(i => { pixels[i] ^= 5; });
       film.add(pixels, wanted.length === 2 ? 60 : 0);

@@ -1,13 +1,13 @@
 // The gallery of the page: its entries are the examples.
 
 import assert from 'node:assert/strict';
-import { existsSync, readFileSync } from 'node:fs';
+import { existsSync } from 'node:fs';
 import { test } from 'node:test';
 import { GALLERY } from '../gallery.js';
 import { lineOf } from '../lines.js';
+import { inRepository, urlOf } from './repository.mjs';
 
-const urlOf = path => new URL(`../../${path}`, import.meta.url);
-const inRepository = path => readFileSync(urlOf(path), 'utf8');
+/** @param {import('../lines.js').Command[]} commands */
 const textOf = commands => commands.map(command => `${lineOf(command)}\n`).join('');
 
 test('each entry has the lines of its example, byte for byte', () => {

@@ -19,6 +19,7 @@ test('replies come to the lines in order, several under way', async () => {
 test('a connection that ends rejects what waits, once, and tells why', async () => {
   const net = new FakeNet();
   const host = await Host.open(net.urlOf(0), net.WebSocket);
+  /** @type {(number|string)[]} */
   const told = [];
   host.onLost(lost => told.push(lost.code));
   const asked = [host.ask('{"do":"rules"}'), host.ask('{"do":"rules"}')];
@@ -38,16 +39,19 @@ test('a host that is not there, and an answer that nobody asked for', async () =
   await assert.rejects(Host.open(net.urlOf(0), net.WebSocket), { name: 'Lost', code: 1001 });
   net.isUp = true;
   const host = await Host.open(net.urlOf(0), net.WebSocket);
-  let lost = null;
-  host.onLost(error => { lost = error; });
+  /** @type {number[]} */
+  const codes = [];
+  host.onLost(lost => codes.push(lost.code));
   const [socket] = net.sockets;
-  socket.onmessage({ data: '{"ok":"rules"}' });
-  assert.equal(lost?.code, 1000);
+  socket.onmessage?.(new MessageEvent('message', { data: '{"ok":"rules"}' }));
+  assert.deepEqual(codes, [1000]);
 });
 
 test('a seat is looked for from the preferred one on, then host by host', async () => {
   const net = new FakeNet({ hosts: [{ seats: 1, isUp: false }, { seats: 2 }, { seats: 1 }] });
+  /** @type {Parameters<typeof sitDown>[0]} */
   const how = { urlOf: number => net.urlOf(number), hosts: 3, WebSocketClass: net.WebSocket, preferred: [], accepts: async () => true };
+  /** @param {Partial<typeof how>} more */
   const at = async more => {
     const { number, seat, missed } = await sitDown({ ...how, ...more });
     return [number, seat, missed];
@@ -68,7 +72,9 @@ test('a seat is looked for from the preferred one on, then host by host', async 
 
 test('commands take turns, and wait for the frames that are under way', async () => {
   const queue = new Queue();
+  /** @type {string[]} */
   const said = [];
+  /** @param {string} name */
   const frame = name => queue.frame(async () => { said.push(name); await later(); said.push(`${name} done`); });
   const frames = [frame('f1'), frame('f2')];
   assert.equal(frame('f3'), null);
@@ -93,6 +99,8 @@ test('commands take turns, and wait for the frames that are under way', async ()
 
 test('a frame that fails makes way', async () => {
   const queue = new Queue(1);
-  await assert.rejects(queue.frame(async () => { throw new Error('no'); }), { message: 'no' });
+  const frame = queue.frame(async () => { throw new Error('no'); });
+  assert.ok(frame !== null);
+  await assert.rejects(frame, { message: 'no' });
   assert.notEqual(queue.frame(async () => 1), null);
 });

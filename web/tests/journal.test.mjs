@@ -6,18 +6,30 @@ import { Journal, kept, nameOfTab } from '../journal.js';
 import { back, commandOf, lineOf, run, set } from '../lines.js';
 import { FakeStorage } from './fake_storage.mjs';
 
+/**
+ * @typedef {import('../lines.js').Command} Command
+ * @typedef {import('../shelf.js').Store} Store
+ */
+
 const OK = '{"ok":"run","position":0}';
 const SET = set(0, 1, '00');
+/** @param {number|string} sum */
 const saved = sum => `{"do":"load","machine":{"sum":${sum}}}`;
+/** @param {(string|Command)[]} all */
 const textsOf = all => all.map(one => typeof one === 'string' ? one : lineOf(one));
+/** @type {(command: Command, letters: number) => Command} */
 const padded = (command, letters) => commandOf(lineOf(command).padEnd(letters));
 const counting = () => {
   let next = 0;
   return () => (next += 0.001);
 };
+/** @type {(storage: Store|null, name?: string, more?: ConstructorParameters<typeof Journal>[2]) => Journal} */
 const journalIn = (storage, name = 'page', more = {}) => new Journal(storage, name, { random: counting(), now: () => 5, ...more });
 
-// The steps that a journal stands for.
+/**
+ * The steps that a journal stands for.
+ * @param {Journal} journal
+ */
 const sumOf = journal => journal.lines().reduce((sum, line) => {
   const command = JSON.parse(line);
   return sum + (command.machine?.sum ?? command.n ?? 0);
@@ -115,11 +127,16 @@ test('the first state is the load line at count 0, until the cells or the cycle 
 
 test('whenever the page ends, what is in the storage is a machine that it had', () => {
   class Watched extends FakeStorage {
+    /** @type {((copy: FakeStorage) => void)|null} */
+    onChange = null;
+
+    /** @param {string} key @param {string} value */
     setItem(key, value) {
       super.setItem(key, value);
       this.onChange?.(this.copy());
     }
 
+    /** @param {string} key */
     removeItem(key) {
       super.removeItem(key);
       this.onChange?.(this.copy());
@@ -188,7 +205,8 @@ test('after a command that had no room, later ones are not kept either', () => {
 });
 
 test('without a storage, or with one that throws, a journal keeps on in memory', () => {
-  const broken = { get length() { throw new Error('denied'); }, getItem() { throw new Error('denied'); } };
+  const denied = () => { throw new Error('denied'); };
+  const broken = { get length() { return denied(); }, key: denied, getItem: denied, setItem: denied, removeItem: denied };
   for (const storage of [null, broken]) {
     const journal = journalIn(storage);
     journal.checkpoint(saved(3));
@@ -200,7 +218,7 @@ test('without a storage, or with one that throws, a journal keeps on in memory',
 
 test('journals of other pages make room, the oldest first', () => {
   const storage = new FakeStorage(3000);
-  for (const [name, when] of [['old', 1], ['new', 2]]) {
+  for (const { name, when } of [{ name: 'old', when: 1 }, { name: 'new', when: 2 }]) {
     journalIn(storage, name, { now: () => when }).checkpoint(saved('1'.repeat(900)));
   }
   const journal = journalIn(storage, 'page', { now: () => 3 });
@@ -216,6 +234,7 @@ test('journals of other pages make room, the oldest first', () => {
 
 test('two pages with one name: each has its own machine, the one that was there first under a new name', () => {
   const storage = new FakeStorage();
+  /** @type {string[]} */
   const renamed = [];
   const one = journalIn(storage, 'page', { onRenamed: name => renamed.push(name) });
   one.checkpoint(saved(1));

@@ -3,21 +3,26 @@
 import assert from 'node:assert/strict';
 import { test as plainTest } from 'node:test';
 import { Machine } from '../machine.js';
-import { Fault, cycle, drop, lineOf, rule, set, side } from '../lines.js';
+import { Fault, commandOf, cycle, drop, lineOf, machineIn, rule, set, side } from '../lines.js';
 import { FakeNet } from './fake_net.mjs';
 import { FakeStorage } from './fake_storage.mjs';
 import { BALLS, ECHOES, PARITY, PlainMachine } from './plain_machine.mjs';
 
-// Browsers have it, and so has node from version 19 on.
-globalThis.CustomEvent ??= class CustomEvent extends Event {
+class DetailedEvent extends Event {
+  /** @param {string} type @param {{detail?: unknown}} how */
   constructor(type, { detail = null } = {}) {
     super(type);
     this.detail = detail;
   }
-};
+}
 
+// Browsers have it, and so has node from version 19 on.
+Object.assign(globalThis, { CustomEvent: globalThis.CustomEvent ?? DetailedEvent });
+
+/** @type {(name: string, work: () => Promise<void>) => void} */
 const test = (name, work) => plainTest(name, { timeout: 120000 }, work);
 
+/** @type {(name: string) => import('../lines.js').Entry[]} */
 const EVEN_ODD = name => [
   { a: name, b: '-', grid: 'EVEN', phase: 0 },
   { a: name, b: '-', grid: 'ODD', phase: 0 },
@@ -33,16 +38,23 @@ const ECHO_COMMANDS = [
 ];
 const ECHO_LINES = ECHO_COMMANDS.map(lineOf);
 
+/** @type {(net: FakeNet, more?: Partial<import('../machine.js').Setting>) => Machine} */
 const machineOf = (net, more = {}) => new Machine({
   urlOf: number => net.urlOf(number), hosts: net.hosts.length, WebSocketClass: net.WebSocket, wait: async () => {}, ...more,
 });
 
+/** @param {Machine} machine */
 const rowsOf = machine => [0, 1, 2, 3].map(plane =>
   Array.from({ length: machine.side }, (_, y) => machine.planes.rowOf(plane, y)));
 
-const savedBy = plain => JSON.parse(plain.respond('{"do":"save"}')).machine;
+/** @param {PlainMachine} plain */
+const savedBy = plain => machineIn(plain.respond('{"do":"save"}'));
 
-// The model shows what the machine has.
+/**
+ * The model shows what the machine has.
+ * @param {Machine} machine
+ * @param {PlainMachine} plain
+ */
 function isSame(machine, plain) {
   const saved = savedBy(plain);
   assert.equal(machine.side, saved.side);
@@ -53,13 +65,21 @@ function isSame(machine, plain) {
   assert.equal(machine.position, saved.position);
 }
 
+/**
+ * The machine's cells, some of which have other states.
+ * @param {Machine} machine
+ * @param {[x: number, y: number, state: number][]} cells
+ */
 function painted(machine, cells) {
   const edited = machine.planes.clone();
   cells.forEach(([x, y, state]) => edited.put(x, y, state));
   return edited;
 }
 
-// A user's session, with some of everything.
+/**
+ * A user's session, with some of everything.
+ * @param {Machine} machine
+ */
 async function session(machine) {
   await machine.setUp(ECHO_COMMANDS);
   await Promise.all([machine.frame(1), machine.frame(1)]);
@@ -78,6 +98,7 @@ async function session(machine) {
   await machine.frame(-1);
 }
 
+/** @param {() => FakeNet} netOf */
 async function unbroken(netOf) {
   const net = netOf();
   const machine = machineOf(net);
@@ -88,6 +109,8 @@ async function unbroken(netOf) {
   return { saved: savedBy(net.machine), messages: net.messages, count: machine.count };
 }
 
+/** @type {('before'|'after')[]} */
+const WHEN = ['before', 'after'];
 const privateNet = () => new FakeNet();
 const hostNet = () => {
   const net = new FakeNet({ hosts: [{ seats: 2 }] });
@@ -114,15 +137,15 @@ test('a session shows what the machine has, and steps are those of the rule', as
   assert.equal(saved.rules.length, 1);
 });
 
-for (const [name, netOf] of [['a machine of the page', privateNet], ['a seat', hostNet]]) {
+for (const { name, netOf } of [{ name: 'a machine of the page', netOf: privateNet }, { name: 'a seat', netOf: hostNet }]) {
   test(`a connection to ${name} cut at each message, before and after it is done`, async () => {
     const whole = await unbroken(netOf);
     for (let at = 1; at <= whole.messages; at++) {
-      for (const when of ['before', 'after']) {
+      for (const when of WHEN) {
         const net = netOf();
         net.cutAt(at, when);
         const machine = machineOf(net);
-        machine.addEventListener('diverged', ({ detail }) => assert.fail(`diverged: ${JSON.stringify(detail)}`));
+        machine.on('diverged', told => assert.fail(`diverged: ${JSON.stringify(told)}`));
         await machine.start();
         await session(machine);
         machine.stop();
@@ -163,17 +186,16 @@ test('a page that is loaded again at each message goes on where it was', async (
     net.cutAt(at, at % 2 ? 'before' : 'after');
     let isGone = false;
     const machine = machineOf(net, { storage, wait: () => new Promise(() => { isGone = true; }) });
-    let noted = null;
     machine.start();
-    const begun = new Promise(resolve => machine.addEventListener('state', () => machine.state === 'ready' && resolve()));
+    /** @type {Promise<void>} */
+    const begun = new Promise(resolve => machine.on('state', ({ state }) => state === 'ready' && resolve()));
     const played = begun.then(() => session(machine));
     played.catch(() => {});
     while (!isGone) {
       await new Promise(setImmediate);
     }
-    noted = storage.copy();
     const other = new FakeNet();
-    const again = machineOf(other, { storage: noted });
+    const again = machineOf(other, { storage: storage.copy() });
     await again.start();
     // What was noted is what the first page had asked for: the commands in order, each once.
     const plain = new PlainMachine();
@@ -186,15 +208,19 @@ test('a page that is loaded again at each message goes on where it was', async (
   }
 });
 
-// The load line and the commands since, by the keys of the storage alone.
+/**
+ * The load line and the commands since, by the keys of the storage alone.
+ * @param {FakeStorage} storage
+ * @returns {string[]}
+ */
 function linesOf(storage) {
-  const head = JSON.parse(storage.getItem('cam6/page'));
+  const head = JSON.parse(storage.getItem('cam6/page') ?? 'null');
   if (head === null) {
     return [];
   }
-  const found = [storage.getItem(`cam6/page/${head.generation}/save`)];
+  const found = [storage.getItem(`cam6/page/${head.generation}/save`) ?? ''];
   for (let slot = 0, text; (text = storage.getItem(`cam6/page/${head.generation}/${slot}`)) !== null; slot++) {
-    found.push(...JSON.parse(text).map(([line]) => line));
+    found.push(...JSON.parse(text).map((/** @type {string[]} */ row) => row[0]));
   }
   return found;
 }
@@ -220,23 +246,27 @@ test('a whole session that is loaded again has its count, its first state and it
 
 test('seats: the first free one, the one that is asked for, the next host, and all taken', async () => {
   const net = new FakeNet({ hosts: [{ seats: 2 }, { seats: 3 }] });
+  /** @type {Machine[]} */
   const made = [];
-  for (const [wanted, host, seat, text] of [
+  /** @type {[wanted: number|null, host: number, seat: number, text: string][]} */
+  const cases = [
     [2, 1, 2, 'You have seat 2 of host 1.'], [2, 1, 1, 'Seat 2 is taken. You have seat 1 of host 1.'],
     [9, 2, 1, 'There is no seat 9. You have seat 1 of host 2.'], [null, 2, 2, 'You have seat 2 of host 2.'],
     [null, 2, 3, 'You have seat 3 of host 2.'],
-  ]) {
+  ];
+  for (const [wanted, host, seat, text] of cases) {
     const machine = machineOf(net, { seat: wanted });
     await machine.start();
     assert.deepEqual([machine.host, machine.seat, machine.text], [host, seat, text]);
     made.push(machine);
   }
+  /** @type {string[]} */
   const states = [];
   let tries = 0;
   const late = machineOf(net, {
     wait: async () => { tries++ === 1 && made[3].stop(); },
   });
-  late.addEventListener('state', ({ detail }) => states.push(detail.state));
+  late.on('state', ({ state }) => states.push(state));
   await late.start();
   assert.deepEqual(states, ['connecting', 'full', 'connecting', 'full', 'connecting', 'ready']);
   assert.deepEqual([late.host, late.seat], [2, 2]);
@@ -268,9 +298,10 @@ test('a machine that is larger than a host allows is kept, and another host is t
   await machine.setSide(512);
   await machine.paint(painted(machine, [[500, 500, 1]]));
   net.hosts[0].isUp = false;
+  /** @type {{state: string, text: string}[]} */
   const texts = [];
   let tries = 0;
-  machine.addEventListener('state', ({ detail }) => texts.push(detail));
+  machine.on('state', told => texts.push(told));
   const back = machineOf(net, { storage: null });
   back.stop();
   net.cutAll();
@@ -310,9 +341,11 @@ test('a host that answers otherwise when commands are played again is told of', 
   await machine.start();
   await machine.setUp(ECHO_COMMANDS);
   await machine.run(1);
+  /** @type {{line: string, wanted: string, got: string}[]} */
   const told = [];
-  machine.addEventListener('diverged', ({ detail }) => told.push(detail));
+  machine.on('diverged', detail => told.push(detail));
   const { do_run } = PlainMachine.prototype;
+  /** @param {{n: number}} command */
   PlainMachine.prototype.do_run = function run({ n }) { return do_run.call(this, { n: n + 1 }); };
   net.cutAll();
   await machine.save();
@@ -330,6 +363,7 @@ test('a command that ends each connection is left out, and the others are done',
   const { do_map } = PlainMachine.prototype;
   PlainMachine.prototype.do_map = () => { setImmediate(() => net.cutAll()); throw new Error('ended'); };
   const { arrived } = net.WebSocket.prototype;
+  /** @param {string} line */
   net.WebSocket.prototype.arrived = function guarded(line) {
     try {
       arrived.call(this, line);
@@ -358,7 +392,7 @@ test('faults are thrown with their answer, and the machine and its count stay', 
   await assert.rejects(machine.define(strange), error => error instanceof Fault && error.number === 20 && error.answer.token === 3);
   await assert.rejects(machine.drop('E'), { number: 61 });
   await assert.rejects(machine.setCycle([{ a: 'Q', b: '-', grid: 'EVEN', phase: 0 }]), { number: 60 });
-  await assert.rejects(machine.setUp([side(128), { do: 'fly' }, drop('Z')]), { number: 3, line: 2 });
+  await assert.rejects(machine.setUp([side(128), commandOf('{"do":"fly"}'), drop('Z')]), { number: 3, line: 2 });
   await machine.load(JSON.stringify({ do: 'load', machine: before }));
   assert.deepEqual(savedBy(net.machine), before);
   assert.equal(machine.count, 0);
@@ -397,7 +431,7 @@ test('the scrubber goes back by undoing, or from the first state if that can\'t 
   assert.equal(machine.count, -3);
   await machine.goTo(9);
   assert.deepEqual(rowsOf(machine), later);
-  assert.equal((await machine.canGoBack()).yes, true);
+  assert.deepEqual(await machine.canGoBack(), { yes: true });
   await machine.define(ruleP);
   await machine.setCycle([{ a: 'P', b: '-', grid: 'EVEN', phase: 0 }]);
   await machine.paint(painted(machine, [[50, 50, 1]]));
@@ -437,9 +471,13 @@ test('frames: two under way at most, none beside a command, and only planes that
   machine.stop();
 });
 
-// What JSON.parse is given while something is done. The plain machine has a JSON.parse of its own.
+/**
+ * What JSON.parse is given while something is done. The plain machine has a JSON.parse of its own.
+ * @param {() => Promise<void>} work
+ */
 async function parsedBy(work) {
   const { parse } = JSON;
+  /** @type {string[]} */
   const texts = [];
   JSON.parse = text => {
     texts.push(text);
@@ -508,7 +546,7 @@ test('a stroke that is drawn while the machine runs changes only its own cells',
 
 test('a stroke that a lost connection interrupts is shown as the machine has it', async () => {
   for (let at = 1; at <= 6; at++) {
-    for (const when of ['before', 'after']) {
+    for (const when of WHEN) {
       const net = new FakeNet();
       const machine = machineOf(net);
       await machine.start();
@@ -524,7 +562,9 @@ test('a stroke that a lost connection interrupts is shown as the machine has it'
 
 test('a host that is gone is said, with what the host said, and the page goes on after it is back', async () => {
   const net = new FakeNet();
+  /** @type {string[]} */
   const told = [];
+  /** @type {number[]} */
   const waits = [];
   const machine = machineOf(net, {
     wait: async milliseconds => {
@@ -532,7 +572,7 @@ test('a host that is gone is said, with what the host said, and the page goes on
       net.isUp = waits.length >= 8;
     },
   });
-  machine.addEventListener('state', ({ detail }) => told.push(`${detail.state}: ${detail.text}`));
+  machine.on('state', ({ state, text }) => told.push(`${state}: ${text}`));
   await machine.start();
   await machine.setUp(ECHO_COMMANDS);
   net.isUp = false;
@@ -580,11 +620,16 @@ test('journals are bounded: many commands and long runs bring a save', async () 
   await machine.start();
   await machine.setUp(ECHO_COMMANDS);
   const { do_run } = PlainMachine.prototype;
-  PlainMachine.prototype.do_run = function run({ n }) { this.steps = (this.steps ?? 0) + n; return { position: n % 2 }; };
+  let steps = 0;
+  /** @param {{n: number}} command */
+  PlainMachine.prototype.do_run = ({ n }) => {
+    steps += n;
+    return { position: n % 2 };
+  };
   await machine.run(200000);
   const runs = net.heard.filter(line => line.includes('"run"')).map(line => JSON.parse(line).n);
   assert.deepEqual(runs, [65535, 65535, 65535, 3395]);
-  assert.equal(net.machine.steps, 200000);
+  assert.equal(steps, 200000);
   assert.equal(machine.count, 200000);
   net.heard.length = 0;
   net.cutAll();

@@ -3,6 +3,7 @@
 import assert from 'node:assert/strict';
 import { inflateSync } from 'node:zlib';
 
+/** @param {Uint8Array} bytes */
 function crcOf(bytes) {
   let crc = 0xffffffff;
   for (const byte of bytes) {
@@ -14,6 +15,7 @@ function crcOf(bytes) {
   return (crc ^ 0xffffffff) >>> 0;
 }
 
+/** @param {Uint8Array} file */
 function chunksOf(file) {
   const bytes = Buffer.from(file);
   assert.equal(bytes.subarray(0, 8).toString('latin1'), '\x89PNG\r\n\x1a\n');
@@ -25,11 +27,14 @@ function chunksOf(file) {
     chunks.push({ type: body.subarray(0, 4).toString('latin1'), data: body.subarray(4) });
     at += 12 + length;
   }
-  assert.equal(chunks.at(-1).type, 'IEND');
+  assert.equal(chunks.at(-1)?.type, 'IEND');
   return chunks;
 }
 
-// The colours of a box, from packed rows of four bits a pixel.
+/**
+ * The colours of a box, from packed rows of four bits a pixel.
+ * @type {(data: Uint8Array, width: number, height: number) => number[][]}
+ */
 function coloursOf(data, width, height) {
   const raw = inflateSync(data);
   const stride = 1 + Math.ceil(width / 2);
@@ -40,14 +45,17 @@ function coloursOf(data, width, height) {
   });
 }
 
-/** The frames of a file, each as rows of colours, its palette, and the frames' delays in seconds. */
+/**
+ * The frames of a file, each as rows of colours, its palette, and the frames' delays in seconds.
+ * @param {Uint8Array} file
+ */
 export function readPng(file) {
   const chunks = chunksOf(file);
   const [{ type, data: header }] = chunks;
   assert.equal(type, 'IHDR');
   const [width, height] = [header.readUInt32BE(0), header.readUInt32BE(4)];
   assert.deepEqual([...header.subarray(8)], [4, 3, 0, 0, 0]);
-  const palette = chunks.find(chunk => chunk.type === 'PLTE').data;
+  const palette = chunks.find(chunk => chunk.type === 'PLTE')?.data ?? [];
   const animation = chunks.find(chunk => chunk.type === 'acTL');
   const canvas = Array.from({ length: height }, () => Array(width).fill(0));
   const frames = [];

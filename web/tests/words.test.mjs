@@ -1,7 +1,7 @@
 // Rules' texts, faults in words, patterns, and the dial: by what the pages of docs/ say.
 
 import assert from 'node:assert/strict';
-import { readFileSync, readdirSync } from 'node:fs';
+import { readdirSync } from 'node:fs';
 import { test } from 'node:test';
 import { FlashMeter, Pace, flashes, positionOf, stepsASecond } from '../dial.js';
 import { becomes, blocksOf, sentenceOf } from '../explain.js';
@@ -9,19 +9,37 @@ import { HOODS, MINORS, WORDS, bitsOf, evaluate, namesOf, tokenAt, tokens, write
 import { planesOf } from '../machine.js';
 import { PatternFault, read, write } from '../patterns.js';
 import { randomFrom } from '../shapes.js';
+import { inRepository, urlOf } from './repository.mjs';
 
-const inRepository = path => readFileSync(new URL(`../../${path}`, import.meta.url), 'utf8');
-const FAULTS = Object.fromEntries(JSON.parse(inRepository('docs/errors.json')).errors.map(error =>
-  [error.number, { title: error.title, happened: error.happened, todo: error.do }]));
+/**
+ * @typedef {import('../lines.js').Body} Body
+ * @typedef {{rules: import('../lines.js').Rule[], entries: import('../lines.js').Entry[]}} Example
+ */
 
-// Rules and cycle of each example.
-const EXAMPLES = new Map(readdirSync(new URL('../../examples', import.meta.url)).filter(name => name.endsWith('.lines')).map(name => {
+/** @type {Record<number, import('../explain.js').Said>} */
+const FAULTS = {};
+for (const error of JSON.parse(inRepository('docs/errors.json')).errors) {
+  FAULTS[error.number] = { title: error.title, happened: error.happened, todo: error.do };
+}
+
+/** @type {Map<string, Example>} the rules and the cycle of each example */
+const EXAMPLES = new Map(readdirSync(urlOf('examples')).filter(name => name.endsWith('.lines')).map(name => {
   const commands = inRepository(`examples/${name}`).trim().split('\n').map(line => JSON.parse(line));
   return [name.slice(0, -6), {
     rules: commands.filter(command => command.do === 'rule'),
     entries: commands.findLast(command => command.do === 'cycle').entries,
   }];
 }));
+
+/**
+ * The rules and the cycle of one example.
+ * @param {string} name
+ */
+function exampleOf(name) {
+  const example = EXAMPLES.get(name);
+  assert.ok(example, name);
+  return example;
+}
 
 test('tokens are counted with those of comments', () => {
   const text = `: R 0 { ${'0 '.repeat(2048)}} ;`;
@@ -66,7 +84,7 @@ test('the list of words has all that the manual has', () => {
     assert.ok(spelled.split(' ').every(word => all.includes(word)), spelled);
   }
   const rot = WORDS.find(({ word }) => word === 'ROT');
-  assert.deepEqual([rot.before, rot.after], ['a b c', 'b c a']);
+  assert.deepEqual([rot?.before, rot?.after], ['a b c', 'b c a']);
 });
 
 test('the planes that rules write', () => {
@@ -83,19 +101,22 @@ test('the planes that rules write', () => {
 });
 
 test('rules are evaluated as their words say', () => {
+  /** @type {(text: string) => Body} */
   const rule = text => ({ half: 'A', hood: 'N/MOORE', minor: '&/CENTERS', text });
-  const { rules: [life] } = EXAMPLES.get('life');
+  const { rules: [life] } = exampleOf('life');
   for (let address = 0; address < 1024; address++) {
     const count = [2, 3, 4, 5, 6, 7, 8, 9].filter(bit => address >> bit & 1).length;
     const want = count === 3 || count === 2 && address & 1 ? 1 : 0;
     assert.equal(evaluate(life, address).get(0), want);
   }
-  for (const [text, plane, want] of [
+  /** @type {[text: string, plane: number, want: number][]} */
+  const cases = [
     [': R 1 2 3 ROT >PLNA ;', 1, 0], [': R 1 2 3 ROT >PLNA ;', 0, 1], [': R 7 2 - >PLNA ;', 0, 1], [': R 2 3 OVER >PLNA ;', 1, 1],
     [': R 0 IF 1 IF 1 ELSE 0 THEN ELSE 1 THEN >PLN0 ;', 0, 1], [': R 1 IF 0 IF 1 ELSE 0 THEN ELSE 1 THEN >PLN0 ;', 0, 0],
     [': R 2 { 0 0 1 } >PLN1 ;', 1, 1], [': R 1 2 < >PLN0 ;', 0, 1], [': R 1 2 > >PLN0 ;', 0, 0], [': R 6 3 AND >PLNA ;', 1, 1],
     [': R 4 5 SWAP DROP >PLN0 ;', 0, 1], [': R 3 DUP * >PLNA ;', 0, 1], [': R 2 2 = 0= >PLN0 ;', 0, 0], [': R 1 >PLN0 0 >PLN0 ;', 0, 0],
-  ]) {
+  ];
+  for (const [text, plane, want] of cases) {
     assert.equal(evaluate(rule(text), 0).get(plane), want, text);
   }
   assert.equal(evaluate(rule(': R ;'), 0).size, 0);
@@ -110,11 +131,13 @@ test('blocks become what the rule says: the states that meet are those of the wo
   assert.ok(MEETINGS.length >= 7);
   for (const { rule, numbers } of MEETINGS) {
     const found = [0, 1, 2, 3].map(phase => {
+      /** @type {Map<number, number>} */
       const seen = new Map();
       for (let state = 0; state < 256; state++) {
         const next = becomes(state, rule, phase);
-        if (seen.has(next)) {
-          return [phase, seen.get(next), state];
+        const before = seen.get(next);
+        if (before !== undefined) {
+          return [phase, before, state];
         }
         seen.set(next, state);
       }
@@ -123,30 +146,32 @@ test('blocks become what the rule says: the states that meet are those of the wo
     assert.deepEqual(found, numbers, rule.text);
   }
   for (const name of ['billiard_balls', 'critters', 'echoes', 'gases', 'tron']) {
-    const { rules: [rule], entries } = EXAMPLES.get(name);
+    const { rules: [rule], entries } = exampleOf(name);
     for (const { phase } of entries) {
       assert.equal(new Set(Array.from({ length: 256 }, (_, state) => becomes(state, rule, phase))).size, 256, name);
     }
   }
-  assert.equal(becomes(1, EXAMPLES.get('billiard_balls').rules[0], 0), 4, 'a ball crosses its block');
+  assert.equal(becomes(1, exampleOf('billiard_balls').rules[0], 0), 4, 'a ball crosses its block');
 });
 
 test('the blocks of a fault 64 are drawn: clockwise from the upper left cell, the upper plane above', () => {
+  /** @type {import('../lines.js').Refusal} */
   const answer = { cause: 'meeting', entry: 0, fault: 64, half: 'A', phase: 0, states: [0, 0b00100110] };
   assert.deepEqual(blocksOf(answer), [
     { state: 0, cells: [[0, 0], [0, 0]] }, { state: 0b00100110, cells: [[0, 3], [0, 1]] },
   ]);
-  assert.deepEqual(blocksOf({ ...answer, half: 'B', states: [8, 16] }).map(({ cells }) => cells), [[[0, 0], [4, 0]], [[8, 0], [0, 0]]]);
+  assert.deepEqual(blocksOf({ ...answer, half: 'B', states: [8, 16] })?.map(({ cells }) => cells), [[[0, 0], [4, 0]], [[8, 0], [0, 0]]]);
   assert.equal(blocksOf({ cause: 'hood', entry: 0, fault: 64, half: 'A' }), null);
 });
 
 test('a fault 64 names the rule and its cause, and shows what both blocks become', () => {
   const rule = { name: 'AND', half: 'A', hood: 'N/MARG', minor: '&/PHASES', text: ': R CENTER CW AND >PLN0 ;' };
   const known = { rules: [rule], entries: [{ a: 'AND', b: '-', grid: 'EVEN', phase: 0 }] };
+  /** @type {import('../lines.js').Refusal} */
   const answer = { cause: 'meeting', entry: 0, fault: 64, half: 'A', phase: 0, states: [0, 1] };
   const said = sentenceOf(answer, FAULTS, known);
   assert.equal(said.happened, "Rule AND of half A in entry 0 can't be undone. Two states of a block become one.");
-  assert.deepEqual(said.blocks.map(({ cells }) => cells), [[[0, 0], [0, 0]], [[1, 0], [0, 0]]]);
+  assert.deepEqual(said.blocks?.map(({ cells }) => cells), [[[0, 0], [0, 0]], [[1, 0], [0, 0]]]);
   assert.deepEqual(said.meeting, { state: 0, cells: [[0, 0], [0, 0]] });
   assert.equal(said.title, FAULTS[64].title);
   const hood = sentenceOf({ cause: 'hood', entry: 3, fault: 64, half: 'B' }, FAULTS);
@@ -170,7 +195,10 @@ test('each fault has its sentence, and texts their tokens and addresses', () => 
   assert.match(sentenceOf({ fault: 0 }, FAULTS).happened, /connection was lost/);
 });
 
-// Rows of states, a digit of base 16 for each.
+/**
+ * Rows of states, a digit of base 16 for each.
+ * @param {{width: number, cells: Uint8Array}} pattern
+ */
 const rowsOf = ({ width, cells }) =>
   [...cells].map(state => state.toString(16)).join('').match(new RegExp(`.{${width}}`, 'g'));
 
@@ -189,14 +217,16 @@ test('patterns are read as docs/DRAWING.md says', () => {
 });
 
 test('a text that is no pattern is named with its line and column', () => {
-  for (const [text, cause, line, column, side] of [
+  /** @type {[text: string, cause: string, line: number, column: number, side?: number][]} */
+  const cases = [
     ['x = 3\nbo!', 'badHeader', 1, 1], ['#\nx = 3, y = 3;\nb!', 'badHeader', 2, 1], ['x = 3, y = 3\nbo$2qo!', 'unexpected', 2, 5],
     ['x = 3, y = 3\n4o!', 'tooWide', 2, 2], ['x = 3, y = 3\n3o\no!', 'tooWide', 3, 1], ['x = 3, y = 1\n3o$o!', 'tooHigh', 2, 4],
     ['x = 3, y = 1\n3o2$!', 'tooHigh', 2, 4], ['x = 3, y = 3\n3P!', 'tooManyStates', 2, 2], ['x = 3, y = 3\nbo$', 'noEnd', 2, 1],
     ['', 'noEnd', 1, 1], ['x = 3, y = 3\n513o!', 'countTooLarge', 2, 3], ['x = 3, y = 3\n3 o!', 'unexpected', 2, 2],
     ['x = 3, y = 3\n3!', 'unexpected', 2, 2], ['x = 3, y = 3\n3\no!', 'unexpected', 2, 2], ['x = 129, y = 3\no!', 'tooWide', 1, 1, 128],
     ['x = 3, y = 129\no!', 'tooHigh', 1, 1, 128], ['129o!', 'tooWide', 1, 4, 128], ['hello', 'unexpected', 1, 1],
-  ]) {
+  ];
+  for (const [text, cause, line, column, side] of cases) {
     assert.throws(() => read(text, side), error => {
       assert.ok(error instanceof PatternFault);
       assert.deepEqual([error.cause, error.line, error.column], [cause, line, column], JSON.stringify(text));
@@ -266,6 +296,7 @@ test('rules that invert all cells flash: Critters and Tron alone', () => {
 
 test('what is shown is measured: more than three flashes a second', () => {
   const colours = Array.from({ length: 16 }, (_, i) => i);
+  /** @type {(frames: number[], rate: number) => boolean} */
   const seen = (frames, rate) => {
     const meter = new FlashMeter();
     return frames.some((state, i) => meter.see(new Uint8Array(100).fill(state), colours, i * 1000 / rate));
