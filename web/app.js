@@ -21,13 +21,13 @@ import { hideTrouble, showError, tellState } from './trouble.js';
 import { joinHelp, joinTheme } from './help.js';
 import { nameOfTab } from './journal.js';
 
-const DIVERGED = 'A command that was done again had another reply. The page shows what the machine has now.';
-const NOT_KEPT = 'The browser keeps no more. Save the machine as a file.';
 /**
  * @typedef {import('./gallery.js').Entry} Entry
  * @typedef {{title: string, lookFor: string, name?: string}} Shown what is said of a machine
  */
 
+const DIVERGED = 'A command that was done again had another reply. The page shows what the machine has now.';
+const NOT_KEPT = 'The browser keeps no more. Save the machine as a file.';
 const BLANK = Object.freeze({ title: 'New machine', lookFor: 'Define a rule, draw some cells, and press Run.' });
 const CALM = 4;         // frames a second at first, if somebody asked for less motion
 

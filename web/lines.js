@@ -25,12 +25,12 @@
 
 /**
  * @typedef {{ok: string, position?: number, rows?: string[]}} Done
- * @typedef {object} Plain
+ * @typedef {object} Plain a refusal
  * @property {number} fault
  * @property {number} [token] the token of a rule's text that is refused
  * @property {number} [address] the least address at which a rule stops
- * @typedef {Plain & {entry: number, half: string}
- *   & ({cause: 'hood'|'centres'} | {cause: 'meeting', phase: number, states: number[]})} OneWay an entry that can't be undone
+ * @typedef {{cause: 'hood'|'centres'} | {cause: 'meeting', phase: number, states: number[]}} Cause
+ * @typedef {Plain & Cause & {entry: number, half: string}} OneWay a refusal of an entry that can't be undone
  * @typedef {Plain | OneWay} Refusal
  * @typedef {Done | Refusal} Reply
  */

@@ -47,6 +47,7 @@ declare module 'node:fs' {
 
 declare module 'node:test' {
   type Work = () => void | Promise<void>;
+  export function beforeEach(work: Work): void;
   export function test(name: string, work: Work): void;
   export function test(name: string, options: { timeout: number }, work: Work): void;
 }

@@ -254,7 +254,7 @@ export class Piece {
    */
   async float(cells, [x, y], clear = null) {
     await this.time.hold();
-    const base = this.machine.planes.clone();
+    const base = this.screen.cells.clone();
     if (clear) {
       this.clearIn(base, clear);
     }

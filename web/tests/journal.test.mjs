@@ -232,6 +232,19 @@ test('journals of other pages make room, the oldest first', () => {
   assert.ok(kept(storage).length <= 9);
 });
 
+test('a journal that another page forgets just now counts as the oldest', () => {
+  class Shared extends FakeStorage {
+    /** @param {string} key */
+    getItem(key) {
+      return key === 'cam6/gone' ? null : super.getItem(key);
+    }
+  }
+  const storage = new Shared();
+  storage.setItem('cam6/gone', 'anything');
+  journalIn(storage).checkpoint(saved(1));
+  assert.deepEqual(kept(storage), [{ name: 'page', when: 5 }, { name: 'gone', when: 0 }]);
+});
+
 test('two pages with one name: each has its own machine, the one that was there first under a new name', () => {
   const storage = new FakeStorage();
   /** @type {string[]} */
