@@ -108,7 +108,9 @@ def library(tmp_path_factory: pytest.TempPathFactory) -> Callable[[str], str]:
         path = folder / f"{name}.so"
         if not path.exists():
             source = SUPPORT / f"{name}.c"
-            subprocess.run([os.environ.get("CC", "cc"), "-shared", "-fPIC", "-O2", "-o", path, source, "-ldl"], check=True)
+            subprocess.run(
+                [os.environ.get("CC", "cc"), "-shared", "-fPIC", "-O2", "-o", path, source, "-ldl"], check=True
+            )
         return str(path)
 
     return compiled

@@ -16,7 +16,15 @@ NUMBERS += " 1e2 1E0 1e+1 1e-1 0e0 -1e999 1e999 1e308 1e309 1e-999 0e999 01 00 -
 NUMBERS += " Infinity -Infinity 1/2 1,0 9223372036854775807 9223372036854775808 -9223372036854775808"
 NUMBERS += " -9223372036854775809 0.1e1 10e-1 1.0e0 2E00 ١ ４ 1e00000000000000001"
 LARGE, SMALL = "1" + "0" * 400, "0." + "0" * 400 + "1"
-NUMBERS = [*NUMBERS.split(), *[str(2**64 - 1), str(2**64)] * 3, "9" * 30, LARGE, SMALL, LARGE + "e-400", SMALL + "e+400"]
+NUMBERS = [
+    *NUMBERS.split(),
+    *[str(2**64 - 1), str(2**64)] * 3,
+    "9" * 30,
+    LARGE,
+    SMALL,
+    LARGE + "e-400",
+    SMALL + "e+400",
+]
 VALUES = ["null", "true", "false", "[]", "{}", '""', '"0"', '"1"', "[0]", '{"n":1}', "nul", "True", "tru"]
 VALUES += ["nulls", "'0'", ""]
 KEYS = ["do", "n", "plane", "row", "event", "user", "board", "command", "x", "", "do ", "Do", "entries", "name", "bits"]

@@ -44,11 +44,19 @@ def main() -> None:
     drop = without_a_pattern(range(40, 88), range(50, 78), 4)
     square = {(x, y) for x in range(20, 26) for y in range(20, 25)}
     nine = ": SUM CENTER NORTH + SOUTH + WEST + EAST + N.WEST + N.EAST + S.WEST + S.EAST + ;"
-    print("# Each cell takes on what most of nine cells are, itself among them, in half A; half B looks on. Its plane 2 is what half")
+    print(
+        "# Each cell takes on what most of nine cells are, itself among them, in half A; half B looks on. Its plane 2 is what half"
+    )
     print("# A was a step ago, and its plane 3 keeps each cell that has changed. So it sees the other half's centres.")
-    print("# Answers: of the square by hand: a corner has 4 of 9 and is cleared, and each place beside a cleared corner has 5. By")
-    print("# checks/scripts/majority.py, which counts each cell's neighbours, of a drop without a pattern: what most are soon stays, but a")
-    print("# vote of 4 that counts as a victory, and one of 5 that counts as a defeat, after G. Vichniac (1984), keep the edges moving, so")
+    print(
+        "# Answers: of the square by hand: a corner has 4 of 9 and is cleared, and each place beside a cleared corner has 5. By"
+    )
+    print(
+        "# checks/scripts/majority.py, which counts each cell's neighbours, of a drop without a pattern: what most are soon stays, but a"
+    )
+    print(
+        "# vote of 4 that counts as a victory, and one of 5 that counts as a defeat, after G. Vichniac (1984), keep the edges moving, so"
+    )
     print("# that they become short.")
     print_rule("M", "N/MOORE", "&/CENTERS", nine + " : M SUM 4 > >PLN0 ;")
     print_rule("V", "N/MOORE", "&/CENTERS", nine + " : V SUM { 0 0 0 0 1 0 1 1 1 1 } >PLN0 ;")

@@ -20,7 +20,9 @@ def cells_of(text: str) -> tuple[int, int, tuple[int, int], dict[tuple[int, int]
             corner = (int(found[1]), int(found[2]))
         elif line.strip() and not line.startswith("#"):
             break
-    width, height = map(int, re.match(r"\s*x\s*=\s*(\d+)\s*,\s*y\s*=\s*(\d+)\s*(?:,.*)?$", line.replace("\r", "")).groups())
+    width, height = map(
+        int, re.match(r"\s*x\s*=\s*(\d+)\s*,\s*y\s*=\s*(\d+)\s*(?:,.*)?$", line.replace("\r", "")).groups()
+    )
     x = y = 0
     cells = {}
     for number, sign in re.findall(r"(\d*)([a-zA-Z.$!])", "\n".join(lines).split("!")[0]):
@@ -53,7 +55,9 @@ def set_lines(text: str, side: int, column: int, row: int, planes: tuple[int, ..
 
 def replies_of(states: dict[tuple[int, int], int], side: int) -> str:
     if max(states.values(), default=0) < 2:
-        rows = [f"{int(''.join(str(states.get((x, y), 0)) for x in range(side)), 2):0{side // 4}x}" for y in range(side)]
+        rows = [
+            f"{int(''.join(str(states.get((x, y), 0)) for x in range(side)), 2):0{side // 4}x}" for y in range(side)
+        ]
         return json.dumps({"ok": "plane", "rows": rows}, separators=(",", ":")) + "\n"
     rows = ["".join(f"{states.get((x, y), 0):x}" for x in range(side)) for y in range(side)]
     return "".join(json.dumps({"colours": row, "ok": "colours"}, separators=(",", ":")) + "\n" for row in rows)

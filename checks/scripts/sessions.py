@@ -41,8 +41,9 @@ def how_it_ended(status: int, told: bytes) -> bytes:
 def written_for(command: list[str], data: bytes, more: dict[str, str] | None = None) -> bytes:
     """What a program writes if these bytes are its input."""
     try:
-        ran = subprocess.run(command, input=data, capture_output=True, timeout=WHOLE_PATIENCE, check=False,
-                             env=os.environ | (more or {}))
+        ran = subprocess.run(
+            command, input=data, capture_output=True, timeout=WHOLE_PATIENCE, check=False, env=os.environ | (more or {})
+        )
     except subprocess.TimeoutExpired as late:
         return (late.stdout or b"") + b"nothing\n"
     return ran.stdout + how_it_ended(ran.returncode, ran.stderr)

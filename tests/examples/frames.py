@@ -6,14 +6,11 @@ from collections.abc import Callable
 from typing import Any
 
 from examples.writing import Plain, compact, rows_of
+from oracle.palette import PALETTE
 
 SIDE = 128
 # The cells of the first frame that are set.
 CELLS = {(0, 0), (127, 127), (127, 0), (0, 127), (1, 2), (120, 120), (7, 7), (8, 8), (119, 119)}
-# The lights of the sixteen colours.
-PALETTE = (
-    "000000 ffd23f 3fa7ff 9be564 ee4266 ff8c42 b388eb ffb3c6 3bceac d9f2b4 7fdbff e8f8ff c98a5b ffe8c2 d0c8ff ffffff"
-)
 # The columns and the rows that are drawn, which go round the corner of the torus.
 WINDOW = [place % SIDE for place in range(120, 136)]
 
@@ -38,7 +35,7 @@ def replies() -> Plain:
 
 def hue(colour: int) -> int:
     """The terminal's number for a colour: the nearest one of its cube."""
-    lights = bytes.fromhex(PALETTE.split()[colour])
+    lights = bytes.fromhex(PALETTE[colour])
     red, green, blue = (0 if light < 48 else 1 if light < 115 else (light - 35) // 40 for light in lights)
     return 16 + 36 * red + 6 * green + blue
 

@@ -20,7 +20,7 @@ from pathlib import Path
 from typing import Any
 
 import pytest
-from support.plain_scripts import plain_script
+from oracle.palette import PALETTE
 from support.programs import TOP, Ran, private, ran
 
 LOOK = str(TOP / "look")
@@ -30,7 +30,7 @@ SIDE = 128
 COLUMNS, ROWS = 80, 24
 # A flash is a pair of changes, up and down, by a tenth of full light. Viewers should not see more than three a second.
 CHANGE, FLASHES = 0.1, 3
-LIGHTS: list[str] = plain_script("frames").PALETTE.split()
+LIGHTS = PALETTE
 # What begins a picture on a terminal.
 HOME = b"\x1b[H"
 

@@ -83,7 +83,7 @@ def files_in(drawn: bytes) -> list[bytes]:
 
 def drawn_plainly(replies: bytes, options: list[str]) -> list[Image.Image]:
     """The pictures that the plain renderer draws of replies, with these options of cam6_draw."""
-    words, scale, window, palette = list(options), 1, None, plain.default_palette()
+    words, scale, window, palette = list(options), 1, None, default_palette()
     while words:
         word = words.pop(0)
         if word == "--scale":

@@ -85,12 +85,6 @@ def until(is_so: Callable[[], Any], seconds: float = PATIENCE, pause: float = 0.
     return bool(is_so())
 
 
-def of_process(process: int, name: str) -> int:
-    """A number that the system knows of a process, as VmRSS (in kB) or Threads."""
-    with open(f"/proc/{process}/status", encoding="utf-8") as lines:
-        return next((int(line.split()[1]) for line in lines if line.startswith(f"{name}:")), 0)
-
-
 class Listener:
     """A program that listens at a port until it is ended. Raises OSError if it doesn't begin to."""
 

@@ -3,8 +3,8 @@
 //!
 //! The arguments name files of `data/`. `play` of `cam6_try_examples` says what they ask for, and does all
 //! but the ways. After the argument `scarce` it does what takes memory, for runs in which an allocation
-//! fails (`scarce`). The program makes no claim of its own beyond being safe. `checks/sessions` plays
-//! sessions and events at the program `cam6`.
+//! fails (`scarce`). The program makes no claim of its own beyond being safe. Tests of the
+//! program `cam6` play sessions and events.
 //!
 //! Stands on: `cam6_try_examples`, how files are read and compared; `cam6_session`, `cam6_cache` and what
 //! they stand on.

@@ -1,5 +1,5 @@
-//! Does what takes memory, for runs in which an allocation fails: `test_out_of_memory.py`, in the
-//! folder tests/programs, has each fail in turn. Whatever runs out of memory is done again.
+//! Does what takes memory, for runs in which an allocation fails: tests have each fail in
+//! turn. Whatever runs out of memory is done again.
 //!
 //! With the argument `session` it answers the lines of standard input as a machine does, one after
 //! another. If there is no memory for a line, it prints `again` and begins with that line once more,

@@ -2,7 +2,7 @@
 //!
 //! Contract: `file_at` returns the file at a path, or none if no file is there. `kind_of` and
 //! `bytes_of` return what the file is and what is sent of it (`specs/Files.antt`). The bytes are the
-//! file compressed by gzip. No clause says so: `tools/embed` takes them from `web/`, and `checks/web`
+//! file compressed by gzip. No clause says so: `tools/embed` takes them from `web/`, and a test
 //! compares them.
 //!
 //! Stands on: nothing.
