@@ -18,7 +18,7 @@ LINES = [row for row in rows(text_of("README.md")) if len(row) == 3]
 LINE_WORDS = 20
 # The pages that list the worked examples.
 LISTS = ["docs/GALLERY.md", "docs/EXAMPLES.md"]
-# The folder of an edit, by its mark in docs/TESTING.md.
+# The folder of an edit, by its mark in docs/WRONG-BODIES.md.
 EDITS = {"gate": "must-fail", "test": "tested-edits", "": "more-edits"}
 
 
@@ -168,10 +168,10 @@ def is_test(name: str) -> bool:
 
 
 def wrong_bodies() -> Iterator[tuple[str, list[str]]]:
-    """The rows of docs/TESTING.md with wrong bodies, each with the crate of its heading."""
+    """The rows of docs/WRONG-BODIES.md with wrong bodies, each with the crate of its heading."""
     crate = ""
-    for line in text_of("docs/TESTING.md").splitlines():
-        if heading := re.match(r"### (?:`(\w+)`)?", line):
+    for line in text_of("docs/WRONG-BODIES.md").splitlines():
+        if heading := re.match(r"## (?:`(\w+)`)?", line):
             crate = heading[1] or ""
         row = [column.strip() for column in line.split("|")[1:-1]]
         if line.startswith("| ") and len(row) == 3 and row[0] != "Wrong body":

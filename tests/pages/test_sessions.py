@@ -6,6 +6,7 @@ from collections.abc import Callable
 from contextlib import ExitStack
 
 import pytest
+from oracle.examples import Example
 from pages.texts import PAGES, Served, served_sessions_of, sessions_of
 from support.programs import TOP, Host, Peer, ran
 from support.sessions import assert_replies
@@ -53,9 +54,11 @@ def test_a_session_over_connections_comes_back(host: Callable[..., Host], words:
 
 
 def test_the_lines_of_a_session_are_printed() -> None:
-    """`tools/typed` prints what a page's session types, and refuses a session that isn't there."""
-    typed = next(sessions_of("README.md"))[1]
-    done = ran([str(TOP / "tools/typed"), "README.md", "1"])
+    """`tools/typed` prints what a page's session or an example's part sends, and refuses one that isn't there."""
+    typed, page = next(sessions_of("README.md"))[1], str(TOP / "README.md")
+    done = ran([str(TOP / "tools/typed"), page])
     assert (done.status, done.output.decode()) == (0, "".join(f"{line}\n" for line in typed))
-    for words in (["README.md", "99"], ["README.md", "0"], ["README.md", "one"], ["NO-PAGE.md", "1"]):
+    example = TOP / "crates/cam6_host/sessions/undone.example"
+    assert ran([str(TOP / "tools/typed"), str(example), "2"]).output == Example(example).parts[1].bytes_sent()
+    for words in ([page, "99"], [page, "0"], [page, "one"], ["NO-PAGE.md"], [str(example), "99"]):
         assert ran([str(TOP / "tools/typed"), *words]).status == 2

@@ -59,7 +59,7 @@ def blocks(text: str) -> Iterator[tuple[str, list[str]]]:
         before, block = paragraph, []
 
 
-def sessions_of(page: str) -> Iterator[tuple[list[str], list[str], list[str]]]:
+def sessions_of(page: str | Path) -> Iterator[tuple[list[str], list[str], list[str]]]:
     """A page's sessions: the arguments of the program, the lines that are typed, and the replies.
 
     A block that begins with a typed line goes on with the session before it. Raises ValueError if a line is neither.
