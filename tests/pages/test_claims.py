@@ -121,7 +121,7 @@ def test_code_that_the_model_quotes_is_there() -> None:
 def test_a_path_is_there(page: str) -> None:
     """Each path of a test, of a tool and of a crate's file that a page names is there."""
     text = text_of(page)
-    for path in set(re.findall(r"(?<![\w/.-])(?:checks|tests|tools)/[\w/.-]*\w", text)):
+    for path in set(re.findall(r"(?<![\w/.-])(?:tests|tools)/[\w/.-]*\w", text)):
         assert (TOP / path).exists() or (TOP / f"{path}.rt.txt").exists() or path.endswith("/NAME"), path
     for path in set(re.findall(r"\bcam6_\w+/[\w/.-]*\w\.(?:rt|antt|py|example)\b", text)):
         assert (CRATES / path).is_file(), path
@@ -157,7 +157,7 @@ def is_test(name: str) -> bool:
         return any(path.name == name for path in example_files())
     if name.startswith("tests/programs/refused/"):
         return (TOP / f"{name}.rt.txt").is_file()
-    if name.startswith(("./", "checks/", "tools/")):
+    if name.startswith(("./", "tools/")):
         return os.access(TOP / name, os.X_OK)
     module, _, function = name.partition("::")
     if name.startswith(("tests/", "clients/", "web/")):
