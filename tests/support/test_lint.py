@@ -16,8 +16,8 @@ GOOD = 'from __future__ import annotations\n\n\ndef twice(n: int) -> int:\n    r
 PYTHON, BASH = "#!/usr/bin/env python3\n", "#!/usr/bin/env bash\n"
 FINE = {
     "good.py": GOOD,
-    "tools/good": PYTHON + GOOD,
-    "good": f'{BASH}echo "$1"\n',
+    "tools/fine": PYTHON + GOOD,
+    "fair": f'{BASH}echo "$1"\n',
     "web/good.js": "export const two = 2;\n",
 }
 # Files with one fault each, and the program that finds it.

@@ -69,3 +69,12 @@ def bits_of(text: str) -> list[int]:
 def lists(cells: Any) -> list[list[int]]:
     """An array, or rows of any kind, as lists of numbers."""
     return [[int(cell) for cell in row] for row in cells]
+
+
+def value(said: Any) -> Any:
+    """An array, or bytes of cells, as lists of numbers. All else stays."""
+    if hasattr(said, "tolist"):
+        return said.tolist()
+    if isinstance(said, list) and said and isinstance(said[0], bytes):
+        return lists(said)
+    return list(said) if isinstance(said, bytes) and not said.startswith(b"{") else said

@@ -106,7 +106,7 @@ def test_a_rule_of_counts_on_a_torus() -> None:
         (lambda neighbours: rules.outer_totalistic([3], [2], neighbours=neighbours), [6]),
         (lambda states: rules.blocks(lambda block: block, states), [1, 5]),
         (lambda states: rules.blocks(lambda block: block, states, edge=True), [4]),
-        (lambda after: rules.blocks(lambda block: after, 4), [(0, 0, 0)]),
+        (rules.blocks, [lambda block: (0, 0, 0)]),
         (rules.margolus_table, ["", "neighborhood:Margolus\n1,0,0,3 : 0,0,0,0"]),
         (rules.margolus_table, ["neighborhood:Moore\n1,0,0,0 : 0,0,0,1"]),
         (rules.table, [lambda cw, north: cw, lambda middle: middle, lambda north: 2, lambda north: (1, 1, 1)]),
@@ -353,7 +353,7 @@ def test_why_a_rule_cannot_be_undone(rule: rules.Rule, want: Any) -> None:
         ": R ² ;",
     ]
     + [f": R {'9' * 5000} ;"],
-    ids=lambda text: text[:20],
+    ids=lambda text: f"{text:.20}",
 )
 def test_texts_that_are_none(text: str) -> None:
     with pytest.raises(RuleError):
@@ -373,8 +373,9 @@ def test_comments_and_definitions() -> None:
     ids=lambda given: f"{given!r:.40}",
 )
 def test_fields_that_are_none(given: dict[str, Any]) -> None:
+    fields: dict[str, Any] = {"text": ": R ;"}
     with pytest.raises(RuleError):
-        rules.Rule(**{"text": ": R ;", **given})
+        print(rules.Rule(**{**fields, **given}))
 
 
 def test_entries_of_a_rule() -> None:
