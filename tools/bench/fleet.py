@@ -23,11 +23,11 @@ from pathlib import Path
 
 sys.path.insert(0, str(Path(__file__).resolve().parents[2] / "tests"))
 
-from service.fleets import peers  # noqa: E402
-from service.fleets.commands import CRITTERS, LIFE  # noqa: E402
-from service.fleets.grounds import Ground  # noqa: E402
-from service.fleets.peers import Peer  # noqa: E402
-from service.fleets.services import HOSTS, Fleet, Service  # noqa: E402
+from service.fleets import peers
+from service.fleets.commands import CRITTERS, LIFE
+from service.fleets.grounds import Ground
+from service.fleets.peers import Peer
+from service.fleets.services import HOSTS, Fleet, Service
 
 RULES = {"Critters": ("N/MARG", "&/PHASES", CRITTERS), "Life": ("N/MOORE", "&/CENTERS", LIFE)}
 SECONDS = 4
@@ -114,9 +114,8 @@ def memory(cam6: str, folder: Path) -> None:
                 saved = one.ask('{"do":"save"}')
             then = service.of_process("VmRSS")
             assert saved is not None
-            asked_for(
-                ones, [b'{"do":"load","machine":' + saved[len(b'{"machine":') : -len(b',"ok":"save"}')] + b"}"], 1
-            )
+            machine = saved.removeprefix('{"machine":').removesuffix(',"ok":"save"}')
+            asked_for(ones, [f'{{"do":"load","machine":{machine}}}'], 1)
             print(f"memory: side {side}: {first / 1024:.1f} MB at first, {then / 1024:.1f} MB with 32 users", end="")
             print(f": {(then - first) / 32:.0f} KB a user; {service.of_process('Threads')} threads", end="")
             print(f"; at most {service.of_process('VmHWM') / 1024:.1f} MB")

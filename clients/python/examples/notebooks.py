@@ -76,7 +76,7 @@ def data_of(value: Any) -> Dict[str, Any]:
 
 def figures() -> List[str]:
     """The figures that are open, which are closed then."""
-    pyplot = sys.modules.get("matplotlib.pyplot")
+    pyplot: Any = sys.modules.get("matplotlib.pyplot")
     found = []
     for number in pyplot.get_fignums() if pyplot else []:
         out = io.BytesIO()

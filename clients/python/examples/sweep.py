@@ -101,7 +101,7 @@ print(f"{len(found):,} classes of {sum(size for _, size in found):,} rules")
 # needs 128 steps for a turn of the torus.
 
 # %%
-TIMES = sorted({2 * 2**a * 3**b for a in range(12) for b in (0, 1, 2) if 2 * 2**a * 3**b <= MOST})
+TIMES: list[int] = sorted({2 * 2**a * 3**b for a in range(12) for b in (0, 1, 2) if 2 * 2**a * 3**b <= MOST})
 LONG = f"more than {MOST:,}"
 
 machine = cam6.local(PROGRAM)

@@ -1,24 +1,22 @@
-"""Stands for the program: the plain machine of checks/scripts, and hosts by it that break.
+"""Stands for the program: the machine of tests/oracle, and hosts by it that break.
 
-The plain machine shares nothing with the program, and nothing with this package. What a test expects comes from it.
+The oracle shares nothing with the program, and nothing with this package. What a test expects comes from it.
 """
 
 from __future__ import annotations
 
-import importlib
 import json
 import socket
 import ssl
-import sys
 import threading
 import time
-from collections.abc import Callable, Iterable
+from collections.abc import Callable
 from pathlib import Path
 from typing import Any, Optional
 
+from oracle.machine import Alone
+
 HERE = Path(__file__).parent
-SCRIPTS = HERE.parents[2] / "checks" / "scripts"
-PLAIN_PROGRAM = HERE / "plain_program.py"
 # Seconds for which a silent host is silent.
 SILENT = 30
 PARITY = ": P CENTER NORTH XOR SOUTH XOR WEST XOR EAST XOR >PLN0 ;"
@@ -28,43 +26,16 @@ BALLS = (
 )
 
 
-def script(name: str) -> Any:
-    """A script of checks/, as a module. They import each other by plain names, so they are all found in one folder."""
-    if str(SCRIPTS) not in sys.path:
-        sys.path.append(str(SCRIPTS))
-    return importlib.import_module(name)
-
-
-def is_plain(program: str) -> bool:
-    """Whether a program is the plain one, which is too slow for much."""
-    return program == str(PLAIN_PROGRAM)
-
-
-class Plain:
+class Plain(Alone):
     """A plain machine, line by line."""
-
-    def __init__(self, limit: int = 256) -> None:
-        self.alone = script("machines").Alone(limit)
-
-    def answer(self, line: bytes) -> bytes:
-        """The reply to a line."""
-        reply: bytes = self.alone.answer(line)
-        return reply
 
     def ask(self, **command: Any) -> Any:
         """The reply to a command."""
-        return json.loads(self.answer(json.dumps(command).encode()))
+        return json.loads(self.answer(compact(**command)))
 
-
-def answers(sent: Iterable[bytes], limit: int = 256) -> list[bytes]:
-    """The replies of a new plain machine to lines."""
-    plain = Plain(limit)
-    return [plain.answer(line) for line in sent]
-
-
-def load_line(plain: Plain) -> bytes:
-    """The line that loads a plain machine, made as the manual says."""
-    return load_of(plain.answer(b'{"do":"save"}'))
+    def load_line(self) -> bytes:
+        """The line that loads the machine, made as the manual says."""
+        return load_of(self.answer(b'{"do":"save"}'))
 
 
 def load_of(reply: bytes) -> bytes:
@@ -116,31 +87,24 @@ class Breaking:
 
     def converse(self, stream: socket.socket) -> None:
         """Answers the lines of a connection."""
-        seat = -1
         try:
             if self.tls:
                 stream = self.tls.wrap_socket(stream, server_side=True)
             with stream, stream.makefile("rb") as lines:
-                line = lines.readline().rstrip(b"\n")
-                self.first.append(line)
-                seat = json.loads(line)["seat"] - 1
+                self.first.append(lines.readline().rstrip(b"\n"))
+                seat = json.loads(self.first[-1])["seat"] - 1
                 if not 0 <= seat < len(self.taken):
-                    seat = -1
                     stream.sendall(b'{"fault":81}\n')
-                    return
-                if not self.taken[seat].acquire(blocking=False):
-                    seat = -1
+                elif not self.taken[seat].acquire(blocking=False):
                     stream.sendall(b'{"fault":80}\n')
-                    return
-                stream.sendall(b'{"ok":"seat"}\n')
-                for line in lines:
-                    if not self.answer(stream, seat, line.rstrip(b"\n")):
-                        return
+                else:
+                    try:
+                        stream.sendall(b'{"ok":"seat"}\n')
+                        all(self.answer(stream, seat, line.rstrip(b"\n")) for line in lines)
+                    finally:
+                        self.taken[seat].release()
         except (OSError, ValueError):
             pass
-        finally:
-            if seat >= 0:
-                self.taken[seat].release()
 
     def answer(self, stream: socket.socket, seat: int, line: bytes) -> bool:
         """Answers a line, or breaks. Returns whether the connection goes on."""
@@ -180,11 +144,6 @@ class Breaking:
         self.stop()
 
 
-class Once:
+def once(at: int, what: Any) -> Callable[[int, bytes], Any]:
     """Breaks at one line alone."""
-
-    def __init__(self, number: int, what: Any) -> None:
-        self.number, self.what = number, what
-
-    def __call__(self, number: int, line: bytes) -> Any:
-        return self.what if number == self.number else None
+    return lambda number, line: what if number == at else None

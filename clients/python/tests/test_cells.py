@@ -7,6 +7,7 @@ from collections.abc import Callable
 from typing import Any
 
 import pytest
+from plain import bits_of, lists
 
 from cam6 import cells, placing
 
@@ -19,94 +20,56 @@ def arrays(request: pytest.FixtureRequest, monkeypatch: pytest.MonkeyPatch, modu
 
 
 def plain_bits(rows: list[str]) -> list[list[int]]:
-    """The bits of rows, as docs/MANUAL.md has it."""
-    return [[int(bit) for digit in row for bit in f"{int(digit, 16):04b}"] for row in rows]
+    """The bits of rows."""
+    return [bits_of(row) for row in rows]
 
 
-def plain_rows(array: Any) -> list[list[int]]:
-    """An array as lists of numbers."""
-    return [[int(cell) for cell in row] for row in array]
+def some_rows(source: random.Random, side: int) -> list[str]:
+    """Random rows of a torus."""
+    return [f"{source.getrandbits(side):0{side // 4}x}" for _ in range(side)]
 
 
 @pytest.mark.parametrize("side", cells.SIDES)
 def test_digits_there_and_back(side: int) -> None:
-    source = random.Random(side)
-    rows = [f"{source.getrandbits(side):0{side // 4}x}" for _ in range(side)]
+    rows = some_rows(random.Random(side), side)
     bits = cells.bits_of(rows, side)
-    assert plain_rows(bits) == plain_bits(rows)
-    assert cells.rows_of(bits) == cells.rows_of(plain_rows(bits)) == rows
+    assert lists(bits) == plain_bits(rows)
+    assert cells.rows_of(bits) == cells.rows_of(lists(bits)) == rows
     assert [cells.digits_of(row, side) for row in bits] == rows
-    assert plain_rows(cells.bits_of([row.upper() for row in rows], side)) == plain_bits(rows)
+    assert lists(cells.bits_of([row.upper() for row in rows], side)) == plain_bits(rows)
 
 
-@pytest.mark.parametrize(
-    "kind",
-    [
-        list,
-        tuple,
-        bytes,
-        bytearray,
-        iter,
-        pytest.param(lambda row: "83" * 16, id="digits"),
-        pytest.param(lambda row: b"\x83" * 16, id="packed"),
-        pytest.param(lambda row: [bool(cell) for cell in row], id="truths"),
-    ],
-)
-def test_kinds_of_rows(kind: Callable[[list[int]], Any]) -> None:
+@pytest.mark.parametrize("kind", [list, tuple, bytes, bytearray, iter, "digits", "packed", "truths"])
+def test_kinds_of_rows(kind: Any) -> None:
     """A row may be digits, packed bytes, a byte a cell, numbers or truth values."""
-    assert cells.digits_of(kind([1, 0, 0, 0, 0, 0, 1, 1] * 16), 128) == "83" * 16
+    row = [1, 0, 0, 0, 0, 0, 1, 1] * 16
+    others: dict[str, Any] = {"digits": "83" * 16, "packed": b"\x83" * 16, "truths": [cell == 1 for cell in row]}
+    assert cells.digits_of(others[kind] if kind in others else kind(row), 128) == "83" * 16
 
 
-@pytest.mark.parametrize(
-    ("bits", "kind"),
-    [
-        ([0] * 127, ValueError),
-        ([0] * 129, ValueError),
-        ([0] * 127 + [2], ValueError),
-        ([0] * 127 + [-1], ValueError),
-        ([0] * 127 + [1000], ValueError),
-        ([0] * 127 + [1.0], TypeError),
-        ([0] * 127 + ["1"], TypeError),
-        (128, TypeError),
-        (True, TypeError),
-        (None, TypeError),
-        ("0" * 31, ValueError),
-        ("0" * 33, ValueError),
-        ("0" * 31 + "g", ValueError),
-        ("0" * 30 + "0x", ValueError),
-        ("0x" + "0" * 30, ValueError),
-        ("+" + "0" * 31, ValueError),
-        ("0" * 15 + "_" + "0" * 16, ValueError),
-        ("0" * 30 + "1_", ValueError),
-        (" " + "0" * 31, ValueError),
-        ("0" * 31 + "\u0663", ValueError),
-        (b"\2" * 128, ValueError),
-        (b"0" * 128, ValueError),
-        (bytes(15), ValueError),
-        ([[0] * 128] * 128, TypeError),
+NO_ROWS: dict[type[Exception], list[Any]] = {
+    ValueError: [
+        *([0] * 127, [0] * 129, [0] * 127 + [2], [0] * 127 + [-1], [0] * 127 + [1000]),
+        *("0" * 31, "0" * 33, "0" * 31 + "g", "0" * 30 + "0x", "0x" + "0" * 30, "+" + "0" * 31),
+        *("0" * 15 + "_" + "0" * 16, "0" * 30 + "1_", " " + "0" * 31, "0" * 31 + "\u0663"),
+        *(b"\2" * 128, b"0" * 128, bytes(15)),
     ],
-    ids=lambda value: repr(value)[-20:],
-)
-def test_bad_rows(bits: Any, kind: type[Exception]) -> None:
-    with pytest.raises(kind):
-        cells.digits_of(bits, 128)
+    TypeError: [[0] * 127 + [1.0], [0] * 127 + ["1"], 128, True, None, [[0] * 128] * 128],
+}
+NO_GRIDS: dict[type[Exception], list[Any]] = {
+    ValueError: [[[0, 1], [0]], [[0, 2]]],
+    TypeError: ["ab", b"ab", ["ab"], [1, 2], 7],
+}
 
 
-@pytest.mark.parametrize(
-    ("bits", "kind"),
-    [
-        ([[0, 1], [0]], ValueError),
-        ([[0, 2]], ValueError),
-        ("ab", TypeError),
-        (b"ab", TypeError),
-        (["ab"], TypeError),
-        ([1, 2], TypeError),
-        (7, TypeError),
-    ],
-)
-def test_bad_grids(bits: Any, kind: type[Exception]) -> None:
-    with pytest.raises(kind):
-        cells.grid_of(bits)
+@pytest.mark.parametrize("kind", [ValueError, TypeError])
+def test_bad_rows_and_grids(kind: type[Exception]) -> None:
+    for row in NO_ROWS[kind]:
+        with pytest.raises(kind):
+            print(cells.digits_of(row, 128), "of", row)
+    for grid in NO_GRIDS[kind]:
+        with pytest.raises(kind):
+            print(cells.grid_of(grid), "of", grid)
 
 
 def test_rows_of_a_wrong_length() -> None:
@@ -119,15 +82,15 @@ def test_rows_of_a_wrong_length() -> None:
 
 def test_states() -> None:
     source = random.Random(2)
-    planes = [[f"{source.getrandbits(128):032x}" for _ in range(128)] for _ in range(4)]
+    planes = [some_rows(source, 128) for _ in range(4)]
     states = cells.states_of([cells.bits_of(rows, 128) for rows in planes])
     bits = [plain_bits(rows) for rows in planes]
     want = [[sum(bits[p][y][x] << p for p in range(4)) for x in range(128)] for y in range(128)]
-    assert plain_rows(states) == want
+    assert lists(states) == want
 
 
 def test_numbers() -> None:
-    assert plain_rows(cells.numbers_of(["0123456789abcdef"] * 2)) == [list(range(16))] * 2
+    assert lists(cells.numbers_of(["0123456789abcdef"] * 2)) == [list(range(16))] * 2
 
 
 def test_random_rows_depend_on_their_seed() -> None:
@@ -151,7 +114,7 @@ def test_cells_are_placed_over_the_seams() -> None:
         height, width = source.choice([1, 2, 7, 128]), source.choice([1, 3, 8, 100, 128])
         x, y = source.randrange(-300, 300), source.randrange(-300, 300)
         bits = [[source.randrange(2) for _ in range(width)] for _ in range(height)]
-        old = [f"{source.getrandbits(128):032x}" for _ in range(128)]
+        old = some_rows(source, 128)
         want = plain_bits(old)
         for j in range(height):
             for i in range(width):
@@ -166,16 +129,13 @@ def test_cells_are_placed_over_the_seams() -> None:
 
 
 @pytest.mark.parametrize(
-    ("bits", "x", "y", "kind"),
+    ("kind", "wrong"),
     [
-        ([[1]], True, 0, TypeError),
-        ([[1]], 0, 1.0, TypeError),
-        ([[1] * 129], 0, 0, ValueError),
-        ([[1]] * 129, 0, 0, ValueError),
-        ([], 0, 0, ValueError),
-        ([[]], 0, 0, ValueError),
+        (TypeError, [([[1]], True, 0), ([[1]], 0, 1.0)]),
+        (ValueError, [([[1] * 129], 0, 0), ([[1]] * 129, 0, 0), ([], 0, 0), ([[]], 0, 0)]),
     ],
 )
-def test_bad_places(bits: Any, x: Any, y: Any, kind: type[Exception]) -> None:
-    with pytest.raises(kind):
-        placing.placed(0, bits, x, y, 128)
+def test_bad_places(kind: type[Exception], wrong: list[tuple[Any, Any, Any]]) -> None:
+    for bits, x, y in wrong:
+        with pytest.raises(kind):
+            print(placing.placed(0, bits, x, y, 128), "of", bits, x, y)

@@ -18,13 +18,13 @@ from pathlib import Path
 from typing import Any, Optional
 from unittest import mock
 
-import fakes
 import pytest
 from disks import Crash, Disk, Failure
 from fakes import Plain, compact
 from hypothesis import assume, example, given, note, settings
 from hypothesis import strategies as st
 from hypothesis.stateful import RuleBasedStateMachine, initialize, precondition, rule
+from oracle.machine import answers
 
 from cam6 import BadJournal, Lost, lines, sessions
 from cam6.journal import Journal
@@ -160,7 +160,7 @@ class Program:
     def __init__(self, story: Story, path: Path) -> None:
         self.story, self.path = story, path
         self.sent = [CYCLE, *story.commands, lines.SAVE]
-        self.want = fakes.answers(self.sent, LIMIT)
+        self.want = answers(self.sent, LIMIT)
         # How many commands were asked for, how many of them are on the disk, and how many the next life has to know.
         self.asked = self.synced = self.least = 0
 
@@ -250,14 +250,14 @@ def is_json(row: bytes) -> bool:
 
 
 @settings(deadline=None)
-@given(data=st.data(), asked=st.lists(st.binary(max_size=8), min_size=2, max_size=5), answers=st.integers(0, 5))
-def test_a_damaged_middle_is_told(data: st.DataObject, asked: list[bytes], answers: int) -> None:
+@given(data=st.data(), asked=st.lists(st.binary(max_size=8), min_size=2, max_size=5), count=st.integers(0, 5))
+def test_a_damaged_middle_is_told(data: st.DataObject, asked: list[bytes], count: int) -> None:
     """A line ends too early, or has other bytes, or goes on with the next one. It is named, and the file stays as it is."""
     with tempfile.TemporaryDirectory() as folder:
         path = Path(folder) / "journal"
         with closing(Journal(str(path), "none", LIMIT)) as made:
             made.asked(asked)
-            made.answered([b'{"fault":2}'] * min(answers, len(asked)))
+            made.answered([b'{"fault":2}'] * min(count, len(asked)))
         rows = path.read_bytes().splitlines(keepends=True)
         place = data.draw(st.integers(1, len(rows) - 2), "place")
         row = rows[place][: data.draw(st.integers(0, len(rows[place]) - 2), "kept")]

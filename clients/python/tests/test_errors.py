@@ -1,7 +1,8 @@
-"""Faults: each number with its sentence, its fields and what is drawn, against the plain machine of checks/."""
+"""Faults: each number with its sentence, its fields and what is drawn, against the oracle."""
 
 from __future__ import annotations
 
+import itertools
 import json
 import pickle
 import signal
@@ -9,9 +10,10 @@ import threading
 from collections.abc import Callable
 from typing import Any
 
-import fakes
 import pytest
-from fakes import Plain
+from oracle.machine import answers
+from oracle.wirings import HOODS, MINORS
+from programs.test_errors import lines_of, load_line
 from support.programs import TOP, free_port
 
 import cam6
@@ -26,15 +28,12 @@ FIELDS = ("token", "address", "cause", "entry", "half", "phase")
 Local = Callable[..., Machine]
 
 
-def lines_of(entry: Any, plain: Plain) -> list[bytes]:
+def example_of(entry: Any) -> list[bytes]:
     """The lines of an entry's example, up to the one that is refused."""
-    lines = list(fakes.script("errors").lines_of(entry["lines"]))
-    if isinstance(lines[-1], tuple):
-        for line in lines[:-1]:
-            plain.answer(line.encode())
-        saved = fakes.load_line(plain).decode()
-        before, _, after = saved.rpartition(lines[-1][0])
-        lines[-1] = before + lines[-1][1] + after
+    lines, last = lines_of(entry["lines"]), entry["lines"][-1]
+    if isinstance(last, dict) and "load" in last:
+        saved = answers([*(line.encode() for line in lines), b'{"do":"save"}'])[-1]
+        lines.append(load_line(saved.decode(), *last["load"]))
     return [line.encode() for line in lines]
 
 
@@ -65,8 +64,8 @@ def test_each_error_is_one_of_cam6(kind: type) -> None:
 @pytest.mark.parametrize("number", [number for number, entry in ENTRIES.items() if entry["program"] == "alone"])
 def test_an_example_of_the_page_raises_its_class(number: int, local: Local) -> None:
     """It has the fields that the plain machine has."""
-    sent = lines_of(ENTRIES[number], Plain())
-    want = json.loads(fakes.answers(sent)[-1])
+    sent = example_of(ENTRIES[number])
+    want = json.loads(answers(sent)[-1])
     assert want["fault"] == number
     machine = local()
     machine._talk(sent[:-1])
@@ -130,13 +129,11 @@ def test_the_fault_of_a_text_shows_where_it_is(local: Local) -> None:
 
 
 def test_names_at_an_address_are_those_of_the_plain_machine() -> None:
-    plain = fakes.script("wirings")
-    for hood, names in plain.HOODS.items():
-        for minor, more in plain.MINORS.items():
-            every = names.split() + more.split()
-            for address in (0, 1, 2, 5, 64, 1024, 2048, 3072, 1023, 4095):
-                want = [name for bit, name in enumerate(every) if address >> bit & 1 and name != "."]
-                assert wirings.names_at(hood, minor, address) == want, (hood, minor, address)
+    for hood, minor in itertools.product(HOODS, MINORS):
+        every = f"{HOODS[hood]} {MINORS[minor]}".split()
+        for address in (0, 1, 2, 5, 64, 1024, 2048, 3072, 1023, 4095):
+            want = [name for bit, name in enumerate(every) if address >> bit & 1 and name != "."]
+            assert wirings.names_at(hood, minor, address) == want, (hood, minor, address)
     assert wirings.names_at("N/NONE", "&/HV", 1) is None
 
 

@@ -12,14 +12,13 @@ from collections.abc import Sequence
 from pathlib import Path
 from typing import Any
 
-import plain
 import pytest
+from plain import lists
 
-from cam6 import patterns, rules
+from cam6 import Machine, local, patterns, rules
 from cam6.patterns import PatternError
 
 GOLLY = Path(os.environ.get("GOLLY", "/usr/share/golly"))
-SHOWN = [{"do": "plane", "plane": 0}, {"do": "plane", "plane": 1}]
 # What a state with marks is without them. 255 stands for no cell.
 UNMARKED = bytes([255]) + bytes((state - 1) // 2 for state in range(1, 256))
 
@@ -39,38 +38,10 @@ def generation(path: Path, number: int, folder: Path) -> patterns.Pattern:
     return patterns.load(out)
 
 
-def commands_of(found: patterns.Emulated, side: int) -> list[dict[str, Any]]:
-    """The lines that put a pattern on a blank machine."""
-    lower, upper, grids = found.planes(side)
-    rule = found.rule
-    entries = [{"a": "R", "b": "-", "grid": grid, "phase": 0} for grid in grids]
-    commands: list[dict[str, Any]] = [
-        {"do": "side", "side": side},
-        {"do": "rule", "name": "R", "half": "A", "hood": rule.hood, "minor": rule.minor, "text": rule.text},
-        {"do": "cycle", "entries": entries},
-    ]
-    for plane, rows in enumerate((lower, upper)):
-        commands += [
-            {"do": "set", "plane": plane, "row": y, "bits": plain.digits(list(map(int, row)))}
-            for y, row in enumerate(rows)
-        ]
-    return commands
-
-
-def rows_of(found: patterns.Emulated, side: int, reply: dict[str, Any]) -> list[bytes]:
-    """The bits of the pattern's cells by a reply that shows a plane."""
-    x, y = found._place(side, None, None)
-    rows = []
-    for j in range(found.height):
-        text = f"{int(reply['rows'][(y + j) % side], 16):0{side}b}"
-        rows.append((2 * text)[x % side :][: found.width].encode().translate(bytes.maketrans(b"01", b"\0\1")))
-    return rows
-
-
-def states_of(found: patterns.Emulated, side: int, replies: list[dict[str, Any]]) -> list[bytes]:
-    """The states of the pattern's cells by the replies that show planes 0 and 1."""
-    lower, upper = (rows_of(found, side, reply) for reply in replies)
-    return [bytes(a + 2 * b for a, b in zip(*rows)) for rows in zip(lower, upper)]
+def states_of(machine: Machine, found: patterns.Emulated, x: int, y: int) -> list[bytes]:
+    """The states of the cells at which a pattern was put, round the torus."""
+    rows, side = [bytes(row) * 2 for row in lists(machine.cells())], machine.side
+    return [rows[(y + j) % side][x % side :][: found.width] for j in range(found.height)]
 
 
 def are_equal(ours: list[bytes], theirs: Sequence[bytes]) -> bool:
@@ -100,18 +71,16 @@ def test_beside_bgolly(
     path = GOLLY / "Patterns" / "Margolus" / f"{name}.rle"
     found = patterns.emulated(patterns.load(str(path)), **given)
     assert rules.is_reversible(found.rule) == can_be_undone
-    commands = commands_of(found, side)
-    begin = len(commands)
-    for _ in range(generations):
-        commands += [{"do": "run", "n": 1}, *SHOWN]
-    commands += [{"do": "back", "n": generations}, *SHOWN]
-    replies = plain.played(cam6, commands, side)
-    for number in range(1, generations + 1):
-        at = begin + 3 * (number - 1)
-        ours = states_of(found, side, replies[at + 1 : at + 3])
-        assert are_equal(ours, generation(path, number, tmp_path).rows), f"generation {number}"
-    if can_be_undone:
-        assert states_of(found, side, replies[-2:]) == [bytes(row) for row in found.cells]
+    with local(cam6, side_limit=side) as machine:
+        machine.set_side(side)
+        x, y = found.put(machine)
+        for number in range(1, generations + 1):
+            machine.run()
+            ours = states_of(machine, found, x, y)
+            assert are_equal(ours, generation(path, number, tmp_path).rows), f"generation {number}"
+        if can_be_undone:
+            machine.back(generations)
+            assert states_of(machine, found, x, y) == [bytes(row) for row in found.cells]
 
 
 def test_the_whole_folder() -> None:

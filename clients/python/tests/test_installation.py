@@ -3,6 +3,7 @@
 from __future__ import annotations
 
 import os
+import shlex
 import shutil
 import subprocess
 import sys
@@ -10,6 +11,7 @@ from pathlib import Path
 
 import pytest
 from support.programs import TOP
+from test_page import blocks
 
 pytestmark = pytest.mark.slow
 
@@ -25,42 +27,42 @@ with cam6.local(sys.argv[1]) as machine:
 def client(tmp_path: Path) -> Path:
     """A copy of the package's folder, as setuptools leaves files beside what it builds."""
     ignored = shutil.ignore_patterns("build", "*.egg-info", "tests", "__pycache__")
-    return Path(shutil.copytree(TOP / "clients" / "python", tmp_path / "client", ignore=ignored))
+    return Path(shutil.copytree(TOP / "clients" / "python", tmp_path / "clients" / "python", ignore=ignored))
 
 
-def done(*command: str | Path) -> str:
-    """What a command prints. pip may ask no index."""
-    env = {**os.environ, "PIP_NO_INDEX": "1", "PIP_DISABLE_PIP_VERSION_CHECK": "1"}
-    ran = subprocess.run([*map(str, command)], env=env, capture_output=True, text=True, check=False)
+def done(command: str, folder: Path) -> str:
+    """What commands of a shell print. pip may ask no index, and `python3` is the interpreter of this test."""
+    path = f"{Path(sys.executable).parent}:{os.environ['PATH']}"
+    env = {**os.environ, "PIP_NO_INDEX": "1", "PIP_DISABLE_PIP_VERSION_CHECK": "1", "PATH": path}
+    ran = subprocess.run(["bash", "-ec", command], cwd=folder, env=env, capture_output=True, text=True, check=False)
     assert ran.returncode == 0, ran.stdout + ran.stderr
     return ran.stdout
 
 
 def check(env: Path, cam6: str) -> None:
     """Runs a machine by the package of an environment, and looks for its other files."""
-    count, place = done(env / "bin" / "python", "-I", "-c", MACHINE, cam6).split()
+    count, place = done(f"bin/python -I -c {shlex.quote(MACHINE)} {cam6}", env).split()
     package = Path(place).parent
     assert count == "256"
     assert package.is_relative_to(env)
-    assert sorted(path.name for path in package.iterdir() if path.suffix in (".json", ".typed")) == [
+    assert {path.name for path in package.iterdir() if path.suffix in (".json", ".typed")} == {
         "errors.json",
         "py.typed",
-    ]
-    assert "usage:" in done(env / "bin" / "cam6-python", "--help")
+    }
+    assert "usage:" in done("bin/cam6-python --help", env)
 
 
-def test_it_is_installed_from_its_folder(client: Path, cam6: str, tmp_path: Path) -> None:
-    """By the setuptools of the system, which the environment sees."""
-    env = tmp_path / "env"
-    done(sys.executable, "-m", "venv", "--system-site-packages", env)
-    done(env / "bin" / "pip", "install", "--no-build-isolation", client)
-    check(env, cam6)
+def test_it_is_installed_by_the_commands_of_the_page(client: Path, cam6: str, tmp_path: Path) -> None:
+    """By the setuptools of the system, which the environment sees, and without a network."""
+    install, first = blocks()[:2]
+    assert "pip install" in install and "import cam6" in first
+    (tmp_path / "cam6").symlink_to(cam6)
+    assert done(f"{install}\n{first}", tmp_path).endswith("<cam6 machine of 256 by 256 cells>\n")
+    check(tmp_path / "env", cam6)
 
 
 def test_its_wheel_is_installed_where_nothing_else_is(client: Path, cam6: str, tmp_path: Path) -> None:
-    maker, env = tmp_path / "maker", tmp_path / "env"
-    done(sys.executable, "-m", "venv", "--system-site-packages", maker)
-    done(maker / "bin" / "pip", "wheel", "--no-build-isolation", "--wheel-dir", tmp_path, client)
-    done(sys.executable, "-m", "venv", env)
-    done(env / "bin" / "pip", "install", *tmp_path.glob("cam6-*.whl"))
-    check(env, cam6)
+    done("python3 -m venv --system-site-packages maker && python3 -m venv env", tmp_path)
+    done(f"maker/bin/pip wheel --no-build-isolation --wheel-dir . {client}", tmp_path)
+    done("env/bin/pip install cam6-*.whl", tmp_path)
+    check(tmp_path / "env", cam6)

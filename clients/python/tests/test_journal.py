@@ -10,9 +10,9 @@ from contextlib import ExitStack, closing
 from pathlib import Path
 from typing import Any
 
-import fakes
 import pytest
 from fakes import Breaking, Plain, compact
+from oracle.machine import answers
 from test_sessions import CYCLE, RULE, Breakings, Connected, commands, session_of
 
 import cam6
@@ -73,7 +73,7 @@ def written(made: Journal) -> list[Any]:
 @pytest.mark.parametrize("limit", [128, 256, 512])
 def test_a_new_journal_is_a_blank_machine(limit: int) -> None:
     """Its load line is the one that a plain machine saves."""
-    assert Journal(None, "none", limit).load == fakes.load_line(Plain(limit))
+    assert Journal(None, "none", limit).load == Plain(limit).load_line()
 
 
 def test_a_new_journal_is_opened_again(opened: Opened) -> None:
@@ -148,7 +148,7 @@ def test_a_machine_of_a_journal_that_is_cut(path: Path, breaking: Breakings, con
         asked = data[first:cut].count(b'{"ask":') - (b'{"ask":' in data[:cut].rpartition(b"\n")[2])
         with connected(port, journal=path, every_seconds=5) as machine:
             assert session_of(machine).asked == asked
-            assert machine._talk([lines.SAVE]) == fakes.answers([*sent[:asked], lines.SAVE], 128)[-1:]
+            assert machine._talk([lines.SAVE]) == answers([*sent[:asked], lines.SAVE], 128)[-1:]
 
 
 def test_a_checkpoint_keeps_what_is_not_answered(path: Path, opened: Opened) -> None:
@@ -157,7 +157,7 @@ def test_a_checkpoint_keeps_what_is_not_answered(path: Path, opened: Opened) -> 
     made.answered([b'{"ok":"rule"}', b'{"ok":"cycle"}'])
     plain = Plain(128)
     plain.answer(RULE)
-    made.checkpoint(fakes.load_line(plain))
+    made.checkpoint(plain.load_line())
     want = state_of(made)
     made.close()
     again = opened()

@@ -1,13 +1,13 @@
-"""Lines: each is a command as the plain reader of checks/ reads it, and says what the call's arguments said."""
+"""Lines: each is a command as the oracle's reader reads it, and says what the call's arguments said."""
 
 from __future__ import annotations
 
 import json
 from typing import Any
 
-import fakes
 import pytest
 from fakes import PARITY, Plain
+from oracle.lines import COMMANDS, is_command, read_line
 
 from cam6 import lines
 from cam6.errors import Cam6Error
@@ -39,13 +39,12 @@ CALLS: list[tuple[Call[Any], dict[str, Any]]] = [
 
 @pytest.mark.parametrize(("call", "said"), CALLS, ids=[said["do"] for _, said in CALLS])
 def test_a_line_says_what_the_arguments_said(call: Call[Any], said: dict[str, Any]) -> None:
-    reader = fakes.script("lines")
     [line] = call.lines
-    assert reader.read_line(line, reader.is_command) == said
+    assert read_line(line, is_command) == said
 
 
 def test_each_command_has_a_line() -> None:
-    assert {said["do"] for _, said in CALLS} == set(fakes.script("lines").COMMANDS)
+    assert {said["do"] for _, said in CALLS} == set(COMMANDS)
 
 
 @pytest.mark.parametrize(
@@ -71,7 +70,7 @@ def test_a_saved_machine_becomes_a_load_line() -> None:
     plain.ask(do="rule", name="P", half="A", hood="N/VONN", minor="&/CENTERS", text="( \u007f \u2028 é )\n" + PARITY)
     reply = plain.answer(b'{"do":"save"}')
     line = lines.load_line(reply)
-    assert line == fakes.load_line(plain)
+    assert line == plain.load_line()
     assert Plain(256).answer(line) == b'{"ok":"load"}'
     for wrong in (b"", b'{"fault":1}', reply[:-1], reply[1:]):
         with pytest.raises(Cam6Error):
@@ -82,7 +81,7 @@ def test_a_saved_machine_becomes_a_load_line() -> None:
 def test_a_blank_machine(side: int) -> None:
     plain = Plain(512)
     plain.ask(do="side", side=side)
-    assert lines.blank(side) == fakes.load_line(plain)
+    assert lines.blank(side) == plain.load_line()
     assert lines.side_of_load(lines.blank(side)) == side
 
 

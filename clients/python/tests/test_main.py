@@ -8,9 +8,9 @@ import sys
 from collections.abc import Callable
 from pathlib import Path
 
-import fakes
 import pytest
 from fakes import Breaking, Plain, compact
+from oracle.machine import answers
 from support.programs import TOP, free_port
 
 from cam6 import Machine
@@ -56,14 +56,14 @@ def test_refused_arguments(words: tuple[str, ...], main: Main) -> None:
 
 
 def test_play(main: Main, tmp_path: Path) -> None:
-    want = b"\n".join(fakes.answers(LINES, 256)).decode() + "\n"
+    want = b"\n".join(answers(LINES, 256)).decode() + "\n"
     assert main("play", written(tmp_path, "good.lines", LINES)) == (0, want, "")
 
 
 def test_play_with_a_fault(main: Main, tmp_path: Path) -> None:
     sent = [*LINES, b'{"do":"run","n":1}', LINES[-1]]
     path = written(tmp_path, "bad.lines", [*sent, b""])
-    want = b"\n".join(fakes.answers(sent, 256)).decode() + "\n"
+    want = b"\n".join(answers(sent, 256)).decode() + "\n"
     sentence = "63: There is no cycle to run or to undo. Set a cycle first."
     assert main("play", path) == (1, want, f"{path}, line 4: {sentence}\n")
 
@@ -99,7 +99,7 @@ def test_keep(main: Main, breaking: Callable[..., Breaking], local: Callable[...
     assert (status, err) == (0, "")
     assert "seat 3, side 128" in out
     saved = (tmp_path / "kept").read_bytes()
-    assert saved == fakes.load_line(plain) + b"\n"
+    assert saved == plain.load_line() + b"\n"
     machine = local()
     machine.load(saved)
     assert machine.count() == 128

@@ -4,7 +4,6 @@ from __future__ import annotations
 
 import ast
 import contextlib
-import importlib.util
 import io
 import json
 import os
@@ -13,6 +12,7 @@ from typing import Any
 
 import pytest
 from support.programs import TOP
+from support.tools import tool
 
 from cam6 import rules
 
@@ -22,7 +22,7 @@ SHELL = ("pip ", "export ", "cd ", "python3 ", "env/bin/")
 
 
 def blocks() -> list[str]:
-    """The blocks of the page that are Python."""
+    """The blocks of the page: commands of a shell, and Python."""
     found: list[list[str]] = [[]]
     lines = PAGE.read_text().split("\n")
     for before, line in zip(["", *lines], lines):
@@ -32,8 +32,7 @@ def blocks() -> list[str]:
             found[-1].append("")
         elif found[-1]:
             found.append([])
-    texts = ["\n".join(block).strip("\n") for block in found]
-    return [text for text in texts if text and not text.startswith(SHELL)]
+    return [text for text in ("\n".join(block).strip("\n") for block in found) if text]
 
 
 def typed(block: str, names: dict[str, Any]) -> Any:
@@ -55,7 +54,7 @@ def test_the_walk(cam6: str, tmp_path: Path, monkeypatch: pytest.MonkeyPatch) ->
     monkeypatch.chdir(tmp_path)
     names: dict[str, Any] = {}
     try:
-        last = [typed(block, names) for block in blocks()]
+        last = [typed(block, names) for block in blocks() if not block.startswith(SHELL)]
     finally:
         if "machine" in names:
             names["machine"].close()
@@ -65,18 +64,12 @@ def test_the_walk(cam6: str, tmp_path: Path, monkeypatch: pytest.MonkeyPatch) ->
     assert names["critters"] == rules.margolus("critters")
 
 
-def notebooks() -> Any:
-    """The script that makes notebooks, as a module."""
-    spec = importlib.util.spec_from_file_location("notebooks", EXAMPLES / "notebooks.py")
-    assert spec is not None and spec.loader is not None
-    module = importlib.util.module_from_spec(spec)
-    spec.loader.exec_module(module)
-    return module
+NOTEBOOKS = tool("clients/python/examples/notebooks.py")
 
 
-@pytest.mark.parametrize("name", notebooks().NAMES)
+@pytest.mark.parametrize("name", NOTEBOOKS.NAMES)
 def test_a_notebook_has_the_cells_of_its_script(name: str) -> None:
-    cells = notebooks().cells_of((EXAMPLES / f"{name}.py").read_text())
+    cells = NOTEBOOKS.cells_of((EXAMPLES / f"{name}.py").read_text())
     made = json.loads((EXAMPLES / f"{name}.ipynb").read_text())
     assert [(cell["cell_type"], "".join(cell["source"])) for cell in made["cells"]] == cells
     code = [cell for cell in made["cells"] if cell["cell_type"] == "code"]

@@ -7,9 +7,10 @@ import random
 from collections.abc import Callable
 from pathlib import Path
 from typing import Any
+from unittest import mock
 
-import plain
 import pytest
+from plain import Torus, lists
 
 from cam6 import Machine, patterns, rules
 from cam6.patterns import PatternError
@@ -39,11 +40,6 @@ MALFORMED = [
 
 CORNERS = [(0, 0), (1, 0), (0, 1), (1, 1)]
 BBM = "BBM-Margolus-emulated"
-
-
-def lists(cells: Any) -> list[list[int]]:
-    """Cells as lists of numbers."""
-    return [[int(state) for state in row] for row in cells]
 
 
 def test_a_pattern() -> None:
@@ -99,27 +95,17 @@ def test_cells_that_are_none(cells: Any) -> None:
         patterns.write(cells)
 
 
-def test_a_rule_of_two_lines() -> None:
-    with pytest.raises(PatternError):
-        patterns.write([[1]], rule="two\nlines")
+def test_other_texts_that_are_none() -> None:
+    """The name of a rule has one line, and what is read is a text."""
+    data: Any = GLIDER.encode()
+    for wrong in (lambda: patterns.write([[1]], rule="two\nlines"), lambda: patterns.read(data)):
+        with pytest.raises(PatternError):
+            print(wrong())
 
 
-def test_a_text_of_bytes() -> None:
-    text: Any = GLIDER.encode()
-    with pytest.raises(PatternError):
-        patterns.read(text)
-
-
-@pytest.mark.parametrize(
-    ("name", "data"),
-    [
-        ("glider.rle", GLIDER.encode()),
-        ("glider.rle.gz", gzip.compress(GLIDER.encode())),
-        ("glider.txt", GLIDER.encode()),
-    ],
-)
-def test_files(name: str, data: bytes, tmp_path: Path) -> None:
-    (tmp_path / name).write_bytes(data)
+@pytest.mark.parametrize("name", ["glider.rle", "glider.rle.gz", "glider.txt"])
+def test_files(name: str, tmp_path: Path) -> None:
+    (tmp_path / name).write_bytes(gzip.compress(GLIDER.encode()) if name.endswith(".gz") else GLIDER.encode())
     assert patterns.load(str(tmp_path / name)).rows == patterns.read(GLIDER).rows
 
 
@@ -139,27 +125,6 @@ def test_other_files(data: bytes, sentence: str, tmp_path: Path) -> None:
     path.write_bytes(data)
     with pytest.raises(PatternError, match=sentence):
         patterns.load(str(path))
-
-
-class Board:
-    """A machine that only writes down what it is told."""
-
-    def __init__(self, side: int) -> None:
-        self.side = side
-        self.told: list[tuple[str, Any]] = []
-        self.planes: list[Any] = [None, None]
-
-    def cycle(self, *entries: Any) -> None:
-        """Writes down a cycle."""
-        self.told.append(("cycle", entries))
-
-    def rule(self, name: str, rule: rules.Rule) -> None:
-        """Writes down a rule."""
-        self.told.append((name, rule))
-
-    def put(self, plane: int, cells: Any) -> None:
-        """Writes down a plane."""
-        self.planes[plane] = lists(cells)
 
 
 def test_marks() -> None:
@@ -251,11 +216,13 @@ def test_places_that_are_refused(
 @pytest.mark.parametrize("corner", CORNERS)
 def test_a_pattern_is_put_on_a_machine(corner: tuple[int, int]) -> None:
     emulated = patterns.emulate([[1, 0, 0], [0, 0, 1]], corner=corner, rule=BBM)
-    board = Board(128)
+    board = mock.Mock(spec=["side", "cycle", "rule", "put"], side=128)
     x, y = patterns.emulated(emulated).put(board)
-    assert board.planes[0][y][x] == 1
-    assert board.told[-1][1][0][2] == ("ODD" if (x + corner[0]) % 2 else "EVEN")
-    assert board.told[0] == ("cycle", (("-", "-", "EVEN", 0),))
+    planes = {call.args[0]: call.args[1] for call in board.put.call_args_list}
+    assert planes[0][y][x] == 1
+    first, *_, last = [call for call in board.method_calls if call[0] != "put"]
+    assert first == mock.call.cycle(("-", "-", "EVEN", 0))
+    assert last.args[0][2] == ("ODD" if (x + corner[0]) % 2 else "EVEN")
 
 
 def test_a_ball_runs_along_its_diagonal() -> None:
@@ -263,11 +230,11 @@ def test_a_ball_runs_along_its_diagonal() -> None:
     rows = [[1, 0, 0, 0]] + [[0] * 4] * 3
     found = patterns.emulated(patterns.emulate(rows, corner=(0, 0), rule=f"{BBM}:T128"))
     lower, _, grids = found.planes(128, 0, 0)
-    torus = plain.Torus(4)
-    torus.planes[0] = [row[:4] for row in lists(lower)[:4]]
+    torus = Torus(4)
+    torus.planes[0] = [bytes(row[:4]) for row in lists(lower)[:4]]
     for grid in grids:
         torus.step(found.rule, grid)
-    assert torus.planes[0][2] == [0, 0, 1, 0]
+    assert torus.planes[0][2] == bytes([0, 0, 1, 0])
 
 
 @pytest.mark.parametrize("corner", CORNERS)

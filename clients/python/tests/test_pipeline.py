@@ -1,21 +1,22 @@
-"""Pipelines: many calls in one write, against the plain machine of checks/."""
+"""Pipelines: many calls in one write, against the oracle."""
 
 from __future__ import annotations
 
 import json
 import random
 from collections.abc import Callable
-from typing import Any
 
-import fakes
 import pytest
-from fakes import Breaking, Plain, compact
+from calls import Batches
+from fakes import Breaking, compact
+from oracle.machine import answers
+from plain import value
 from support.programs import Host
-from test_machine import MOST_CELLS, called, plain_value, wanted
+from support.stateful import play
 
 import cam6
-from cam6 import Machine, lines
-from cam6.errors import FAULTS, Fault
+from cam6 import Machine
+from cam6.errors import FAULTS
 
 Local = Callable[..., Machine]
 
@@ -50,42 +51,9 @@ def looked(sent: list[bytes]) -> list[bytes]:
     return replies
 
 
-def compare(many: Any, want: list[Any]) -> None:
-    """Executes a pipeline, and compares what its calls return."""
-    got = many.execute(raise_on_error=False)
-    assert [result.reply if isinstance(result, Fault) else plain_value(result) for result in got] == want
-    for index, result in enumerate(got):
-        assert (result.index if isinstance(result, Fault) else index) == index
-    assert len(many) == 0
-    want.clear()
-
-
-@pytest.mark.parametrize("seed", range(6))
-def test_calls_in_batches_return_what_they_return_one_by_one(seed: int, local: Local) -> None:
-    source = random.Random(f"pipeline {seed}")
-    plain = Plain(512)
-    asker = fakes.script("asks").Asker(plain.alone.machine, source)
-    want: list[Any] = []
-    machine = local(side_limit=512)
-    many = machine.pipeline()
-    for _ in range(100):
-        command = asker.command()
-        said = fakes.script("lines").plain(command)
-        if command.get("n", 0) > lines.MOST_STEPS:
-            continue
-        reply = plain.alone.answer(said, MOST_CELLS)
-        if reply is None or command["do"] == "load" and b'"fault"' in reply:
-            continue
-        try:
-            called(many, command)
-        except (TypeError, ValueError):
-            assert "fault" in json.loads(reply)
-            continue
-        want.append(wanted(command, reply))
-        if source.random() < 0.05:
-            compare(many, want)
-    compare(many, want)
-    assert machine.save() == fakes.load_line(plain)
+@pytest.mark.slow
+def test_calls_in_batches_return_what_they_return_one_by_one(cam6: str) -> None:
+    play(lambda: Batches(cam6, 512), examples=15, steps=30)
 
 
 @pytest.mark.slow
@@ -94,7 +62,7 @@ def test_a_hundred_thousand_lines(where: str, local: Local, host: Callable[..., 
     """Both sides would wait for each other if they were all written first: they are 10 MB, and so are the replies."""
     sent = looks(random.Random(1), 100_000)
     want = looked(sent)
-    assert want[:500] == fakes.answers(sent[:500], 128)
+    assert want[:500] == answers(sent[:500], 128)
     if where == "local":
         machine = local(side_limit=128)
     else:
@@ -159,7 +127,7 @@ def test_put_random_and_cells(local: Local) -> None:
     with pytest.raises(ValueError, match="128 cells"):
         other.pipeline().put(1, [[1]])
     [states] = other.pipeline().cells().execute()
-    assert plain_value(states) == plain_value(one.cells())
+    assert value(states) == value(one.cells())
 
 
 def test_a_host_that_goes_away_in_the_middle(breaking: Callable[..., Breaking]) -> None:

@@ -7,6 +7,7 @@ of crashes. Here are those of real hosts and real programs.
 from __future__ import annotations
 
 import json
+import os
 import random
 import ssl
 import subprocess
@@ -19,7 +20,8 @@ from typing import Any, Optional
 
 import fakes
 import pytest
-from fakes import BALLS, Breaking, Once, Plain, compact
+from fakes import BALLS, Breaking, Plain, compact, once
+from oracle.machine import answers
 from support.programs import Host, free_port
 
 import cam6
@@ -80,7 +82,7 @@ def check(machine: Machine, sent: list[bytes], batch: int, save_after: int = 0) 
         if save_after and len(got) - saved >= save_after and transport.checkpoint():
             saved = len(got)
     assert got == want
-    assert machine.save() == fakes.load_line(plain)
+    assert machine.save() == plain.load_line()
 
 
 def session_of(machine: Machine) -> Session:
@@ -89,14 +91,20 @@ def session_of(machine: Machine) -> Session:
     return machine.session
 
 
+@pytest.fixture
+def broken(breaking: Breakings, connected: Connected) -> Connected:
+    """Connects to a host that breaks so, as often as it is called: `broken(once(5, "after"), deadline=2)`."""
+    return lambda breaks, **options: connected(breaking(breaks).port, **options)
+
+
 # A host that breaks at any line, in any way.
 
 
 @pytest.mark.parametrize("what", ["before", "after", 1, 9])
 @pytest.mark.parametrize("number", range(1, 22))
-def test_a_break_at_a_line(number: int, what: Any, breaking: Breakings, connected: Connected) -> None:
+def test_a_break_at_a_line(number: int, what: Any, broken: Connected) -> None:
     """It is the last that a host takes: not done, done and unanswered, and half answered."""
-    check(connected(breaking(Once(number, what)).port), commands(1, 14, 1), 5)
+    check(broken(once(number, what)), commands(1, 14, 1), 5)
 
 
 @pytest.mark.parametrize("seed", range(6))
@@ -114,32 +122,32 @@ def test_breaks_again_and_again(seed: int, breaking: Breakings, connected: Conne
 
 
 @pytest.mark.parametrize("cut", range(len(b'{"ok":"run","position":1}') + 1))
-def test_a_reply_is_cut(cut: int, breaking: Breakings, connected: Connected) -> None:
+def test_a_reply_is_cut(cut: int, broken: Connected) -> None:
     """After each of its bytes."""
-    check(connected(breaking(Once(2 + 1 + 4, cut)).port), [RULE, CYCLE, SET, RUN], 1)
+    check(broken(once(2 + 1 + 4, cut)), [RULE, CYCLE, SET, RUN], 1)
 
 
 @pytest.mark.parametrize("what", ["before", "after"])
 @pytest.mark.parametrize("number", range(1, 9))
-def test_breaks_round_a_load(number: int, what: str, breaking: Breakings, connected: Connected) -> None:
+def test_breaks_round_a_load(number: int, what: str, broken: Connected) -> None:
     """After a load nothing of the machine before it is played again."""
     plain = Plain(128)
     plain.answer(compact(do="set", plane=2, row=9, bits="3" * 32))
-    sent = [SET, fakes.load_line(plain), compact(do="count", mask=65534), lines.SAVE]
-    check(connected(breaking(Once(number, what)).port, every_seconds=5), sent, 1)
+    sent = [SET, plain.load_line(), compact(do="count", mask=65534), lines.SAVE]
+    check(broken(once(number, what), every_seconds=5), sent, 1)
 
 
-def test_a_silent_host_is_left(breaking: Breakings, connected: Connected) -> None:
+def test_a_silent_host_is_left(broken: Connected) -> None:
     """It takes a line and never answers."""
     started = time.monotonic()
-    check(connected(breaking(Once(6, "silent")).port, deadline=6), commands(3, 8, 1), 1)
+    check(broken(once(6, "silent"), deadline=6), commands(3, 8, 1), 1)
     assert time.monotonic() - started < fakes.SILENT
 
 
 def test_a_line_done_twice_is_seen() -> None:
     """The checks above find a client that sends again without loading: the same lines, one of them twice."""
     sent = [RULE, CYCLE, SET, RUN]
-    assert fakes.answers([*sent, RUN], 128)[-1] != fakes.answers(sent, 128)[-1]
+    assert answers([*sent, RUN], 128)[-1] != answers(sent, 128)[-1]
 
 
 # Which seat is taken, and that what was there is never gone on with.
@@ -191,8 +199,8 @@ def test_a_seat_that_was_just_left(breaking: Breakings) -> None:
 
 def test_a_session_moves_to_another_host(breaking: Breakings) -> None:
     """A host that is not there is passed over."""
-    nobody, first, second = free_port(), breaking(), breaking()
-    addresses: list[Any] = [("127.0.0.1", nobody), f"127.0.0.1:{first.port}", ("127.0.0.1", second.port)]
+    first, second = breaking(), breaking()
+    addresses: list[Any] = [("127.0.0.1", free_port()), f"127.0.0.1:{first.port}", ("127.0.0.1", second.port)]
     with cam6.connect(addresses, limit=128, journal=":memory:", deadline=20) as machine:
         session = session_of(machine)
         assert session.address[1] == first.port
@@ -203,7 +211,7 @@ def test_a_session_moves_to_another_host(breaking: Breakings) -> None:
 
 
 def test_a_connection_without_a_journal_is_lost(breaking: Breakings) -> None:
-    with cam6.connect("127.0.0.1", breaking(Once(3, "after")).port) as machine:
+    with cam6.connect("127.0.0.1", breaking(once(3, "after")).port) as machine:
         machine.clear(0)
         with pytest.raises(cam6.Lost, match="closed the connection"):
             machine.clear(1)
@@ -214,19 +222,18 @@ def test_a_connection_without_a_journal_is_lost(breaking: Breakings) -> None:
 # Hosts of other limits and versions.
 
 
-def test_a_host_of_the_limit_that_is_said(breaking: Breakings, connected: Connected) -> None:
-    assert connected(breaking(limit=256).port, limit=256).side == 256
-
-
 @pytest.mark.parametrize(
     ("here", "limit", "sentence"),
-    [(256, 128, "has the limit 256, and the session has 128"), (512, 256, "limit 512")],
+    [(256, 256, ""), (256, 128, "has the limit 256, and the session has 128"), (512, 256, "limit 512")],
 )
-def test_a_host_of_another_limit(
-    here: int, limit: int, sentence: str, breaking: Breakings, connected: Connected
-) -> None:
+def test_hosts_of_a_limit(here: int, limit: int, sentence: str, breaking: Breakings, connected: Connected) -> None:
+    """A session needs a host of the limit that was said."""
+    port = breaking(limit=here).port
+    if not sentence:
+        assert connected(port, limit=limit).side == limit
+        return
     with pytest.raises(cam6.Diverged, match=sentence):
-        connected(breaking(limit=here).port, limit=limit)
+        connected(port, limit=limit)
 
 
 def test_a_host_that_answers_otherwise(connected: Connected) -> None:
@@ -330,7 +337,7 @@ def test_parts_of_a_run_add_up_to_it(breaking: Breakings) -> None:
     session, run = open_session(host.port, 200), compact(do="run", n=25)
     session.talk([RULE, CYCLE, compact(do="set", plane=0, row=3, bits="f" * 32)])
     checkpoints = session.checkpoints
-    assert session.talk([run]) == fakes.answers([RULE, CYCLE, run], 128)[-1:]
+    assert session.talk([run]) == answers([RULE, CYCLE, run], 128)[-1:]
     parts = [json.loads(line)["n"] for line in host.heard if line.startswith(b'{"do":"run"')]
     assert sum(parts) == 25
     assert len(parts) > 1
@@ -349,8 +356,8 @@ def test_parts_that_are_refused(n: int, fault: int, breaking: Breakings) -> None
 @pytest.mark.parametrize("number", range(6, 22, 3))
 def test_breaks_between_parts(number: int, breaking: Breakings) -> None:
     sent = [RULE, CYCLE, OTHER_SET, compact(do="run", n=23), lines.SAVE]
-    session = open_session(breaking(Once(number, "after")).port, 300)
-    assert session.talk(sent) == fakes.answers(sent, 128)
+    session = open_session(breaking(once(number, "after")).port, 300)
+    assert session.talk(sent) == answers(sent, 128)
     session.close()
 
 
@@ -367,13 +374,13 @@ def test_a_program_that_is_started_again_goes_on(
         with connected(port, journal=tmp_path / "journal", sync=sync) as machine:
             assert session_of(machine).asked == at
             got += machine._talk(sent[at : at + 10])
-    assert got == fakes.answers(sent, 128)
+    assert got == answers(sent, 128)
 
 
 def test_a_command_without_an_answer(breaking: Breakings, connected: Connected, tmp_path: Path) -> None:
     """A program asked, and ended before the answer. The next one does the command, once."""
     sent = [RULE, CYCLE, OTHER_SET, compact(do="run", n=3), lines.SAVE]
-    port, want = breaking().port, fakes.answers(sent, 128)
+    port, want = breaking().port, answers(sent, 128)
     with connected(port, journal=tmp_path / "journal") as machine:
         machine._talk(sent[:3])
         session_of(machine).journal.asked(sent[3:4])
@@ -393,7 +400,7 @@ def test_a_long_run_that_was_cut(breaking: Breakings, connected: Connected, tmp_
     session._send([], time.monotonic() + 20)
     session.close()
     assert b'"n":17' in session.journal.pending[0]
-    assert connected(port, journal=path)._talk(sent[4:]) == fakes.answers(sent, 128)[4:]
+    assert connected(port, journal=path)._talk(sent[4:]) == answers(sent, 128)[4:]
 
 
 def test_a_journal_that_is_open_in_another_program(breaking: Breakings, connected: Connected, tmp_path: Path) -> None:
@@ -435,7 +442,7 @@ def test_a_call_that_is_interrupted(breaking: Breakings, connected: Connected, m
         patch.setattr(journal, "answered", interrupted)
         with pytest.raises(KeyboardInterrupt):
             machine._talk(sent[3:4])
-    assert machine._talk(sent[4:]) == fakes.answers(sent, 128)[4:]
+    assert machine._talk(sent[4:]) == answers(sent, 128)[4:]
 
 
 # Programs that are killed: the host, and the one that uses this cam6.
@@ -448,10 +455,9 @@ def restart(host: Host) -> None:
 
 
 @pytest.mark.slow
-def test_a_host_is_killed_at_each_tenth_command(cam6: str, host: Hosts, connected: Connected) -> None:
+def test_a_host_is_killed_at_each_tenth_command(host: Hosts, connected: Connected) -> None:
     """Commands are on their way then. It is started again."""
-    is_plain = fakes.is_plain(cam6)
-    sent = [*commands(11, 60 if is_plain else 200, 1 if is_plain else 6), lines.SAVE]
+    sent = [*commands(11, 200, 6), lines.SAVE]
     there = host(*SMALL)
     machine = connected(there.port, deadline=60, every_seconds=0.02)
     got: list[bytes] = []
@@ -462,7 +468,7 @@ def test_a_host_is_killed_at_each_tenth_command(cam6: str, host: Hosts, connecte
         got += machine._talk(sent[at : at + 10])
         killer.join()
     got += machine._talk(sent[-1:])
-    assert got == fakes.answers(sent, 128)
+    assert got == answers(sent, 128)
     # Each kill costs a recovery in its own call or in the next one. One call may recover from two kills at once.
     assert 2 * session_of(machine).recoveries >= len(kills)
 
@@ -480,9 +486,9 @@ while machine.session.asked < len(sent):
 
 def part_of(text: str, sent: list[bytes], count: int) -> int:
     """Starts a program, and kills it after so many answers. Returns how many commands were answered then."""
-    source = str(Path(sessions.__file__).parents[1])
-    words = [sys.executable, "-c", f"import sys; sys.path.insert(0, {source!r})\n{text}"]
-    with subprocess.Popen(words, stdin=subprocess.PIPE, stdout=subprocess.PIPE) as program:
+    env = {**os.environ, "PYTHONPATH": str(Path(sessions.__file__).parents[1])}
+    words = [sys.executable, "-c", text]
+    with subprocess.Popen(words, stdin=subprocess.PIPE, stdout=subprocess.PIPE, env=env) as program:
         assert program.stdin and program.stdout
         program.stdin.write(b"\n".join(sent))
         program.stdin.close()
@@ -499,13 +505,12 @@ def test_the_program_itself_is_killed(breaking: Breakings, connected: Connected,
     sent, source = commands(12, 120, 1), random.Random(12)
     port, path = breaking().port, tmp_path / "journal"
     text = KILLED.format(port=port, path=str(path))
-    starts, asked = 0, 0
-    while asked < len(sent):
-        starts += 1
-        asked = part_of(text, sent, source.randrange(1, 12))
-    assert starts > 8
+    asked = [0]
+    while asked[-1] < len(sent):
+        asked.append(part_of(text, sent, source.randrange(1, 12)))
+    assert len(asked) > 9
     machine = connected(port, journal=path)
-    assert machine._talk([lines.SAVE]) == fakes.answers([*sent, lines.SAVE], 128)[-1:]
+    assert machine._talk([lines.SAVE]) == answers([*sent, lines.SAVE], 128)[-1:]
 
 
 # Connections over TLS, with a certificate that the tests have.
@@ -513,36 +518,31 @@ def test_the_program_itself_is_killed(breaking: Breakings, connected: Connected,
 PEM = fakes.HERE / "localhost.pem"
 
 
-@pytest.fixture
 def server() -> ssl.SSLContext:
-    """How the host speaks TLS."""
+    """How a host speaks TLS."""
     context = ssl.SSLContext(ssl.PROTOCOL_TLS_SERVER)
     context.load_cert_chain(PEM)
     return context
 
 
-@pytest.fixture
 def client() -> ssl.SSLContext:
-    """How the client speaks TLS."""
+    """How a client that knows the certificate speaks TLS."""
     return ssl.create_default_context(cafile=str(PEM))
 
 
-def test_a_session_over_tls(
-    server: ssl.SSLContext, client: ssl.SSLContext, breaking: Breakings, connected: Connected
-) -> None:
+def test_a_session_over_tls(breaking: Breakings, connected: Connected) -> None:
     sent = commands(7, 300, 0) + [lines.SAVE]
-    host = breaking(Once(200, "after"), tls=server)
-    machine = connected(host.port, tls=client, server_name="localhost", every_seconds=5)
-    assert machine._talk(sent) == fakes.answers(sent, 128)
+    host = breaking(once(200, "after"), tls=server())
+    machine = connected(host.port, tls=client(), server_name="localhost", every_seconds=5)
+    assert machine._talk(sent) == answers(sent, 128)
     assert session_of(machine).recoveries == 1
 
 
-def test_certificates_that_are_refused(server: ssl.SSLContext, client: ssl.SSLContext, breaking: Breakings) -> None:
-    port = breaking(tls=server).port
+@pytest.mark.parametrize("name", ["other.test", None])
+def test_certificates_that_are_refused(name: Optional[str], breaking: Breakings) -> None:
+    """It is one of another name, or of nobody that is known."""
     with pytest.raises(cam6.Lost, match="certificate"):
-        cam6.connect("127.0.0.1", port, tls=client, server_name="other.test")
-    with pytest.raises(cam6.Lost, match="certificate"):
-        cam6.connect("127.0.0.1", port, tls=True)
+        cam6.connect("127.0.0.1", breaking(tls=server()).port, tls=client() if name else True, server_name=name)
 
 
 def test_a_host_without_tls(breaking: Breakings) -> None:

@@ -18,7 +18,7 @@ from typing import Optional
 
 from . import lines, local
 from .channels import connected
-from .errors import Cam6Error, Fault, fault_of
+from .errors import Cam6Error, fault_of
 from .machine import Machine, side_of
 from .sessions import SEATED, TAKEN
 from .starting import MOST_SEATS, checked_address

@@ -1,5 +1,8 @@
 #!/usr/bin/env python3
-"""Measures the client: 256 rows set in one write, and a frame of a run, at sides 256 and 512. Prints least and median."""
+"""Measures the Python client: 256 rows set in one write, and a frame of a run, at sides 256 and 512. Prints least and median.
+
+    PYTHONPATH=clients/python/src:tests tools/bench/client.py ./cam6
+"""
 
 from __future__ import annotations
 
@@ -9,11 +12,15 @@ import time
 from collections.abc import Callable
 from typing import Any
 
-from fakes import BALLS
 from support.programs import Host
 
 import cam6
 from cam6 import cells
+
+BALLS = (
+    ": S4 CENTER CW + CCW + OPP + ; : D CENTER OPP = IF CW ELSE CENTER THEN ; "
+    ": B S4 { CENTER OPP D CENTER CENTER } >PLN0 ;"
+)
 
 
 def measured(what: str, act: Callable[[], Any], times: int, each: int = 1) -> None:
@@ -50,7 +57,7 @@ def measure(machine: cam6.Machine, where: str, times: int) -> None:
 
 def main() -> None:
     """Measures a program's machine, a connection, and a connection with a journal."""
-    parser = argparse.ArgumentParser(description=__doc__)
+    parser = argparse.ArgumentParser(description=__doc__, formatter_class=argparse.RawDescriptionHelpFormatter)
     parser.add_argument("cam6", help="the program cam6")
     parser.add_argument("times", type=int, nargs="?", default=50, help="how often each act is measured (50)")
     asked = parser.parse_args()

@@ -42,7 +42,7 @@ knock() {
 # Compiles a program without a proof, and keeps it with the sum of the sources. `rt try` drops what it compiles once it has run
 # it, so the program gets a second name while it runs.
 compile() {
-  local program=$1 crate=${CRATE_OF[$1]} room=$top/$KEPT/room.$1.$$ options knocked toolchain
+  local program=$1 crate=${CRATE_OF[$1]} room=${top:?}/$KEPT/room.$1.$$ options knocked toolchain
   mkdir -p "$room"
   feed "$program" > "$room/feed"
   options_of "$program"
@@ -59,7 +59,7 @@ compile() {
     sleep 0.05
   done
   if ! wait "$toolchain" || [[ ! -x $room/kept ]]; then
-    echo "$script: no program $program came of 'rt try' in crates/$crate, which said:" >&2
+    echo "${script:?}: no program $program came of 'rt try' in crates/$crate, which said:" >&2
     tail -n 5 "$room/told" >&2
     rm -rf "$room"
     return 1
@@ -77,7 +77,7 @@ is_kept() {
 # Ends what is being compiled, and removes what there is of it.
 stop_compiling() {
   local group
-  for group in "$top/$KEPT"/room.*.$$/group; do
+  for group in "$top/$KEPT"/room.*."$$"/group; do
     [[ ! -f $group ]] || kill -- "-$(< "$group")" 2> /dev/null || true
   done
   kill "$@" 2> /dev/null || true

@@ -5,7 +5,7 @@
 # script's name.
 script=${0##*/}
 from=$PWD
-top=$(realpath "$(dirname "${BASH_SOURCE[0]}")/..")
+top=$(realpath "$(dirname "${BASH_SOURCE[0]}")/../..")
 
 # Refuses the script's arguments.
 refuse() {
