@@ -44,6 +44,12 @@ class Machine:
             return {"fault": answer}
         return sorted_by_keys(answer if "fault" in answer else {"ok": word} | answer)
 
+    def reply(self, command: dict[str, Any]) -> dict[str, Any]:
+        """The reply to a command. Its steps are done too."""
+        reply = self.do(command)
+        self.settle()
+        return reply
+
     def is_long(self, most: int) -> bool:
         """Whether the steps that were put off are of more cells than this."""
         return self.due is not None and self.due[1] * self.torus.side**2 > most

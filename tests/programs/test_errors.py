@@ -9,8 +9,9 @@ from contextlib import ExitStack
 from typing import Any
 
 import pytest
-from support.plain_scripts import plain_script
-from support.programs import TOP, Host, Peer, Ran, ran
+from oracle.host import Replay
+from oracle.machine import Alone
+from support.programs import TOP, Host, Peer, Ran, assert_refused, ran
 
 EXPLAIN = str(TOP / "tools" / "explain")
 ENTRIES = json.loads((TOP / "docs" / "errors.json").read_text(encoding="utf-8"))["errors"]
@@ -31,25 +32,20 @@ def of_entries(entries: list[Entry]) -> pytest.MarkDecorator:
 
 def text_of(line: Any) -> str:
     """A line of an example: a text, or parts one after another, some of which are repeated."""
-    return (
-        line if isinstance(line, str) else "".join(part if isinstance(part, str) else repeated(part) for part in line)
-    )
+    return line if isinstance(line, str) else "".join(text for part in line for text in texts_of(part))
 
 
-def repeated(part: dict[str, Any]) -> str:
-    """A text so many times. `#` stands for the number of each, from 0."""
-    return "".join(part["text"].replace("#", str(number)) for number in range(part["times"]))
+def texts_of(part: str | dict[str, Any]) -> list[str]:
+    """A text, or one that is repeated. `#` stands for the number of each, from 0."""
+    if isinstance(part, str):
+        return [part]
+    return [part["text"].replace("#", str(number)) for number in range(part["times"])]
 
 
 def lines_of(lines: list[Any]) -> list[str]:
     """The lines of an example, but for a load of what is saved then."""
-    found: list[str] = []
-    for line in lines:
-        if not isinstance(line, dict):
-            found.append(text_of(line))
-        elif "load" not in line:
-            found += [line["text"].replace("#", str(number)) for number in range(line["times"])]
-    return found
+    lines = [line for line in lines if not isinstance(line, dict) or "load" not in line]
+    return [text for line in lines for text in (texts_of(line) if isinstance(line, dict) else [text_of(line)])]
 
 
 def load_line(saved: str, old: str, new: str) -> str:
@@ -117,13 +113,10 @@ def test_a_host_replies_with_the_number(entry: Entry, host: Callable[..., Host])
 
 
 @of_entries([entry for entry in PLAYED if entry["program"] != "serve"])
-def test_a_plain_machine_replies_with_the_number(entry: Entry) -> None:
-    machines = plain_script("machines")
-
+def test_the_oracle_replies_with_the_number(entry: Entry) -> None:
     def replies(lines: list[str]) -> list[str]:
-        is_alone = entry["program"] == "alone"
-        plain = machines.Alone(LIMIT) if is_alone else machines.Replay(USERS * [LIMIT], BOARDS, TABLES)
-        return [(plain.answer(line.encode()) or b"").decode() for line in lines]
+        it: Alone | Replay = Alone(LIMIT) if entry["program"] == "alone" else Replay(USERS, BOARDS, TABLES, LIMIT)
+        return [it.answer(line.encode()).decode() for line in lines]
 
     assert number_told(entry, last_reply(entry, replies)) == entry["number"]
 
@@ -136,8 +129,7 @@ def test_explain_prints_an_entry(entry: Entry) -> None:
 
 
 def test_explain_refuses_a_number_without_an_entry() -> None:
-    done = ran([EXPLAIN, "5"])
-    assert (done.status, done.output) == (2, b"")
+    assert_refused(ran([EXPLAIN, "5"]), 2, "")
 
 
 def test_the_page_has_the_tables_of_explain() -> None:

@@ -1,7 +1,7 @@
 """A program holds no more memory after a million lines than after the first ones.
 
 The lines are of a byte each, or commands of all kinds, again and again. Each reply is compared: with one that is said by hand,
-or with those of the plain machine.
+or with those of the oracle.
 """
 
 from __future__ import annotations
@@ -9,13 +9,14 @@ from __future__ import annotations
 import subprocess
 import threading
 from collections.abc import Callable
-from dataclasses import dataclass
 from typing import Any
 
 import pytest
-from support.plain_scripts import plain_script
+from examples.named_rules import RULES
+from examples.writing import Command, cycle_command, do, rule_command
+from oracle.lines import plain
+from oracle.machine import Machine
 from support.programs import PATIENCE, Host, Peer, of_process
-from support.sessions import line_of
 
 pytestmark = [pytest.mark.slow, pytest.mark.timeout(1200)]
 
@@ -23,86 +24,56 @@ pytestmark = [pytest.mark.slow, pytest.mark.timeout(1200)]
 LINES, MOST_GROWN = 1_000_000, 200
 # So many bytes that came back are taken at a time.
 PIECE = 1 << 16
-
-PARITY = {
-    "do": "rule",
-    "name": "P",
-    "half": "A",
-    "hood": "N/VONN",
-    "minor": "&/CENTERS",
-    "text": ": P CENTER NORTH XOR SOUTH XOR WEST XOR EAST XOR >PLN0 ;",
-}
-Command = dict[str, Any]
+# Lines that are sent again and again, with what comes back for each.
+Pairs = list[tuple[bytes, bytes]]
 
 
-def cycle_of(name: str) -> Command:
-    """A cycle of one rule."""
-    return {"do": "cycle", "entries": [{"a": name, "b": "-", "grid": "EVEN", "phase": 0}]}
-
-
-def cell(row: int) -> Command:
+def cell_at(row: int) -> Command:
     """Sets a cell of a row, and clears the others."""
-    return {"do": "set", "plane": 0, "row": row, "bits": "8" + "0" * 63}
-
-
-def look(row: int) -> Command:
-    """Shows a row."""
-    return {"do": "row", "plane": 0, "row": row}
+    return do("set", plane=0, row=row, bits="8" + "0" * 63)
 
 
 # What is done again and again. After it the machine is what it was after the first time.
-ROUND: list[Command] = [
-    PARITY,
-    cycle_of("P"),
-    cell(1),
-    {"do": "run", "n": 1},
-    cycle_of("-"),
-    {"do": "drop", "name": "P"},
-    {"do": "rules"},
-    {"do": "clear", "plane": 0},
-    {"do": "map", "colours": list(range(16))},
-    {"do": "colours", "row": 1},
-    {"do": "plane", "plane": 0},
-    {"do": "run", "n": 0},
-    {"do": "drop", "name": "P"},
-    *(it for y in range(0, 250, 5) for it in (cell(y), look(y), {"do": "run", "n": 65536}, look(y + 1))),
-    {"do": "clear", "plane": 0},
+ROUND = [
+    *(rule_command("P", *RULES["PARITY"]), cycle_command(("P", "-", "EVEN", 0)), cell_at(1), do("run", n=1)),
+    *(cycle_command(("-", "-", "EVEN", 0)), do("drop", name="P"), do("rules"), do("clear", plane=0)),
+    *(
+        do("map", colours=[*range(16)]),
+        do("colours", row=1),
+        do("plane", plane=0),
+        do("run", n=0),
+        do("drop", name="P"),
+    ),
+    *(
+        command
+        for y in range(0, 250, 5)
+        for command in (cell_at(y), do("row", plane=0, row=y), do("run", n=65536), do("row", plane=0, row=y + 1))
+    ),
+    do("clear", plane=0),
 ]
 
 
-@dataclass(frozen=True)
-class Lines:
-    """Lines that are sent again and again, and what comes back."""
-
-    number: int
-    sent: bytes
-    back: bytes
-
-
-def lines_of(pairs: list[tuple[str, str]]) -> Lines:
-    """Lines, each with its reply."""
-    sent, back = ("".join(f"{line}\n" for line in lines).encode() for lines in zip(*pairs))
-    return Lines(len(pairs), sent, back)
-
-
-def bytes_alone() -> Lines:
+def bytes_alone() -> Pairs:
     """Lines of a byte."""
-    return lines_of([("x", '{"fault":2}')] * 1000)
+    return [(b"x", b'{"fault":2}')] * 1000
 
 
-def commands() -> Lines:
-    """Commands of all kinds, with the replies of the plain machine."""
-    machine = plain_script("hosts").Machine(256)
-    return lines_of([(line_of(**command), line_of(**machine.do(command))) for command in ROUND])
+def commands() -> Pairs:
+    """Commands of all kinds, with the replies of the oracle."""
+    machine = Machine(256)
+    return [(plain(command), plain(machine.reply(command))) for command in ROUND]
 
 
-def are_answered(lines: Lines, times: int, send: Callable[[bytes], object], read: Callable[[int], bytes]) -> bool:
+def are_answered(
+    pairs: Pairs, times: int, send: Callable[[bytes], object], read: Callable[[int], bytes | None]
+) -> bool:
     """Whether the lines, so many times, come back as they should."""
+    sent, back = (b"".join(line + b"\n" for line in lines) for lines in zip(*pairs))
 
     def send_all() -> None:
         try:
             for _ in range(times):
-                send(lines.sent)
+                send(sent)
         except OSError:
             pass
 
@@ -110,46 +81,46 @@ def are_answered(lines: Lines, times: int, send: Callable[[bytes], object], read
     sender.start()
     for _ in range(times):
         got = b""
-        while len(got) < len(lines.back) and (piece := read(min(PIECE, len(lines.back) - len(got)))):
+        while len(got) < len(back) and (piece := read(min(PIECE, len(back) - len(got)))):
             got += piece
-        if got != lines.back:
+        if got != back:
             return False
     sender.join()
     return True
 
 
 def assert_no_memory_is_held(
-    lines: Lines, process: int, send: Callable[[bytes], object], read: Callable[[int], bytes]
+    pairs: Pairs, process: int, send: Callable[[bytes], object], read: Callable[[int], bytes | None]
 ) -> None:
     """Sends a million lines. Fails if they aren't answered, or if the program holds more memory after them than after the
     first hundredth."""
-    times = -(-LINES // lines.number)
+    times = -(-LINES // len(pairs))
     early = max(1, times // 100)
-    assert are_answered(lines, early, send, read)
+    assert are_answered(pairs, early, send, read)
     first = of_process(process, "VmRSS")
-    assert are_answered(lines, times - early, send, read)
+    assert are_answered(pairs, times - early, send, read)
     last = of_process(process, "VmRSS")
-    told = f"{first} kB after {early * lines.number} lines, {last} kB after {times * lines.number}"
+    told = f"{first} kB after {early * len(pairs)} lines, {last} kB after {times * len(pairs)}"
     print(told)
     assert last - first < MOST_GROWN, told
 
 
-@pytest.mark.parametrize("lines", [bytes_alone, commands])
-def test_a_private_machine_holds_no_memory_for_lines(lines: Callable[[], Lines], cam6: str) -> None:
+@pytest.mark.parametrize("pairs", [bytes_alone, commands])
+def test_a_private_machine_holds_no_memory_for_lines(pairs: Callable[[], Pairs], cam6: str) -> None:
     how: dict[str, Any] = {"stdin": subprocess.PIPE, "stdout": subprocess.PIPE, "bufsize": 0}
     with subprocess.Popen([cam6, "alone"], **how) as process:
         assert process.stdin and process.stdout
         try:
-            assert_no_memory_is_held(lines(), process.pid, process.stdin.write, process.stdout.read)
+            assert_no_memory_is_held(pairs(), process.pid, process.stdin.write, process.stdout.read)
             process.stdin.close()
             assert process.wait(PATIENCE) == 0
         finally:
             process.kill()
 
 
-@pytest.mark.parametrize("lines", [bytes_alone, commands])
-def test_a_host_holds_no_memory_for_lines(lines: Callable[[], Lines], host: Callable[..., Host]) -> None:
+@pytest.mark.parametrize("pairs", [bytes_alone, commands])
+def test_a_host_holds_no_memory_for_lines(pairs: Callable[[], Pairs], host: Callable[..., Host]) -> None:
     it = host("--users=1", "--boards=1")
     with Peer(it.port, 1) as peer:
-        assert_no_memory_is_held(lines(), it.process.pid, peer.socket.sendall, peer.socket.recv)
+        assert_no_memory_is_held(pairs(), it.process.pid, peer.socket.sendall, peer.socket.recv)
     assert it.is_running()

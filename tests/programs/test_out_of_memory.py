@@ -1,133 +1,102 @@
 """What follows if an allocation fails: each request for memory is refused in turn, one in a run, until a run meets none.
 
 What isn't done must be done when it is asked for again. Nothing that was done may be lost. A program that can't go on must say
-so. What has to come back is said by hand, or by the plain machines. The library that refuses is tests/support/refusing.c.
+so. What has to come back is said by hand, or by the oracle. The library that refuses is tests/support/refusing.c.
 """
 
 from __future__ import annotations
 
 import json
-import os
-import socket
-import subprocess
 import time
 from collections import Counter
 from collections.abc import Callable
-from dataclasses import dataclass
 from functools import cache
 from pathlib import Path
-from typing import Any
+from typing import NamedTuple
 
 import pytest
-from support.plain_scripts import plain_script
-from support.programs import NETWORK_FAILED, PATIENCE, Ran, free_port, ran
-from support.sessions import line_of
+from examples.named_rules import RULES as TEXTS
+from examples.saving import SAVE, load
+from examples.writing import Command, cycle_command, do, rule_command
+from oracle.host import Replay
+from oracle.lines import lines_of, plain
+from oracle.machine import Machine, answers
+from support.programs import PATIENCE, Host, NotListening, Peer, Ran, ran
 
 pytestmark = [pytest.mark.slow, pytest.mark.timeout(1800)]
 
-hosts = plain_script("hosts")
-Command = dict[str, Any]
-NO_MEMORY = (5, b"cam6: no memory\n")
+Lines = list[bytes]
+NO_MEMORY, AT_A_THREAD = Ran(5, b"", b"cam6: no memory\n"), "at the thread of a board"
+# How a host ends before it is there.
+NO_HOST = {NO_MEMORY: "before the host was there", Ran(8, b"", b"cam6: no thread\n"): AT_A_THREAD}
 UNSEEN, NOT_KEPT, AT_AN_ASK = "unseen", "at a table, not kept", "at an ask"
 AFTER_ANSWERS, BEFORE_ANSWERS = "after answers", "before the first answer"
 AT_A_REPLY = "at a reply, its command done"
+REFUSED, NONE_KEPT = b'{"refused":0}', b'{"refused":109}'
 
 
 # What is sent.
 
-PARITY = {
-    "do": "rule",
-    "name": "P",
-    "half": "A",
-    "hood": "N/VONN",
-    "minor": "&/CENTERS",
-    "text": ": P CENTER NORTH XOR SOUTH XOR WEST XOR EAST XOR >PLN0 ;",
-}
-TURN = {"do": "rule", "name": "T", "half": "A", "hood": "N/MARG", "minor": "&/PHASES", "text": ": R CW >PLN0 ;"}
-RUN, ROW, RULES, SAVE = {"do": "run", "n": 1}, {"do": "row", "plane": 0, "row": 1}, {"do": "rules"}, {"do": "save"}
-CLEAR, COUNT = {"do": "clear", "plane": 0}, {"do": "count", "mask": 2}
+PARITY, TURN = rule_command("P", *TEXTS["PARITY"]), rule_command("T", *TEXTS["TURN"])
+RUN, ROW, RULES, PLANE = do("run", n=1), do("row", plane=0, row=1), do("rules"), do("plane", plane=0)
+CLEAR, COUNT, SMALL, BACK = do("clear", plane=0), do("count", mask=2), do("side", side=128), do("back", n=1)
 
 
-def cycle(name: str) -> Command:
+def cycle_of(name: str) -> Command:
     """A cycle of one rule."""
-    return {"do": "cycle", "entries": [{"a": name, "b": "-", "grid": "EVEN", "phase": 0}]}
+    return cycle_command((name, "-", "EVEN", 0))
 
 
-def cell(row: int) -> Command:
+def cell_at(row: int, side: int = 256) -> Command:
     """Sets a cell of a row, and clears the others."""
-    return {"do": "set", "plane": 0, "row": row, "bits": "8" + "0" * 63}
+    return do("set", plane=0, row=row, bits="8".ljust(side // 4, "0"))
 
 
-def lines_of(values: list[Command]) -> list[str]:
+def lines(*values: Command) -> Lines:
     """The lines of commands, or of events."""
-    return [line_of(**value) for value in values]
+    return [*map(plain, values)]
 
 
-FIRST = lines_of([PARITY, cycle("P"), cell(0), RUN, {"do": "plane", "plane": 0}, COUNT])
+FIRST = lines(PARITY, cycle_of("P"), cell_at(0), RUN, PLANE, COUNT)
 # Each command, and looks at what it changed after it.
-KEPT: list[Command] = [PARITY, RULES, cycle("P"), cell(1), ROW, RUN, ROW, {"do": "plane", "plane": 0}]
-SHOWN: list[Command] = [{"do": "map", "colours": [*range(15, -1, -1)]}, {"do": "colours", "row": 1}, COUNT]
-UNDONE: list[Command] = [TURN, RULES, cycle("T"), {"do": "back", "n": 1}, ROW, {"do": "drop", "name": "P"}, RULES]
-AFRESH: list[Command] = [CLEAR, ROW, PARITY, cycle("P"), cell(2), {"do": "run", "n": 2}, ROW]
-EACH = lines_of([*KEPT, *SHOWN, *UNDONE, *AFRESH, {"do": "side", "side": 128}, RULES, {"do": "fly"}])
+EACH = lines(PARITY, RULES, cycle_of("P"), cell_at(1), ROW, RUN, ROW, PLANE)
+EACH += lines(do("map", colours=[*range(15, -1, -1)]), do("colours", row=1), COUNT)
+EACH += lines(TURN, RULES, cycle_of("T"), BACK, ROW, do("drop", name="P"), RULES)
+EACH += lines(CLEAR, ROW, PARITY, cycle_of("P"), cell_at(2), do("run", n=2), ROW, SMALL, RULES, do("fly"))
 # A line for which the buffer grows, and one after it.
-LONG = lines_of([{"do": "load", "machine": {"x": "x" * 20000}}, RULES])
-TURNED: list[Command] = [
-    {"do": "side", "side": 128},
-    TURN,
-    cycle("T"),
-    {"do": "set", "plane": 0, "row": 5, "bits": "8" + "0" * 31},
-    RUN,
-]
+LONG = lines(load({"x": "x" * 20000}), RULES)
 
 
 @cache
-def saved() -> list[str]:
+def saved() -> Lines:
     """A machine that is saved; then another one, and the first one again."""
-    machine = hosts.Machine(256)
-    for command in TURNED:
-        machine.do(command)
-    load = {"do": "load", "machine": machine.do(SAVE)["machine"]}
-    return lines_of([*TURNED, SAVE, cycle("T"), CLEAR, load, RUN, SAVE, load | {"machine": {}}, RULES])
+    machine, begin = Machine(256), [SMALL, TURN, cycle_of("T"), cell_at(5, 128), RUN, SAVE]
+    loads = load([machine.reply(command) for command in begin][-1]["machine"])
+    return lines(*begin, cycle_of("T"), CLEAR, loads, RUN, SAVE, load({}), RULES)
 
 
-def done_at_once(user: int, command: Command) -> list[Command]:
-    """An ask, and a collect of its reply."""
-    return [{"event": "ask", "user": user, "command": command}, {"event": "collect", "user": user}]
-
-
-def two_texts() -> list[str]:
-    """Events of two users, who have a rule of one name with two texts, one board, and a cache of one table."""
-    rules = {
-        user: {**PARITY, "name": "R", "text": f": R {word} >PLN0 ;"} for user, word in ((1, "NORTH"), (2, "SOUTH"))
-    }
-    events = [
+def asked(user: int, *commands: Command) -> list[Command]:
+    """For each command an ask, and a collect of its reply."""
+    return [
         event
-        for user, rule in rules.items()
-        for command in (rule, cycle("R"), cell(5), cell(200))
-        for event in done_at_once(user, command)
+        for command in commands
+        for event in ({"event": "ask", "user": user, "command": command}, {"event": "collect", "user": user})
     ]
+
+
+def two_texts() -> Lines:
+    """Events of two users, who have a rule of one name with two texts, one board, and a cache of one table."""
+    events = []
+    for user, word in ((1, "NORTH"), (2, "SOUTH")):
+        events += asked(user, rule_command("R", *TEXTS[word]), cycle_of("R"), cell_at(5), cell_at(200))
     evict, band, preempt = {"event": "evict"}, {"event": "band", "board": 0}, {"event": "preempt", "board": 0}
-    asks = [{"event": "ask", "user": user, "command": RUN} for user in (1, 2)]
-    lease = {user: {"event": "lease", "user": user, "board": 0} for user in (1, 2)}
-    events += [
-        *asks,
-        evict,
-        lease[1],
-        evict,
-        evict,
-        *[band] * 8,
-        preempt,
-        lease[2],
-        *[band] * 16,
-        lease[1],
-        *[band] * 8,
-    ]
-    events += [{"event": "collect", "user": user} for user in (1, 2)]
+    (ask, collect), (other_ask, other_collect) = asked(1, RUN), asked(2, RUN)
+    lease, other_lease = ({"event": "lease", "user": user, "board": 0} for user in (1, 2))
+    events += [ask, other_ask, evict, lease, evict, evict, *[band] * 8, preempt]
+    events += [other_lease, *[band] * 16, lease, *[band] * 8, collect, other_collect]
     for user in (1, 2):
-        for row in (4, 6, 199, 201):
-            events += done_at_once(user, {"do": "row", "plane": 0, "row": row})
-    return lines_of(events)
+        events += asked(user, *(do("row", plane=0, row=row) for row in (4, 6, 199, 201)))
+    return lines(*events)
 
 
 TWO_TEXTS = two_texts()
@@ -137,234 +106,119 @@ TWO_TEXTS = two_texts()
 
 
 @cache
-def replies_to(*lines: str) -> list[str]:
-    """The replies of the plain machine. It doesn't know a command that says nothing."""
-    machine, found = hosts.Machine(256), []
-    for command in map(json.loads, lines):
-        is_known = hasattr(machine, f"do_{command['do']}") and "colours" in command.get("machine", {"colours": []})
-        found.append(line_of(**(machine.do(command) if is_known else {"fault": 3})))
-    return found
+def replies_to(*sent: bytes) -> Lines:
+    """The replies of the oracle."""
+    return answers([*sent])
 
 
 @cache
-def outcomes_of(without: int | None, *lines: str) -> list[str]:
-    """The outcomes of events by the plain host, if one of them is an ask that runs out of memory."""
-    host = hosts.Host([256, 256], 1, 1)
-    events = enumerate(map(json.loads, lines))
-    return [line_of(**({"refused": 0} if number == without else host.apply(event))) for number, event in events]
+def outcomes_of(without: int | None, *sent: bytes) -> Lines:
+    """The outcomes of events by the oracle, if one of them is an ask that runs out of memory."""
+    replay = Replay(2, 1, 1)
+    return [REFUSED if number == without else replay.answer(event) for number, event in enumerate(sent)]
 
 
 # How a run went: how the refusal was seen, or None if something else than what may be came back.
+How = str | None
 
 
-def whole_lines(text: bytes) -> list[str] | None:
+def whole_lines(text: bytes) -> Lines | None:
     """The lines of a text, if its last one is whole."""
-    return text.decode().splitlines() if not text or text.endswith(b"\n") else None
+    return None if text and not text.endswith(b"\n") else lines_of(text)
 
 
-def how_alone(done: Ran, lines: list[str]) -> str | None:
-    """How a run of cam6 went that has to write these replies, or a front of them if memory runs out."""
-    got, wanted = whole_lines(done.output), replies_to(*lines)
-    if got is None or (done.status, done.errors) not in [(0, b""), NO_MEMORY]:
+def lines_written(done: Ran) -> Lines | None:
+    """The lines of a run of cam6 that ended well, or that reported that memory ran out."""
+    return whole_lines(done.output) if done._replace(output=b"") in (Ran(0, b""), NO_MEMORY) else None
+
+
+def how_alone(done: Ran, sent: Lines) -> How:
+    """How a run of cam6 went that has to write these replies, or a prefix of them if memory runs out."""
+    got, wanted = lines_written(done), replies_to(*sent)
+    if got is None or got != wanted[: len(got)]:
         return None
     if done.status == 0:
         return UNSEEN if got == wanted else None
-    return None if got != wanted[: len(got)] else AFTER_ANSWERS if got else BEFORE_ANSWERS
+    return AFTER_ANSWERS if got else BEFORE_ANSWERS
 
 
-def how_session(got: list[str], wanted: list[str]) -> str | None:
+def how_session(got: Lines, sent: Lines) -> How:
     """How a session went that is taken up again after memory ran out: `again` stands before a reply, and `done` in place of
     one."""
-    marks = [line for line in got if line in ("again", "done")]
-    if len(marks) > 1:
-        return None
-    if marks == ["done"]:
-        at = got.index("done")
+    wanted, marks = replies_to(*sent), [line for line in got if line in (b"again", b"done")]
+    if marks == [b"done"]:
+        at = got.index(b"done")
         return AT_A_REPLY if got[:at] + wanted[at : at + 1] + got[at + 1 :] == wanted else None
-    if [line for line in got if line != "again"] != wanted:
+    if len(marks) > 1 or [line for line in got if line != b"again"] != wanted:
         return None
     return "at a command, which is not done" if marks else UNSEEN
 
 
-def is_but_for_tables(got: list[str], wanted: list[str], lines: list[str]) -> bool:
-    """Whether these are the outcomes, but that a table may not have been kept that is to be evicted."""
-    evict, none_kept = '{"event":"evict"}', '{"refused":109}'
-    pairs = zip(got, wanted, lines)
-    is_so = all(line == other or (event == evict and line == none_kept) for line, other, event in pairs)
-    return len(got) == len(wanted) and is_so
+def refused_ask(got: Lines, sent: Lines) -> tuple[int | None, bool]:
+    """The place of an outcome that reports that memory ran out, if there is one. Then whether the outcomes are right: no
+    other event than an ask ran out of memory, and only an evict may find that a table wasn't kept."""
+    place = got.index(REFUSED) if REFUSED in got else None
+    wanted = outcomes_of(place, *sent)
+    evicted = {event: NONE_KEPT for event in lines({"event": "evict"})}
+    is_so = all(line in (other, evicted.get(event)) for line, other, event in zip(got, wanted, sent))
+    return place, is_so and len(got) <= len(sent) and (place is None or json.loads(sent[place])["event"] == "ask")
 
 
-def place_of_refusal(got: list[str]) -> int | None:
-    """The place of an outcome that reports that memory ran out."""
-    return got.index('{"refused":0}') if '{"refused":0}' in got else None
-
-
-def is_no_ask(place: int | None, lines: list[str]) -> bool:
-    """Whether something else than an ask ran out of memory."""
-    return place is not None and json.loads(lines[place])["event"] != "ask"
-
-
-def how_list(got: list[str], lines: list[str]) -> str | None:
+def how_list(got: Lines, sent: Lines) -> How:
     """How a list of events went: it wasn't read, it was refused, or an ask was."""
-    marks = [line for line in got if line in ("unread", "refused")]
+    marks = [line for line in got if line in (b"unread", b"refused")]
     got = [line for line in got if line not in marks]
-    if len(marks) > 1:
+    place, is_well = refused_ask(got, sent)
+    if len(marks) > 1 or len(got) != len(sent) or not is_well:
         return None
-    place = place_of_refusal(got)
-    wanted = outcomes_of(place, *lines)
-    if place is None and got == wanted:
-        return {"unread": "at reading", "refused": "at the list", "": UNSEEN}[marks[0] if marks else ""]
-    if marks or is_no_ask(place, lines) or not is_but_for_tables(got, wanted, lines):
-        return None
-    return NOT_KEPT if place is None else AT_AN_ASK
+    if place is None and got == outcomes_of(None, *sent):
+        return {b"unread": "at reading", b"refused": "at the list"}[marks[0]] if marks else UNSEEN
+    return None if marks else NOT_KEPT if place is None else AT_AN_ASK
 
 
-def how_replay(done: Ran, lines: list[str]) -> str | None:
+def how_replay(done: Ran, sent: Lines) -> How:
     """How a replay went: it ended after whole outcomes, or an ask was refused."""
-    got = whole_lines(done.output)
-    if got is None or (done.status, done.errors) not in [(0, b""), NO_MEMORY]:
+    got = lines_written(done)
+    place, is_well = refused_ask(got or [], sent)
+    if got is None or not is_well or done.status == 0 and len(got) < len(sent):
         return None
-    place = place_of_refusal(got)
-    wanted = outcomes_of(place, *lines)[: len(got)]
-    if is_no_ask(place, lines) or not is_but_for_tables(got, wanted, lines[: len(got)]):
-        return None
-    if done.status == NO_MEMORY[0]:
+    if done.status:
         return BEFORE_ANSWERS if not got else AFTER_ANSWERS if place is None else None
-    if len(got) < len(lines):
-        return None
-    return AT_AN_ASK if place is not None else UNSEEN if got == wanted else NOT_KEPT
-
-
-def how_served(got: list[str], again: int | None, lines: list[str]) -> str | None:
-    """How a session at a host went: a line that is sent again was done the first time, or it wasn't."""
-    if got == replies_to(*lines):
-        return UNSEEN if again is None else "at a line, which is sent again"
-    if again is None:
-        return None
-    twice = replies_to(*lines[: again + 1], *lines[again:])
-    return AT_A_REPLY if got == twice[:again] + twice[again + 1 :] else None
+    return AT_AN_ASK if place is not None else UNSEEN if got == outcomes_of(None, *sent) else NOT_KEPT
 
 
 # Two rules: their entries are the two lowest bits of the address, or the second of these alone.
-KEEPS, CLEARS = (": R CENTER >PLN0 ;", 3), (": R 0 >PLN0 ;", 2)
+KEEPS, CLEARS = (b": R CENTER >PLN0 ;", 3), (b": R 0 >PLN0 ;", 2)
 # What is loaded from a cache of two tables, one after another.
 LOADS = (KEEPS, KEEPS, CLEARS, CLEARS, KEEPS)
 # Which of the loads find their table kept, and how that is seen.
-HITS: dict[tuple[str, ...], str] = {
-    ("false", "true", "false", "true", "true"): UNSEEN,
-    ("false", "false", "false", "true", "true"): "the first not kept",
-    ("false", "true", "false", "false", "true"): "the second not kept",
+HITS = {
+    "false true false true true": UNSEEN,
+    "false false false true true": "the first not kept",
+    "false true false false true": "the second not kept",
 }
 
 
-def table_lines(mask: int) -> list[str]:
-    """A table whose entries are these of the two lowest bits of their addresses, 64 entries a line."""
-    return ["".join(str(address & mask) for address in range(first, first + 64)) for first in range(0, 4096, 64)]
-
-
-def how_loads(got: list[str]) -> str | None:
-    """How the loads went. The table comes after each."""
-    ends = range(0, len(got), 65)
-    is_well = [got[at + 1 : at + 65] for at in ends] == [table_lines(mask) for _, mask in LOADS]
-    return HITS.get(tuple(got[at] for at in ends)) if is_well else None
+def how_loads(got: Lines, _: Lines) -> How:
+    """How the loads went. The table comes after each, 64 entries a line."""
+    ends, tables = range(0, len(got), 65), []
+    for _rule, mask in LOADS:
+        entries = "".join(str(address & mask) for address in range(4096)).encode()
+        tables.append([entries[first : first + 64] for first in range(0, 4096, 64)])
+    is_well = [got[at + 1 : at + 65] for at in ends] == tables
+    return HITS.get(b" ".join(got[at] for at in ends).decode()) if is_well else None
 
 
 # What is run.
 
 
-@dataclass(frozen=True)
-class Went:
-    """Whether a run's request was refused, how that was seen, or None if the run went wrong, and what it wrote."""
+class Bench(NamedTuple):
+    """The programs, the library that refuses the request of a number, and the folder in which it reports that."""
 
-    is_refused: bool
-    how: str | None
-    told: object
-
-
-Once = Callable[[int], Went]
-
-
-class Served:
-    """A host for one user, and their lines, one after another. If the connection ends before a reply, the user sits down
-    again, and goes on with that line."""
-
-    def __init__(self, cam6: str, env: dict[str, str]) -> None:
-        self.port, self.ends = free_port(), 0
-        words = ["serve", "--port", str(self.port), "--users", "1", "--boards", "1", "--cache", "1"]
-        how: dict[str, Any] = {"stdin": subprocess.DEVNULL, "stdout": subprocess.DEVNULL, "stderr": subprocess.PIPE}
-        self.process = subprocess.Popen([cam6, *words], env=os.environ | env, **how)
-        assert self.process.stderr
-        self.first: bytes = self.process.stderr.readline()
-        if not self.first.startswith(b"listening on"):
-            self.process.wait(PATIENCE)
-
-    def is_running(self) -> bool:
-        """Whether the host has not ended."""
-        return self.process.poll() is None
-
-    def sits_down(self) -> bool:
-        """Whether the user gets a connection. If not, the host is gone."""
-        end = time.monotonic() + PATIENCE
-        while time.monotonic() < end:
-            said = None
-            try:
-                with socket.create_connection(("127.0.0.1", self.port), timeout=PATIENCE) as stream:
-                    stream.setsockopt(socket.IPPROTO_TCP, socket.TCP_NODELAY, 1)
-                    self.file = stream.makefile("rwb")
-                said = self.answer('{"seat":1}')
-            except OSError:
-                pass
-            if said == '{"ok":"seat"}':
-                return True
-            self.ends += said is None
-            if not self.is_running() or said not in (None, '{"fault":80}') or self.ends > 3:
-                return False
-            time.sleep(0.01)
-        return False
-
-    def answer(self, line: str) -> str | None:
-        """The answer to a line, or None if the connection has ended."""
-        try:
-            self.file.write(f"{line}\n".encode())
-            self.file.flush()
-            text = self.file.readline()
-        except OSError:
-            return None
-        return text.decode().rstrip("\n") if text.endswith(b"\n") else None
-
-    def answers(self, lines: list[str]) -> tuple[list[str], int | None]:
-        """All replies, and the place of a line that was sent again."""
-        got: list[str] = []
-        again = None
-        for number, line in enumerate(lines):
-            reply = self.answer(line)
-            if reply is None:
-                self.ends, again = self.ends + 1, number
-                reply = self.answer(line) if self.sits_down() else None
-            if reply is None:
-                break
-            got.append(reply)
-        return got, again
-
-    def end(self) -> tuple[int | None, bytes]:
-        """The status with which the host ended by itself, if it did, and all that it wrote."""
-        status = self.process.poll()
-        self.process.kill()
-        assert self.process.stderr
-        with self.process:
-            return status, self.first + self.process.stderr.read()
-
-
-AT_A_THREAD = "at the thread of a board"
-# How a host ends before it is there: the status, the line and the way.
-NO_HOST = [(*NO_MEMORY, "before the host was there"), (8, b"cam6: no thread\n", AT_A_THREAD)]
-
-
-class Bench:
-    """The programs, and the library that refuses the request of a number."""
-
-    def __init__(self, cam6: str, player: str, library: str, folder: Path) -> None:
-        self.cam6, self.player, self.library, self.folder = cam6, player, library, folder
+    cam6: str
+    player: str
+    library: str
+    folder: Path
 
     def env(self, number: int) -> dict[str, str]:
         """What a program is run with."""
@@ -374,102 +228,147 @@ class Bench:
         """Whether a run met its request."""
         return (self.folder / str(number)).exists()
 
-    def went(self, number: int, how: str | None, told: object) -> Went:
-        """How a run went. A refusal that was not met is not unseen."""
-        is_refused = self.is_refused(number)
-        return Went(is_refused, "nothing" if how == UNSEEN and not is_refused else how, told)
+    def ran(self, command: list[str], sent: Lines, number: int) -> Ran:
+        """Runs a program on lines."""
+        return ran(command, b"".join(line + b"\n" for line in sent), self.env(number), PATIENCE)
 
-    def of_cam6(self, words: list[str], lines: list[str], how_of: Callable[[Ran, list[str]], str | None]) -> Once:
-        """Runs cam6 on lines."""
 
-        def once(number: int) -> Went:
-            done = ran([self.cam6, *words], "".join(f"{line}\n" for line in lines).encode(), self.env(number), PATIENCE)
-            return self.went(number, how_of(done, lines), done)
+# Runs something with the request of a number refused. Returns how it went, and what came back.
+Once = Callable[[Bench, int], tuple[How, object]]
 
-        return once
 
-    def of_words(self, words: list[str], status: int) -> Once:
-        """Runs cam6 on arguments by which it prints something and ends. The text is the same whether or not a request is
-        refused."""
-        ample = ran([self.cam6, *words], env=self.env(0), patience=PATIENCE)
+def of_cam6(words: list[str], sent: Lines, how_of: Callable[[Ran, Lines], How]) -> Once:
+    """Runs cam6 on lines."""
+
+    def once(bench: Bench, number: int) -> tuple[How, object]:
+        done = bench.ran([bench.cam6, *words], sent, number)
+        return how_of(done, sent), done
+
+    return once
+
+
+def of_words(words: list[str], status: int) -> Once:
+    """Runs cam6 on arguments by which it prints something and ends. The text is the same whether or not a request is
+    refused."""
+
+    def once(bench: Bench, number: int) -> tuple[How, object]:
+        ample, done = (bench.ran([bench.cam6, *words], [], at) for at in (0, number))
         assert ample.status == status and ample.output + ample.errors
+        return "as no memory" if done == NO_MEMORY else UNSEEN if done == ample else None, done
 
-        def once(number: int) -> Went:
-            done = ran([self.cam6, *words], env=self.env(number), patience=PATIENCE)
-            how = "as no memory" if done == Ran(NO_MEMORY[0], b"", NO_MEMORY[1]) else UNSEEN if done == ample else None
-            return self.went(number, how, done)
-
-        return once
-
-    def of_player(self, word: str, lines: list[str], how_of: Callable[[list[str]], str | None]) -> Once:
-        """Runs the player on lines. It does again what ran out of memory."""
-
-        def once(number: int) -> Went:
-            text = "".join(f"{line}\n" for line in lines).encode()
-            done = ran([self.player, "scarce", word], text, self.env(number), PATIENCE)
-            got = whole_lines(done.output)
-            if done.status == 0:
-                return self.went(number, None if got is None else how_of(got), done)
-            is_early = not done.output and self.is_refused(number)
-            return self.went(number, "before the first line" if is_early else None, done)
-
-        return once
-
-    def of_host(self, lines: list[str]) -> Once:
-        """Starts a host, and sends it the lines of a user."""
-
-        def once(number: int) -> Went:
-            it = Served(self.cam6, self.env(number))
-            is_seated = it.is_running() and it.sits_down()
-            before = it.ends
-            got, again = it.answers(lines) if is_seated else ([], None)
-            if not is_seated:
-                it.process.wait(PATIENCE)
-            status, errors = it.end()
-            if status == NETWORK_FAILED and not self.is_refused(number):
-                # Another program took the port meanwhile.
-                return once(number)
-            if not is_seated:
-                ways = [way for end, line, way in NO_HOST if status == end and errors.endswith(line)]
-                return self.went(number, ways[0] if ways else None, (status, errors))
-            how = how_served(got, again, lines) if status is None and errors == it.first else None
-            if how == UNSEEN and before:
-                how = "at a connection, which is closed"
-            return self.went(number, how, (status, errors, got[-1:]))
-
-        return once
+    return once
 
 
-def of_session(lines: Callable[[], list[str]]) -> Callable[[Bench], Once]:
-    """A session by the player, which takes it up again."""
-    return lambda bench: bench.of_player("session", lines(), lambda got: how_session(got, replies_to(*lines())))
+def of_player(word: str, of: Callable[[], Lines], how_of: Callable[[Lines, Lines], How] = how_session) -> Once:
+    """Runs the player on lines. It does again what ran out of memory."""
+
+    def once(bench: Bench, number: int) -> tuple[How, object]:
+        done = bench.ran([bench.player, "scarce", *word.split()], of(), number)
+        got = whole_lines(done.output)
+        if done.status == 0:
+            return None if got is None else how_of(got, of()), done
+        is_early = not done.output and bench.is_refused(number)
+        return "before the first line" if is_early else None, done
+
+    return once
 
 
-def of_loads(bench: Bench) -> Once:
-    """Tables that are loaded from a cache of two, by the player."""
-    lines = [line for rule, _ in LOADS for line in (f"load A N/VONN &/CENTERS {rule}", "table")]
-    return bench.of_player("cache 2", lines, how_loads)
+class Seat:
+    """A user of a host, who sits down again if the connection ends before a reply, and goes on with that line."""
+
+    def __init__(self, host: Host) -> None:
+        self.host, self.ends = host, 0
+        self.peer: Peer | None = None
+
+    def sits_down(self) -> bool:
+        """Whether the user gets a connection. If not, the host is gone."""
+        end = time.monotonic() + PATIENCE
+        while time.monotonic() < end:
+            try:
+                self.peer = Peer(self.host.port, 1)
+                said = self.peer.said
+            except OSError:
+                said = None
+            if said == '{"ok":"seat"}':
+                return True
+            self.ends += said is None
+            if not self.host.is_running() or said not in (None, '{"fault":80}') or self.ends > 3:
+                return False
+            time.sleep(0.01)
+        return False
+
+    def answer(self, line: bytes) -> str | None:
+        """The answer to a line, or None if the connection has ended."""
+        try:
+            return self.peer.ask(line.decode()) if self.peer else None
+        except OSError:
+            return None
+
+    def answers(self, sent: Lines) -> tuple[Lines, int | None]:
+        """All replies, and the place of a line that was sent again."""
+        got: Lines = []
+        again = None
+        for number, line in enumerate(sent):
+            reply = self.answer(line)
+            if reply is None:
+                self.ends, again = self.ends + 1, number
+                reply = self.answer(line) if self.sits_down() else None
+            if reply is None:
+                break
+            got.append(reply.encode())
+        return got, again
+
+
+def how_served(got: Lines, again: int | None, sent: Lines) -> How:
+    """How a session at a host went: a line that is sent again was done the first time, or it wasn't."""
+    if got == replies_to(*sent):
+        return UNSEEN if again is None else "at a line, which is sent again"
+    if again is None:
+        return None
+    twice = replies_to(*sent[: again + 1], *sent[again:])
+    return AT_A_REPLY if got == twice[:again] + twice[again + 1 :] else None
+
+
+def of_host(of: Callable[[], Lines]) -> Once:
+    """Starts a host, and sends it the lines of a user."""
+
+    def once(bench: Bench, number: int) -> tuple[How, object]:
+        try:
+            host = Host(bench.cam6, "--users=1", "--boards=1", "--cache=1", env=bench.env(number))
+        except NotListening as why:
+            return NO_HOST.get(why.done), why.done
+        with host:
+            seat = Seat(host)
+            if not seat.sits_down():
+                done = host.ended()
+                return NO_HOST.get(done) if done else None, done
+            before = seat.ends
+            got, again = seat.answers(of())
+            how = how_served(got, again, of()) if host.is_running() and len(host.said) == 1 else None
+            how = "at a connection, which is closed" if how == UNSEEN and before else how
+            return how, (host.said, got[-1:])
+
+    return once
 
 
 REPLAY = ["replay", "--users", "2", "--boards", "1", "--cache", "1"]
-# What is run, by name: it runs once with the request of a number refused, and says how it went.
-PARTS: dict[str, Callable[[Bench], Once]] = {
-    "two_tables_and_a_cache": of_loads,
-    "words_for_help": lambda bench: bench.of_words(["--help"], 0),
-    "words_that_are_refused": lambda bench: bench.of_words([str(i) for i in range(40)], 2),
-    "alone_the_first_session": lambda bench: bench.of_cam6(["alone"], FIRST, how_alone),
-    "the_first_session_taken_up_again": of_session(lambda: FIRST),
-    "each_command_taken_up_again": of_session(lambda: EACH),
-    "replay_no_events": lambda bench: bench.of_cam6(["replay"], [], how_alone),
-    "replay_one_name_with_two_texts": lambda bench: bench.of_cam6(REPLAY, TWO_TEXTS, how_replay),
-    "a_list_of_events_one_name_with_two_texts": lambda bench: bench.of_player(
-        "list 2 1 1", TWO_TEXTS, lambda got: how_list(got, TWO_TEXTS)
-    ),
-    "serve_each_command": lambda bench: bench.of_host(EACH),
-    "alone_a_long_line_that_loads_nothing": lambda bench: bench.of_cam6(["alone"], LONG, how_alone),
-    "a_long_line_that_loads_nothing_taken_up_again": of_session(lambda: LONG),
-    "a_machine_saved_and_loaded_taken_up_again": of_session(saved),
-    "serve_a_machine_saved_and_loaded": lambda bench: bench.of_host(saved()),
+LOADED = [line for text, _ in LOADS for line in (b"load A N/VONN &/CENTERS " + text, b"table")]
+# What is run, by name.
+PARTS: dict[str, Once] = {
+    "two_tables_and_a_cache": of_player("cache 2", lambda: LOADED, how_loads),
+    "words_for_help": of_words(["--help"], 0),
+    "words_that_are_refused": of_words([str(i) for i in range(40)], 2),
+    "alone_the_first_session": of_cam6(["alone"], FIRST, how_alone),
+    "the_first_session_taken_up_again": of_player("session", lambda: FIRST),
+    "each_command_taken_up_again": of_player("session", lambda: EACH),
+    "replay_no_events": of_cam6(["replay"], [], how_alone),
+    "replay_one_name_with_two_texts": of_cam6(REPLAY, TWO_TEXTS, how_replay),
+    "a_list_of_events_one_name_with_two_texts": of_player("list 2 1 1", lambda: TWO_TEXTS, how_list),
+    "serve_each_command": of_host(lambda: EACH),
+    "alone_a_long_line_that_loads_nothing": of_cam6(["alone"], LONG, how_alone),
+    "a_long_line_that_loads_nothing_taken_up_again": of_player("session", lambda: LONG),
+    "a_machine_saved_and_loaded_taken_up_again": of_player("session", saved),
+    "serve_a_machine_saved_and_loaded": of_host(saved),
 }
 # A machine's text takes some thousands of requests. One of so many is refused.
 STEPS = {"a_machine_saved_and_loaded_taken_up_again": 17, "serve_a_machine_saved_and_loaded": 41}
@@ -481,19 +380,19 @@ LEAST = 40
 def test_nothing_is_lost_when_memory_runs_out(
     name: str, cam6: str, cam6_try_rules: str, library: Callable[[str], str], tmp_path: Path
 ) -> None:
-    once = PARTS[name](Bench(cam6, cam6_try_rules, library("refusing"), tmp_path))
-    seen: Counter[str] = Counter()
-    wrong = []
-    number, step = 1, STEPS.get(name, 1)
-    while (went := once(number)).is_refused:
-        if went.how is None:
-            wrong.append(f"request {number}: {went.told}")
-        else:
-            seen[went.how] += 1
-        number += step
-    print(f"{name}: {sum(seen.values())} refused:", ", ".join(f"{times} {how}" for how, times in sorted(seen.items())))
+    bench, once = Bench(cam6, cam6_try_rules, library("refusing"), tmp_path), PARTS[name]
+    seen: Counter[How] = Counter()
+    wrong, number = [], 1
+    how, told = once(bench, number)
+    while bench.is_refused(number):
+        seen[how] += 1
+        if how is None:
+            wrong.append(f"request {number}: {told}")
+        number += STEPS.get(name, 1)
+        how, told = once(bench, number)
+    print(f"{name}: {sum(seen.values())} refused:", ", ".join(f"{times} {how}" for how, times in seen.items()))
     assert not wrong, f"{len(wrong)} runs went wrong:\n" + "\n".join(wrong[:5])
-    assert went.how == "nothing", f"without a refusal: {went.told}"
+    assert how == UNSEEN, f"without a refusal: {told}"
     assert sum(seen.values()) >= LEAST
     # A host of one board starts one thread for it, for which memory is asked once.
     assert name != "serve_each_command" or seen[AT_A_THREAD] == 1

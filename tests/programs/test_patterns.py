@@ -1,34 +1,31 @@
 """`cam6_rle` makes lines of patterns that are written as run-length text, and such texts of replies.
 
-A plain reader of such texts says which cells a pattern has. With `--patterns FOLDER` other patterns are read than those of
-Debian's golly.
+The oracle reads such texts too, and says which cells a pattern has. With `--patterns FOLDER` other patterns are read than those
+of Debian's golly.
 """
 
 from __future__ import annotations
 
 import re
-from collections.abc import Callable
-from dataclasses import dataclass
+from functools import partial
 from pathlib import Path
-from typing import Any
+from typing import Any, NamedTuple
 
 import pytest
-from support.plain_scripts import plain_script
-from support.programs import Ran, ran
-from support.sessions import line_of
+from examples.rules import ADD_EIGHT
+from examples.writing import compact, cycle_command, do, rule_command
+from oracle.machine import SIDES
+from oracle.patterns import Cells, Pattern, random_cells, read_pattern, replies_of
+from support.programs import Ran, assert_refused, ran
 
-plain = plain_script("patterns")
-# Seconds in which a program has to read a pattern.
-PATIENCE = 60
 GLIDER = "#C A glider that goes down and to the right.\nx = 3, y = 3, rule = B3/S23\nbo$2bo$3o!\n"
 BLINKER = "#CXRLE Pos=-1,254\nx = 3, y = 1\n3o!\n"
 WIRE = "x = 6, y = 3, rule = WireWorld\n.4C$C..AB\nC$.4C!\nbehind the end there may be anything\n"
 SPACED = "#C\n#P 2 -3\n\n  x=4,y = 5 , rule = B3/S23\n  b2o\tb $\r\n3$ 4o\n!\n"
 
 
-@dataclass(frozen=True)
-class Place:
-    """Where a pattern is set: the side of the torus, the column and the row of its corner, and the planes."""
+class Place(NamedTuple):
+    """Where a pattern is set: the side of the torus, the column and the row of its origin, and the planes."""
 
     side: int = 256
     column: int = 0
@@ -40,20 +37,15 @@ class Place:
         words = ["--side", str(self.side), "--column", str(self.column), "--row", str(self.row)]
         return [*words, "--planes", "".join(map(str, self.planes))]
 
-    def lines_of(self, text: str) -> str:
-        """The lines that set a pattern there, by the plain reader."""
-        lines: list[str] = plain.set_lines(text, self.side, self.column, self.row, self.planes)
-        return "".join(f"{line}\n" for line in lines)
-
 
 def read(cam6_rle: str, words: list[str], text: str) -> Ran:
     """How cam6_rle reads a text."""
-    return ran([cam6_rle, *words], text.encode("latin-1"), patience=PATIENCE)
+    return ran([cam6_rle, *words], text.encode("latin-1"), patience=60)
 
 
 def assert_is_set(cam6_rle: str, text: str, place: Place) -> None:
-    """Fails if the lines of a pattern aren't those of the plain reader."""
-    assert read(cam6_rle, place.words(), text) == Ran(0, place.lines_of(text).encode(), b"")
+    """Fails if the lines of a pattern aren't those of the oracle."""
+    assert read(cam6_rle, place.words(), text) == Ran(0, read_pattern(text).set_lines(*place).encode(), b"")
 
 
 PLACED = {
@@ -102,9 +94,8 @@ def test_a_malformed_text_is_refused_at_its_place(
 ) -> None:
     line, column, cause = place
     done = read(cam6_rle, words, text)
-    assert (done.status, done.output) == (3, b"")
+    assert_refused(done, 3, cause)
     assert done.errors.decode().startswith(f"cam6_rle: line {line}, column {column}: ")
-    assert cause in done.errors.decode()
 
 
 # Arguments that are refused, and replies that show no frames: the status, and what stands on standard error.
@@ -124,69 +115,45 @@ FAULTS: list[tuple[list[str], str, int, str]] = [
 
 @pytest.mark.parametrize(("words", "text", "status", "told"), FAULTS, ids=[" ".join(fault[0]) for fault in FAULTS])
 def test_arguments_and_replies_are_refused(words: list[str], text: str, status: int, told: str, cam6_rle: str) -> None:
-    done = read(cam6_rle, words, text)
-    assert (done.status, done.output) == (status, b"")
-    assert told in done.errors.decode()
+    assert_refused(read(cam6_rle, words, text), status, told)
 
 
-Cells = dict[tuple[int, int], int]
 # Cells that are written as a text: how they are made, the side, and the rule that the text names.
-WRITTEN: dict[str, tuple[Callable[[], Any], int, str]] = {
-    "no_cells": (lambda: {}, 128, ""),
-    "one_cell": (lambda: {(255, 255): 1}, 256, ""),
-    "cells_of_one_plane": (lambda: plain.by_chance(1, 256, 1, 0.3), 256, "B3/S23"),
-    "few_cells_of_one_plane": (lambda: plain.by_chance(2, 512, 1, 0.001), 512, ""),
-    "cells_of_four_planes": (lambda: plain.by_chance(3, 128, 15, 0.5), 128, "CAM6"),
+WRITTEN = {
+    "no_cells": (dict, 128, ""),
+    "one_cell": (partial(dict, [((255, 255), 1)]), 256, ""),
+    "cells_of_one_plane": (partial(random_cells, 1, 256, 1, 0.3), 256, "B3/S23"),
+    "few_cells_of_one_plane": (partial(random_cells, 2, 512, 1, 0.001), 512, ""),
+    "cells_of_four_planes": (partial(random_cells, 3, 128, 15, 0.5), 128, "CAM6"),
 }
 
 
-class TestWritten:
-    """Cells, as the program has written them."""
-
-    @pytest.fixture(scope="class", params=WRITTEN)
-    def case(self, request: pytest.FixtureRequest, cam6_rle: str) -> tuple[Cells, int, str, str]:
-        """The cells, the side, the rule, and the text that cam6_rle writes of replies that show the cells."""
-        cells_of, side, rule = WRITTEN[request.param]
-        cells = cells_of()
-        words = ["--replies", *(["--rule", rule] if rule else [])]
-        done = read(cam6_rle, words, plain.replies_of(cells, side))
-        assert (done.status, done.errors) == (0, b"")
-        return cells, side, rule, done.output.decode("latin-1")
-
-    def test_the_head_has_the_side_and_the_rule(self, case: tuple[Cells, int, str, str]) -> None:
-        _, side, rule, text = case
-        assert text.startswith(f"x = {side}, y = {side}" + (f", rule = {rule}" if rule else "") + "\n")
-
-    def test_a_line_has_70_bytes_at_most(self, case: tuple[Cells, int, str, str]) -> None:
-        assert max(map(len, case[3].split("\n"))) <= 70
-
-    def test_the_text_has_the_cells(self, case: tuple[Cells, int, str, str]) -> None:
-        cells, side, _, text = case
-        assert plain.cells_of(text) == (side, side, (0, 0), {at: state for at, state in cells.items() if state})
-
-    def test_the_text_is_read_back(self, case: tuple[Cells, int, str, str], cam6_rle: str) -> None:
-        cells, side, _, text = case
-        planes = (0,) if max(cells.values(), default=0) < 2 else (0, 1, 2, 3)
-        assert_is_set(cam6_rle, text, Place(side=side, planes=planes))
+@pytest.mark.parametrize(("cells_of", "side", "rule"), WRITTEN.values(), ids=WRITTEN)
+def test_cells_are_written_and_read_back(cells_of: partial[Cells], side: int, rule: str, cam6_rle: str) -> None:
+    cells = cells_of()
+    done = read(cam6_rle, ["--replies", *(["--rule", rule] if rule else [])], replies_of(cells, side))
+    text = done.output.decode("latin-1")
+    assert (done.status, done.errors) == (0, b"")
+    assert text.startswith(f"x = {side}, y = {side}" + (f", rule = {rule}" if rule else "") + "\n")
+    assert max(map(len, text.split("\n"))) <= 70
+    assert read_pattern(text) == Pattern(side, side, (0, 0), cells)
+    assert_is_set(cam6_rle, text, Place(side=side, planes=read_pattern(text).planes()))
 
 
 def test_a_glider_goes_in_moves_by_a_cell_each_way_and_comes_out(cam6: str, cam6_rle: str) -> None:
     set_lines = read(cam6_rle, Place(column=255, row=254).words(), GLIDER).output.decode()
-    life = ": L N.WEST NORTH + N.EAST + WEST + EAST + S.WEST + SOUTH + S.EAST + { 0 0 CENTER 1 0 0 0 0 0 } >PLN0 ;"
-    rule = line_of(do="rule", name="L", half="A", hood="N/MOORE", minor="&/CENTERS", text=life)
-    cycle = line_of(do="cycle", entries=[{"a": "L", "b": "-", "grid": "EVEN", "phase": 0}])
-    session = f"{rule}\n{cycle}\n{set_lines}{line_of(do='run', n=4)}\n{line_of(do='plane', plane=0)}\n"
-    done = ran([cam6], session.encode(), patience=PATIENCE)
+    life = f": L {ADD_EIGHT} {{ 0 0 CENTER 1 0 0 0 0 0 }} >PLN0 ;"
+    begin = map(compact, [rule_command("L", "A", "N/MOORE", "&/CENTERS", life), cycle_command(("L", "-", "EVEN", 0))])
+    session = "\n".join([*begin, set_lines + compact(do("run", n=4)), compact(do("plane", plane=0)), ""])
+    done = ran([cam6], session.encode(), patience=60)
     assert (done.status, done.errors) == (0, b"")
-    came = read(cam6_rle, ["--replies"], done.output.decode()).output.decode()
-    cells = plain.cells_of(GLIDER)[3]
-    assert plain.cells_of(came)[3] == {((x + 256) % 256, (y + 255) % 256): 1 for x, y in cells}
+    came = read_pattern(read(cam6_rle, ["--replies"], done.output.decode()).output.decode())
+    assert came.cells == {((x + 256) % 256, (y + 255) % 256): 1 for x, y in read_pattern(GLIDER).cells}
 
 
 # The header of a text, and what comes after it. A letter above O or o is a state that four planes don't have.
 TEXT = re.compile(r"^\s*x\s*=\s*(\d+)\s*,\s*y\s*=\s*(\d+).*\n([^!]*)", re.M)
 TOO_MANY_STATES = re.compile("[P-Zp-z]")
-SIDES = (128, 256, 512)
 
 
 def has_room(path: Path) -> bool:
@@ -206,7 +173,6 @@ def pytest_generate_tests(metafunc: pytest.Metafunc) -> None:
 
 def test_a_pattern_of_another_program_is_set(elsewhere: Path, cam6_rle: str) -> None:
     text = elsewhere.read_text(encoding="latin-1")
-    width, height, _, cells = plain.cells_of(text)
-    side = next(side for side in SIDES if max(width, height) <= side)
-    planes = (0,) if max(cells.values(), default=0) < 2 else (0, 1, 2, 3)
-    assert_is_set(cam6_rle, text, Place(side, side - 2, side - 1, planes))
+    pattern = read_pattern(text)
+    side = next(side for side in SIDES if max(pattern.width, pattern.height) <= side)
+    assert_is_set(cam6_rle, text, Place(side, side - 2, side - 1, pattern.planes()))

@@ -1,20 +1,21 @@
 """`cam6_draw` draws the pictures of the gallery, and `tools/film` packs its films.
 
-A plain renderer draws the same. The gallery shows each picture. What can't be drawn or packed is refused.
+The oracle draws the same. The gallery shows each picture. What can't be drawn or packed is refused.
 """
 
 from __future__ import annotations
 
 import json
 import re
+from argparse import ArgumentParser
 from io import BytesIO
 from pathlib import Path
 from typing import Any
 
 import pytest
+from oracle.pictures import drawn
 from PIL import Image, ImageSequence
-from support.plain_scripts import plain_script
-from support.programs import TOP, ran
+from support.programs import TOP, assert_refused, ran
 from support.tools import tool
 
 FILM = str(TOP / "tools" / "film")
@@ -22,7 +23,6 @@ FOLDER, GALLERY = TOP / "docs" / "pictures", TOP / "docs" / "GALLERY.md"
 LARGEST, LARGEST_FILM = 20_000, 100_000
 
 gallery = tool("tools/gallery-pictures")
-plain = plain_script("frames")
 PICTURES: list[str] = gallery.names_of(".lines")
 FILMS: list[str] = gallery.names_of(".frames")
 FILES: list[str] = gallery.names_of(".png")
@@ -82,23 +82,13 @@ def files_in(drawn: bytes) -> list[bytes]:
 
 
 def drawn_plainly(replies: bytes, options: list[str]) -> list[Image.Image]:
-    """The pictures that the plain renderer draws of replies, with these options of cam6_draw."""
-    words, scale, window, palette = list(options), 1, None, default_palette()
-    while words:
-        word = words.pop(0)
-        if word == "--scale":
-            scale = int(words.pop(0))
-        elif word == "--crop":
-            window, words = tuple(map(int, words[:4])), words[4:]
-        else:
-            assert word == "--palette", f"no option of a picture: {word}"
-            palette = [tuple(bytes.fromhex(light)) for light in words.pop(0).split(",")]
-    images = []
-    for frame in plain.frames(replies.decode().splitlines()):
-        rows: list[list[tuple[int, int, int]]] = plain.pixels(frame, window, scale, palette)
-        data = bytes(part for row in rows for light in row for part in light)
-        images.append(Image.frombytes("RGB", (len(rows[0]), len(rows)), data))
-    return images
+    """The pictures that the oracle draws of replies, with these options of cam6_draw."""
+    parser = ArgumentParser()
+    parser.add_argument("--scale", type=int, default=1)
+    parser.add_argument("--crop", type=int, nargs=4)
+    parser.add_argument("--palette", type=lambda lights: [tuple(bytes.fromhex(light)) for light in lights.split(",")])
+    asked = parser.parse_args(options)
+    return drawn(replies.decode(), asked.scale, asked.crop, asked.palette)
 
 
 def beside(images: list[Image.Image], gap: int) -> Image.Image:
@@ -145,7 +135,7 @@ class TestDrawing:
         assert packed.status == 0
         assert pictures_in(BytesIO(packed.output)) == wanted
 
-    def test_a_plain_renderer_draws_it(self, drawing: Any, replies: bytes, wanted: list[bytes]) -> None:
+    def test_the_oracle_draws_it(self, drawing: Any, replies: bytes, wanted: list[bytes]) -> None:
         images = drawn_plainly(replies, drawing.draw)
         if not drawing.is_film:
             images = images[-1:]
@@ -180,9 +170,7 @@ FAULTS = [
     ("words", "text", "status", "told"), FAULTS, ids=[f"{fault[0]}: {fault[3]}" for fault in FAULTS]
 )
 def test_nothing_is_drawn_of_a_fault(words: str, text: str, status: int, told: str, cam6_draw: str) -> None:
-    done = ran([cam6_draw, *words.split()], text.encode())
-    assert (done.status, done.output) == (status, b"")
-    assert told in done.errors.decode()
+    assert_refused(ran([cam6_draw, *words.split()], text.encode()), status, told)
 
 
 @pytest.mark.parametrize(("word", "front"), [("--version", b"cam6_draw 1 ("), ("--help", b"Draws the cells")])
@@ -210,6 +198,4 @@ FILM_FAULTS = [
     ("words", "data", "status", "told"), FILM_FAULTS, ids=[fault[3].strip() for fault in FILM_FAULTS]
 )
 def test_a_film_is_refused(words: str, data: bytes, status: int, told: str) -> None:
-    done = ran([FILM, *words.split()], data)
-    assert (done.status, done.output) == (status, b"")
-    assert told in done.errors.decode()
+    assert_refused(ran([FILM, *words.split()], data), status, told)

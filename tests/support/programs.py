@@ -10,9 +10,8 @@ import tempfile
 import threading
 import time
 from collections.abc import Callable, Iterable, Mapping
-from dataclasses import dataclass
 from pathlib import Path
-from typing import Any, TypeVar
+from typing import Any, NamedTuple, TypeVar
 
 TOP = Path(__file__).parents[2]
 # The crate of each program, and the players, which ./build doesn't build.
@@ -32,8 +31,7 @@ def built(name: str, named: str | None = None) -> Path | None:
     return next((path.resolve() for path in places if os.access(path, os.X_OK)), None)
 
 
-@dataclass(frozen=True)
-class Ran:
+class Ran(NamedTuple):
     """What a program did: its exit status, and what it wrote to its output and to its errors."""
 
     status: int
@@ -52,6 +50,12 @@ def ran(command: Iterable[str], data: bytes = b"", env: Mapping[str, str] | None
         done = subprocess.run([*command], timeout=patience, env=all_env, check=False, **how)
         output.seek(0)
         return Ran(done.returncode, output.read(), done.stderr)
+
+
+def assert_refused(done: Ran, status: int, told: str) -> None:
+    """Fails if a program didn't end with this status, without output, and with this text among its errors."""
+    assert (done.status, done.output) == (status, b"")
+    assert told in done.errors.decode()
 
 
 def private(cam6: str, lines: Iterable[str], side: int = 512) -> list[str]:
@@ -85,8 +89,16 @@ def until(is_so: Callable[[], Any], seconds: float = PATIENCE, pause: float = 0.
     return bool(is_so())
 
 
+class NotListening(OSError):
+    """A program doesn't begin to listen. `done` is how it ended."""
+
+    def __init__(self, command: list[str], done: Ran) -> None:
+        super().__init__(f"{' '.join(command)} doesn't listen: {done}")
+        self.done = done
+
+
 class Listener:
-    """A program that listens at a port until it is ended. Raises OSError if it doesn't begin to."""
+    """A program that listens at a port until it is ended."""
 
     process: subprocess.Popen[bytes]
     # The first line of its errors.
@@ -107,7 +119,8 @@ class Listener:
             if self.process.returncode != NETWORK_FAILED:
                 break
             self.port = free_port()
-        raise OSError(f"{' '.join(self.command_at(self.port))} doesn't listen: {self.said}")
+        errors = "".join(f"{line}\n" for line in self.said).encode()
+        raise NotListening(self.command_at(self.port), Ran(self.process.returncode, b"", errors))
 
     def begins(self) -> bool:
         """Starts the program. Returns whether it listens."""

@@ -11,7 +11,7 @@ from collections.abc import Iterable, Iterator
 from pathlib import Path
 from typing import NamedTuple
 
-from support.plain_scripts import plain_script
+from oracle.machine import Alone
 from support.programs import ran
 
 from .records import Played, digest, read
@@ -55,7 +55,7 @@ def by_program(cam6: str, played: Played) -> Verdict:
 
 def by_plain_machine(played: Played) -> Verdict:
     """Compares with a plain machine, for some seconds."""
-    alone, end = plain_script("machines").Alone(256), time.monotonic() + PLAIN_SECONDS
+    alone, end = Alone(256), time.monotonic() + PLAIN_SECONDS
 
     def replies() -> Iterator[bytes]:
         for line, _ in played.lines:
