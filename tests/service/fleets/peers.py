@@ -6,11 +6,11 @@ import socket
 import ssl
 from contextlib import suppress
 
+from service.users import SEAT, TAKEN
 from support import programs
 
 from .services import HOSTS, NAME, Fleet
 
-SEATED, TAKEN = '{"ok":"seat"}', '{"fault":80}'
 OVER = (ConnectionError, ssl.SSLError)
 
 
@@ -33,9 +33,6 @@ class Peer(programs.Peer):
             return super().ask(line)
         return None
 
-    def __enter__(self) -> Peer:
-        return self
-
     def is_over(self, seconds: float) -> bool:
         """Whether the other side ends the connection within so many seconds."""
         self.socket.settimeout(seconds)
@@ -46,16 +43,14 @@ class Peer(programs.Peer):
         except OVER:
             return True
 
+    def __enter__(self) -> Peer:
+        return self
+
 
 def stream_to(fleet: Fleet, node: str, address: str, port: int, source: str = "") -> socket.socket:
     """A connection from a node to an address."""
     with fleet.ground.within(node):
         return socket.create_connection((address, port), timeout=5, source_address=(source, 0) if source else None)
-
-
-def connected(fleet: Fleet, node: str, address: str, port: int, source: str = "") -> Peer:
-    """The same, line by line."""
-    return Peer(stream_to(fleet, node, address, port, source))
 
 
 def by_tls(fleet: Fleet, stream: socket.socket, name: str | None = NAME, certificate: str = "") -> Peer:
@@ -67,9 +62,9 @@ def by_tls(fleet: Fleet, stream: socket.socket, name: str | None = NAME, certifi
     return Peer(context.wrap_socket(stream, server_hostname=name))
 
 
-def user(fleet: Fleet) -> Peer:
+def user(fleet: Fleet, source: str = "") -> Peer:
     """A connection to the front without TLS, from its own machine."""
-    return connected(fleet, "front", "127.0.0.1", fleet.plain)
+    return Peer(stream_to(fleet, "front", "127.0.0.1", fleet.plain, source))
 
 
 def tls_user(fleet: Fleet, node: str = "users") -> Peer:
@@ -79,7 +74,7 @@ def tls_user(fleet: Fleet, node: str = "users") -> Peer:
 
 def at_host(fleet: Fleet, name: str) -> Peer:
     """A connection to a host, from its own machine."""
-    return connected(fleet, name, "127.0.0.1", fleet.ports[name])
+    return Peer(stream_to(fleet, name, "127.0.0.1", fleet.ports[name]))
 
 
 def answer_of(fleet: Fleet, line: str) -> str | None:
@@ -96,4 +91,4 @@ def hosts_with(fleet: Fleet, seat: int) -> list[str]:
 def is_taken(fleet: Fleet, name: str, seat: int) -> bool:
     """Whether a seat of a host is taken. If not, it is for a moment, until the host has seen that this connection is over."""
     with at_host(fleet, name) as one:
-        return one.ask(f'{{"seat":{seat}}}') == TAKEN
+        return one.ask(SEAT % seat) == TAKEN

@@ -7,28 +7,28 @@ import time
 from collections import Counter
 from collections.abc import Callable
 from signal import SIGCONT, SIGSTOP
+from typing import NamedTuple
 
+from service.users import NO_SEAT, SEAT
 from support.programs import until
 
 from .peers import answer_of
 from .services import HOSTS, Fleet, Service
 
-# Each kind with how often it comes. The first round has each of those that are marked, so that a short run has them all.
-KINDS = {
-    "kill_hosts": 6,
-    "stop_host": 3,
-    "drain_host": 2,
-    "kill_front": 1,
-    "reload_front": 1,
-    "kill_door": 1,
-    "pull_host": 2,
-    "pull_users": 1,
-    "kill_client": 3,
-}
-FIRST = ["kill_hosts", "stop_host", "drain_host", "kill_front", "pull_host", "kill_client", "reload_front"]
 # Seconds within which the front has to see that a host is stopped, and that it goes on.
 SEEN = 6
-NO_SEAT = '{"fault":81}'
+
+
+class Trouble(NamedTuple):
+    """What happens, and how many of 20 troubles are so. The first round has each that is marked, so that a short run has them
+    all. It lasts for so many seconds at least, at most, and at most in the first round."""
+
+    play: Callable[[Troubles, Trouble], None]
+    share: int
+    is_first: bool = True
+    least: float = 0
+    most: float = 0
+    first: float = 0.4
 
 
 class Troubles:
@@ -42,17 +42,17 @@ class Troubles:
 
     def play(self, seconds: float) -> None:
         """Trouble for so many seconds: first each kind of the first round, then any."""
-        end, first = time.monotonic() + seconds, list(FIRST)
+        end, first = time.monotonic() + seconds, [name for name, kind in KINDS.items() if kind.is_first]
         self.rng.shuffle(first)
         while first or time.monotonic() < end:
             self.is_first = bool(first)
-            kind = first.pop() if first else self.rng.choices(list(KINDS), list(KINDS.values()))[0]
-            self.tell(kind)
-            part: Callable[[], None] = getattr(self, kind)
+            shares = [kind.share for kind in KINDS.values()]
+            name = first.pop() if first else self.rng.choices(list(KINDS), shares)[0]
+            self.tell(name)
             try:
-                part()
+                KINDS[name].play(self, KINDS[name])
             except Exception as error:  # noqa: BLE001  whatever goes wrong, the trouble goes on
-                self.note(False, f"{kind}: {error!r}")
+                self.note(False, f"{name}: {error!r}")
             self.pause(0.1, 3)
 
     def tell(self, text: str) -> None:
@@ -78,7 +78,7 @@ class Troubles:
 
     def count(self, name: str, column: str) -> int:
         """A number that the front has of a host."""
-        return int(self.fleet.front.stats("fleet", name)[column])
+        return int(self.fleet.front.stats(name)[column])
 
     def is_seen_as(self, name: str, state: str) -> None:
         """The front has to see in time that a host is in a state."""
@@ -87,21 +87,16 @@ class Troubles:
 
     def are_answered(self, when: str) -> None:
         """New users have to be answered at once."""
-        answers = [answer_of(self.fleet, '{"seat":99}') for _ in range(6)]
+        answers = [answer_of(self.fleet, SEAT % 99) for _ in range(6)]
         self.note(answers == [NO_SEAT] * 6, f"{when} users are answered {answers}")
 
-    def kill_hosts(self) -> None:
-        """One host, two or all of them end at once, and are started again some time later."""
+    def some_hosts(self) -> list[Service]:
+        """One host, two or all of them."""
         names = self.rng.sample(HOSTS, 1 if self.is_first else self.rng.choice([1, 1, 1, 1, 1, 2, 2, 3]))
         self.tell(f"  hosts {names}")
-        for name in names:
-            self.fleet.hosts[name].kill()
-        self.counts["hosts killed"] += len(names)
-        self.pause(0.05, 3, 0.6)
-        for name in names:
-            self.fleet.hosts[name].start()
+        return [self.fleet.hosts[name] for name in names]
 
-    def stop_host(self) -> None:
+    def stop_host(self, how: Trouble) -> None:
         """A host stops in its place, takes connections, and answers nothing. The front has to see it."""
         name = self.some_host()
         is_watched = self.fleet.is_ready(10)
@@ -112,12 +107,12 @@ class Troubles:
                 self.is_seen_as(name, "DOWN")
                 have_gone = until(lambda: self.count(name, "scur") == 0, SEEN)
                 self.note(have_gone, f"users of the stopped host {name} are not told to go")
-            self.pause(0.1, 5, 0.2)
+            self.pause(*how[-3:])
         finally:
             self.fleet.hosts[name].send(SIGCONT)
         self.is_seen_as(name, "UP")
 
-    def drain_host(self) -> None:
+    def drain_host(self, _how: Trouble) -> None:
         """A rolling upgrade: no new user comes to a host, then its users go elsewhere, and it is started anew."""
         name = self.some_host()
         self.fleet.is_ready(10)
@@ -127,59 +122,64 @@ class Troubles:
         self.are_answered(f"while host {name} is drained")
         self.note(self.count(name, "stot") == before, f"the drained host {name} gets a new user")
         self.fleet.set(name, "maint")
-        self.note(
-            until(lambda: self.count(name, "scur") == 0, 3), f"users of host {name} in maintenance don't go elsewhere"
-        )
+        have_gone = until(lambda: self.count(name, "scur") == 0, 3)
+        self.note(have_gone, f"users of host {name} in maintenance don't go elsewhere")
         self.fleet.hosts[name].kill()
         self.fleet.hosts[name].start()
         self.fleet.set(name, "ready")
         self.counts["hosts drained"] += 1
 
-    def kill_front(self) -> None:
-        """The front ends, with all connections, and is started again."""
-        self.fleet.front.kill()
-        self.counts["fronts killed"] += 1
-        self.pause(0.05, 1, 0.2)
-        self.fleet.front.start()
-
-    def reload_front(self) -> None:
+    def reload_front(self, _how: Trouble) -> None:
         """The front gets a new configuration. Its users stay, and nobody is refused."""
         self.fleet.front.reload()
         self.counts["fronts loaded anew"] += 1
         self.are_answered("after the front is loaded anew")
 
-    def kill_door(self) -> None:
-        """The door of a host ends. The host has its users' seats free when it sees that."""
-        door = self.fleet.edges[self.some_host()]
-        door.kill()
-        self.counts["doors killed"] += 1
-        self.pause(0.05, 2)
-        door.start()
-
-    def pull(self, node: str, in_its_place: Service, least: float, first: float) -> None:
+    def pull(self, node: str, in_its_place: Service, how: Trouble) -> None:
         """The cable of a node is pulled: what is sent is lost, and nobody is told. Without cables a program is stopped."""
         self.counts["cables pulled"] += 1
-        self.fleet.ground.pull(node)
-        if not self.fleet.ground.has_cables:
-            in_its_place.send(SIGSTOP)
-        try:
-            self.pause(least, 9, first)
-        finally:
-            self.fleet.ground.plug(node)
-            in_its_place.send(SIGCONT)
+        has_cables = self.fleet.ground.has_cables
+        with self.fleet.ground.pulled(node):
+            if not has_cables:
+                in_its_place.send(SIGSTOP)
+            try:
+                self.pause(*how[-3:])
+            finally:
+                in_its_place.send(SIGCONT)
 
-    def pull_host(self) -> None:
+    def pull_host(self, how: Trouble) -> None:
         """The cable of a host's machine is pulled."""
         name = self.some_host()
-        self.pull(name, self.fleet.edges[name], 2, 2.5)
+        self.pull(name, self.fleet.edges[name], how)
 
-    def pull_users(self) -> None:
-        """The cable between the users and the front is pulled."""
-        self.pull("users", self.fleet.front, 0.5, 9)
 
-    def kill_client(self) -> None:
-        """A client's process ends amid its commands. Another one takes its journal up."""
-        client = self.rng.choice(self.clients)
-        client.kill()
-        client.start()
-        self.counts["clients killed"] += 1
+def killed(what: str, chosen: Callable[[Troubles], list[Service]]) -> Callable[[Troubles, Trouble], None]:
+    """Programs end at once, and are started again some time later."""
+
+    def play(troubles: Troubles, how: Trouble) -> None:
+        services = chosen(troubles)
+        for service in services:
+            service.kill()
+        troubles.counts[f"{what} killed"] += len(services)
+        troubles.pause(*how[-3:])
+        for service in services:
+            service.start()
+
+    return play
+
+
+KINDS = {
+    "kill_hosts": Trouble(killed("hosts", Troubles.some_hosts), 6, True, 0.05, 3, 0.6),
+    "stop_host": Trouble(Troubles.stop_host, 3, True, 0.1, 5, 0.2),
+    "drain_host": Trouble(Troubles.drain_host, 2),
+    # The front ends, with all connections.
+    "kill_front": Trouble(killed("fronts", lambda all_of: [all_of.fleet.front]), 1, True, 0.05, 1, 0.2),
+    "reload_front": Trouble(Troubles.reload_front, 1),
+    # The host has its users' seats free when it sees that its door has ended.
+    "kill_door": Trouble(killed("doors", lambda all_of: [all_of.fleet.edges[all_of.some_host()]]), 1, False, 0.05, 2),
+    "pull_host": Trouble(Troubles.pull_host, 2, True, 2, 9, 2.5),
+    # The cable between the users and the front.
+    "pull_users": Trouble(lambda all_of, how: all_of.pull("users", all_of.fleet.front, how), 1, False, 0.5, 9, 9),
+    # A client's process ends amid its commands. Another one takes its journal up.
+    "kill_client": Trouble(killed("clients", lambda all_of: [all_of.rng.choice(all_of.clients)]), 3, True, 0, 0, 0),
+}
