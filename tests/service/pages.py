@@ -130,8 +130,9 @@ class Socket(Peer):
         self.frames: deque[Frame] = deque()
         self.protocol = ClientConnection(parse_uri(f"ws://127.0.0.1:{port}{path}"), max_size=None)
         request = self.protocol.connect()
-        wanted = {"Host": request.headers["Host"], **(fields or {})}
-        for name, value in ({"Origin": f"http://{wanted['Host']}"} | wanted).items():
+        wanted: dict[str, str | None] = {"Host": request.headers["Host"], **(fields or {})}
+        wanted.setdefault("Origin", f"http://{wanted['Host']}")
+        for name, value in wanted.items():
             request.headers.pop(name, None)
             if value is not None:
                 request.headers[name] = value

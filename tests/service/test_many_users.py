@@ -23,8 +23,7 @@ from support.plain_scripts import plain_script
 from support.programs import Host, Peer, Ran, until
 from support.sessions import assert_replies, line_of
 
-from .lines import SEATED
-from .steady import Hosts
+from .users import SEATED, Hosts
 
 USERS, BOARDS, TABLES = 32, 8, 4
 # The sides of users with long runs, and of the others.

@@ -17,8 +17,8 @@ from websockets.frames import Opcode
 from .pages import Socket, answer_of, answer_to, frame_of, get, status_of
 from .users import NO_COMMAND, PLANES, Pages, Session, steady
 
-# Seconds in which a request has to be whole, that a busy machine may add, and in which those that are too many are closed.
-REQUEST, GRACE, AT_ONCE = 10, 8, 5
+# Seconds in which a request has to be whole, and that a busy machine may add.
+REQUEST, GRACE = 10, 8
 # Clients of a crowd, sockets that a program has if it isn't told another number, and threads that it may have besides.
 CROWD, SOCKETS, MORE_THREADS = 1000, 64, 80
 # Kilobytes that may be held for a crowd, and for sockets that never read.
@@ -43,8 +43,8 @@ def slow_requests(port: int) -> dict[str, list[bytes]]:
 
 async def ended_after(port: int, pieces: list[bytes]) -> Ended:
     """Sends pieces. Returns after how many seconds the server ends the connection, and with which status; 0 if with none."""
-    whole, begun = b"", time.monotonic()
     reader, writer = await asyncio.open_connection("127.0.0.1", port)
+    whole, begun = b"", time.monotonic()
 
     async def send() -> None:
         for piece in pieces:
@@ -124,7 +124,8 @@ def test_a_crowd_that_says_nothing_is_bounded(page: Pages, readme: Session) -> N
     with goes_on(crowded, readme):
         seconds, threads = asyncio.run(crowd(crowded))
         assert threads <= SOCKETS + MORE_THREADS
-        assert sum(one < AT_ONCE for one in seconds) >= CROWD - SOCKETS - MORE_THREADS, "the rest is closed at once"
+        at_once = sum(one < REQUEST - 1 for one in seconds)
+        assert at_once >= CROWD - SOCKETS - MORE_THREADS, "the rest is closed before those that are taken"
         assert REQUEST - 1 < max(seconds) < REQUEST + GRACE, "those that are taken are closed after ten seconds"
         assert until(lambda: get(crowded.port, "/").status == 200, 5)
         assert crowded.of_process("VmRSS") - before < HELD, "kilobytes are held for a crowd"

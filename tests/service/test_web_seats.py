@@ -36,22 +36,28 @@ def left_by(data: bytes, is_wrong: bool, one: Socket) -> None:
         assert not is_wrong or one.closed()
 
 
-broken, violates = (lambda data: partial(left_by, data, False)), (lambda data: partial(left_by, data, True))
-# Ways in which a page goes. Each of them would clear a plane if it were handed over.
+# What is only a part of something, and what is no line. Each would clear a plane if it were handed over.
+PARTS = {
+    "a close in the middle of a frame's head": frame_of(Opcode.TEXT, CLEAR)[:1],
+    "a close in the middle of a frame": frame_of(Opcode.TEXT, CLEAR)[:-1],
+    "a close in the middle of a message": frame_of(Opcode.TEXT, CLEAR, last=False),
+    "a close frame without its end": frame_of(Opcode.CLOSE, b"\x03\xe8bye")[:4],
+}
+WRONG = {
+    "a text with an LF": frame_of(Opcode.TEXT, CLEAR + b"\n"),
+    "two lines in a text": frame_of(Opcode.TEXT, CLEAR + b"\n" + CLEAR),
+    "bytes": frame_of(Opcode.BINARY, CLEAR),
+    "a text that isn't UTF-8": frame_of(Opcode.TEXT, CLEAR + b"\xff"),
+    "a text that is too long": frame_of(Opcode.TEXT, CLEAR + b" " * 2097153),
+    "a frame without a mask": frame_of(Opcode.TEXT, CLEAR, masked=False),
+}
+# Ways in which a page goes.
 LEAVES: dict[str, Callable[[Socket], object]] = {
     "a close": Socket.leave,
     "a connection that only ends": Socket.close,
     "a connection that is reset": Socket.reset,
-    "a close in the middle of a frame's head": broken(frame_of(Opcode.TEXT, CLEAR)[:1]),
-    "a close in the middle of a frame": broken(frame_of(Opcode.TEXT, CLEAR)[:-1]),
-    "a close in the middle of a message": broken(frame_of(Opcode.TEXT, CLEAR, last=False)),
-    "a close frame without its end": broken(frame_of(Opcode.CLOSE, b"\x03\xe8bye")[:4]),
-    "a text with an LF": violates(frame_of(Opcode.TEXT, CLEAR + b"\n")),
-    "two lines in a text": violates(frame_of(Opcode.TEXT, CLEAR + b"\n" + CLEAR)),
-    "bytes": violates(frame_of(Opcode.BINARY, CLEAR)),
-    "a text that isn't UTF-8": violates(frame_of(Opcode.TEXT, CLEAR + b"\xff")),
-    "a text that is too long": violates(frame_of(Opcode.TEXT, CLEAR + b" " * 2097153)),
-    "a frame without a mask": violates(frame_of(Opcode.TEXT, CLEAR, masked=False)),
+    **{what: partial(left_by, data, False) for what, data in PARTS.items()},
+    **{what: partial(left_by, data, True) for what, data in WRONG.items()},
 }
 
 

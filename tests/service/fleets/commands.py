@@ -87,8 +87,9 @@ class Commands:
             "map": {"colours": [number(16) for _ in range(16)]},
             "clear": {"plane": number(5)},
             "side": {"side": side if self.is_small else choice([128, 256, 512])},
+            "rules": {},
         }
-        return self.line(**{"do": kind, **said.get(kind, {})})
+        return self.line(**{"do": kind, **said[kind]})
 
     def heard(self, sent: list[bytes], replies: list[bytes]) -> None:
         """Reads what came of it."""

@@ -1,4 +1,5 @@
-"""The programs of a fleet: hosts, their doors, and the front. They run by the files of deploy/, as these stand.
+"""The programs of a fleet: hosts, their doors, and the front, and connections to them. They run by the files of deploy/, as these
+stand.
 
 What the tests give other values than deploy/ does stands in `Fleet.all_values`, and nowhere else.
 """
@@ -10,10 +11,14 @@ import io
 import os
 import signal
 import socket
+import ssl
 import subprocess
+from contextlib import suppress
 from pathlib import Path
 from typing import TypeVar
 
+from service.users import SEAT, TAKEN
+from support import programs
 from support.programs import TOP, of_process, until
 
 from .grounds import Ground
@@ -24,6 +29,41 @@ HOSTS = ("one", "two", "three")
 NAME = "cam6.example"
 # Seconds in which a program has to be there.
 START = 20
+# What is raised by a connection that is over.
+OVER = (ConnectionError, ssl.SSLError)
+
+
+class Peer(programs.Peer):
+    """A connection that is there. If it is over, the answer is None."""
+
+    def __init__(self, stream: socket.socket) -> None:
+        self.socket = stream
+        stream.settimeout(15)
+        stream.setsockopt(socket.IPPROTO_TCP, socket.TCP_NODELAY, 1)
+        self.file = stream.makefile("rb")
+
+    def read(self) -> str | None:
+        with suppress(*OVER):
+            return super().read()
+        return None
+
+    def ask(self, line: str) -> str | None:
+        with suppress(*OVER):
+            return super().ask(line)
+        return None
+
+    def is_over(self, seconds: float) -> bool:
+        """Whether the other side ends the connection within so many seconds."""
+        self.socket.settimeout(seconds)
+        try:
+            return self.socket.recv(1) == b""
+        except TimeoutError:
+            return False
+        except OVER:
+            return True
+
+    def __enter__(self) -> Peer:
+        return self
 
 
 class Service:
@@ -126,7 +166,7 @@ class Fleet:
         self.doors = {name: ground.port(7200) for name in HOSTS}
         self.plain, self.tls = ground.port(6006), ground.port(6443)
         self.certificates = folder / "certificates"
-        words = [DEPLOY / "certificates", self.certificates, NAME, *HOSTS]
+        words = [str(DEPLOY / "certificates"), str(self.certificates), NAME, *HOSTS]
         subprocess.run(words, check=True, stdout=subprocess.DEVNULL)
         self.authority = self.certificates / "ca.pem"
         self.values = self.all_values()
@@ -194,3 +234,42 @@ class Fleet:
     def is_ready(self, seconds: float) -> bool:
         """Whether all hosts are up, within so many seconds."""
         return until(lambda: self.states() == ["UP"] * len(HOSTS), seconds)
+
+    def stream_to(self, node: str, address: str, port: int, source: str = "") -> socket.socket:
+        """A connection from a node to an address."""
+        with self.ground.within(node):
+            return socket.create_connection((address, port), timeout=5, source_address=(source, 0) if source else None)
+
+    def by_tls(self, stream: socket.socket, name: str | None = NAME, certificate: str = "") -> Peer:
+        """A connection by TLS, to a name that is looked at, with a certificate of the fleet. Without a name none is looked at."""
+        context = ssl.create_default_context(cafile=self.authority)
+        context.check_hostname = name == NAME
+        if certificate:
+            context.load_cert_chain(self.certificates / certificate)
+        return Peer(context.wrap_socket(stream, server_hostname=name))
+
+    def user(self, source: str = "") -> Peer:
+        """A connection to the front without TLS, from its own machine."""
+        return Peer(self.stream_to("front", "127.0.0.1", self.plain, source))
+
+    def tls_user(self, node: str = "users") -> Peer:
+        """A connection to the front by TLS."""
+        return self.by_tls(self.stream_to(node, self.ground.address("front"), self.tls))
+
+    def at_host(self, name: str) -> Peer:
+        """A connection to a host, from its own machine."""
+        return Peer(self.stream_to(name, "127.0.0.1", self.ports[name]))
+
+    def answer_of(self, line: str) -> str | None:
+        """What a line is answered at the front."""
+        with self.user() as one:
+            return one.ask(line)
+
+    def is_taken(self, name: str, seat: int) -> bool:
+        """Whether a seat of a host is taken. If not, it is for a moment, until the host has seen that this connection is over."""
+        with self.at_host(name) as one:
+            return one.ask(SEAT % seat) == TAKEN
+
+    def hosts_with(self, seat: int) -> list[str]:
+        """The hosts at which a seat is taken."""
+        return [name for name in HOSTS if self.is_taken(name, seat)]

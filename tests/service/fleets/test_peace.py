@@ -17,10 +17,8 @@ from service.users import BALLS, NO_JSON, NO_NAMES, NO_SEAT, PLANES, ROW, RULES,
 from support.programs import private, until
 from support.sessions import assert_replies, line_of
 
-from . import peers
 from .commands import LIFE
-from .peers import Peer
-from .services import DEPLOY, HOSTS, NAME, Fleet
+from .services import DEPLOY, HOSTS, NAME, Fleet, Peer
 
 # How long the fleet waits for a first line (CAM6_WAIT), until it knows that a silent user's machine is gone (CAM6_SILENT and
 # three times CAM6_ASKED) or one that acknowledges nothing (CAM6_UNREAD), and what a busy machine adds.
@@ -52,7 +50,7 @@ def test_systemd_accepts_each_unit(request: pytest.FixtureRequest, fleet: Fleet,
 
 
 def test_a_first_line_may_come_in_two_parts(fleet: Fleet) -> None:
-    with peers.user(fleet) as one:
+    with fleet.user() as one:
         one.send('{"se')
         time.sleep(0.3)
         one.send('at":31}\n{"do":"rul')
@@ -62,26 +60,26 @@ def test_a_first_line_may_come_in_two_parts(fleet: Fleet) -> None:
 
 @pytest.mark.parametrize(("line", "answer"), [("no line", NO_JSON), ('{"seat":99}', NO_SEAT), ('{"seat":0}', NO_SEAT)])
 def test_a_first_line_that_takes_no_seat_is_answered(fleet: Fleet, line: str, answer: str) -> None:
-    assert peers.answer_of(fleet, line) == answer
+    assert fleet.answer_of(line) == answer
 
 
 def test_a_first_line_that_is_too_long_is_not_waited_for(fleet: Fleet) -> None:
-    with peers.user(fleet) as one:
+    with fleet.user() as one:
         one.send("x" * 20000)
         assert one.is_over(1)
 
 
 def test_a_user_who_says_nothing_is_closed_after_a_time(fleet: Fleet) -> None:
     begun = time.monotonic()
-    with peers.user(fleet) as one:
+    with fleet.user() as one:
         assert one.is_over(WAIT + 2)
     assert time.monotonic() - begun > WAIT - 0.5
 
 
 def at_door(fleet: Fleet, port: int, certificate: str) -> Peer:
     """A connection from the front's machine to a door of the first host, with a certificate, or with none."""
-    stream = peers.stream_to(fleet, "front", fleet.ground.address("one"), port)
-    return peers.by_tls(fleet, stream, None, certificate)
+    stream = fleet.stream_to("front", fleet.ground.address("one"), port)
+    return fleet.by_tls(stream, None, certificate)
 
 
 @pytest.mark.parametrize(("certificate", "answer"), [("", None), ("users.pem", None), ("front.pem", NO_SEAT)])
@@ -93,7 +91,7 @@ def test_a_door_lets_in_the_front_alone(fleet: Fleet, certificate: str, answer: 
 
 
 def test_a_door_answers_nothing_without_tls(fleet: Fleet) -> None:
-    with Peer(peers.stream_to(fleet, "front", fleet.ground.address("one"), fleet.doors["one"])) as one:
+    with Peer(fleet.stream_to("front", fleet.ground.address("one"), fleet.doors["one"])) as one:
         assert one.ask(SEAT % 99) is None
 
 
@@ -116,10 +114,10 @@ def cables(fleet: Fleet) -> None:
 @pytest.mark.usefixtures("cables")
 def test_a_host_is_not_reached_from_another_machine(fleet: Fleet) -> None:
     with pytest.raises(ConnectionRefusedError):
-        peers.stream_to(fleet, "front", fleet.ground.address("one"), fleet.ports["one"])
+        fleet.stream_to("front", fleet.ground.address("one"), fleet.ports["one"])
 
 
-@pytest.mark.parametrize(("connect", "seat"), [(peers.tls_user, 1), (peers.user, 2)])
+@pytest.mark.parametrize(("connect", "seat"), [(Fleet.tls_user, 1), (Fleet.user, 2)])
 def test_a_user_who_thinks_for_long_keeps_the_seat(fleet: Fleet, connect: Callable[[Fleet], Peer], seat: int) -> None:
     with connect(fleet) as one:
         assert answers(one, [SEAT % seat, SET]) == [SEATED, SET_OK]
@@ -133,12 +131,12 @@ def test_a_user_who_thinks_for_long_keeps_the_seat(fleet: Fleet, connect: Callab
     ("seat", "is_asking"), [(21, False), (22, True)], ids=["who was silent", "who is owed a reply"]
 )
 def test_the_seat_is_free_of_a_user_whose_machine_is_gone(fleet: Fleet, seat: int, is_asking: bool) -> None:
-    with peers.tls_user(fleet, "gone") as one:
+    with fleet.tls_user("gone") as one:
         assert answers(one, [SEAT % seat, RULE, CYCLE]) == [SEATED, '{"ok":"rule"}', '{"ok":"cycle"}']
         begun = time.monotonic()
         one.ask(RUN % 100)
         steps = 100 + int(200 / (time.monotonic() - begun))
-        (name,) = peers.hosts_with(fleet, seat)
+        (name,) = fleet.hosts_with(seat)
         # What the user has got so far is acknowledged.
         time.sleep(0.5)
         if is_asking:
@@ -147,17 +145,17 @@ def test_the_seat_is_free_of_a_user_whose_machine_is_gone(fleet: Fleet, seat: in
             one.send(f"{RUN % min(steps, 65535)}\n")
             assert until(lambda: fleet.hosts[name].seconds() > before, pause=0.002), "the host doesn't run"
         with fleet.ground.pulled("gone"):
-            assert until(lambda: not peers.is_taken(fleet, name, seat), GONE + GRACE)
+            assert until(lambda: not fleet.is_taken(name, seat), GONE + GRACE)
 
 
 def test_one_address_has_so_many_connections_and_no_more(fleet: Fleet) -> None:
     many = []
     for _ in range(PER_SOURCE + 20):
         with suppress(ConnectionResetError):
-            many.append(peers.user(fleet, "127.0.0.9"))
+            many.append(fleet.user("127.0.0.9"))
     until(lambda: sum(not one.is_over(0.001) for one in many) <= PER_SOURCE, WAIT / 2)
     assert sum(not one.is_over(0.001) for one in many) == PER_SOURCE
-    assert peers.answer_of(fleet, SEAT % 99) == NO_SEAT, "another address is served beside it"
+    assert fleet.answer_of(SEAT % 99) == NO_SEAT, "another address is served beside it"
     for one in many:
         one.close()
 
@@ -167,7 +165,7 @@ def seats(fleet: Fleet) -> Iterator[Callable[[str], Peer]]:
     """The front of numbered seats. Seats 33 to 64 are those of the second host, and so on. It is called for a connection."""
     with fleet.proxy("front", "haproxy-seats.cfg", "CAM6_SEATS_ADMIN") as proxy:
         assert until(lambda: [proxy.state(name, name) for name in HOSTS] == ["UP"] * len(HOSTS), GRACE)
-        yield lambda value: Peer(peers.stream_to(fleet, "front", "127.0.0.1", fleet.port_of(value)))
+        yield lambda value: Peer(fleet.stream_to("front", "127.0.0.1", fleet.port_of(value)))
 
 
 # The front that is asked, what is sent, and the seat that is taken of a host.
@@ -188,16 +186,16 @@ def test_a_seat_is_taken_by(
             one.send(part)
             time.sleep(0.1)
         assert [one.read(), one.read()] == [SEATED, SET_OK]
-        assert peers.hosts_with(fleet, seat) == [host]
+        assert fleet.hosts_with(seat) == [host]
         assert {one.read() for _ in range(parts[-1].count(RULES))} <= {NO_NAMES}, "what was sent with it is answered"
 
 
 @pytest.mark.usefixtures("seats")
 def test_a_seat_is_taken_by_the_name_of_its_host(fleet: Fleet) -> None:
-    stream = peers.stream_to(fleet, "users", fleet.ground.address("front"), fleet.port_of("CAM6_SEATS_TLS"))
-    with peers.by_tls(fleet, stream, "two.cam6.example") as one:
+    stream = fleet.stream_to("users", fleet.ground.address("front"), fleet.port_of("CAM6_SEATS_TLS"))
+    with fleet.by_tls(stream, "two.cam6.example") as one:
         assert one.ask(SEAT % 14) == SEATED
-        assert peers.hosts_with(fleet, 14) == ["two"]
+        assert fleet.hosts_with(14) == ["two"]
 
 
 @pytest.mark.parametrize("seat", [0, 97, 12345])
