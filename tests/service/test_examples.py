@@ -7,7 +7,7 @@ import re
 import socket
 import time
 from concurrent.futures import ThreadPoolExecutor
-from contextlib import ExitStack, suppress
+from contextlib import ExitStack, closing, suppress
 from pathlib import Path
 
 import pytest
@@ -15,8 +15,8 @@ from oracle.examples import Example, Part, Unplayable, limit_of
 from support.playing import assert_answers, examples
 from support.programs import Host, Peer
 
-# Seconds in which an answer has to come, and in which a whole session has to be answered.
-PATIENCE, SESSION_PATIENCE = 10, 600
+# Seconds in which a whole session has to be answered.
+SESSION_PATIENCE = 600
 SEAT, SEATED, TAKEN = b'{"seat":%d}\n', b'{"ok":"seat"}', b'{"fault":80}'
 # What an example says of a host's end, by its exit status.
 ENDS = {0: b"ended", 5: b"no memory", 7: b"network failed"}
@@ -84,7 +84,7 @@ class Connections:
 
     def stream(self) -> Stream:
         """A new connection."""
-        one = Stream(self.host.port, patience=PATIENCE)
+        one = Stream(self.host.port)
         self.stack.callback(one.close)
         return one
 
@@ -133,7 +133,7 @@ class Connections:
 
 def how_it_ends(host: Host) -> bytes:
     """How a host ends, as an example says it."""
-    done = host.ended(PATIENCE)
+    done = host.ended()
     if done is None:
         return b"not ended"
     if done.status == 0 and (done.output or done.errors):
@@ -166,7 +166,7 @@ def session_answers(cam6: str, part: Part) -> bytes:
     options = ("--users=1", "--boards=1", f"--side={limit_of(part.way)}", "--connections=1")
     heard = bytearray()
     with Host(cam6, *options) as host:
-        with Stream(host.port, patience=SESSION_PATIENCE) as stream, ThreadPoolExecutor(1) as pool:
+        with closing(Stream(host.port, patience=SESSION_PATIENCE)) as stream, ThreadPoolExecutor(1) as pool:
             pool.submit(stream.send, SEAT % 1 + part.bytes_sent()).add_done_callback(lambda _: stream.shut())
             with suppress(OSError):
                 while more := stream.socket.recv(1 << 20):
