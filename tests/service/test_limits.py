@@ -15,28 +15,13 @@ from support.programs import Peer, Ran, private
 from support.sessions import line_of
 
 from .users import BACK, NO_JSON, NO_NAMES, NO_SEAT, ONE_NAME, PARITY, PLANES, ROW, RULES, RUN, SEAT, SEATED, START
-from .users import TAKEN, TOO_LONG, Hosts, answers, connected, cycle, seated
+from .users import TAKEN, TOO_LONG, Hosts, answers, closed, connected, cycle, seated
 
 # How many may wait for a seat, beside one for each user; how many of them with a long line.
 MORE, LONG = 64, 8
 # Seconds within which a seat must be taken, for which a client may read nothing, and that a busy machine may add.
 WAIT, SEND, GRACE = 10, 60, 5
 FIRST, LOAD = SEAT % 1, '{"do":"load",'
-
-
-def is_over(stream: socket.socket) -> bool:
-    """Whether a connection has ended. What comes over it is thrown away."""
-    with suppress(ConnectionError):
-        return stream.recv(4096) == b""
-    return True
-
-
-def closed(peers: list[Peer], within: float) -> int:
-    """How many of these connections the host closes within so many seconds."""
-    left, end = {peer.socket for peer in peers}, time.monotonic() + within
-    while left and (ready := select.select(left, [], [], max(0.0, end - time.monotonic()))[0]):
-        left -= {stream for stream in ready if is_over(stream)}
-    return len(peers) - len(left)
 
 
 def first_answer(port: int, line: str) -> str | None:

@@ -2,12 +2,14 @@
 
 from __future__ import annotations
 
-import asyncio
 import resource
+import socket
 import threading
 import time
 from collections.abc import Callable, Iterator
+from concurrent.futures import ThreadPoolExecutor
 from contextlib import AbstractContextManager, ExitStack, suppress
+from functools import partial
 
 import pytest
 from support.programs import Page, until
@@ -15,7 +17,7 @@ from websockets.exceptions import InvalidStatus
 from websockets.frames import Opcode
 
 from .pages import Socket, answer_of, answer_to, frame_of, get, status_of
-from .users import NO_COMMAND, PLANES, Pages, Session, steady
+from .users import NO_COMMAND, PLANES, Pages, Session, closed, connected, steady
 
 # Seconds in which a request has to be whole, and that a busy machine may add.
 REQUEST, GRACE = 10, 8
@@ -41,22 +43,16 @@ def slow_requests(port: int) -> dict[str, list[bytes]]:
     }
 
 
-async def ended_after(port: int, pieces: list[bytes]) -> Ended:
+def ended_after(port: int, pieces: list[bytes]) -> Ended:
     """Sends pieces. Returns after how many seconds the server ends the connection, and with which status; 0 if with none."""
-    reader, writer = await asyncio.open_connection("127.0.0.1", port)
     whole, begun = b"", time.monotonic()
-
-    async def send() -> None:
-        for piece in pieces:
-            writer.write(piece)
-            await asyncio.sleep(1)
-
-    sending = asyncio.create_task(send())
-    with suppress(ConnectionError):
-        while part := await asyncio.wait_for(reader.read(65536), REQUEST + GRACE + 5):
-            whole += part
-    sending.cancel()
-    writer.close()
+    with socket.create_connection(("127.0.0.1", port), timeout=1) as tcp, suppress(ConnectionError):
+        for piece in [*pieces, *[b""] * 2 * (REQUEST + GRACE)]:
+            tcp.sendall(piece)
+            with suppress(TimeoutError):
+                while part := tcp.recv(65536):
+                    whole += part
+                break
     return time.monotonic() - begun, answer_of(whole).status
 
 
@@ -68,12 +64,9 @@ def goes_on(page: Page, session: Session) -> AbstractContextManager[Callable[[],
 @pytest.fixture(scope="module")
 def slow(bare: Page, readme: Session) -> dict[str, Ended]:
     """After how many seconds each slow request is ended, and with which status. All of them come at once."""
-
-    async def all_of_them() -> list[Ended]:
-        return await asyncio.gather(*(ended_after(bare.port, pieces) for pieces in slow_requests(bare.port).values()))
-
-    with goes_on(bare, readme):
-        ended = dict(zip(slow_requests(0), asyncio.run(all_of_them())))
+    requests = slow_requests(bare.port)
+    with goes_on(bare, readme), ThreadPoolExecutor(len(requests)) as pool:
+        ended = dict(zip(requests, pool.map(partial(ended_after, bare.port), requests.values())))
         assert get(bare.port, "/").status == 200
         return ended
 
@@ -99,34 +92,20 @@ def many_files() -> Iterator[None]:
     resource.setrlimit(resource.RLIMIT_NOFILE, (soft, hard))
 
 
-async def crowd(page: Page) -> tuple[list[float], int]:
-    """After how many seconds each client of a silent crowd is closed, and the most threads of the program meanwhile. One that isn't
-    accepted counts as 0 seconds."""
-
-    async def client() -> float:
-        with suppress(ConnectionError):
-            return (await ended_after(page.port, []))[0]
-        return 0.0
-
-    clients = [asyncio.create_task(client()) for _ in range(CROWD)]
-    most = 0
-    while not all(one.done() for one in clients):
-        most = max(most, page.of_process("Threads"))
-        await asyncio.sleep(0.1)
-    return [one.result() for one in clients], most
-
-
 @pytest.mark.slow
 @pytest.mark.usefixtures("many_files")
 def test_a_crowd_that_says_nothing_is_bounded(page: Pages, readme: Session) -> None:
     crowded = page()
     before = crowded.of_process("VmRSS")
     with goes_on(crowded, readme):
-        seconds, threads = asyncio.run(crowd(crowded))
-        assert threads <= SOCKETS + MORE_THREADS
-        at_once = sum(one < REQUEST - 1 for one in seconds)
-        assert at_once >= CROWD - SOCKETS - MORE_THREADS, "the rest is closed before those that are taken"
-        assert REQUEST - 1 < max(seconds) < REQUEST + GRACE, "those that are taken are closed after ten seconds"
+        begun = time.monotonic()
+        with connected(crowded.port, CROWD) as many:
+            threads = crowded.of_process("Threads")
+            at_once = closed(many, begun + REQUEST - 1 - time.monotonic())
+            assert at_once >= CROWD - SOCKETS - MORE_THREADS, "the rest is closed before those that are taken"
+            assert max(threads, crowded.of_process("Threads")) <= SOCKETS + MORE_THREADS
+            assert at_once < closed(many, REQUEST + GRACE) == CROWD, "those that are taken are closed after ten seconds"
+            assert time.monotonic() - begun > REQUEST - 1
         assert until(lambda: get(crowded.port, "/").status == 200, 5)
         assert crowded.of_process("VmRSS") - before < HELD, "kilobytes are held for a crowd"
 

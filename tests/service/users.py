@@ -2,11 +2,13 @@
 
 from __future__ import annotations
 
+import socket
 import time
 from collections.abc import Callable, Iterator
 from concurrent.futures import ThreadPoolExecutor
-from contextlib import ExitStack, contextmanager
+from contextlib import ExitStack, contextmanager, suppress
 from functools import cache
+from selectors import EVENT_READ, DefaultSelector
 from threading import Event
 from typing import NamedTuple, TypeVar
 
@@ -70,6 +72,26 @@ def seated(kind: Callable[[int, int], P], port: int, user: int, patience: float 
         time.sleep(0.02)
     assert peer.said == SEATED, f"user {user}: {peer.said}"
     return peer
+
+
+def is_over(stream: socket.socket) -> bool:
+    """Whether a connection has ended. What comes over it is thrown away."""
+    with suppress(ConnectionError):
+        return stream.recv(65536) == b""
+    return True
+
+
+def closed(peers: list[Peer], within: float) -> int:
+    """How many of these connections the server closes within so many seconds, or has closed."""
+    left, end = {peer.socket.fileno(): peer.socket for peer in peers}, time.monotonic() + within
+    with DefaultSelector() as selector:
+        for stream in left.values():
+            selector.register(stream, EVENT_READ)
+        while left and (ready := selector.select(max(0.0, end - time.monotonic()))):
+            for key, _ in ready:
+                if is_over(left[key.fd]):
+                    selector.unregister(left.pop(key.fd))
+    return len(peers) - len(left)
 
 
 @contextmanager

@@ -52,16 +52,6 @@ class Peer(programs.Peer):
             return super().ask(line)
         return None
 
-    def is_over(self, seconds: float) -> bool:
-        """Whether the other side ends the connection within so many seconds."""
-        self.socket.settimeout(seconds)
-        try:
-            return self.socket.recv(1) == b""
-        except TimeoutError:
-            return False
-        except OVER:
-            return True
-
     def __enter__(self) -> Peer:
         return self
 

@@ -13,7 +13,21 @@ from pathlib import Path
 
 import pytest
 from service.pages import Answer, Socket, get
-from service.users import BALLS, NO_JSON, NO_NAMES, NO_SEAT, PLANES, ROW, RULES, RUN, SAVE, SEAT, SEATED, answers
+from service.users import (
+    BALLS,
+    NO_JSON,
+    NO_NAMES,
+    NO_SEAT,
+    PLANES,
+    ROW,
+    RULES,
+    RUN,
+    SAVE,
+    SEAT,
+    SEATED,
+    answers,
+    closed,
+)
 from support.programs import private, until
 from support.sessions import assert_replies, line_of
 
@@ -66,13 +80,13 @@ def test_a_first_line_that_takes_no_seat_is_answered(fleet: Fleet, line: str, an
 def test_a_first_line_that_is_too_long_is_not_waited_for(fleet: Fleet) -> None:
     with fleet.user() as one:
         one.send("x" * 20000)
-        assert one.is_over(1)
+        assert closed([one], 1)
 
 
 def test_a_user_who_says_nothing_is_closed_after_a_time(fleet: Fleet) -> None:
     begun = time.monotonic()
     with fleet.user() as one:
-        assert one.is_over(WAIT + 2)
+        assert closed([one], WAIT + 2)
     assert time.monotonic() - begun > WAIT - 0.5
 
 
@@ -149,15 +163,14 @@ def test_the_seat_is_free_of_a_user_whose_machine_is_gone(fleet: Fleet, seat: in
 
 
 def test_one_address_has_so_many_connections_and_no_more(fleet: Fleet) -> None:
-    many = []
-    for _ in range(PER_SOURCE + 20):
-        with suppress(ConnectionResetError):
-            many.append(fleet.user("127.0.0.9"))
-    until(lambda: sum(not one.is_over(0.001) for one in many) <= PER_SOURCE, WAIT / 2)
-    assert sum(not one.is_over(0.001) for one in many) == PER_SOURCE
-    assert fleet.answer_of(SEAT % 99) == NO_SEAT, "another address is served beside it"
-    for one in many:
-        one.close()
+    many: list[Peer] = []
+    with ExitStack() as stack:
+        for _ in range(PER_SOURCE + 20):
+            with suppress(ConnectionResetError):
+                many.append(stack.enter_context(fleet.user("127.0.0.9")))
+        until(lambda: len(many) - closed([*many], 0) <= PER_SOURCE, WAIT / 2)
+        assert len(many) - closed([*many], 0) == PER_SOURCE
+        assert fleet.answer_of(SEAT % 99) == NO_SEAT, "another address is served beside it"
 
 
 @pytest.fixture(scope="module")
