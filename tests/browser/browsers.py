@@ -9,6 +9,7 @@ from contextlib import contextmanager
 from dataclasses import dataclass
 from pathlib import Path
 
+import pytest
 from selenium import webdriver
 from selenium.webdriver.chrome.service import Service
 from selenium.webdriver.remote.file_detector import UselessFileDetector
@@ -27,10 +28,6 @@ PROGRAMS = {
 }
 
 
-class Missing(Exception):
-    """A program isn't there."""
-
-
 @dataclass(frozen=True)
 class Browser:
     """A browser under selenium, and the folder of the files that pages give it to keep."""
@@ -44,12 +41,11 @@ class Browser:
 
 
 def path_of(package: str) -> str:
-    """The path of a package's program. Raises Missing if it isn't there."""
+    """The path of a package's program. Fails if it isn't there."""
     names = PROGRAMS[package]
-    for name in names:
-        if path := shutil.which(name):
-            return path
-    raise Missing(f"there is no {' or '.join(names)} on the PATH: install the package {package} of packages.txt")
+    if path := next(filter(None, map(shutil.which, names)), None):
+        return path
+    pytest.fail(f"there is no {' or '.join(names)}: install the package {package} of packages.txt", pytrace=False)
 
 
 @contextmanager

@@ -3,9 +3,10 @@
 from __future__ import annotations
 
 import base64
+import re
 import time
 from collections.abc import Callable, Iterator
-from contextlib import contextmanager
+from contextlib import contextmanager, suppress
 from io import BytesIO
 from pathlib import Path
 from typing import Any
@@ -30,8 +31,8 @@ TORUS = "document.getElementById('torus').dataset"
 # Where the torus is in the window, which place of it is in its left upper corner there, its side, and the pixels of a cell.
 VIEW = f"""(({{ x, y }}, {{ left, top, side, zoom }}) => [x, y, left, top, side, zoom].map(Number))(
   document.getElementById('torus').getBoundingClientRect(), {TORUS})"""
-# The endings of files that a browser has not written yet.
-UNFINISHED = (".crdownload", ".part", ".tmp")
+# The names of files that a browser has not written yet. Chromium begins with one that is hidden, and has no ending of its own.
+UNFINISHED = re.compile(r"^\.|\.(crdownload|part|tmp)$")
 
 
 def moved(count: int) -> str:
@@ -238,13 +239,16 @@ class Teacher:
         """The file that the page gives to keep after something is pressed."""
         folder = self.browser.downloads
         before = {*folder.iterdir()}
-        press()
 
         def new() -> list[Path]:
-            names = {*folder.iterdir()} - before
-            is_whole = all(path.suffix not in UNFINISHED and path.stat().st_size > 0 for path in names)
-            return [*names] if is_whole else []
+            # A file may get another name while it is looked at.
+            with suppress(FileNotFoundError):
+                names = {*folder.iterdir()} - before
+                if all(not UNFINISHED.search(path.name) and path.stat().st_size > 0 for path in names):
+                    return [*names]
+            return []
 
+        press()
         assert until(new), "no file was kept"
         (path,) = new()
         return path

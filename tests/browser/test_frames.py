@@ -5,7 +5,6 @@ The figures are printed after the tests.
 
 from __future__ import annotations
 
-import asyncio
 import random
 import re
 import time
@@ -13,7 +12,9 @@ from collections.abc import Callable
 from pathlib import Path
 
 import pytest
-from support.page_sockets import answers, page_socket
+from service.pages import Socket
+from service.users import answers
+from support.programs import PATIENCE
 from support.sessions import line_of
 
 from browser import cells
@@ -47,18 +48,18 @@ def noise() -> list[str]:
     return [line_of(do="set", plane=0, row=row, bits=f"{bits << 66:064x}") for row, bits in rows.items()]
 
 
-async def frames_of_client(port: int, lines: list[str], asked: list[str]) -> float:
+def frames_of_client(port: int, lines: list[str], asked: list[str]) -> float:
     """How many frames a second a client has. It asks for two at a time, as the page does."""
-    async with page_socket(port) as socket:
-        await answers(socket, lines)
+    with Socket(port, patience=PATIENCE) as one:
+        answers(one, lines)
         for line in asked:
-            await socket.send(line)
+            one.send(line)
         begun, count, passed = time.monotonic(), 0, 0.0
         while passed < SECONDS / 2 or count < LEAST and passed < MOST_SECONDS:
             for line in asked:
-                await socket.send(line)
+                one.send(line)
             for _ in asked:
-                await socket.recv()
+                one.read()
             count, passed = count + 1, time.monotonic() - begun
         return count / passed
 
@@ -84,9 +85,9 @@ def test_frames_are_many_enough(own: Teacher, record_property: Callable[[str, st
     port, asked = int(own.value("location.port")), asked_for_a_frame(own, lines)
     machine = [*lines, line_of(do="side", side=256), *noise()]
     for _ in range(TRIES):
-        before = asyncio.run(frames_of_client(port, machine, asked))
+        before = frames_of_client(port, machine, asked)
         frames, steps = frames_of_page(own, SLOW)
-        after = asyncio.run(frames_of_client(port, machine, asked))
+        after = frames_of_client(port, machine, asked)
         if frames >= (wanted := min(WANTED, before * SHARE, after * SHARE)):
             break
     most = frames_of_page(own, FAST)

@@ -5,12 +5,14 @@ from __future__ import annotations
 import threading
 import time
 from collections.abc import Callable, Iterator
-from http.server import BaseHTTPRequestHandler, ThreadingHTTPServer
+from functools import partial
+from http.server import SimpleHTTPRequestHandler, ThreadingHTTPServer
+from pathlib import Path
 
 import pytest
 from support.programs import Host, Page, until
 
-from browser.teacher import READY, Teacher, moved
+from browser.teacher import READY, TORUS, Teacher, moved
 
 pytestmark = pytest.mark.browser
 Hosts = Callable[..., Host]
@@ -39,9 +41,10 @@ OPEN = """(new Promise(done => {
 }))"""
 
 
-def state_is(teacher: Teacher, state: str) -> None:
-    """Waits until the page has a state."""
-    teacher.until(f"document.getElementById('torus').dataset.state === '{state}'")
+def state_is(teacher: Teacher, state: str, text: str = "") -> None:
+    """Waits until the page has a state, and says this text of it. It says so only until it tries again."""
+    says = f"document.getElementById('state-says').textContent.includes('{text}')"
+    teacher.until(f"{TORUS}.state === '{state}' && {says}")
 
 
 def run_on(teacher: Teacher, steps: int) -> None:
@@ -64,8 +67,7 @@ def test_time_runs_on_after_a_host_was_killed_twice(teacher: Teacher, host: Host
     lines = at_host(teacher, page(one.port).address)
     for _ in range(2):
         one.kill()
-        state_is(teacher, "lost")
-        assert "connection is lost" in teacher.text("state-says")
+        state_is(teacher, "lost", "connection is lost")
         time.sleep(AWAY)
         one.begin()
         state_is(teacher, "ready")
@@ -109,11 +111,10 @@ def test_the_page_goes_on_at_another_host(teacher: Teacher, host: Hosts, page: P
     teacher.script(WATCH)
     one.kill()
     teacher.until("window.states.some(([state]) => state === 'lost')")
-    state_is(teacher, "ready")
+    state_is(teacher, "ready", "of host 2")
     told = [(state, when) for state, when in teacher.value("window.states") if state in ("lost", "ready")]
     assert [state for state, _ in told] == ["lost", "ready"]
     assert told[1][1] - told[0][1] < 1000 * ELSEWHERE
-    assert "of host 2" in teacher.text("state-says")
     run_on(teacher, 30)
     count = teacher.pause()
     teacher.assert_shows([*lines, moved(count)])
@@ -145,8 +146,7 @@ def test_a_page_too_many_says_so_and_takes_a_seat_that_becomes_free(teacher: Tea
         teacher.open(classroom)
         with teacher.window():
             teacher.go(classroom)
-            state_is(teacher, "full")
-            assert "seats are taken" in teacher.text("state-says")
+            state_is(teacher, "full", "seats are taken")
             third = teacher.driver.current_window_handle
         teacher.driver.get("about:blank")
         teacher.driver.switch_to.window(third)
@@ -159,23 +159,12 @@ def test_a_page_takes_the_seat_in_its_address(teacher: Teacher, classroom: str) 
     assert teacher.until(SEAT) == "2"
 
 
-class Nothing(BaseHTTPRequestHandler):
-    """A server whose page is empty, and has no policy."""
-
-    def do_GET(self) -> None:
-        """Sends an empty page."""
-        self.send_response(200)
-        self.send_header("Content-Type", "text/html")
-        self.end_headers()
-
-    def log_message(self, *_: object) -> None:
-        """Writes nothing."""
-
-
 @pytest.fixture
-def elsewhere() -> Iterator[str]:
-    """The address of a page of another server."""
-    with ThreadingHTTPServer(("127.0.0.1", 0), Nothing) as server:
+def elsewhere(tmp_path: Path) -> Iterator[str]:
+    """The address of a page of another server, which is empty and has no policy."""
+    (tmp_path / "index.html").touch()
+    handler = partial(SimpleHTTPRequestHandler, directory=str(tmp_path))
+    with ThreadingHTTPServer(("127.0.0.1", 0), handler) as server:
         threading.Thread(target=server.serve_forever, daemon=True).start()
         yield f"http://127.0.0.1:{server.server_port}/"
         server.shutdown()

@@ -26,8 +26,7 @@ from oracle.wirings import FIRST_PLANE
 from support.programs import Host, Peer, Ran, until
 from support.sessions import assert_replies, line_of
 
-from .lines import SEATED
-from .steady import Hosts
+from .users import SEATED, Hosts
 
 USERS, BOARDS, TABLES = 32, 8, 4
 # The sides of users with long runs, and of the others.

@@ -23,17 +23,16 @@ from pathlib import Path
 
 sys.path.insert(0, str(Path(__file__).resolve().parents[2] / "tests"))
 
-from service.fleets import peers
 from service.fleets.commands import CRITTERS, LIFE
 from service.fleets.grounds import Ground
-from service.fleets.peers import Peer
-from service.fleets.services import HOSTS, Fleet, Service
+from service.fleets.services import HOSTS, Fleet, Peer, Service
+from service.users import SEATED, TAKEN
 
 RULES = {"Critters": ("N/MARG", "&/PHASES", CRITTERS), "Life": ("N/MOORE", "&/CENTERS", LIFE)}
 SECONDS = 4
 Connect = Callable[[Fleet], Peer]
 # How a client comes to the front.
-WAYS: dict[str, Connect] = {"without TLS": peers.user, "by TLS": peers.tls_user}
+WAYS: dict[str, Connect] = {"without TLS": Fleet.user, "by TLS": Fleet.tls_user}
 
 
 @contextmanager
@@ -59,7 +58,7 @@ def seated(port: int, seat: int) -> Peer:
     """A connection that has a seat."""
     while True:
         one = Peer(socket.create_connection(("127.0.0.1", port)))
-        if one.ask(f'{{"seat":{seat}}}') != peers.TAKEN:
+        if one.ask(f'{{"seat":{seat}}}') != TAKEN:
             return one
         one.close()
 
@@ -179,9 +178,9 @@ def spent_by(fleet: Fleet, play: Callable[[], int]) -> tuple[int, float, float]:
 def round_trips(fleet: Fleet) -> None:
     """A line and its reply: at a host, by the front without TLS, and by TLS."""
     ways: dict[str, Connect] = {
-        "at a host": lambda fleet: peers.at_host(fleet, "one"),
-        "by the front": peers.user,
-        "by TLS": peers.tls_user,
+        "at a host": lambda fleet: fleet.at_host("one"),
+        "by the front": Fleet.user,
+        "by TLS": Fleet.tls_user,
     }
     for what, connect in ways.items():
         with connect(fleet) as one:
@@ -225,7 +224,7 @@ def open_connections(fleet: Fleet) -> None:
             held = 0
             for seat in list(range(1, 33)) * len(HOSTS):
                 one = open_.enter_context(connect(fleet))
-                held += one.ask(f'{{"seat":{seat}}}') == peers.SEATED
+                held += one.ask(f'{{"seat":{seat}}}') == SEATED
             print(
                 f"front: {(fleet.front.of_process('VmRSS') - before) / held:.0f} KB for each of {held} connections {what}"
             )

@@ -14,7 +14,7 @@ from typing import NamedTuple
 from oracle.machine import Alone
 from support.programs import ran
 
-from .records import Played, digest, read
+from .session import Played, digest, read
 
 # Seconds that the plain machine may take for a session, and the program.
 PLAIN_SECONDS, PROGRAM_SECONDS = 300, 7200
