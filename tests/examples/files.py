@@ -4,8 +4,8 @@ from __future__ import annotations
 
 from collections.abc import Callable
 
-from examples import boards, caches, frames, hostile_events, hostile_lines, hostile_loads, hostile_words, inverses
-from examples import never_saved, schedules, short_texts, tables
+from examples import boards, frames, hostile_events, hostile_lines, hostile_loads, hostile_words, never_saved
+from examples import schedules, short_texts
 from examples.writing import Writer
 
 # The functions that make the worked examples of a folder. Each has the name of its example.
@@ -32,7 +32,6 @@ EXAMPLES: dict[str, list[Callable[[], Writer]]] = {
         never_saved.machines_never_saved,
         short_texts.short_texts,
     ],
-    "crates/cam6_try_rules/data": [caches.caches, inverses.inverses, inverses.inverses_refused, tables.tables],
 }
 FILES = {f"{folder}/{make.__name__}.example": make for folder, makes in EXAMPLES.items() for make in makes}
 FILES |= {"crates/cam6_draw/stdin": frames.replies, "crates/cam6_draw/stdout": frames.drawn}

@@ -10,20 +10,22 @@ from pathlib import Path
 import pytest
 from examples.answering import answered
 from examples.files import FILES
+from examples.test_formulas import EXAMPLES
 from examples.test_plain import KNOWN
 from support.playing import first_other, line_of
 from support.programs import TOP
 
 SESSIONS = TOP / "crates/cam6_host/sessions"
 FOLDERS = ("crates/*/data", "crates/cam6_host/connections", "crates/cam6_host/sessions", "crates/cam6_host/events")
+ANSWERED = {"test_formulas": EXAMPLES, "test_plain": KNOWN}
 GALLERY = ("examples/*.lines", "examples/*.turn", "docs/pictures/*.lines")
 
 
-def scripts_of(path: Path) -> set[str]:
-    """The script that makes a file, or the one that has plain steps of its rules."""
-    make = FILES.get(str(path.relative_to(TOP)))
-    made = {make.__module__.split(".")[-1]} if make else set()
-    return made | ({"test_plain"} if path.parent == SESSIONS and path.stem in KNOWN else set())
+def script_of(path: Path) -> set[str]:
+    """The script that makes a file, or the one that answers it by plain steps or formulas."""
+    if make := FILES.get(str(path.relative_to(TOP))):
+        return {make.__module__.split(".")[-1]}
+    return {script for script, names in ANSWERED.items() if path.stem in names}
 
 
 @pytest.mark.parametrize("path", FILES, ids=lambda path: "/".join(Path(path).parts[-2:]))
@@ -36,7 +38,7 @@ def test_the_script_makes_the_file_that_is_there(path: str) -> None:
 def test_each_example_names_the_script_of_its_answers() -> None:
     for path in sorted(path for folder in FOLDERS for path in TOP.glob(f"{folder}/*.example")):
         head = re.match(r"(?:#.*\n)*", path.read_text(encoding="utf-8"))
-        assert set(re.findall(r"tests/examples/(\w+)\.py", head[0] if head else "")) == scripts_of(path), path
+        assert set(re.findall(r"tests/examples/(\w+)\.py", head[0] if head else "")) == script_of(path), path
 
 
 def test_each_script_makes_the_examples_that_its_docstring_names() -> None:

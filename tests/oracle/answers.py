@@ -4,6 +4,7 @@ from __future__ import annotations
 
 from collections.abc import Callable, Iterable
 from itertools import product
+from typing import Any
 
 from oracle import wirings
 from oracle.examples import Example, Part, limit_of, outcome_of, sizes_of
@@ -77,6 +78,6 @@ def part_answers(part: Part) -> list[bytes]:
     return [reading(line) if word == "readings" else ways[word](line.decode(), *rest) for line, _ in part.sent]
 
 
-def is_known(example: Example) -> bool:
+def is_known(path: Any) -> bool:
     """Whether the oracle knows the ways of an example."""
-    return {part.way.split()[0] for part in example.parts} <= WAYS
+    return {part.way.split()[0] for part in Example(path).parts} <= WAYS

@@ -12,7 +12,7 @@ from support.playing import assert_answers, examples
 FOLDERS = ("crates/cam6_host/sessions", "crates/cam6_host/events", "crates/cam6_try_rules/data")
 
 
-@pytest.mark.parametrize("path", [one for one in examples(*FOLDERS) if is_known(Example(one.values[0]))])
+@pytest.mark.parametrize("path", [one for one in examples(*FOLDERS) if is_known(one.values[0])])
 def test_the_oracle_says_what_the_file_says(path: Path) -> None:
     example = Example(path)
     assert_answers(example, (b"".join(answer + b"\n" for answer in part_answers(part)) for part in example.parts))
