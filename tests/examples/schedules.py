@@ -6,10 +6,10 @@ from collections.abc import Callable, Iterable, Iterator, Sequence
 from itertools import groupby, islice
 from random import Random
 
-from examples.cells import without_a_pattern
 from examples.named_rules import CELLS, CROWDED, OTHERS, REVERSIBLE, RULES
 from examples.rules import BALLS, CRITTERS, TM
 from examples.writing import Command, EventWriter, Writer, compact, cycle_command, do, head_of, rows_of, rule_command
+from examples.writing import without_a_pattern
 from oracle.lines import plain
 from oracle.machine import Machine
 from oracle.schedules import Event, Scheduler

@@ -9,6 +9,7 @@ import json
 import re
 from collections import Counter
 from collections.abc import Callable, Iterable, Mapping, Sequence
+from itertools import product
 from textwrap import wrap
 from typing import Any
 
@@ -20,8 +21,6 @@ Cell = tuple[int, int]
 Command = dict[str, Any]
 # The most characters of a line of a comment.
 WIDTH = 117
-# The columns and rows of the largest picture. Cells farther apart are shown as digits.
-PICTURE = (72, 40)
 # A letter, or a text that begins with a bracket or the like, nine times at least; and bytes that aren't seen, or aren't
 # those of ASCII.
 REPEATED_OR_UNSEEN = re.compile(r"(.|[][{}(,\\ ][ -~]{1,19}?)\1{8,}|[^ -~]+", re.DOTALL)
@@ -90,6 +89,18 @@ def rows_of(cells: set[Cell], side: int) -> list[str]:
     return [f"{row:0{side // 4}x}" for row in bits]
 
 
+def mixed(number: int) -> int:
+    """A random number of 64 bits, made from this one."""
+    number = number * 0x9E3779B97F4A7C15 % 2**64
+    return (number ^ number >> 29) * 0xBF58476D1CE4E5B9 % 2**64
+
+
+def without_a_pattern(columns: Iterable[int], rows: Iterable[int], eighths: int, plane: int = 0) -> set[Cell]:
+    """About so many eighths of an area's cells, at random. Each plane has others."""
+    first = 512 * 512 * plane + 1
+    return {(x, y) for x, y in product(columns, rows) if mixed(x + 512 * y + first) >> 61 < eighths}
+
+
 def common_row(rows: list[str]) -> str:
     """The digits that more than half of the rows have, or those of a blank row."""
     digits, times = Counter(rows).most_common(1)[0]
@@ -152,79 +163,6 @@ class Writer:
             if digits.strip("0"):
                 self.say(f"= {word} {short(digits)}")
         self.digits({y: digits for y, digits in enumerate(rows) if digits != common[y % 2]})
-
-
-class CellWriter(Writer):
-    """An example of one machine, whose answers its script works out: a plane is the set of its set cells."""
-
-    def __init__(self, *head: str, side: int = 128, **named: str) -> None:
-        super().__init__(*head, **named)
-        self.size = side
-
-    def side(self, side: int | None = None) -> None:
-        """A blank torus of the example's side, or of this side, which is the example's from here on."""
-        self.size = side or self.size
-        self.say(f"side {self.size}")
-        self.line(compact({"do": "side", "side": self.size}), '{"ok":"side"}')
-
-    def rule(self, name: str, hood: str, minor: str, text: str, half: str = "A") -> None:
-        """A rule."""
-        self.line(compact(rule_command(name, half, hood, minor, text)), '{"ok":"rule"}')
-
-    def cycle(self, *entries: tuple[str, str, str, int]) -> None:
-        """A cycle, by the two rules, the grid and the phase of each entry."""
-        self.line(compact(cycle_command(*entries)), '{"ok":"cycle"}')
-
-    def on_both_grids(self, name: str) -> None:
-        """The cycle of one rule of half A, on both grids in turn."""
-        self.cycle((name, "-", "EVEN", 0), (name, "-", "ODD", 0))
-
-    def steps(self, steps: int, position: int = 0, do: str = "run") -> None:
-        """Steps, and the position after them."""
-        self.line(compact({"do": do, "n": steps}), compact({"ok": do, "position": position}))
-
-    def count(self, states: Iterable[int], count: int) -> None:
-        """How many cells have one of these states."""
-        mask = sum(2**state for state in states)
-        self.line(compact({"do": "count", "mask": mask}), compact({"count": count, "ok": "count"}))
-
-    def rows(self, cells: set[Cell]) -> None:
-        """Rows, by their digits."""
-        self.all_digits(rows_of(cells, self.size))
-
-    def whole_rows(self, cells: set[Cell], rows: Iterable[int]) -> None:
-        """These rows, by all their digits."""
-        digits = rows_of(cells, self.size)
-        for y in rows:
-            self.say(f"= {y} {digits[y]}")
-
-    def picture(self, cells: set[Cell]) -> None:
-        """Rows: as a picture if the cells lie close together, or else by their digits."""
-        columns, rows = ([cell[at] for cell in cells] for at in (0, 1))
-        if not cells or max(columns) - min(columns) > PICTURE[0] or max(rows) - min(rows) > PICTURE[1]:
-            self.rows(cells)
-            return
-        self.say(f"@ {min(columns)} {min(rows)}")
-        for y in range(min(rows), max(rows) + 1):
-            self.say("| " + "".join(".#"[(x, y) in cells] for x in range(min(columns), max(columns) + 1)))
-
-    def put(self, plane: int, cells: set[Cell]) -> None:
-        """Cells that are set in a plane."""
-        self.say(f"> rows {plane}")
-        self.picture(cells)
-
-    def plane(self, plane: int, cells: set[Cell]) -> None:
-        """A plane that must have these set cells."""
-        self.say(f"> {compact({'do': 'plane', 'plane': plane})}\n< plane")
-        self.picture(cells)
-
-
-class RowWriter(CellWriter):
-    """An example of one machine that shows no pictures."""
-
-    def picture(self, cells: set[Cell]) -> None:
-        """Rows, by their digits."""
-        self.rows(cells)
 
 
 class SessionWriter(Writer):
