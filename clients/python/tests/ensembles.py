@@ -25,7 +25,7 @@ SCRIPT = str(TOP / "clients" / "python" / "examples" / "ensemble.py")
 SOURCE = str(TOP / "clients" / "python" / "src")
 SIDE = 128
 # Seconds in which a run has to end.
-PATIENCE = 600
+PATIENCE = 500
 # Tasks that the plain machine can do: three seeds, and a step a part.
 FEW_STEPS, FEW_SEEDS = 3, 3
 FEW = [f"--seeds={FEW_SEEDS}", "--rules=all", f"--steps={FEW_STEPS}", "--every=1", "--part=1", f"--side={SIDE}"]

@@ -111,22 +111,15 @@ class Breaking:
         self.count += 1
         self.heard.append(line)
         what = self.breaks(self.count, line)
-        if what == "before":
-            return False
         if isinstance(what, bytes):
             stream.sendall(what + b"\n")
             return True
-        reply = self.machines[seat].answer(line) + b"\n"
-        if what == "after":
-            return False
+        reply = b"" if what == "before" else self.machines[seat].answer(line) + b"\n"
+        if what is None or isinstance(what, int):
+            stream.sendall(reply[:what])
         if what == "silent":
             time.sleep(SILENT)
-            return False
-        if what is not None:
-            stream.sendall(reply[: int(what)])
-            return False
-        stream.sendall(reply)
-        return True
+        return what is None
 
     def stop(self) -> None:
         """Closes all connections, and takes no more."""

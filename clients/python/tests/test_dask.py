@@ -5,6 +5,8 @@ Serial runs are those of the plain machine (test_ensemble.py). Here runs by Dask
 
 from __future__ import annotations
 
+import contextlib
+import functools
 import os
 import re
 import shlex
@@ -20,9 +22,10 @@ import ensembles
 import pytest
 from support.programs import free_port, until
 
-pytestmark = pytest.mark.slow
+pytestmark = [pytest.mark.slow, pytest.mark.ensemble]
 
-SOME = ["--seeds=4", "--rules=all", "--steps=600", "--every=100", "--part=200"]
+# Sixteen tasks of three parts, and seven counts each.
+SOME = ["--seeds=2", "--rules=all", "--steps=600", "--every=100", "--part=200"]
 ONE = ["--seeds=1", "--rules=life"]
 # A program that dies when it is started for the first time.
 DYING = 'mkdir "$0.died" 2> /dev/null && kill -9 $$\nexec PROGRAM "$@"\n'
@@ -30,10 +33,10 @@ Start = Callable[..., "subprocess.Popen[bytes]"]
 Made = Callable[[str, str], str]
 
 
-@pytest.fixture(autouse=True)
-def dask(module: Callable[[str], Any]) -> None:
-    """Each test fails if Dask is not there."""
-    module("distributed")
+@functools.lru_cache(maxsize=None)
+def serial_counts(program: str) -> dict[str, list[int]]:
+    """The counts of a serial run."""
+    return ensembles.counts_by(program, "--serial", *SOME)
 
 
 @pytest.fixture
@@ -67,15 +70,13 @@ def start(cam6: str) -> Iterator[Start]:
         process.wait()
 
 
-def processes_of(path: str) -> list[int]:
+def processes_of(path: str) -> list[Path]:
     """The processes whose first word is this path."""
     found = []
-    for name in filter(str.isdigit, os.listdir("/proc")):
-        try:
-            if Path(f"/proc/{name}/cmdline").read_bytes().split(b"\0")[0] == path.encode():
-                found.append(int(name))
-        except OSError:
-            pass
+    for words in Path("/proc").glob("[0-9]*/cmdline"):
+        with contextlib.suppress(OSError):
+            if words.read_bytes().split(b"\0")[0] == path.encode():
+                found.append(words)
     return found
 
 
@@ -88,17 +89,17 @@ def test_a_worker_is_killed(cam6: str, tmp_path: Path) -> None:
     program.symlink_to(cam6)
     done = ensembles.run(str(program), "--compare", "--kill=12", *SOME)
     assert done.returncode == 0, done.stdout + done.stderr
-    after = re.search(r"a worker was killed after (\d+) of 96 parts", done.stdout)
+    after = re.search(r"a worker was killed after (\d+) of 48 parts", done.stdout)
     # No worker may be within a part when the twelfth has come. Then it is tried again after the next one.
-    assert after and 12 <= int(after[1]) < 96, done.stdout
+    assert after and 12 <= int(after[1]) < 48, done.stdout
     assert "parts that were cut off and done anew: 1\n" in done.stdout
-    assert "equal: 224 counts" in done.stdout
+    assert "equal: 112 counts" in done.stdout
     assert processes_of(str(program)) == []
 
 
 def test_a_part_whose_program_dies_is_tried_again(cam6: str, shell_program: Made) -> None:
     dying = shell_program("dying", DYING)
-    assert ensembles.counts_by(dying, *SOME) == ensembles.counts_by(cam6, "--serial", *SOME)
+    assert ensembles.counts_by(dying, *SOME) == serial_counts(cam6)
     assert os.path.isdir(f"{dying}.died")
 
 
@@ -125,10 +126,10 @@ def test_a_second_run_goes_on(cam6: str, tmp_path: Path) -> None:
         return {path.name: path.stat().st_mtime_ns for path in kept.iterdir()}
 
     first = ensembles.counts_by(cam6, *words)
-    assert first == ensembles.counts_by(cam6, "--serial", *SOME)
+    assert first == serial_counts(cam6)
     made = times()
-    assert len(made) == 96
-    gone = {name for name in made if name.startswith("tron.seed-2.") and not name.endswith(".steps-0-200")}
+    assert len(made) == 48
+    gone = {name for name in made if name.startswith("tron.seed-1.") and not name.endswith(".steps-0-200")}
     for name in gone:
         (kept / name).unlink()
     assert ensembles.counts_by(cam6, *words) == first
@@ -145,7 +146,7 @@ def test_a_computer_is_lost(cam6: str, tmp_path: Path, start: Start) -> None:
     worker = [address, "--host=127.0.0.1", "--nthreads=1", "--no-dashboard", f"--local-directory={tmp_path}"]
     lost = start("dask_worker", *worker)
     start("dask_worker", *worker)
-    steps = ["--seeds=4", "--rules=all", "--steps=3000", "--every=500", "--part=1000"]
+    steps = ["--seeds=2", "--rules=all", "--steps=3000", "--every=500", "--part=1000"]
     command = [sys.executable, ensembles.SCRIPT, "--compare", "--scheduler", address, "--folder", str(kept), *steps]
     how: dict[str, Any] = {"stdout": subprocess.PIPE, "stderr": subprocess.STDOUT, "text": True}
     with subprocess.Popen(command, env=ensembles.environment(cam6), **how) as run:
@@ -154,5 +155,5 @@ def test_a_computer_is_lost(cam6: str, tmp_path: Path, start: Start) -> None:
         os.killpg(lost.pid, signal.SIGKILL)
         said = run.communicate(timeout=600)[0]
     assert run.returncode == 0, said
-    assert "equal: 224 counts" in said
-    assert "Dask: 32 tasks, 2 at once" in said
+    assert "equal: 112 counts" in said
+    assert "Dask: 16 tasks, 2 at once" in said

@@ -86,16 +86,14 @@ def test_the_first_fault_is_raised_with_its_place(local: Local) -> None:
     assert many.execute() == []
 
 
-def test_a_block_executes_at_its_end(local: Local) -> None:
-    machine = local(side_limit=128)
+def test_a_block_executes_at_its_end(machine: Machine) -> None:
     with machine.pipeline() as many:
         many.set_row(0, 0, "f" * 32)
         assert machine.count() == 0
     assert machine.count() == 128
 
 
-def test_a_block_that_raises_does_nothing(local: Local) -> None:
-    machine = local(side_limit=128)
+def test_a_block_that_raises_does_nothing(machine: Machine) -> None:
     machine.set_row(0, 0, "f" * 32)
     with pytest.raises(KeyError):
         with machine.pipeline() as many:
