@@ -48,6 +48,11 @@ def compact(**said: Any) -> bytes:
     return json.dumps(said, separators=(",", ":")).encode()
 
 
+def north(name: str) -> bytes:
+    """The line of a rule that shifts."""
+    return compact(do="rule", name=name, half="A", hood="N/VONN", minor="&/CENTERS", text=": R NORTH >PLN0 ;")
+
+
 class Breaking:
     """A host by plain machines, in a thread, that breaks as a test wants it to.
 

@@ -145,19 +145,10 @@ def test_the_fault_of_an_address_has_its_names(local: Local) -> None:
     assert "address 3076: NORTH, &CENTER, &CENTER' are 1" in str(raised.value)
 
 
-@pytest.mark.parametrize(
-    ("state", "rows"),
-    [
-        (0, (". .", ". .")),
-        (1, ("# .", ". .")),
-        (2, (". #", ". .")),
-        (4, (". .", ". #")),
-        (8 + 16 + 128, ("o .", "@ .")),
-    ],
-)
-def test_a_block_is_drawn(state: int, rows: tuple[str, str]) -> None:
+def test_a_block_is_drawn() -> None:
     """State 1 is the upper left cell, 2 the upper right, 4 the lower right and 8 the lower left, 16 on the upper plane."""
-    assert errors.block_rows(state) == rows
+    drawn = {state: errors.block_rows(state) for state in (0, 1, 2, 4, 8 + 16 + 128)}
+    assert drawn == {0: (". .", ". ."), 1: ("# .", ". ."), 2: (". #", ". ."), 4: (". .", ". #"), 152: ("o .", "@ .")}
 
 
 def test_two_blocks_that_become_one_are_drawn(machine: Machine) -> None:

@@ -21,7 +21,7 @@ from unittest import mock
 
 import fakes
 import pytest
-from fakes import BALLS, Breaking, Plain, compact, once
+from fakes import BALLS, Breaking, Plain, compact, north, once
 from oracle.machine import answers
 from support.programs import Host, free_port
 
@@ -63,11 +63,6 @@ def commands(seed: int, count: int, most_steps: int = 3) -> list[bytes]:
     ]
     weights = [9, 6, 4, 4, 3, 1, 1, 1, 1, 1, 1]
     return [RULE, CYCLE] + [source.choices(ways, weights)[0]() for _ in range(count - 2)]
-
-
-def north(name: str) -> bytes:
-    """The line of a rule that shifts."""
-    return compact(do="rule", name=name, half="A", hood="N/VONN", minor="&/CENTERS", text=": R NORTH >PLN0 ;")
 
 
 def check(machine: Machine, sent: list[bytes], batch: int, save_after: int = 0) -> None:
