@@ -8,7 +8,7 @@ from typing import Any
 import plain
 from fakes import load_of
 from hypothesis.stateful import RuleBasedStateMachine, rule
-from oracle.lines import is_command, read_line
+from oracle.lines import Unclear, is_command, read_line
 from oracle.lines import plain as line_of
 from oracle.machine import Alone
 from programs.test_random_sessions import MOST_CELLS, Sessions
@@ -51,16 +51,19 @@ class Calls(Sessions):
 
     def __init__(self, program: str, limit: int) -> None:
         RuleBasedStateMachine.__init__(self)
-        self.calls, self.alone = cam6.local(program, side_limit=limit), Alone(limit)
-        self.machine = self.alone.machine
+        self.calls = cam6.local(program, side_limit=limit)
+        self.oracle = self.alone = Alone(limit)
+        self.machine, self.said = self.oracle.machine, [{"do": "rules"}]
 
     def say(self, line: bytes) -> None:
         """A line by its own call, unless it asks for too many steps. A call may ask for more steps than a line."""
-        said = read_line(line, is_command)
-        command = said if isinstance(said, dict) else None
-        if command and command.get("n", 0) > lines.MOST_STEPS:
+        try:
+            said = read_line(line, is_command)
+        except Unclear:
             return
-        reply = self.alone.short_answer(line, MOST_CELLS)
+        command = said if isinstance(said, dict) else None
+        is_long = command is not None and command.get("n", 0) > lines.MOST_STEPS
+        reply = None if is_long else self.oracle.short_answer(line, MOST_CELLS)
         if reply is None:
             return
         try:
@@ -77,13 +80,13 @@ class Calls(Sessions):
             assert type(fault) is FAULTS[fault.number]
             got = fault.reply
         assert got == wanted(command, reply)
-        assert self.calls.side == self.machine.torus.side
+        assert self.calls.side == self.oracle.machine.torus.side
         self.words.add(command["do"] if command else "")
 
     def teardown(self) -> None:
         """In the end the whole machine is compared."""
         with self.calls:
-            assert self.calls.save() == load_of(self.alone.answer(lines.SAVE))
+            assert self.calls.save() == load_of(self.oracle.answer(lines.SAVE))
 
 
 class Batches(Calls):

@@ -2,9 +2,9 @@
 
 from __future__ import annotations
 
-import importlib
 from collections.abc import Callable, Iterator
 from contextlib import ExitStack
+from pathlib import Path
 from typing import Any
 
 import pytest
@@ -18,6 +18,13 @@ def local_machines(cam6: str) -> Iterator[Callable[..., Machine]]:
     """Starts `cam6 alone` as `cam6.local` does, as often as it is called: `local(side_limit=128)`."""
     with ExitStack() as stack:
         yield lambda **options: stack.enter_context(local(cam6, **options))
+
+
+@pytest.fixture
+def machine(cam6: str) -> Iterator[Machine]:
+    """A machine of side 128."""
+    with local(cam6, side_limit=128) as it:
+        yield it
 
 
 @pytest.fixture
@@ -35,14 +42,13 @@ def connected() -> Iterator[Callable[..., Machine]]:
         yield lambda port, **options: stack.enter_context(connect("127.0.0.1", port, **{**usual, **options}))
 
 
-@pytest.fixture(scope="session")
-def module() -> Callable[[str], Any]:
-    """Imports a module of another package. A test that asks for one fails if it is not there."""
+@pytest.fixture
+def port(breaking: Callable[..., Breaking]) -> int:
+    """The port of a host that does not break."""
+    return breaking().port
 
-    def imported(name: str) -> Any:
-        try:
-            return importlib.import_module(name)
-        except ImportError:
-            pytest.fail(f"there is no module {name}: packages.txt says which package has it", pytrace=False)
 
-    return imported
+@pytest.fixture
+def path(tmp_path: Path) -> Path:
+    """The path of a journal."""
+    return tmp_path / "journal"

@@ -48,6 +48,11 @@ def compact(**said: Any) -> bytes:
     return json.dumps(said, separators=(",", ":")).encode()
 
 
+def north(name: str) -> bytes:
+    """The line of a rule that shifts."""
+    return compact(do="rule", name=name, half="A", hood="N/VONN", minor="&/CENTERS", text=": R NORTH >PLN0 ;")
+
+
 class Breaking:
     """A host by plain machines, in a thread, that breaks as a test wants it to.
 
@@ -111,22 +116,15 @@ class Breaking:
         self.count += 1
         self.heard.append(line)
         what = self.breaks(self.count, line)
-        if what == "before":
-            return False
         if isinstance(what, bytes):
             stream.sendall(what + b"\n")
             return True
-        reply = self.machines[seat].answer(line) + b"\n"
-        if what == "after":
-            return False
+        reply = b"" if what == "before" else self.machines[seat].answer(line) + b"\n"
+        if what is None or isinstance(what, int):
+            stream.sendall(reply[:what])
         if what == "silent":
             time.sleep(SILENT)
-            return False
-        if what is not None:
-            stream.sendall(reply[: int(what)])
-            return False
-        stream.sendall(reply)
-        return True
+        return what is None
 
     def stop(self) -> None:
         """Closes all connections, and takes no more."""

@@ -2,8 +2,8 @@
 
 from __future__ import annotations
 
+import importlib
 import random
-from collections.abc import Callable
 from typing import Any
 
 import pytest
@@ -13,9 +13,9 @@ from cam6 import cells, placing
 
 
 @pytest.fixture(autouse=True, params=["numpy", "bytes"])
-def arrays(request: pytest.FixtureRequest, monkeypatch: pytest.MonkeyPatch, module: Callable[[str], Any]) -> None:
+def arrays(request: pytest.FixtureRequest, monkeypatch: pytest.MonkeyPatch) -> None:
     """Each test is done with numpy, and without."""
-    numpy = module("numpy") if request.param == "numpy" else None
+    numpy = importlib.import_module("numpy") if request.param == "numpy" else None
     monkeypatch.setattr(cells, "numpy", lambda: numpy)
 
 

@@ -20,7 +20,7 @@ from unittest import mock
 
 import pytest
 from disks import Crash, Disk, Failure
-from fakes import Plain, compact
+from fakes import Plain, compact, north
 from hypothesis import assume, example, given, note, settings
 from hypothesis import strategies as st
 from hypothesis.stateful import RuleBasedStateMachine, initialize, precondition, rule
@@ -39,11 +39,6 @@ SAVED = lines.blank(LIMIT).replace(b'"' + b"0" * 32, b'"' + b"f" * 32, 1)
 def named(word: str, **more: Any) -> st.SearchStrategy[bytes]:
     """A command by strategies for its fields."""
     return st.builds(lambda **said: compact(do=word, **said), **more)
-
-
-def north(name: str) -> bytes:
-    """The line of a rule that shifts."""
-    return compact(do="rule", name=name, half="A", hood="N/VONN", minor="&/CENTERS", text=": R NORTH >PLN0 ;")
 
 
 NAMES = st.sampled_from(["R", "S"])

@@ -10,11 +10,13 @@ from typing import Any
 import ensembles
 import pytest
 
+from cam6 import Lost
+
 Task = tuple[str, int]
 
 
 def test_the_counts_are_those_of_the_plain_machine(cam6: str) -> None:
-    assert ensembles.unlike_plain(ensembles.counts_by(cam6, "--serial", *ensembles.FEW)) == []
+    assert ensembles.counts_by(cam6, "--serial", *ensembles.FEW) == ensembles.plain_counts()
 
 
 def test_the_plain_machine_tells_seeds_apart() -> None:
@@ -28,59 +30,48 @@ def test_the_plain_machine_tells_rules_apart() -> None:
     assert len(ways) == len(ensembles.TEXTS)
 
 
-class Parts:
-    """Parts of a task, done in order by this process."""
-
-    def __init__(self, program: str, folder: Path) -> None:
-        self.script = ensembles.script()
-        self.plan = self.script.Plan(program, ensembles.SIDE, 3, 1, 1, 60.0, str(folder), "run")
-
-    def done(self, rule: str = "critters", seed: int = 1, **changes: Any) -> list[int]:
-        """The counts of a task, by the plan with some changes."""
-        plan, counts = dataclasses.replace(self.plan, **changes), []
-        for number in range(plan.parts):
-            counts += self.script.part(rule, seed, plan, number)[0]
-        return counts
-
-
 @pytest.fixture
-def parts(cam6: str, tmp_path: Path) -> Parts:
-    """Parts that are kept in the folder `tmp_path`."""
-    return Parts(cam6, tmp_path)
+def plan(cam6: str, tmp_path: Path) -> Any:
+    """A plan of parts that are kept in the folder `tmp_path`."""
+    return ensembles.script().Plan(cam6, ensembles.SIDE, 3, 1, 1, 60.0, str(tmp_path), "run")
+
+
+def counts_by(plan: Any, rule: str = "critters", seed: int = 1, **changes: Any) -> list[int]:
+    """The counts of a task, whose parts this process does in order, by the plan with some changes."""
+    changed, part = dataclasses.replace(plan, **changes), ensembles.script().part
+    return [count for number in range(changed.parts) for count in part(rule, seed, changed, number)[0]]
 
 
 @pytest.mark.parametrize(
     ("rule", "seed", "changes"),
     [("critters", 1, {}), ("brain", 0, {"part": 2}), ("tron", 0, {"part": 3, "folder": None})],
 )
-def test_parts_have_the_counts_of_the_plain_machine(
-    rule: str, seed: int, changes: dict[str, Any], parts: Parts
-) -> None:
-    assert parts.done(rule, seed, **changes) == list(ensembles.counts_of(rule, seed, 3))
+def test_parts_have_the_counts_of_the_plain_machine(rule: str, seed: int, changes: dict[str, Any], plan: Any) -> None:
+    assert counts_by(plan, rule, seed, **changes) == list(ensembles.counts_of(rule, seed, 3))
 
 
-def test_what_is_kept_is_not_done_again(parts: Parts) -> None:
-    assert parts.done() == parts.done(program="/no/such/program")
+def test_what_is_kept_is_not_done_again(plan: Any) -> None:
+    assert counts_by(plan) == counts_by(plan, program="/no/such/program")
 
 
-def test_a_file_that_was_cut_short_is_done_again(parts: Parts) -> None:
-    first, path = parts.done(), Path(parts.plan.path("critters", 1, 1))
+def test_a_file_that_was_cut_short_is_done_again(plan: Any) -> None:
+    first, path = counts_by(plan), Path(plan.path("critters", 1, 1))
     whole = path.read_bytes()
     for length in (0, 1, whole.index(b"\n") + 1, len(whole) - 1):
         path.write_bytes(whole[:length])
-        assert parts.done() == first
+        assert counts_by(plan) == first
         assert path.read_bytes() == whole
 
 
-def test_a_part_whose_program_fails_leaves_nothing(parts: Parts, tmp_path: Path) -> None:
-    with pytest.raises(parts.script.cam6.Lost):
-        parts.done(program="/bin/false")
+def test_a_part_whose_program_fails_leaves_nothing(plan: Any, tmp_path: Path) -> None:
+    with pytest.raises(Lost):
+        counts_by(plan, program="/bin/false")
     assert os.listdir(tmp_path) == []
 
 
-def test_a_part_before_that_is_not_there(parts: Parts) -> None:
+def test_a_part_before_that_is_not_there(plan: Any) -> None:
     with pytest.raises(FileNotFoundError, match="do all workers see this folder"):
-        parts.script.part("critters", 1, parts.plan, 1)
+        ensembles.script().part("critters", 1, plan, 1)
 
 
 RIGHT = {("life", 0): [1, 2], ("life", 1): [3, 4]}
@@ -97,9 +88,9 @@ RIGHT = {("life", 0): [1, 2], ("life", 1): [3, 4]}
         ({("life", 0): [3, 4], ("life", 1): [1, 2]}, "life, seed 0, step 0: [1], and [3]"),
     ],
 )
-def test_differences_are_found(counts: dict[Task, list[int]], where: str, parts: Parts) -> None:
-    right, other = (parts.script.Done(dict(each), 1.0, 1.0) for each in (RIGHT, counts))
-    told = parts.script.difference(parts.plan, right, other)
+def test_differences_are_found(counts: dict[Task, list[int]], where: str, plan: Any) -> None:
+    right, other = (ensembles.script().Done(dict(each), 1.0, 1.0) for each in (RIGHT, counts))
+    told = ensembles.script().difference(plan, right, other)
     assert told is None if where is None else where in told
 
 

@@ -145,23 +145,13 @@ def test_the_fault_of_an_address_has_its_names(local: Local) -> None:
     assert "address 3076: NORTH, &CENTER, &CENTER' are 1" in str(raised.value)
 
 
-@pytest.mark.parametrize(
-    ("state", "rows"),
-    [
-        (0, (". .", ". .")),
-        (1, ("# .", ". .")),
-        (2, (". #", ". .")),
-        (4, (". .", ". #")),
-        (8 + 16 + 128, ("o .", "@ .")),
-    ],
-)
-def test_a_block_is_drawn(state: int, rows: tuple[str, str]) -> None:
+def test_a_block_is_drawn() -> None:
     """State 1 is the upper left cell, 2 the upper right, 4 the lower right and 8 the lower left, 16 on the upper plane."""
-    assert errors.block_rows(state) == rows
+    drawn = {state: errors.block_rows(state) for state in (0, 1, 2, 4, 8 + 16 + 128)}
+    assert drawn == {0: (". .", ". ."), 1: ("# .", ". ."), 2: (". #", ". ."), 4: (". .", ". #"), 152: ("o .", "@ .")}
 
 
-def test_two_blocks_that_become_one_are_drawn(local: Local) -> None:
-    machine = local()
+def test_two_blocks_that_become_one_are_drawn(machine: Machine) -> None:
     machine.rule("R", ": R CENTER CW AND >PLN0 ;", hood="N/MARG", minor="&/PHASES")
     machine.cycle("R")
     with pytest.raises(errors.NotReversible) as raised:
@@ -196,9 +186,8 @@ def test_a_name_that_is_not_known() -> None:
         cam6.connect("no-such-name.invalid")
 
 
-def test_a_program_that_is_killed_is_lost(local: Local) -> None:
+def test_a_program_that_is_killed_is_lost(machine: Machine) -> None:
     """It stays so."""
-    machine = local()
     channel: Any = machine._transport
     channel._process.kill()
     for _ in range(2):
@@ -220,8 +209,7 @@ def test_a_program_that_does_not_answer_is_killed_after_the_deadline(local: Loca
     assert process.returncode == -signal.SIGKILL
 
 
-def test_a_closed_machine(local: Local) -> None:
-    machine = local()
+def test_a_closed_machine(machine: Machine) -> None:
     machine.close()
     machine.close()
     with pytest.raises(cam6.Lost, match="closed"):

@@ -11,9 +11,10 @@ from pathlib import Path
 from typing import Any
 
 import pytest
+from disks import Disk, Failure
 from fakes import Breaking, Plain, compact
 from oracle.machine import answers
-from test_sessions import CYCLE, RULE, Breakings, Connected, commands, session_of
+from test_sessions import CYCLE, RULE, Connected, commands, session_of
 
 import cam6
 from cam6 import journal, lines
@@ -22,12 +23,6 @@ from cam6.journal import Journal
 Opened = Callable[..., Journal]
 # Lines that are none of a journal.
 WRONG = [b"{", b'{"ask":7}', b'{"reply":"x"}', b'{"drop":5}', b'{"part":"x","reply":"y"}', b"{}"]
-
-
-@pytest.fixture
-def path(tmp_path: Path) -> Path:
-    """The path of a journal."""
-    return tmp_path / "journal"
 
 
 @pytest.fixture
@@ -44,27 +39,20 @@ def state_of(opened: Journal) -> Any:
 
 def written(made: Journal) -> list[Any]:
     """Writes entries of all kinds, and closes the journal. Returns the state after each entry, from 0 on."""
-    acts: list[Callable[[], Any]] = [
-        lambda: made.asked([RULE]),
-        lambda: made.answered([b'{"ok":"rule"}']),
-        lambda: made.asked([CYCLE]),
-        lambda: made.asked([compact(do="run", n=500)]),
-        lambda: made.answered([b'{"ok":"cycle"}']),
-        lambda: made.part(compact(do="run", n=200), b'{"ok":"run","position":0}'),
-        lambda: made.asked([b"\xff\xc3\xa9 no text"]),
-        lambda: made.answered([b'{"ok":"run","position":0}']),
-        lambda: made.answered([b'{"fault":2}']),
-        lambda: made.asked([compact(do="count", mask=3)]),
-        lambda: made.answered([b'{"count":1,"ok":"count"}']),
-        lambda: made.asked([compact(do="clear", plane=1)]),
-        lambda: made.drop(),
-        lambda: made.asked([lines.LOAD_HEAD + b"{}}"]),
-        lambda: made.answered([b'{"ok":"load"}']),
-        lambda: made.asked([compact(do="clear", plane=2)]),
+    run, clear_1, clear_2 = compact(do="run", n=500), compact(do="clear", plane=1), compact(do="clear", plane=2)
+    ran, load = b'{"ok":"run","position":0}', lines.LOAD_HEAD + b"{}}"
+    entries: list[tuple[Callable[..., Any], list[Any]]] = [
+        *((made.asked, [[RULE]]), (made.answered, [[b'{"ok":"rule"}']])),
+        *((made.asked, [[CYCLE]]), (made.asked, [[run]])),
+        *((made.answered, [[b'{"ok":"cycle"}']]), (made.part, [compact(do="run", n=200), ran])),
+        *((made.asked, [[b"\xff\xc3\xa9 no text"]]), (made.answered, [[ran]]), (made.answered, [[b'{"fault":2}']])),
+        *((made.asked, [[compact(do="count", mask=3)]]), (made.answered, [[b'{"count":1,"ok":"count"}']])),
+        *((made.asked, [[clear_1]]), (made.drop, []), (made.asked, [[load]]), (made.answered, [[b'{"ok":"load"}']])),
+        (made.asked, [[clear_2]]),
     ]
     states = [state_of(made)]
-    for act in acts:
-        act()
+    for act, said in entries:
+        act(*said)
         states.append(state_of(made))
     made.close()
     return states
@@ -79,8 +67,7 @@ def test_a_new_journal_is_a_blank_machine(limit: int) -> None:
 def test_a_new_journal_is_opened_again(opened: Opened) -> None:
     first = opened()
     first.close()
-    again = opened()
-    assert (again.load, again.number, list(again.pending)) == (first.load, 0, [])
+    assert state_of(opened()) == (first.load, [], [], 0)
 
 
 def test_a_file_that_is_cut_at_any_byte(path: Path, opened: Opened) -> None:
@@ -135,9 +122,9 @@ def test_a_file_that_is_damaged_before_the_last_line(wrong: bytes, path: Path, o
     assert path.read_bytes() == data
 
 
-def test_a_machine_of_a_journal_that_is_cut(path: Path, breaking: Breakings, connected: Connected) -> None:
+def test_a_machine_of_a_journal_that_is_cut(path: Path, port: int, connected: Connected) -> None:
     """It is the one after the commands that the journal still has."""
-    sent, port = commands(21, 12, 1), breaking().port
+    sent = commands(21, 12, 1)
     with connected(port, journal=path, every_seconds=5) as machine:
         machine._talk(sent[:5])
         machine._talk(sent[5:])
@@ -167,32 +154,20 @@ def test_a_checkpoint_keeps_what_is_not_answered(path: Path, opened: Opened) -> 
     assert not new.exists() or new.stat().st_size == 0
 
 
-def test_a_full_disk(opened: Opened) -> None:
+def test_a_full_disk(path: Path, opened: Opened) -> None:
     """If a write fails, the commands are not asked for, or the file is written anew before the next entry."""
-    made = opened()
-    made.asked([RULE])
-    file: Any = made._file
-
-    class Full:
-        """A file that takes seven bytes."""
-
-        def write(self, data: bytes) -> int:
-            """Writes seven bytes, and fails."""
-            file.write(data[:7])
-            raise OSError(28, "No space left on device")
-
-        def __getattr__(self, name: str) -> Any:
-            return getattr(file, name)
-
-    full: Any = Full()
-    made._file = full
-    with pytest.raises(OSError):
+    disk = Disk(path)
+    with disk.used():
+        made = opened()
+        made.asked([RULE])
+        disk.begin(Failure(at=0, cut=7, kind="error"))
+        with pytest.raises(OSError):
+            made.asked([CYCLE])
+        assert (list(made.pending), made.number) == ([RULE], 1)
+        made.answered([b'{"ok":"rule"}'])
         made.asked([CYCLE])
-    assert (list(made.pending), made.number) == ([RULE], 1)
-    made.answered([b'{"ok":"rule"}'])
-    made.asked([CYCLE])
-    want = state_of(made)
-    made.close()
+        want = state_of(made)
+        made.close()
     assert state_of(opened()) == want
 
 

@@ -85,15 +85,7 @@ def test_a_blank_machine(side: int) -> None:
     assert lines.side_of_load(lines.blank(side)) == side
 
 
-@pytest.mark.parametrize(
-    "reply", [b'{"fault":63}', b'{"address":0,"fault":40}', b'{"cause":"hood","entry":0,"fault":64,"half":"A"}']
-)
-def test_replies_with_a_fault(reply: bytes) -> None:
-    assert lines.is_fault(reply)
-
-
-@pytest.mark.parametrize(
-    "reply", [b'{"ok":"set"}', b'{"names":["fault"],"ok":"rules"}', b'{"count":1,"ok":"count"}', b'{"bits":"0"}']
-)
-def test_replies_without_a_fault(reply: bytes) -> None:
-    assert not lines.is_fault(reply)
+def test_replies_with_a_fault_and_without() -> None:
+    faults = [b'{"fault":63}', b'{"address":0,"fault":40}', b'{"cause":"hood","entry":0,"fault":64,"half":"A"}']
+    others = [b'{"ok":"set"}', b'{"names":["fault"],"ok":"rules"}', b'{"count":1,"ok":"count"}', b'{"bits":"0"}']
+    assert [lines.is_fault(reply) for reply in faults + others] == [True] * 3 + [False] * 4

@@ -7,6 +7,8 @@ import contextlib
 import io
 import json
 import os
+import re
+import textwrap
 from pathlib import Path
 from typing import Any
 
@@ -23,16 +25,8 @@ SHELL = ("pip ", "export ", "cd ", "python3 ", "env/bin/")
 
 def blocks() -> list[str]:
     """The blocks of the page: commands of a shell, and Python."""
-    found: list[list[str]] = [[]]
-    lines = PAGE.read_text().split("\n")
-    for before, line in zip(["", *lines], lines):
-        if line.startswith("    ") and (found[-1] or not before):
-            found[-1].append(line[4:])
-        elif not line and found[-1]:
-            found[-1].append("")
-        elif found[-1]:
-            found.append([])
-    return [text for text in ("\n".join(block).strip("\n") for block in found) if text]
+    found = re.findall(r"(?<=\n\n)(?:    .*\n|\n(?=    ))+", PAGE.read_text())
+    return [textwrap.dedent(block).strip("\n") for block in found]
 
 
 def typed(block: str, names: dict[str, Any]) -> Any:

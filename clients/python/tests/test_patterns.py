@@ -18,26 +18,16 @@ from cam6.patterns import PatternError
 GLIDER = "#C A glider.\n#CXRLE Pos=-3,4 Gen=12\nx = 3, y = 3, rule = B3/S23\nbo$2bo$3o!\nafter the end\n"
 TABLE = "# n_states:2\n# neighborhood:Margolus\n# symmetries:rotate4\n#\n# 1,0,0,0 : 0,0,0,1\n# 0,1,1,0 : 1,0,0,1\n"
 # Texts that are no patterns, with the line and the column that are to blame.
-MALFORMED = [
-    ("", (1, 1)),
-    ("#C only a remark\n", (2, 1)),
-    ("bo$2bo$3o!\n", (1, 1)),
-    ("x = 3, y = \n3o!\n", (1, 1)),
-    ("x = 3; y = 3\n3o!\n", (1, 1)),
-    ("x = 3, y = 3 rule = B3/S23\n3o!\n", (1, 1)),
-    ("x = 3, y = 3\nbo$2bo$3o\n", (3, 1)),
-    ("x = 3, y = 3\n4o!\n", (2, 2)),
-    ("x = 3, y = 3\n3ob!\n", (2, 3)),
-    ("x = 3, y = 2\n3o$3o$o!\n", (2, 7)),
-    ("x = 3, y = 1\nbzo!\n", (2, 2)),
-    ("x = 3, y = 1\n2 o!\n", (2, 1)),
-    ("x = 3, y = 1\n3!\n", (2, 1)),
-    ("x = 3, y = 1\n\n.ypA!\n", (3, 2)),
-    ("x = 3, y = 1\nyX!\n", (2, 1)),
-    ("x = 99999999, y = 99999999\n!\n", (1, 1)),
-]
-
-
+MALFORMED = {
+    (1, 1): ["", "bo$2bo$3o!\n", "x = 3, y = \n3o!\n", "x = 3; y = 3\n3o!\n", "x = 3, y = 3 rule = B3/S23\n3o!\n"]
+    + ["x = 99999999, y = 99999999\n!\n"],
+    (2, 1): ["#C only a remark\n"] + [f"x = 3, y = 1\n{row}!\n" for row in ("2 o", "3", "yX")],
+    (2, 2): ["x = 3, y = 3\n4o!\n", "x = 3, y = 1\nbzo!\n"],
+    (2, 3): ["x = 3, y = 3\n3ob!\n"],
+    (2, 7): ["x = 3, y = 2\n3o$3o$o!\n"],
+    (3, 1): ["x = 3, y = 3\nbo$2bo$3o\n"],
+    (3, 2): ["x = 3, y = 1\n\n.ypA!\n"],
+}
 CORNERS = [(0, 0), (1, 0), (0, 1), (1, 1)]
 BBM = "BBM-Margolus-emulated"
 
@@ -67,11 +57,12 @@ def test_states() -> None:
     assert [lists(plane) for plane in four.planes] == [[[1, 0, 1]], [[0, 0, 1]], [[0, 0, 1]], [[0, 1, 1]]]
 
 
-@pytest.mark.parametrize(("text", "place"), MALFORMED)
-def test_malformed_texts(text: str, place: tuple[int, int]) -> None:
-    with pytest.raises(PatternError, match=f"line {place[0]}, column {place[1]}: ") as caught:
-        patterns.read(text)
-    assert (caught.value.line, caught.value.column) == place
+@pytest.mark.parametrize("place", MALFORMED)
+def test_malformed_texts(place: tuple[int, int]) -> None:
+    for text in MALFORMED[place]:
+        with pytest.raises(PatternError, match=f"line {place[0]}, column {place[1]}: ") as caught:
+            patterns.read(text)
+        assert (caught.value.line, caught.value.column) == place
 
 
 def test_patterns_there_and_back() -> None:
@@ -98,9 +89,10 @@ def test_cells_that_are_none(cells: Any) -> None:
 def test_other_texts_that_are_none() -> None:
     """The name of a rule has one line, and what is read is a text."""
     data: Any = GLIDER.encode()
-    for wrong in (lambda: patterns.write([[1]], rule="two\nlines"), lambda: patterns.read(data)):
-        with pytest.raises(PatternError):
-            print(wrong())
+    with pytest.raises(PatternError):
+        patterns.write([[1]], rule="two\nlines")
+    with pytest.raises(PatternError):
+        patterns.read(data)
 
 
 @pytest.mark.parametrize("name", ["glider.rle", "glider.rle.gz", "glider.txt"])

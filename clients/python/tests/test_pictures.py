@@ -3,11 +3,12 @@
 from __future__ import annotations
 
 import argparse
+import importlib
 import io
 import json
 import random
 import struct
-from collections.abc import Callable, Sequence
+from collections.abc import Sequence
 from pathlib import Path
 from typing import Any, Optional
 
@@ -23,6 +24,7 @@ from cam6.pictures import PictureError
 FOLDER = TOP / "docs" / "pictures"
 LIGHTS = default_palette()
 Cells = list[list[int]]
+numpy: Any = importlib.import_module("numpy")
 
 
 def rendered(cells: Sequence[Sequence[int]], scale: int, crop: Optional[Sequence[int]], lights: Sequence[Any]) -> bytes:
@@ -48,7 +50,7 @@ def chunks_of(data: bytes) -> list[tuple[bytes, bytes]]:
 def frames_of(data: bytes) -> list[tuple[int, int, bytes]]:
     """The pictures of a file as Pillow reads them: width, height and pixels."""
     with Image.open(io.BytesIO(data)) as image:
-        return [(*frame.size, frame.convert("RGB").tobytes()) for frame in ImageSequence.Iterator(image)]
+        return [(frame.width, frame.height, frame.convert("RGB").tobytes()) for frame in ImageSequence.Iterator(image)]
 
 
 def some_cells(source: random.Random, width: int, height: int, most: int = 15) -> Cells:
@@ -109,8 +111,7 @@ def test_films_as_gif() -> None:
 
 
 @pytest.mark.parametrize("kind", ["uint8", "int64", ">u2"])
-def test_arrays_of_numpy(kind: str, module: Callable[[str], Any]) -> None:
-    numpy = module("numpy")
+def test_arrays_of_numpy(kind: str) -> None:
     cells = some_cells(random.Random(23), 12, 7)
     array = numpy.array(cells, dtype=kind)
     assert pictures.picture(array).rgb() == rendered(cells, 1, None, LIGHTS)
@@ -120,9 +121,9 @@ def test_arrays_of_numpy(kind: str, module: Callable[[str], Any]) -> None:
 
 
 @pytest.mark.parametrize(("shape", "value"), [((2, 2), 16), ((2, 2), -1), ((7, 12), 1.0), ((4,), 0), ((2, 0), 0)])
-def test_arrays_that_are_no_picture(shape: tuple[int, ...], value: float, module: Callable[[str], Any]) -> None:
+def test_arrays_that_are_no_picture(shape: tuple[int, ...], value: float) -> None:
     with pytest.raises(PictureError):
-        pictures.picture(module("numpy").full(shape, value))
+        pictures.picture(numpy.full(shape, value))
 
 
 def test_files(tmp_path: Path) -> None:

@@ -2,7 +2,6 @@
 
 from __future__ import annotations
 
-import json
 import random
 from collections.abc import Callable
 
@@ -34,23 +33,6 @@ def looks(source: random.Random, count: int) -> list[bytes]:
     return [source.choices(ways, [8, 6, 1, 1, 1])[0]() for _ in range(count)]
 
 
-def looked(sent: list[bytes]) -> list[bytes]:
-    """The replies to such lines at side 128: what a row was set to last, and the faults of the others."""
-    rows: dict[tuple[int, int], str] = {}
-    replies = []
-    for line in sent:
-        said = json.loads(line) if line.startswith(b"{") else {}
-        if said.get("do") == "set":
-            rows[said["plane"], said["row"]] = said["bits"]
-            replies.append(b'{"ok":"set"}')
-        elif said.get("do") == "row" and said["row"] < 128:
-            replies.append(b'{"bits":"%s","ok":"row"}' % rows.get((said["plane"], said["row"]), "0" * 32).encode())
-        else:
-            other = {"row": b'{"fault":65}', "rules": b'{"names":[],"ok":"rules"}', "run": b'{"fault":63}'}
-            replies.append(other.get(said.get("do", ""), b'{"fault":2}'))
-    return replies
-
-
 @pytest.mark.slow
 def test_calls_in_batches_return_what_they_return_one_by_one(cam6: str) -> None:
     play(lambda: Batches(cam6, 512), examples=15, steps=30)
@@ -60,9 +42,10 @@ def test_calls_in_batches_return_what_they_return_one_by_one(cam6: str) -> None:
 @pytest.mark.parametrize("where", ["local", "connection", "journal"])
 def test_a_hundred_thousand_lines(where: str, local: Local, host: Callable[..., Host]) -> None:
     """Both sides would wait for each other if they were all written first: they are 10 MB, and so are the replies."""
-    sent = looks(random.Random(1), 100_000)
-    want = looked(sent)
-    assert want[:500] == answers(sent[:500], 128)
+    # Once all rows are set, the same lines have the same replies each time.
+    some = looks(random.Random(1), 1000)
+    first = answers(some * 2, 128)
+    sent, want = some * 100, first[:1000] + first[1000:] * 99
     if where == "local":
         machine = local(side_limit=128)
     else:
@@ -86,16 +69,14 @@ def test_the_first_fault_is_raised_with_its_place(local: Local) -> None:
     assert many.execute() == []
 
 
-def test_a_block_executes_at_its_end(local: Local) -> None:
-    machine = local(side_limit=128)
+def test_a_block_executes_at_its_end(machine: Machine) -> None:
     with machine.pipeline() as many:
         many.set_row(0, 0, "f" * 32)
         assert machine.count() == 0
     assert machine.count() == 128
 
 
-def test_a_block_that_raises_does_nothing(local: Local) -> None:
-    machine = local(side_limit=128)
+def test_a_block_that_raises_does_nothing(machine: Machine) -> None:
     machine.set_row(0, 0, "f" * 32)
     with pytest.raises(KeyError):
         with machine.pipeline() as many:

@@ -17,10 +17,11 @@ import time
 from collections.abc import Callable
 from pathlib import Path
 from typing import Any, Optional
+from unittest import mock
 
 import fakes
 import pytest
-from fakes import BALLS, Breaking, Plain, compact, once
+from fakes import BALLS, Breaking, Plain, compact, north, once
 from oracle.machine import answers
 from support.programs import Host, free_port
 
@@ -62,11 +63,6 @@ def commands(seed: int, count: int, most_steps: int = 3) -> list[bytes]:
     ]
     weights = [9, 6, 4, 4, 3, 1, 1, 1, 1, 1, 1]
     return [RULE, CYCLE] + [source.choices(ways, weights)[0]() for _ in range(count - 2)]
-
-
-def north(name: str) -> bytes:
-    """The line of a rule that shifts."""
-    return compact(do="rule", name=name, half="A", hood="N/VONN", minor="&/CENTERS", text=": R NORTH >PLN0 ;")
 
 
 def check(machine: Machine, sent: list[bytes], batch: int, save_after: int = 0) -> None:
@@ -254,11 +250,10 @@ def test_a_host_that_answers_otherwise(connected: Connected) -> None:
             machine.count()
 
 
-def test_a_journal_of_another_limit(breaking: Breakings, connected: Connected, tmp_path: Path) -> None:
-    host = breaking()
-    connected(host.port, journal=tmp_path / "journal").close()
+def test_a_journal_of_another_limit(port: int, connected: Connected, path: Path) -> None:
+    connected(port, journal=path).close()
     with pytest.raises(cam6.BadJournal, match="limit=128"):
-        connected(host.port, journal=tmp_path / "journal", limit=256)
+        connected(port, journal=path, limit=256)
 
 
 # A command that kills its host is not played for ever.
@@ -286,9 +281,9 @@ def test_a_command_that_kills_is_given_up(breaking: Breakings, connected: Connec
     assert machine.count() == 128
 
 
-def test_a_program_that_is_started_again_gives_it_up(breaking: Breakings, connected: Connected, tmp_path: Path) -> None:
+def test_a_program_that_is_started_again_gives_it_up(breaking: Breakings, connected: Connected, path: Path) -> None:
     """It tries the command until the deadline, and the next one has it no more."""
-    port, path = breaking(kills).port, tmp_path / "journal"
+    port = breaking(kills).port
     with connected(port, journal=path) as machine:
         machine.set_row(0, 5, "f" * 32)
         session_of(machine).journal.asked([KILLER])
@@ -365,35 +360,31 @@ def test_breaks_between_parts(number: int, breaking: Breakings) -> None:
 
 
 @pytest.mark.parametrize("sync", ["none", "checkpoint", "each"])
-def test_a_program_that_is_started_again_goes_on(
-    sync: str, breaking: Breakings, connected: Connected, tmp_path: Path
-) -> None:
-    port, sent = breaking().port, commands(5, 30, 1)
-    got: list[bytes] = []
+def test_a_program_that_is_started_again_goes_on(sync: str, port: int, connected: Connected, path: Path) -> None:
+    sent, got = commands(5, 30, 1), list[bytes]()
     for at in range(0, 30, 10):
-        with connected(port, journal=tmp_path / "journal", sync=sync) as machine:
+        with connected(port, journal=path, sync=sync) as machine:
             assert session_of(machine).asked == at
             got += machine._talk(sent[at : at + 10])
     assert got == answers(sent, 128)
 
 
-def test_a_command_without_an_answer(breaking: Breakings, connected: Connected, tmp_path: Path) -> None:
+def test_a_command_without_an_answer(port: int, connected: Connected, path: Path) -> None:
     """A program asked, and ended before the answer. The next one does the command, once."""
     sent = [RULE, CYCLE, OTHER_SET, compact(do="run", n=3), lines.SAVE]
-    port, want = breaking().port, answers(sent, 128)
-    with connected(port, journal=tmp_path / "journal") as machine:
+    want = answers(sent, 128)
+    with connected(port, journal=path) as machine:
         machine._talk(sent[:3])
         session_of(machine).journal.asked(sent[3:4])
-    machine = connected(port, journal=tmp_path / "journal")
+    machine = connected(port, journal=path)
     assert session_of(machine).resumed == [(sent[3], want[3])]
     assert session_of(machine).asked == 4
     assert machine._talk(sent[4:]) == want[4:]
 
 
-def test_a_long_run_that_was_cut(breaking: Breakings, connected: Connected, tmp_path: Path) -> None:
+def test_a_long_run_that_was_cut(port: int, connected: Connected, path: Path) -> None:
     """A program ended in the middle of a long run. The next one does the rest of it."""
     sent = [RULE, CYCLE, OTHER_SET, compact(do="run", n=20), lines.SAVE]
-    port, path = breaking().port, tmp_path / "journal"
     session = open_session(port, 300, path)
     session.talk(sent[:3])
     session.journal.asked(sent[3:4])
@@ -403,16 +394,15 @@ def test_a_long_run_that_was_cut(breaking: Breakings, connected: Connected, tmp_
     assert connected(port, journal=path)._talk(sent[4:]) == answers(sent, 128)[4:]
 
 
-def test_a_journal_that_is_open_in_another_program(breaking: Breakings, connected: Connected, tmp_path: Path) -> None:
-    port, path = breaking().port, tmp_path / "journal"
+def test_a_journal_that_is_open_in_another_program(port: int, connected: Connected, path: Path) -> None:
     connected(port, journal=path)
     with pytest.raises(cam6.BadJournal, match="open in another program"):
         connected(port, journal=path)
 
 
-def test_a_journal_that_has_commands_waits_for_a_host(host: Hosts, connected: Connected, tmp_path: Path) -> None:
+def test_a_journal_that_has_commands_waits_for_a_host(host: Hosts, connected: Connected, path: Path) -> None:
     """It keeps what is not answered if none comes."""
-    there, path = host(*SMALL), tmp_path / "journal"
+    there = host(*SMALL)
     with connected(there.port, journal=path) as machine:
         machine.set_row(0, 5, "f" * 32)
         session_of(machine).journal.asked([CLEAR_1])
@@ -428,18 +418,12 @@ def test_a_journal_that_has_commands_waits_for_a_host(host: Hosts, connected: Co
     assert machine.count() == 128
 
 
-def test_a_call_that_is_interrupted(breaking: Breakings, connected: Connected, monkeypatch: pytest.MonkeyPatch) -> None:
+def test_a_call_that_is_interrupted(port: int, connected: Connected) -> None:
     """Ctrl-C while an answer is awaited: the command is done once all the same."""
     sent = [RULE, CYCLE, OTHER_SET, RUN, lines.SAVE]
-    machine = connected(breaking().port, every_seconds=5)
+    machine = connected(port, every_seconds=5)
     machine._talk(sent[:3])
-    journal = session_of(machine).journal
-
-    def interrupted(replies: Any) -> None:
-        raise KeyboardInterrupt
-
-    with monkeypatch.context() as patch:
-        patch.setattr(journal, "answered", interrupted)
+    with mock.patch.object(session_of(machine).journal, "answered", side_effect=KeyboardInterrupt):
         with pytest.raises(KeyboardInterrupt):
             machine._talk(sent[3:4])
     assert machine._talk(sent[4:]) == answers(sent, 128)[4:]
@@ -500,10 +484,9 @@ def part_of(text: str, sent: list[bytes], count: int) -> int:
 
 
 @pytest.mark.slow
-def test_the_program_itself_is_killed(breaking: Breakings, connected: Connected, tmp_path: Path) -> None:
+def test_the_program_itself_is_killed(port: int, connected: Connected, path: Path) -> None:
     """After some answers. It is started again until all is done."""
     sent, source = commands(12, 120, 1), random.Random(12)
-    port, path = breaking().port, tmp_path / "journal"
     text = KILLED.format(port=port, path=str(path))
     asked = [0]
     while asked[-1] < len(sent):
@@ -545,9 +528,9 @@ def test_certificates_that_are_refused(name: Optional[str], breaking: Breakings)
         cam6.connect("127.0.0.1", breaking(tls=server()).port, tls=client() if name else True, server_name=name)
 
 
-def test_a_host_without_tls(breaking: Breakings) -> None:
+def test_a_host_without_tls(port: int) -> None:
     with pytest.raises(cam6.Lost, match="TLS with"):
-        cam6.connect("127.0.0.1", breaking().port, tls=True)
+        cam6.connect("127.0.0.1", port, tls=True)
 
 
 def test_lines_are_written_to_the_journal_some_at_a_time() -> None:
