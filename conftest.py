@@ -13,10 +13,16 @@ import pytest
 from support.programs import CRATES, PLAYERS, Host, Page, built
 
 SUPPORT = Path(__file__).parent / "tests" / "support"
-# Programs take their time, and more of it on a busy computer.
-hypothesis.settings.register_profile(
-    "programs", deadline=None, print_blob=True, suppress_health_check=list(hypothesis.HealthCheck)
-)
+# Programs take their time, and more of it on a busy computer. `--hypothesis-profile long` tries far more.
+for profile, examples in (("programs", 100), ("long", 5_000)):
+    hypothesis.settings.register_profile(
+        profile,
+        deadline=None,
+        print_blob=True,
+        max_examples=examples,
+        stateful_step_count=30,
+        suppress_health_check=list(hypothesis.HealthCheck),
+    )
 hypothesis.settings.load_profile("programs")
 # Where Debian's golly has its patterns.
 PATTERNS = "/usr/share/golly/Patterns"

@@ -5,7 +5,9 @@ A file is refused whole if one of its lines can't be read, or if it wants no lin
 
 from __future__ import annotations
 
+import argparse
 import re
+import sys
 from collections.abc import Callable
 from pathlib import Path
 
@@ -266,3 +268,19 @@ def whole_reply(answer: Callable[[bytes], bytes], user: bytes, command: bytes) -
                 answer(b'{"event":"band","board":%d}' % board)
             break
     return answer(b'{"event":"collect","user":%s}' % user)
+
+
+def main() -> None:
+    """Prints what a part of a file sends."""
+    parser = argparse.ArgumentParser(description="Prints the lines that a part of a worked example sends.")
+    parser.add_argument("file", metavar="FILE", type=Path)
+    parser.add_argument("number", metavar="NUMBER", nargs="?", type=int, default=1)
+    asked = parser.parse_args()
+    parts = Example(asked.file).parts
+    if not 1 <= asked.number <= len(parts):
+        parser.error(f"{asked.file} has parts 1 to {len(parts)}")
+    sys.stdout.buffer.write(parts[asked.number - 1].bytes_sent())
+
+
+if __name__ == "__main__":
+    main()
