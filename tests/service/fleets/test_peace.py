@@ -184,7 +184,7 @@ def test_one_address_has_so_many_connections_and_no_more(fleet: Fleet) -> None:
 def seats(fleet: Fleet) -> Iterator[Callable[[str], Peer]]:
     """The front of numbered seats. Seats 33 to 64 are those of the second host, and so on. It is called for a connection."""
     with fleet.proxy("front", "haproxy-seats.cfg", "CAM6_SEATS_ADMIN") as proxy:
-        assert until(lambda: [proxy.state(name, name) for name in HOSTS] == ["UP"] * len(HOSTS), GRACE)
+        assert until(lambda: all(proxy.is_up(name, name) for name in HOSTS), GRACE)
         yield lambda value: Peer(fleet.stream_to("front", "127.0.0.1", fleet.port_of(value)))
 
 
@@ -248,10 +248,6 @@ class Pages:
         words = [cam6_web, "--name", NAME, "--host", f"127.0.0.1:{fleet.plain}", "--port"]
         self.programs = {name: fleet.service("front", f"page-{name}", [*words, str(at)]) for name, at in ports.items()}
 
-    def states(self) -> list[str]:
-        """How the front sees each program."""
-        return [self.front.state(name, "pages") for name in self.programs]
-
     def count(self, name: str) -> int:
         """How often the front has connected to a program."""
         return int(self.front.stats(name, "pages")["stot"])
@@ -281,7 +277,7 @@ def pages(fleet: Fleet, cam6_web: str) -> Iterator[Pages]:
     with ExitStack() as stack:
         for service in (*made.programs.values(), made.front):
             stack.enter_context(service)
-        assert until(lambda: made.states() == ["UP", "UP"], 10), made.states()
+        assert until(lambda: all(made.front.is_up(name, "pages") for name in made.programs), GRACE)
         yield made
 
 
