@@ -43,8 +43,9 @@ class Browser:
 def path_of(package: str) -> str:
     """The path of a package's program. Fails if it isn't there."""
     names = PROGRAMS[package]
-    if path := next(filter(None, map(shutil.which, names)), None):
-        return path
+    for name in names:
+        if path := shutil.which(name):
+            return path
     pytest.fail(f"there is no {' or '.join(names)}: install the package {package} of packages.txt", pytrace=False)
 
 

@@ -22,7 +22,7 @@ BALLS, LETTERS = "billiard_balls", "letters"
 FOUR, TWO = ("--users=4", "--side=512"), ("--users=2", "--side=512")
 # Seconds for which a program is away, so that the page tries in vain to reach it.
 AWAY = 0.5
-# Seconds within which the page has to go on at another host.
+# Seconds within which the page has to go on at another host, beside those that it took to open it on a busy computer.
 ELSEWHERE = 5
 SEAT = "document.getElementById('seat').textContent.trim()"
 # Keeps each state of the page from now on, with its time in milliseconds.
@@ -107,14 +107,16 @@ def test_the_page_goes_on_when_its_program_is_started_again(teacher: Teacher, ho
 
 def test_the_page_goes_on_at_another_host(teacher: Teacher, host: Hosts, page: Pages) -> None:
     one, other = host(*FOUR), host(*FOUR)
+    begun = time.monotonic()
     lines = at_host(teacher, page(one.port, other.port).address)
+    opened = time.monotonic() - begun
     teacher.script(WATCH)
     one.kill()
     teacher.until("window.states.some(([state]) => state === 'lost')")
     state_is(teacher, "ready", "of host 2")
     told = [(state, when) for state, when in teacher.value("window.states") if state in ("lost", "ready")]
     assert [state for state, _ in told] == ["lost", "ready"]
-    assert told[1][1] - told[0][1] < 1000 * ELSEWHERE
+    assert told[1][1] - told[0][1] < 1000 * (ELSEWHERE + opened)
     run_on(teacher, 30)
     count = teacher.pause()
     teacher.assert_shows([*lines, moved(count)])

@@ -224,23 +224,16 @@ class Told(StreamRequestHandler):
     """A connection: what it told the host, and whether it has ended. The line `L` is answered by `[L]`. After `end` the host ends
     the connection, and `bytes` is answered by a line that isn't UTF-8."""
 
-    def setup(self) -> None:
-        super().setup()
-        self.data, self.has_ended = b"", threading.Event()
-        cast(Recorder, self.server).told.append(self)
-
     def handle(self) -> None:
         """Answers lines, until the connection ends."""
+        self.data, self.has_ended = b"", threading.Event()
+        cast(Recorder, self.server).told.append(self)
         with suppress(OSError):
             for line in self.rfile:
                 self.data += line
                 if line == b"end\n":
                     break
                 self.wfile.write(b"\xff\n" if line == b"bytes\n" else b"[%s]\n" % line.removesuffix(b"\n"))
-
-    def finish(self) -> None:
-        with suppress(OSError):
-            super().finish()
         self.has_ended.set()
 
 

@@ -11,7 +11,7 @@ from contextlib import suppress
 from statistics import median_high
 
 import pytest
-from support.programs import Peer, Ran, private
+from support.programs import Peer, Ran, private, until
 from support.sessions import line_of
 
 from .users import BACK, NO_JSON, NO_NAMES, NO_SEAT, ONE_NAME, PARITY, PLANES, ROW, RULES, RUN, SEAT, SEATED, START
@@ -34,7 +34,8 @@ def first_answer(port: int, line: str) -> str | None:
 def test_of_300_silent_clients_68_may_wait_for_a_seat(beside: Hosts) -> None:
     one, begun = beside(1, "--users=4"), time.monotonic()
     with connected(one.port, 300) as peers:
-        assert closed(peers, 3) == 300 - (4 + MORE)
+        assert until(lambda: closed(peers, 0.1) >= 300 - (4 + MORE), WAIT - 2)
+        assert closed(peers, 0.5) == 300 - (4 + MORE)
         assert time.monotonic() - begun < WAIT
         # So is who comes then.
         assert first_answer(one.port, SEAT % 2) is None
@@ -93,7 +94,8 @@ def test_of_60_clients_that_send_a_load_first_eight_are_heard(beside: Hosts) -> 
         for peer in peers:
             with suppress(ConnectionError):
                 peer.send(LOAD + "0" * 2_000_000)
-        assert closed(peers, 3) == 60 - LONG
+        assert until(lambda: closed(peers, 0.1) >= 60 - LONG, WAIT - 2)
+        assert closed(peers, 0.5) == 60 - LONG
         assert one.of_process("VmRSS") - before < 30_000
 
 
@@ -124,7 +126,7 @@ def test_a_seat_is_free_after_two_seconds_of_silence_and_its_machine_stays(besid
     one = beside(3, "--users=3", "--idle=2")
     with Peer(one.port, 1) as quiet:
         quiet.ask(PARITY)
-        assert closed([quiet], 5) == 1
+        assert closed([quiet], 2 + GRACE) == 1
         with seated(Peer, one.port, 1) as again:
             assert again.ask(RULES) == ONE_NAME
 

@@ -28,7 +28,7 @@ DEPLOY = TOP / "deploy"
 HOSTS = ("one", "two", "three")
 NAME = "cam6.example"
 # Seconds in which a program has to be there.
-START = 20
+START = 60
 # What is raised by a connection that is over.
 OVER = (ConnectionError, ssl.SSLError)
 
@@ -146,6 +146,10 @@ class Proxy(Service):
         """Whether a server is UP, DOWN, in DRAIN or in MAINT."""
         return self.stats(server, backend).get("status", "").partition(" ")[0]
 
+    def is_up(self, server: str, backend: str = "fleet") -> bool:
+        """Whether it has found a server up. It takes each for one that is up before it has looked."""
+        return self.state(server, backend) == "UP" and "OK" in self.stats(server, backend)["check_status"]
+
 
 class Fleet:
     """Three hosts with their doors, and a front."""
@@ -223,7 +227,7 @@ class Fleet:
 
     def is_ready(self, seconds: float) -> bool:
         """Whether all hosts are up, within so many seconds."""
-        return until(lambda: self.states() == ["UP"] * len(HOSTS), seconds)
+        return until(lambda: all(map(self.front.is_up, HOSTS)), seconds)
 
     def stream_to(self, node: str, address: str, port: int, source: str = "") -> socket.socket:
         """A connection from a node to an address."""

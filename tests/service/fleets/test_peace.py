@@ -63,18 +63,23 @@ def test_systemd_accepts_each_unit(request: pytest.FixtureRequest, fleet: Fleet,
     assert subprocess.run(words, capture_output=True, check=False).returncode == 0, "the unit is exposed to much"
 
 
-def test_a_first_line_may_come_in_two_parts(fleet: Fleet) -> None:
+# What is sent in parts, and the answers.
+FIRST = {
+    "a seat, in two parts, and more": (['{"se', 'at":31}\n{"do":"rul', 'es"}\n'], [SEATED, NO_NAMES]),
+    "no line": (["no line\n"], [NO_JSON]),
+    "a seat that isn't there": (['{"seat":99}\n'], [NO_SEAT]),
+    "the seat 0": (['{"seat":0}\n'], [NO_SEAT]),
+}
+
+
+@pytest.mark.parametrize(("parts", "wanted"), FIRST.values(), ids=FIRST)
+def test_a_first_line_is_answered(fleet: Fleet, parts: list[str], wanted: list[str]) -> None:
     with fleet.user() as one:
-        one.send('{"se')
-        time.sleep(0.3)
-        one.send('at":31}\n{"do":"rul')
-        assert one.read() == SEATED
-        assert one.ask('es"}') == NO_NAMES
-
-
-@pytest.mark.parametrize(("line", "answer"), [("no line", NO_JSON), ('{"seat":99}', NO_SEAT), ('{"seat":0}', NO_SEAT)])
-def test_a_first_line_that_takes_no_seat_is_answered(fleet: Fleet, line: str, answer: str) -> None:
-    assert fleet.answer_of(line) == answer
+        one.send(parts[0])
+        for part in parts[1:]:
+            time.sleep(0.3)
+            one.send(part)
+        assert [one.read() for _ in wanted] == wanted
 
 
 def test_a_first_line_that_is_too_long_is_not_waited_for(fleet: Fleet) -> None:
@@ -90,31 +95,33 @@ def test_a_user_who_says_nothing_is_closed_after_a_time(fleet: Fleet) -> None:
     assert time.monotonic() - begun > WAIT - 0.5
 
 
-def at_door(fleet: Fleet, port: int, certificate: str) -> Peer:
-    """A connection from the front's machine to a door of the first host, with a certificate, or with none."""
+def at_door(fleet: Fleet, port: int, certificate: str | None) -> Peer:
+    """A connection from the front's machine to a door of the first host, with a certificate, with none, or without TLS."""
     stream = fleet.stream_to("front", fleet.ground.address("one"), port)
-    return fleet.by_tls(stream, None, certificate)
+    return Peer(stream) if certificate is None else fleet.by_tls(stream, None, certificate)
 
 
-@pytest.mark.parametrize(("certificate", "answer"), [("", None), ("users.pem", None), ("front.pem", NO_SEAT)])
-def test_a_door_lets_in_the_front_alone(fleet: Fleet, certificate: str, answer: str | None) -> None:
+DOOR = [(None, None), ("", None), ("users.pem", None), ("front.pem", NO_SEAT)]
+
+
+@pytest.mark.parametrize(("certificate", "answer"), DOOR)
+def test_a_door_lets_in_the_front_alone(fleet: Fleet, certificate: str | None, answer: str | None) -> None:
     came = None
     with suppress(OSError), at_door(fleet, fleet.doors["one"], certificate) as one:
         came = one.ask(SEAT % 99)
     assert came == answer
 
 
-def test_a_door_answers_nothing_without_tls(fleet: Fleet) -> None:
-    with Peer(fleet.stream_to("front", fleet.ground.address("one"), fleet.doors["one"])) as one:
-        assert one.ask(SEAT % 99) is None
-
-
 def test_a_door_whose_host_has_ended_says_so_at_once(fleet: Fleet) -> None:
-    port = fleet.ground.port(7299)
-    with fleet.edge("one", port, "127.0.0.1:1"), at_door(fleet, port, "front.pem") as one:
-        begun = time.monotonic()
-        assert one.ask(SEAT % 1) is None
-        assert time.monotonic() - begun < 0.8
+    port, waits = fleet.ground.port(7299), []
+    with fleet.edge("one", port, "127.0.0.1:1"):
+        for _ in range(3):
+            with at_door(fleet, port, "front.pem") as one:
+                begun = time.monotonic()
+                assert one.ask(SEAT % 1) is None
+                waits.append(time.monotonic() - begun)
+    # A door that tried again would do so after a second, each time.
+    assert min(waits) < 0.8
 
 
 @pytest.fixture
@@ -177,7 +184,7 @@ def test_one_address_has_so_many_connections_and_no_more(fleet: Fleet) -> None:
 def seats(fleet: Fleet) -> Iterator[Callable[[str], Peer]]:
     """The front of numbered seats. Seats 33 to 64 are those of the second host, and so on. It is called for a connection."""
     with fleet.proxy("front", "haproxy-seats.cfg", "CAM6_SEATS_ADMIN") as proxy:
-        assert until(lambda: [proxy.state(name, name) for name in HOSTS] == ["UP"] * len(HOSTS), GRACE)
+        assert until(lambda: all(proxy.is_up(name, name) for name in HOSTS), GRACE)
         yield lambda value: Peer(fleet.stream_to("front", "127.0.0.1", fleet.port_of(value)))
 
 
@@ -241,10 +248,6 @@ class Pages:
         words = [cam6_web, "--name", NAME, "--host", f"127.0.0.1:{fleet.plain}", "--port"]
         self.programs = {name: fleet.service("front", f"page-{name}", [*words, str(at)]) for name, at in ports.items()}
 
-    def states(self) -> list[str]:
-        """How the front sees each program."""
-        return [self.front.state(name, "pages") for name in self.programs]
-
     def count(self, name: str) -> int:
         """How often the front has connected to a program."""
         return int(self.front.stats(name, "pages")["stot"])
@@ -274,7 +277,7 @@ def pages(fleet: Fleet, cam6_web: str) -> Iterator[Pages]:
     with ExitStack() as stack:
         for service in (*made.programs.values(), made.front):
             stack.enter_context(service)
-        assert until(lambda: made.states() == ["UP", "UP"], 10), made.states()
+        assert until(lambda: all(made.front.is_up(name, "pages") for name in made.programs), GRACE)
         yield made
 
 
