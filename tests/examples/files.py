@@ -4,21 +4,16 @@ from __future__ import annotations
 
 from collections.abc import Callable
 
-from examples import boards, frames, hostile_events, hostile_lines, hostile_loads, hostile_words, never_saved
-from examples import schedules, short_texts
+from examples import frames, hostile_events, hostile_lines, hostile_loads, hostile_words, never_saved
+from examples import short_texts
 from examples.writing import Writer
 
 # The functions that make the worked examples of a folder. Each has the name of its example.
 EXAMPLES: dict[str, list[Callable[[], Writer]]] = {
     "crates/cam6_host/events": [
-        boards.failures_after_each_band,
-        boards.jobs_at_each_side,
-        boards.preempted_after_each_band,
         hostile_events.hostile_events,
         hostile_events.keys_in_events,
         hostile_events.numbers_in_events,
-        schedules.schedules_of_events,
-        schedules.schedules_of_runs,
     ],
     "crates/cam6_host/sessions": [
         hostile_lines.blanks_in_lines,

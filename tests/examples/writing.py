@@ -8,8 +8,7 @@ from __future__ import annotations
 import json
 import re
 from collections import Counter
-from collections.abc import Callable, Iterable, Mapping, Sequence
-from itertools import product
+from collections.abc import Callable, Mapping, Sequence
 from textwrap import wrap
 from typing import Any
 
@@ -87,18 +86,6 @@ def rows_of(cells: set[Cell], side: int) -> list[str]:
     for x, y in cells:
         bits[y] |= 1 << side - 1 - x
     return [f"{row:0{side // 4}x}" for row in bits]
-
-
-def mixed(number: int) -> int:
-    """A random number of 64 bits, made from this one."""
-    number = number * 0x9E3779B97F4A7C15 % 2**64
-    return (number ^ number >> 29) * 0xBF58476D1CE4E5B9 % 2**64
-
-
-def without_a_pattern(columns: Iterable[int], rows: Iterable[int], eighths: int, plane: int = 0) -> set[Cell]:
-    """About so many eighths of an area's cells, at random. Each plane has others."""
-    first = 512 * 512 * plane + 1
-    return {(x, y) for x, y in product(columns, rows) if mixed(x + 512 * y + first) >> 61 < eighths}
 
 
 def common_row(rows: list[str]) -> str:
