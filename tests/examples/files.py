@@ -5,7 +5,6 @@ from __future__ import annotations
 from collections.abc import Callable
 
 from examples import frames, hostile_events, hostile_lines, hostile_loads, hostile_words, never_saved
-from examples import short_texts
 from examples.writing import Writer
 
 # The functions that make the worked examples of a folder. Each has the name of its example.
@@ -20,12 +19,12 @@ EXAMPLES: dict[str, list[Callable[[], Writer]]] = {
         hostile_lines.longest_lines,
         hostile_lines.nested_lines,
         hostile_lines.numbers_in_lines,
+        hostile_lines.short_texts,
         hostile_loads.loads_in_lines,
         hostile_loads.long_loads,
         hostile_words.keys_in_lines,
         hostile_words.texts_in_lines,
         never_saved.machines_never_saved,
-        short_texts.short_texts,
     ],
 }
 FILES = {f"{folder}/{make.__name__}.example": make for folder, makes in EXAMPLES.items() for make in makes}

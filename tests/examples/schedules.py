@@ -161,13 +161,13 @@ class RuleAsker:
         name, other = self.random.choice(["R", "U", "X", *self.words]), self.random.choice(["-", "R", "U"])
         refused = [do("set", plane=number, row=0, bits=bits), do("set", plane=0, row=side, bits=bits)]
         refused += [do("set", plane=0, row=0, bits="0" * (32 if side == 256 else 64)), do("clear", plane=number)]
+        refused += [do("row", plane=0, row=side), do("colours", row=side), do("count", mask=65536)]
         refused += [
-            do("row", plane=0, row=side),
-            do("colours", row=side),
-            do("count", mask=65536),
             do("drop", name=name),
+            do("run", n=65536),
+            do("back", n=2**64 - 1),
+            do("map", colours=[*range(15), 16]),
         ]
-        refused += [do("run", n=65536), do("back", n=2**64 - 1), do("map", colours=[*range(15), 16])]
         refused += [do("side", side=self.random.choice([64, 256, 512]))]
         refused += [cycle_command(*[(name, other, "ODD", 0)] * times) for times in (0, 1, 17)]
         refused += [cycle_command((name, other, "ODD", 4)), cycle_command(("-", name, "ODD", 0))]
@@ -177,9 +177,6 @@ class RuleAsker:
 
 class ScheduleWriter(EventWriter):
     """Hosts, each under a random schedule."""
-
-    def __init__(self) -> None:
-        super().__init__("A random schedule.", REPLY='{"ok":"collect","reply":')
 
     def play(self, events: Iterable[Event]) -> None:
         """Events. Bands that a board does one after another are one line."""
@@ -222,7 +219,7 @@ def by_seed(seed: int) -> ScheduleWriter:
     """Users at several sides ask for runs, backs and other commands, whose steps boards do band by band; boards fail and are
     repaired, commands are preempted, tables leave the cache, rules are redefined, and events are refused. In the end all are
     brought to rest, and show their cells."""
-    random, told = Random(seed), ScheduleWriter()
+    random, told = Random(seed), ScheduleWriter("A random schedule.", REPLY='{"ok":"collect","reply":')
     sides = [random.choice([128, 128, 128, 256, 256, 512]) for _ in range(random.choice([1, 2, 2, 3, 3, 4, 5, 8, 32]))]
     told.part(None, random.choice([1, 1, 2, 2, 3, 4, 8]), random.choice([1, 2, 3, 4, 6, 16, 64]), sides)
     told.schedule(random, sides, 1200, 8, 0.97)

@@ -103,40 +103,25 @@ def is_object(value: Any, **shapes: Shape) -> bool:
     return is_keyed and all(is_shape(value[key]) for key, is_shape in shapes.items())
 
 
-def is_entry(value: Any) -> bool:
-    """Whether a value is an entry of a cycle."""
-    return is_object(value, a=is_text, b=is_text, grid=one_of("EVEN", "ODD"), phase=is_number)
+def object_of(**shapes: Shape) -> Shape:
+    """What says whether a value is such an object."""
+    return lambda value: is_object(value, **shapes)
 
 
-def is_list_of(is_shape: Shape) -> Shape:
-    """What says whether a value is a list of such values."""
-    return lambda value: isinstance(value, list) and all(map(is_shape, value))
-
-
-def is_map(value: Any) -> bool:
-    """Whether a value has a number for each of the sixteen states."""
-    return is_list_of(is_number)(value) and len(value) == 16
+def is_list_of(is_shape: Shape, length: int | None = None) -> Shape:
+    """What says whether a value is a list of such values, maybe of so many."""
+    return lambda value: isinstance(value, list) and len(value) in (length or len(value),) and all(map(is_shape, value))
 
 
 RULE = {"name": is_text, "half": one_of("A", "B"), "hood": one_of(*HOODS), "minor": one_of(*MINORS), "text": is_text}
-
-
-def is_rule(value: Any) -> bool:
-    """Whether a value is a rule of a saved machine."""
-    return is_object(value, **RULE)
-
-
-def are_planes(value: Any) -> bool:
-    """Whether a value has four lists of rows."""
-    return is_list_of(is_list_of(is_bits))(value) and len(value) == 4
-
-
+ENTRY = {"a": is_text, "b": is_text, "grid": one_of("EVEN", "ODD"), "phase": is_number}
+MAP, CYCLE = is_list_of(is_number, 16), is_list_of(object_of(**ENTRY))
 MACHINE = {
-    "colours": is_map,
-    "cycle": is_list_of(is_entry),
-    "planes": are_planes,
+    "colours": MAP,
+    "cycle": CYCLE,
+    "planes": is_list_of(is_list_of(is_bits), 4),
     "position": is_number,
-    "rules": is_list_of(is_rule),
+    "rules": is_list_of(object_of(**RULE)),
     "version": is_number,
 }
 # By its version: a saved machine of the first one has no side.
@@ -149,21 +134,26 @@ def is_machine(value: Any) -> bool:
     return is_number(version) and version in MACHINES and is_object(value, **MACHINES[version])
 
 
+def numbers(names: str) -> dict[str, Shape]:
+    """Keys that have numbers."""
+    return dict.fromkeys(names.split(), is_number)
+
+
 COMMANDS: dict[str, dict[str, Shape]] = {
-    "set": {"plane": is_number, "row": is_number, "bits": is_bits},
-    "clear": {"plane": is_number},
-    "row": {"plane": is_number, "row": is_number},
-    "plane": {"plane": is_number},
+    "set": {**numbers("plane row"), "bits": is_bits},
+    "clear": numbers("plane"),
+    "row": numbers("plane row"),
+    "plane": numbers("plane"),
     "rule": RULE,
     "drop": {"name": is_text},
     "rules": {},
-    "cycle": {"entries": is_list_of(is_entry)},
-    "run": {"n": is_number},
-    "back": {"n": is_number},
-    "map": {"colours": is_map},
-    "colours": {"row": is_number},
-    "count": {"mask": is_number},
-    "side": {"side": is_number},
+    "cycle": {"entries": CYCLE},
+    "run": numbers("n"),
+    "back": numbers("n"),
+    "map": {"colours": MAP},
+    "colours": numbers("row"),
+    "count": numbers("mask"),
+    "side": numbers("side"),
     "save": {},
     "load": {"machine": is_machine},
 }
@@ -186,14 +176,11 @@ def is_asked(value: Any) -> bool:
 
 
 EVENTS: dict[str, dict[str, Shape]] = {
-    "ask": {"user": is_number, "command": is_asked},
-    "lease": {"user": is_number, "board": is_number},
-    "band": {"board": is_number},
-    "preempt": {"board": is_number},
-    "fail": {"board": is_number},
-    "repair": {"board": is_number},
+    "ask": {**numbers("user"), "command": is_asked},
+    "lease": numbers("user board"),
+    **dict.fromkeys(("band", "preempt", "fail", "repair"), numbers("board")),
     "evict": {},
-    "collect": {"user": is_number},
+    "collect": numbers("user"),
 }
 
 
@@ -202,22 +189,17 @@ def is_event(value: Any) -> bool:
     return is_one_of(value, "event", EVENTS)
 
 
-def line_limit(line: bytes) -> int:
-    """How many bytes a line may have that begins as this one does."""
-    return LOAD_LIMIT if line.startswith(LOAD_HEAD) else LINE_LIMIT
-
-
 def is_spelled(line: bytes, said: dict[str, Any]) -> bool:
     """Whether a line is spelled as it has to be: one that loads a machine has one spelling."""
     if said.get("do") != "load":
         return True
-    texts = [digits for rows in said["machine"]["planes"] for digits in rows]
-    return line == plain(said) and all(digits == digits.lower() for digits in texts)
+    digits = str(said["machine"]["planes"])
+    return line == plain(said) and digits == digits.lower()
 
 
 def read_line(line: bytes, is_said: Shape) -> int | dict[str, Any]:
     """What a line says, a command or an event; or the number of its fault."""
-    if len(line) > line_limit(line):
+    if len(line) > (LOAD_LIMIT if line.startswith(LOAD_HEAD) else LINE_LIMIT):
         return 1
     try:
         value = json_of(line)
