@@ -5,7 +5,7 @@ from __future__ import annotations
 from collections.abc import Callable
 from typing import Any
 
-from examples.writing import Plain, compact, rows_of
+from examples.writing import Plain, compact
 from oracle.palette import PALETTE
 
 SIDE = 128
@@ -27,7 +27,9 @@ def in_colours(x: int, y: int) -> int:
 
 def replies() -> Plain:
     """Replies of a machine: a plane, and then rows in colours."""
-    said: list[dict[str, Any]] = [{"ok": "rule"}, {"ok": "cycle"}, {"ok": "plane", "rows": rows_of(CELLS, SIDE)}]
+    rows = [sum(in_plane(x, y) << SIDE - 1 - x for x in range(SIDE)) for y in range(SIDE)]
+    said: list[dict[str, Any]] = [{"ok": "rule"}, {"ok": "cycle"}]
+    said += [{"ok": "plane", "rows": [f"{row:0{SIDE // 4}x}" for row in rows]}]
     said += [{"ok": "run", "position": 0}, {"fault": 61}, {"count": len(CELLS), "ok": "count"}]
     said += [{"colours": "".join(f"{in_colours(x, y):x}" for x in range(SIDE)), "ok": "colours"} for y in range(SIDE)]
     return Plain("".join(f"{compact(reply)}\n" for reply in [*said, {"ok": "run", "position": 0}]))

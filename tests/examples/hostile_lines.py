@@ -1,11 +1,11 @@
-"""numbers_in_lines.example, blanks_in_lines.example, nested_lines.example and longest_lines.example: commands in every
-spelling, and lines that are none. Each session ends with looks at the machine, which no refused line has changed.
+"""numbers_in_lines.example, blanks_in_lines.example, nested_lines.example, longest_lines.example and short_texts.example:
+commands in every spelling, and lines that are none. Each session ends with looks at the machine, which no refused line has changed.
 """
 
 from __future__ import annotations
 
 from collections.abc import Callable, Iterator
-from itertools import groupby
+from itertools import groupby, product
 
 from examples.rules import BALLS
 from examples.spellings import BUILDS, LINE_LIMIT, MOST_NESTED, NO_COMMAND, NO_JSON, TOO_LONG, Line, Meaning
@@ -120,10 +120,8 @@ def no_values() -> Iterator[Line]:
     yield from [*refused(NO_JSON, NO_LINES), *refused(NO_COMMAND, OTHERS), (LINE, COUNT)]
 
 
-DEEP = (
-    '@ [@] [0,@,0] {"do":"rules","x":@} {"x":@,"do":"rules"} {"do":@} {"do":"run","n":@} {"do":"drop","name":@}'.split()
-)
-DEEP += ['{"do":"set","plane":0,"row":0,"bits":@}', '{"do":"map","colours":@}']
+DEEP = '@ [@] [0,@,0] {"do":"rules","x":@} {"x":@,"do":"rules"} {"do":@} {"do":"run","n":@}'.split()
+DEEP += ['{"do":"drop","name":@}', '{"do":"set","plane":0,"row":0,"bits":@}', '{"do":"map","colours":@}']
 DEEP += ['{"do":"map","colours":[0,1,2,3,4,5,6,7,8,9,10,11,12,13,14,@]}', '{"do":"cycle","entries":@}']
 DEEP += ['{"do":"cycle","entries":[@]}', '{"do":"cycle","entries":[{"a":"B","b":"-","grid":"EVEN","phase":@}]}']
 NOT_CLOSED = ["[", "]", "{", "}", "[}", "{]", '{"x":]', "[[]", "[]]", '{"x":{}', '{"x":{}}}', 127 * "[", 128 * "["]
@@ -224,3 +222,13 @@ def long_rules() -> Iterator[Line]:
     yield filled(LINE_LIMIT, front, r"\u0020", ': R ;"}'), KEPT
     yield filled(LINE_LIMIT + 1, front, r"\u0020", ': R ;"}'), TOO_LONG
     yield from plainly(KEPT)
+
+
+def short_texts() -> Writer:
+    """All texts of up to five bytes, each an LF, a `0`, which alone is a JSON value, or an `x`, which never is."""
+    told = Writer(*head_of(short_texts, "which splits each text at its LFs"))
+    for text in ("".join(marks) for size in range(1, 6) for marks in product("\n0x", repeat=size)):
+        *ended, last = text.split("\n")
+        told.lines += ["\nas session", *(f"> {line}" for line in ended), *([f">> {last}"] if last else [])]
+        told.lines += [f'< {{"fault":{3 if line == "0" else 2}}}' for line in [*ended, last][: len(ended) + bool(last)]]
+    return told

@@ -4,17 +4,17 @@ say none. Each session ends with looks at the machine, which no refused line has
 
 from __future__ import annotations
 
+import json
 import re
-from collections.abc import Iterator
+from collections.abc import Callable, Iterator
 from typing import Any
 
 from examples.hostile_lines import CYCLE, LOOKS, PICTURE, RULE, RULES, STEP
-from examples.saving import COLOURS, MOST_BYTES, SAVE, SavedWriter, blank, blank_rows, entry, first_version, load, rule
-from examples.saving import said
+from examples.saving import COLOURS, MOST_BYTES, NAMED, SAVE, blank, blank_rows, entry, first_version, load, rule, said
 from examples.spellings import LINE_LIMIT, NO_COMMAND, NO_JSON, NO_NUMBERS, NO_TEXTS, NOT_WHITE, NUMBERS, TEXTS
 from examples.spellings import TOO_LONG, WHITE, Line, Meaning, Pairs, between, escaped, filled, no_numbers_in, object_of
 from examples.spellings import orders, other_words, plainly, refused, renamed, section, sections, tell, without
-from examples.writing import bytes_of, do, text_of
+from examples.writing import Command, SessionWriter, Writer, bytes_of, do, head_of, text_of
 
 OTHER_SPELLING, NEVER_SAVED = 4, 68
 HEAD, KEPT = '{"do":"load",', ": R ;"
@@ -22,8 +22,34 @@ HEAD, KEPT = '{"do":"load",', ": R ;"
 NO_PLANES: list[list[str]] = [[], [], [], []]
 
 
-class LoadWriter(SavedWriter):
-    """Sessions of a machine with a ball, with lines that are refused."""
+class LoadWriter(SessionWriter):
+    """Sessions of a machine with a ball, with lines of many bytes that are refused."""
+
+    def __init__(self, make: Callable[[], Writer]) -> None:
+        super().__init__(*head_of(make, "with faults by hand"), **NAMED)
+
+    def text(self) -> str:
+        """The whole file, without the texts that are named and don't occur."""
+        whole = "\n".join(line for line in self.lines if not line.startswith("let "))
+        unused = tuple(f"let {word} " for word in NAMED if f"«{word}»" not in whole)
+        self.lines = [line for line in self.lines if not line.startswith(unused)]
+        return super().text()
+
+    def session(self, title: str | None = None, limit: int = 256) -> None:
+        """Begins with a blank machine."""
+        super().session(title, limit)
+        self.size = 0
+
+    def line(self, sent: str, wanted: str) -> None:
+        """A line that is sent, and the one that must come back."""
+        self.size += len(bytes_of(sent))
+        assert self.size <= MOST_BYTES, "a session has too many bytes"
+        super().line(sent, wanted)
+
+    def do(self, *commands: Command) -> None:
+        """Commands, plainly spelled, with all letters as they are."""
+        for command in commands:
+            self.tell(json.dumps(command, separators=(",", ":"), ensure_ascii=False), command)
 
     def begin(self, title: str, limit: int = 256) -> None:
         """A machine with a ball, and with pictures if there is room for them. Its cycle has gone on by one."""

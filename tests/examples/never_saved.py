@@ -44,11 +44,8 @@ def machines_never_saved() -> LoadWriter:
     told = LoadWriter(machines_never_saved)
     told.begin("As it is saved, with two rules and two entries.")
     told.do(load(cycled()), SAVE)
-    planes(told)
-    rules(told)
-    texts(told)
-    entries(told)
-    at_once(told)
+    for part in (planes, rules, texts, entries, at_once):
+        part(told)
     return told
 
 
@@ -58,14 +55,8 @@ def planes(told: LoadWriter) -> None:
     wrong += [blank(256, side=128), blank(128, side=256), blank(128, side=512), first_version(blank(128))]
     refuse(told, "A side that is none of the three, or another one than that of the planes", wrong)
     rows, row = blank_rows(128), "0" * 64
-    others: list[list[str]] = [
-        rows[:-1],
-        [*rows, rows[0]],
-        [],
-        [row, *rows[1:]],
-        [*rows[:-1], row],
-        [*rows[:-1], "0" * 128],
-    ]
+    others: list[list[str]] = [rows[:-1], [*rows, rows[0]], [], [row, *rows[1:]]]
+    others += [[*rows[:-1], row], [*rows[:-1], "0" * 128]]
     wrong = [with_plane(plane, other) for plane in range(4) for other in others]
     wrong += [with_plane(1, rows + rows), with_plane(2, [row] * 64), with_plane(3, [row] * 128)]
     wrong += [blank(128, planes=NO_PLANES), blank(256, planes=[blank_rows(256)] * 3 + [rows])]
@@ -156,9 +147,8 @@ CAUSES += [{"planes": NO_PLANES}, {"position": 2}, {"rules": [rule("", KEPT)]}, 
 def at_once(told: LoadWriter) -> None:
     """Several causes, and several faults."""
     pairs = [(cause, other) for i, cause in enumerate(CAUSES) for other in CAUSES[i + 1 :][:2]]
-    refuse(
-        told, "Two causes at once, and all of them", [blank(128) | one | other | {"side": 127} for one, other in pairs]
-    )
+    both = [blank(128) | one | other | {"side": 127} for one, other in pairs]
+    refuse(told, "Two causes at once, and all of them", both)
     told.begin("With each cause in a machine whose side is above the limit; and without one", 128)
     wrong = [*(blank(256) | cause for cause in CAUSES), first_version(blank(256)) | CAUSES[0], blank(257, side=256)]
     for fault, machines in [(NEVER_SAVED, wrong), (ABOVE_LIMIT, [blank(256), first_version(blank(256))])]:

@@ -175,10 +175,6 @@ class PlainMachine:
         self.planes = planes
         self.position = (self.position + 1) % len(self.entries)
 
-    def digits(self, number: int) -> str:
-        """The digits of a row."""
-        return f"{number:0{self.side // 4}x}"
-
     def answer(self, line: bytes) -> bytes:
         """The reply to a line."""
         command = json.loads(line)
@@ -228,7 +224,7 @@ class PlainMachine:
 
     def do_plane(self, plane: int) -> dict[str, Any]:
         """All rows of a plane."""
-        return {"rows": [self.digits(row) for row in self.planes[plane].rows(self.side)]}
+        return {"rows": [f"{row:0{self.side // 4}x}" for row in self.planes[plane].rows(self.side)]}
 
     def do_map(self, colours: list[int]) -> dict[str, Any]:
         """Colours of the states."""

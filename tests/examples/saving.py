@@ -4,11 +4,9 @@ it, by hand.
 
 from __future__ import annotations
 
-import json
-from collections.abc import Callable
 from typing import Any
 
-from examples.writing import Command, SessionWriter, Writer, bytes_of, do, head_of
+from examples.writing import Command, do
 from oracle.lines import plain
 
 SAVE = do("save")
@@ -61,42 +59,3 @@ NAMED |= {"COLOURS": said(blank(128)).partition("]")[0][1:] + '],"cycle":['}
 NAMED |= {"NO_ROWS": '],"planes":[[],[],[],[]],"position":', "END": '],"side":128,"version":2}}'}
 NAMED |= {"MAP": said(load(blank(128))).partition("15]")[0], "RULE": said(rule("P", ": R"))[:-2]}
 NAMED |= {"NAMED": said(rule("", "")).partition('","text"')[0], "ENTRY": said(entry()), "PHASED": said(entry())[:-2]}
-
-
-class SavedWriter(SessionWriter):
-    """Sessions with lines of many bytes."""
-
-    def __init__(self, make: Callable[[], Writer]) -> None:
-        super().__init__(*head_of(make, "with faults by hand"), **NAMED)
-
-    def text(self) -> str:
-        """The whole file, without the texts that are named and don't occur."""
-        whole = "\n".join(line for line in self.lines if not line.startswith("let "))
-        unused = tuple(f"let {word} " for word in NAMED if f"«{word}»" not in whole)
-        self.lines = [line for line in self.lines if not line.startswith(unused)]
-        return super().text()
-
-    def session(self, title: str | None = None, limit: int = 256) -> None:
-        """Begins with a blank machine."""
-        super().session(title, limit)
-        self.size = 0
-
-    def line(self, sent: str, wanted: str) -> None:
-        """A line that is sent, and the one that must come back."""
-        self.size += len(bytes_of(sent))
-        assert self.size <= MOST_BYTES, "a session has too many bytes"
-        super().line(sent, wanted)
-
-    def do(self, *commands: Command) -> None:
-        """Commands, plainly spelled, with all letters as they are."""
-        for command in commands:
-            self.tell(json.dumps(command, separators=(",", ":"), ensure_ascii=False), command)
-
-    def saved(self) -> Any:
-        """The machine, which is saved."""
-        self.do(SAVE)
-        return self.answer(SAVE)["machine"]
-
-    def load(self, machine: Command, fault: int | None = None) -> None:
-        """A machine that is loaded, or refused with this fault."""
-        self.tell(said(load(machine)), fault or load(machine))

@@ -1,21 +1,53 @@
-"""schedules_of_events.example and schedules_of_runs.example: random schedules at hosts, and their outcomes."""
+"""Random schedules of events at hosts of all sizes, and their outcomes by the oracle."""
 
 from __future__ import annotations
 
-from collections.abc import Callable, Iterable, Iterator, Sequence
+from collections.abc import Callable, Iterable, Sequence
 from itertools import groupby, islice
 from random import Random
 
-from examples.named_rules import CELLS, CROWDED, OTHERS, REVERSIBLE, RULES
-from examples.rules import BALLS, CRITTERS, TM
-from examples.writing import Command, EventWriter, Writer, compact, cycle_command, do, head_of, rows_of, rule_command
-from examples.writing import without_a_pattern
+from examples.rules import ADD_EIGHT, BALLS, BESIDE, CRITTERS, TM, TRON, TURNING
+from examples.writing import Command, EventWriter, compact, cycle_command, do, rule_command
 from oracle.lines import plain
 from oracle.machine import Machine
 from oracle.schedules import Event, Scheduler
 
-# For each text the first of its words.
-WORDS = {word: text for text, word in {text: word for word, (*_, text) in reversed(RULES.items())}.items()}
+# Rules by words: half, neighbourhood, minor assignment and text.
+BLOCKS, CELLS = ("N/MARG", "&/PHASES"), ("N/VONN", "&/CENTERS")
+SUM = f": 8SUM {ADD_EIGHT} ;"
+PARITY = ": P CENTER NORTH XOR SOUTH XOR WEST XOR EAST XOR >PLN0 ;"
+# Two have the text of another one, elsewhere.
+REVERSIBLE = {
+    "BALLS": ("A", *BLOCKS, BALLS),
+    "TURN": ("A", *BLOCKS, ": R CW >PLN0 ;"),
+    "LIKE_TURN": ("A", "N/MARG-PH", "&/HV", ": R CW >PLN0 ;"),
+    "KEPT": ("A", *BLOCKS, ": R ;"),
+    "PHASED": ("A", *BLOCKS, f"{TM} >PLN0 ;"),
+    "EXCHANGED": ("A", "N/MARG-HV", "&/PHASES", ": R CENTER' >PLN0 CW >PLN1 ;"),
+    "BY_PHASE": ("A", "N/MARG-PH", "&/PHASES", TURNING),
+    "GAS": ("B", *BLOCKS, f"{TM} >PLN2 ;"),
+    "OTHER_ROW": ("B", "N/MARG", "&/HV", f"{BESIDE} : R BESIDE >PLN2 CENTER CENTER' XOR >PLN3 ;"),
+    "LIKE_KEPT": ("B", *BLOCKS, ": R ;"),
+    "BACKWARD": ("B", "N/MARG-HV", "&/HV", ": R CCW' >PLN3 ;"),
+}
+# These set each cell of a blank torus.
+CROWDED = {
+    "CRITTERS": ("A", *BLOCKS, CRITTERS),
+    "INVERTED": ("B", "N/MARG-PH", "&/HV", f"{TRON} >PLN2 CW CW' XOR PHASE' XOR >PLN3 ;"),
+}
+OTHERS = {
+    "PARITY": ("A", *CELLS, PARITY),
+    "LIFE": ("A", "N/MOORE", "&/CENTERS", f"{SUM} : L 8SUM {{ 0 0 CENTER 1 0 0 0 0 0 }} >PLN0 ;"),
+    "BRAIN": ("A", "N/MOORE", "&/HV", f"{SUM} : B 8SUM 2 = CENTER 0= AND CENTER' 0= AND >PLN0 CENTER >PLN1 ;"),
+    "NORTH": ("A", *CELLS, ": R NORTH >PLN0 ;"),
+    "SOUTH": ("A", *CELLS, ": R SOUTH >PLN0 ;"),
+    "OTHER_HALF": ("A", "N/MARG", "&/CENTERS", ": R OPP &CENTER XOR >PLN0 ;"),
+    "LOST": ("A", *BLOCKS, ": R CENTER CW AND >PLN0 ;"),
+    "COPY": ("B", *CELLS, ": R &CENTER >PLN2 EAST' >PLN3 ;"),
+    "WEST": ("B", "N/MOORE", "&/PHASES", ": R WEST CENTER' &PHASE AND XOR >PLN2 ;"),
+}
+RULES = REVERSIBLE | CROWDED | OTHERS
+
 NAMES = {"A": ["R", "S", "T"], "B": ["U", "V", "r"]}
 FREE = cycle_command(("-", "-", "EVEN", 0))
 NO_TEXTS = [": R FOO ;", ": R + >PLN0 ;"]
@@ -129,13 +161,13 @@ class RuleAsker:
         name, other = self.random.choice(["R", "U", "X", *self.words]), self.random.choice(["-", "R", "U"])
         refused = [do("set", plane=number, row=0, bits=bits), do("set", plane=0, row=side, bits=bits)]
         refused += [do("set", plane=0, row=0, bits="0" * (32 if side == 256 else 64)), do("clear", plane=number)]
+        refused += [do("row", plane=0, row=side), do("colours", row=side), do("count", mask=65536)]
         refused += [
-            do("row", plane=0, row=side),
-            do("colours", row=side),
-            do("count", mask=65536),
             do("drop", name=name),
+            do("run", n=65536),
+            do("back", n=2**64 - 1),
+            do("map", colours=[*range(15), 16]),
         ]
-        refused += [do("run", n=65536), do("back", n=2**64 - 1), do("map", colours=[*range(15), 16])]
         refused += [do("side", side=self.random.choice([64, 256, 512]))]
         refused += [cycle_command(*[(name, other, "ODD", 0)] * times) for times in (0, 1, 17)]
         refused += [cycle_command((name, other, "ODD", 4)), cycle_command(("-", name, "ODD", 0))]
@@ -145,11 +177,6 @@ class RuleAsker:
 
 class ScheduleWriter(EventWriter):
     """Hosts, each under a random schedule."""
-
-    def __init__(self, make: Callable[[], Writer], *words: str) -> None:
-        source = "which knows of bands two numbers, those left and those left from home"
-        named = {word: WORDS[word] for word in words}
-        super().__init__(*head_of(make, source), **named, REPLY='{"ok":"collect","reply":')
 
     def play(self, events: Iterable[Event]) -> None:
         """Events. Bands that a board does one after another are one line."""
@@ -188,77 +215,12 @@ class ScheduleWriter(EventWriter):
                 self.reply(user, do("row", plane=plane, row=y))
 
 
-PARTS = [
-    ("One user, one board and a cache of one table.", 253, 1, 1, [128]),
-    ("Two users, at the largest side and the smallest, who wait for one board.", 18, 1, 2, [512, 128]),
-    ("Two users of one limit, and two boards.", 348, 2, 3, [256, 256]),
-    ("Three users of three limits.", 60, 2, 4, [128, 256, 512]),
-    ("Fewer users than boards.", 283, 4, 64, [256, 128]),
-]
-
-
-def schedules_of_events() -> ScheduleWriter:
-    """Schedules by chance: users at several sides ask for runs, backs and other commands, whose steps boards do band by band;
-    boards fail and are repaired, commands are preempted, tables leave the cache, rules are redefined, and events are refused.
-    In the end all are brought to rest, and show their cells."""
-    told = ScheduleWriter(schedules_of_events, *WORDS)
-    for title, seed, boards, capacity, sides in PARTS:
-        told.part(title, boards, capacity, sides)
-        told.schedule(Random(seed), sides, 200, 1)
-    return told
-
-
 def by_seed(seed: int) -> ScheduleWriter:
-    """A longer schedule by chance, of a host of any size."""
-    random, told = Random(seed), ScheduleWriter(schedules_of_events)
+    """Users at several sides ask for runs, backs and other commands, whose steps boards do band by band; boards fail and are
+    repaired, commands are preempted, tables leave the cache, rules are redefined, and events are refused. In the end all are
+    brought to rest, and show their cells."""
+    random, told = Random(seed), ScheduleWriter("A random schedule.", REPLY='{"ok":"collect","reply":')
     sides = [random.choice([128, 128, 128, 256, 256, 512]) for _ in range(random.choice([1, 2, 2, 3, 3, 4, 5, 8, 32]))]
     told.part(None, random.choice([1, 1, 2, 2, 3, 4, 8]), random.choice([1, 2, 3, 4, 6, 16, 64]), sides)
     told.schedule(random, sides, 1200, 8, 0.97)
     return told
-
-
-# Rules, each with the phase of the odd grid, and a seed for each side.
-RUNS = [
-    ("Billiard balls", "A", BALLS, 0, {128: 199, 256: 97}),
-    ("Critters", "A", CRITTERS, 0, {128: 71, 256: 113}),
-    ("A gas of half B", "B", f"{TM} >PLN2 ;", 1, {128: 109, 256: 141}),
-]
-
-
-def schedules_of_runs() -> ScheduleWriter:
-    """Runs and backs of one to three steps, at two sides, under random schedules: boards take them, do some bands, fail, or are
-    preempted. The planes, random in a few rows at the seams of torus and bands, become what whole steps make of them.
-    """
-    told = ScheduleWriter(schedules_of_runs, "BALLS", "CRITTERS", "GAS")
-    for title, half, text, phase, seeds in RUNS:
-        a, b = ("R", "-") if half == "A" else ("-", "R")
-        for side, seed in seeds.items():
-            told.part(f"{title} at side {side}.", 3, 16, [256])
-            told.reply(1, do("side", side=side))
-            told.reply(1, rule_command("R", half, "N/MARG", "&/PHASES", text))
-            told.reply(1, cycle_command((a, b, "EVEN", 0), (a, b, "ODD", phase)))
-            runs(told, Random(seed), side, 0 if half == "A" else 2)
-    return told
-
-
-def runs(told: ScheduleWriter, random: Random, side: int, plane: int) -> None:
-    """Three commands, and rows after each."""
-    rows = [0, 1, 15, 16, side - 17, side - 16, side - 1]
-    digits = rows_of(without_a_pattern(range(side), rows, 3, plane), side)
-    for y in rows:
-        told.reply(1, do("set", plane=plane, row=y, bits=digits[y]))
-    commands: list[Command] = []
-    scheduler = Scheduler(random, told.host, {1: lambda: commands.pop() if commands else None}, trouble=3)
-    for word, steps in zip(("run", "back", random.choice(["run", "back"])), random.sample([1, 2, 3], 3)):
-        commands.append(do(word, n=steps))
-        told.play(up_to_rest(scheduler, commands))
-        for y in (0, 16, side - 17, side - 1):
-            told.reply(1, do("row", plane=plane, row=y))
-
-
-def up_to_rest(scheduler: Scheduler, commands: list[Command]) -> Iterator[Event]:
-    """Events until the user has no more to ask for, and rests."""
-    for event in scheduler.events():
-        yield event
-        if not commands and scheduler.host.users[1].status == "resting":
-            return

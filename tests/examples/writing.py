@@ -8,8 +8,7 @@ from __future__ import annotations
 import json
 import re
 from collections import Counter
-from collections.abc import Callable, Iterable, Mapping, Sequence
-from itertools import product
+from collections.abc import Callable, Sequence
 from textwrap import wrap
 from typing import Any
 
@@ -17,7 +16,6 @@ from oracle.host import DEAD, IDLE, Host
 from oracle.lines import plain
 from oracle.machine import Machine
 
-Cell = tuple[int, int]
 Command = dict[str, Any]
 # The most characters of a line of a comment.
 WIDTH = 117
@@ -81,26 +79,6 @@ def cycle_command(*entries: tuple[str, str, str, int]) -> Command:
     return {"do": "cycle", "entries": [dict(zip(("a", "b", "grid", "phase"), entry)) for entry in entries]}
 
 
-def rows_of(cells: set[Cell], side: int) -> list[str]:
-    """The digits of the rows of set cells."""
-    bits = [0] * side
-    for x, y in cells:
-        bits[y] |= 1 << side - 1 - x
-    return [f"{row:0{side // 4}x}" for row in bits]
-
-
-def mixed(number: int) -> int:
-    """A random number of 64 bits, made from this one."""
-    number = number * 0x9E3779B97F4A7C15 % 2**64
-    return (number ^ number >> 29) * 0xBF58476D1CE4E5B9 % 2**64
-
-
-def without_a_pattern(columns: Iterable[int], rows: Iterable[int], eighths: int, plane: int = 0) -> set[Cell]:
-    """About so many eighths of an area's cells, at random. Each plane has others."""
-    first = 512 * 512 * plane + 1
-    return {(x, y) for x, y in product(columns, rows) if mixed(x + 512 * y + first) >> 61 < eighths}
-
-
 def common_row(rows: list[str]) -> str:
     """The digits that more than half of the rows have, or those of a blank row."""
     digits, times = Counter(rows).most_common(1)[0]
@@ -113,7 +91,8 @@ class Writer:
     def __init__(self, *head: str, **named: str) -> None:
         self.named: dict[str, str] = {}
         self.lines: list[str] = []
-        self.note(*head)
+        for sentence in head:
+            self.lines += [f"# {line}" for line in wrap(sentence, WIDTH)]
         for word, text in named.items():
             self.name(word, text)
 
@@ -130,16 +109,6 @@ class Writer:
         self.named[word] = shown(text)
         self.say(f"let {word} {self.named[word]}")
 
-    def title(self, *sentences: str) -> None:
-        """A comment before a part, after a blank line."""
-        self.say("")
-        self.note(*sentences)
-
-    def note(self, *sentences: str) -> None:
-        """A comment."""
-        for sentence in sentences:
-            self.lines += [f"# {line}" for line in wrap(sentence, WIDTH)]
-
     def shown(self, text: str) -> str:
         """A text as this example says it, by the texts that have names in it."""
         text = shown(text)
@@ -151,18 +120,13 @@ class Writer:
         """A line that is sent, and the one that must come back."""
         self.say(f"> {self.shown(sent)} => {self.shown(wanted)}")
 
-    def digits(self, rows: Mapping[int, str]) -> None:
-        """Rows, by their digits."""
-        for y, digits in rows.items():
-            self.say(f"= {y} {short(digits)}")
-
     def all_digits(self, rows: list[str]) -> None:
         """The rows of a plane, by their digits: first those of most even rows and of most odd ones."""
         common = common_row(rows[::2]), common_row(rows[1::2])
         for word, digits in zip(("even", "odd"), common):
             if digits.strip("0"):
                 self.say(f"= {word} {short(digits)}")
-        self.digits({y: digits for y, digits in enumerate(rows) if digits != common[y % 2]})
+        self.lines += [f"= {y} {short(row)}" for y, row in enumerate(rows) if row != common[y % 2]]
 
 
 class SessionWriter(Writer):
@@ -177,28 +141,26 @@ class SessionWriter(Writer):
             self.say(f"\n# {title}")
         self.say("as session" if limit == 256 else f"as session within {limit}")
 
-    def answer(self, meaning: Command) -> dict[str, Any]:
-        """What comes of a command."""
+    def answer(self, meaning: int | Command) -> dict[str, Any]:
+        """What comes of a command, or of a line that has this fault."""
+        if isinstance(meaning, int):
+            return {"fault": meaning}
         reply = self.machine.do(meaning)
         self.machine.settle()
         return reply
 
-    def told(self, meaning: int | Command) -> dict[str, Any]:
-        """What comes of a line that says so, or has this fault."""
-        return {"fault": meaning} if isinstance(meaning, int) else self.answer(meaning)
-
     def tell(self, text: str, meaning: int | Command) -> None:
-        """A line, with its answer. A plane is shown by those of its rows that have cells."""
-        answer = self.told(meaning)
+        """A line, with its answer."""
+        answer = self.answer(meaning)
         if "rows" not in answer:
             self.line(text, plain(answer).decode())
             return
         self.say(f"> {self.shown(text)}\n< plane")
-        self.digits({y: digits for y, digits in enumerate(answer["rows"]) if digits.strip("0")})
+        self.all_digits(answer["rows"])
 
     def tell_last(self, text: str, meaning: int | Command) -> None:
         """A line without an LF after it."""
-        self.say(f">> {self.shown(text)}\n< {self.shown(compact(self.told(meaning)))}")
+        self.say(f">> {self.shown(text)}\n< {self.shown(compact(self.answer(meaning)))}")
 
     def do(self, *commands: Command) -> None:
         """Commands, plainly spelled."""

@@ -62,9 +62,6 @@ def inverse_answer(text: str, *words: str) -> bytes:
     return shown(entries)
 
 
-WAYS = {"session", "events", "readings", "texts", "tables", "inverses"}
-
-
 def part_answers(part: Part) -> list[bytes]:
     """What comes back for a part's lines."""
     word, *rest = part.way.split()
@@ -80,4 +77,5 @@ def part_answers(part: Part) -> list[bytes]:
 
 def is_known(path: Any) -> bool:
     """Whether the oracle knows the ways of an example."""
-    return {part.way.split()[0] for part in Example(path).parts} <= WAYS
+    ways = {part.way.split()[0] for part in Example(path).parts}
+    return ways <= {"session", "events", "readings", "texts", "tables", "inverses"}

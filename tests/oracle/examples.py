@@ -180,7 +180,7 @@ class Example:
             self.rows.read(mark, written_out(rest, self.named).decode())
             return
         self.end_rows()
-        readers = {"as": self.begin, "let": self.name_text, "side": self.set_side}
+        readers = {"as": lambda way: self.parts.append(Part(way)), "let": self.name_text, "side": self.set_side}
         readers |= {">": self.read_sent, "<": self.read_wanted}
         if mark == ">>":
             self.send(rest, b"")
@@ -188,10 +188,6 @@ class Example:
             readers[mark](rest)
         elif mark not in ("", "#"):
             raise Unplayable(f"there is no mark {mark}")
-
-    def begin(self, way: str) -> None:
-        """Begins a part."""
-        self.parts.append(Part(way))
 
     def name_text(self, rest: str) -> None:
         """Names a text."""
