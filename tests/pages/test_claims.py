@@ -5,6 +5,7 @@ from __future__ import annotations
 import os
 import re
 from collections.abc import Iterator
+from operator import itemgetter
 
 import pytest
 from pages.sources import CRATES, example_files, functions_of, is_defined, is_file_of, is_function_or_module
@@ -14,6 +15,8 @@ from support.programs import TOP
 LISTED = crates_listed()
 # README's line of each crate: the crates that it names, how they are described, and what is proved of them.
 LINES = [row for row in rows(text_of("README.md")) if len(row) == 3]
+# The sections of CLAIMS.
+CLAIMS = re.split(r"^##+ ", text_of("docs/CLAIMS.md"), flags=re.M)[1:]
 # The most words of such a line.
 LINE_WORDS = 20
 # The pages that list the worked examples.
@@ -27,7 +30,7 @@ def test_readme_has_a_line_for_each_crate() -> None:
     assert [name for crates, _, _ in LINES for name in named(crates)] == list(LISTED)
 
 
-@pytest.mark.parametrize("line", LINES, ids=lambda line: line[0])
+@pytest.mark.parametrize("line", LINES, ids=itemgetter(0))
 def test_a_line_of_readme_names_what_is_there(line: list[str]) -> None:
     """Each clause, function and module is one of the line's crate, and the line is short."""
     crates, says, proved = line
@@ -57,9 +60,7 @@ def test_claims_has_a_section_for_each_crate() -> None:
     assert [name for heading in headings for name in named(heading)] == list(LISTED)
 
 
-@pytest.mark.parametrize(
-    "section", re.split(r"^##+ ", text_of("docs/CLAIMS.md"), flags=re.M)[1:], ids=lambda text: text[:20]
-)
+@pytest.mark.parametrize("section", CLAIMS, ids=[claims.partition("\n")[0] for claims in CLAIMS])
 def test_a_claim_names_what_is_there(section: str) -> None:
     """A claim has functions, laws or modules of the crate in bold, and then labels of their clauses.
 

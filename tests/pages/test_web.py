@@ -4,6 +4,7 @@ from __future__ import annotations
 
 import re
 import shutil
+from operator import attrgetter
 from pathlib import Path
 
 import pytest
@@ -26,7 +27,7 @@ def test_the_program_has_the_files_as_they_stand() -> None:
 
 
 @pytest.mark.parametrize(
-    "path", sorted(path for kind in ("html", "css", "js") for path in WEB.glob(f"*.{kind}")), ids=lambda path: path.name
+    "path", sorted(path for kind in ("html", "css", "js") for path in WEB.glob(f"*.{kind}")), ids=attrgetter("name")
 )
 def test_a_file_loads_nothing_from_elsewhere(path: Path) -> None:
     """No file names another machine, and no page has a script or a style within itself."""
@@ -35,7 +36,7 @@ def test_a_file_loads_nothing_from_elsewhere(path: Path) -> None:
     assert path.suffix != ".html" or INLINE.search(text) is None
 
 
-@pytest.mark.parametrize("script", sorted(WEB.glob("*.js")), ids=lambda script: script.name)
+@pytest.mark.parametrize("script", sorted(WEB.glob("*.js")), ids=attrgetter("name"))
 def test_a_script_is_a_module(script: Path, tmp_path: Path) -> None:
     """Node reads it as a module."""
     copy = shutil.copy(script, tmp_path / "module.mjs")
@@ -43,7 +44,7 @@ def test_a_script_is_a_module(script: Path, tmp_path: Path) -> None:
     assert done.status == 0, done.errors.decode()
 
 
-@pytest.mark.parametrize("test", sorted(WEB.glob("tests/*.test.mjs")), ids=lambda test: test.name)
+@pytest.mark.parametrize("test", sorted(WEB.glob("tests/*.test.mjs")), ids=attrgetter("name"))
 def test_modules_do_what_their_tests_say(test: Path) -> None:
     """Node passes the tests of the page's modules."""
     done = ran(["node", "--test", str(test)])

@@ -48,7 +48,7 @@ def rows(text: str) -> Iterator[list[str]]:
 
 def blocks(text: str) -> Iterator[tuple[str, list[str]]]:
     """Indented blocks, each with the paragraph before it; their lines without four spaces."""
-    before, block = "", []
+    before, block = "", list[str]()
     for part in [*re.split(r"\n(?:[ ]*\n)+", f"\n{text}\n"), ""]:
         paragraph = part.strip("\n")
         if paragraph and all(line.startswith("    ") for line in paragraph.splitlines()):
