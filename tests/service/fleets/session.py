@@ -5,24 +5,21 @@ What it sent and got is in its record, a file of a JSON object a line, which sta
 
     {"ask":[..]}                         these lines are about to be sent
     {"got":[..],"seconds":s,             their replies, how long they took, how many new seats were taken meanwhile, and how many
-     "seats":n,"again":n,"at":t}         commands were played again there; and the time at which they had come
+     "seats":n,"again":n}                commands were played again there
     {"kept":n,"got":[..]}                the process was killed amid lines, of which the first n count; their replies, null where
                                          nobody read one
     {"end":true}                         the session has ended by itself
-
-A reply that is long stands as its length and its sum.
 """
 
 from __future__ import annotations
 
-import hashlib
 import json
 import random
 import re
 import ssl
 import sys
 import time
-from collections.abc import Iterator
+from collections.abc import Iterable, Iterator
 from contextlib import suppress
 from dataclasses import dataclass, field
 from pathlib import Path
@@ -33,12 +30,10 @@ from cam6.sessions import Session
 
 from .commands import SAVE, Commands
 
-LONG = 200
 
-
-def digest(reply: bytes) -> str:
-    """A reply, or if it is long its length and its sum."""
-    return reply.decode("latin-1") if len(reply) <= LONG else f"{len(reply)} bytes, {hashlib.sha256(reply).hexdigest()}"
+def texts(lines: Iterable[bytes]) -> list[str]:
+    """Lines as texts of JSON, which may have any bytes."""
+    return [line.decode("latin-1") for line in lines]
 
 
 def rows_of(path: Path) -> Iterator[dict[str, Any]]:
@@ -105,17 +100,17 @@ class Player:
             raise RuntimeError(f"the journal has {session.asked} commands, {what}")
         if not all(is_left_of(line, whole) for (line, _), whole in zip(resumed, asked[kept - len(resumed) : kept])):
             raise RuntimeError("the journal has other commands without an answer than those that were asked for last")
-        known = [digest(reply) for _, reply in resumed]
+        known = texts(reply for _, reply in resumed)
         self.write(kept=kept, got=[None] * (kept - len(known)) + known)
         return asked[kept:]
 
     def ask(self, machine: cam6.Machine, session: Session, sent: list[bytes]) -> list[bytes]:
         """The replies to lines. Both are written down."""
-        self.write(ask=[line.decode("latin-1") for line in sent])
+        self.write(ask=texts(sent))
         seats, again, begun = session.recoveries, session.replayed, time.monotonic()
         replies = machine._talk(sent)
-        seconds, at, got = round(time.monotonic() - begun, 4), round(time.time(), 2), [*map(digest, replies)]
-        self.write(got=got, seconds=seconds, seats=session.recoveries - seats, again=session.replayed - again, at=at)
+        seconds, seats, again = time.monotonic() - begun, session.recoveries - seats, session.replayed - again
+        self.write(got=texts(replies), seconds=seconds, seats=seats, again=again)
         return replies
 
     def play(self) -> None:
