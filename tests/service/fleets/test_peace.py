@@ -13,21 +13,8 @@ from pathlib import Path
 
 import pytest
 from service.pages import Answer, Socket, get
-from service.users import (
-    BALLS,
-    NO_JSON,
-    NO_NAMES,
-    NO_SEAT,
-    PLANES,
-    ROW,
-    RULES,
-    RUN,
-    SAVE,
-    SEAT,
-    SEATED,
-    answers,
-    closed,
-)
+from service.users import BALLS, NO_JSON, NO_NAMES, NO_SEAT, PLANES, ROW, RULES, RUN, SAVE, SEAT, SEATED, answers
+from service.users import closed
 from support.programs import private, until
 from support.sessions import assert_replies, line_of
 
