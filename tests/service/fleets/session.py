@@ -1,5 +1,5 @@
-"""A session of the Python client in a process of its own: random commands until it is over, and a last save. If its process was
-killed it goes on with its journal. The journal says which of the last commands count.
+"""A session of the Python client in a process of its own: random commands until it is over, and a last save. If its
+process was killed it goes on with its journal. The journal says which of the last commands count.
 
 What it sent and got is in its record, a file of a JSON object a line, which stays if the process is killed:
 
@@ -44,9 +44,9 @@ def rows_of(path: Path) -> Iterator[dict[str, Any]]:
 
 @dataclass
 class Played:
-    """A whole record: each line with its reply, which is None where nobody read it; the seconds of calls with a new seat; how many
-    new seats there were, and commands that were played again; whether the session ended by itself; and the lines that were asked
-    last without an answer."""
+    """A whole record: each line with its reply, which is None where nobody read it; the seconds of calls with a new seat;
+    how many new seats there were, and commands that were played again; whether the session ended by itself; and the lines
+    that were asked last without an answer."""
 
     lines: list[tuple[bytes, str | None]] = field(default_factory=list)
     waits: list[float] = field(default_factory=list)
@@ -77,7 +77,7 @@ def read(path: Path) -> Played:
 
 @dataclass(frozen=True)
 class Player:
-    """What a session is to do: the arguments of `cam6.connect`, TLS by an authority if there is one, and how it plays."""
+    """What a session is to do: the arguments of `cam6.connect`, TLS by an authority, if any, and how it plays."""
 
     how: dict[str, Any]
     authority: str

@@ -83,7 +83,7 @@ def test_a_user_who_says_nothing_is_closed_after_a_time(fleet: Fleet) -> None:
 
 
 def at_door(fleet: Fleet, port: int, certificate: str | None) -> Peer:
-    """A connection from the front's machine to a door of the first host, with a certificate, with none, or without TLS."""
+    """A connection from the front's machine to a door of the first host: with a certificate, none, or no TLS."""
     stream = fleet.stream_to("front", fleet.ground.address("one"), port)
     return Peer(stream) if certificate is None else fleet.by_tls(stream, None, certificate)
 
