@@ -15,7 +15,7 @@ from selenium.webdriver.chrome.service import Service
 from selenium.webdriver.remote.file_detector import UselessFileDetector
 from selenium.webdriver.remote.webdriver import WebDriver
 
-from browser.firefox import Bridge, Firefox, Preferences
+from browser.firefox import Firefox, Preferences
 
 # The width and the height that a page has of a window.
 WINDOW = (1280, 800)
@@ -70,16 +70,14 @@ def chromium(downloads: Path) -> Iterator[Browser]:
 def firefox(downloads: Path) -> Iterator[Browser]:
     """Firefox, until the end of the context."""
     keeps: Preferences = {"browser.download.folderList": 2, "browser.download.dir": str(downloads)}
-    process = Firefox(path_of("firefox-esr"), keeps)
+    bridge = Firefox(path_of("firefox-esr"), keeps)
     try:
-        with Bridge(process) as bridge:
-            driver = webdriver.Remote(command_executor=bridge.address, options=webdriver.FirefoxOptions())
-            # A file that is typed into a field is at hand, since the browser runs here.
-            driver.file_detector = UselessFileDetector()
-            yield Browser("firefox", driver, downloads)
-            bridge.shutdown()
+        driver = webdriver.Remote(command_executor=bridge.address, options=webdriver.FirefoxOptions())
+        # A file that is typed into a field is at hand, since the browser runs here.
+        driver.file_detector = UselessFileDetector()
+        yield Browser("firefox", driver, downloads)
     finally:
-        process.end()
+        bridge.end()
 
 
 BROWSERS = {"chromium": chromium, "firefox": firefox}

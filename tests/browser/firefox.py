@@ -68,22 +68,26 @@ class Refused(Exception):
         self.told = told
 
 
-class Firefox:
-    """A Firefox without a window, with a profile of its own, and a connection to its Marionette."""
+class Firefox(ThreadingHTTPServer):
+    """A Firefox without a window, with a profile of its own and a connection to its Marionette, and WebDriver's server for its
+    session. `address` is where selenium finds it."""
+
+    daemon_threads = True
 
     def __init__(self, path: str, preferences: Preferences) -> None:
+        super().__init__(("127.0.0.1", 0), Request)
+        self.address = f"http://127.0.0.1:{self.server_port}"
         self.folder = Path(tempfile.mkdtemp(prefix="firefox-"))
-        lines = (
-            f"user_pref({json.dumps(name)}, {json.dumps(value)});\n" for name, value in (preferences | OWN).items()
-        )
+        lines = (f"user_pref({json.dumps(name)}, {json.dumps(one)});\n" for name, one in (preferences | OWN).items())
         (self.folder / "user.js").write_text("".join(lines))
         command = [path, *OPTIONS, "--profile", str(self.folder), "about:blank"]
         self.lock, self.number = threading.Lock(), 0
         output, none = self.folder / "output", subprocess.DEVNULL
         with output.open("wb") as file:
             # In a group of its own, so that all of its processes can be ended.
-            self.process = subprocess.Popen(command, stdin=none, stdout=file, stderr=file, start_new_session=True)
+            self.browser = subprocess.Popen(command, stdin=none, stdout=file, stderr=file, start_new_session=True)
         self.told = output.open(errors="replace")
+        threading.Thread(target=self.serve_forever, daemon=True).start()
         try:
             self.connect()
         except BaseException:
@@ -93,12 +97,12 @@ class Firefox:
     def connect(self) -> None:
         """Connects to Marionette, as soon as the browser has written its port to a file."""
         place = self.folder / "MarionetteActivePort"
-        until(lambda: place.exists() and place.read_text() or self.process.poll() is not None, START)
+        until(lambda: place.exists() and place.read_text() or self.browser.poll() is not None, START)
         if not place.exists():
             raise OSError(f"Firefox doesn't listen: {self.told.read()}")
-        self.socket = socket.create_connection(("127.0.0.1", int(place.read_text())), timeout=PATIENCE)
-        self.socket.setsockopt(socket.IPPROTO_TCP, socket.TCP_NODELAY, 1)
-        self.file = self.socket.makefile("rb")
+        self.marionette = socket.create_connection(("127.0.0.1", int(place.read_text())), timeout=PATIENCE)
+        self.marionette.setsockopt(socket.IPPROTO_TCP, socket.TCP_NODELAY, 1)
+        self.file = self.marionette.makefile("rb")
         # Marionette says first who it is.
         self.packet()
 
@@ -116,7 +120,7 @@ class Firefox:
         with self.lock:
             self.number += 1
             packet = json.dumps([0, self.number, name, parameters]).encode()
-            self.socket.sendall(b"%d:%s" % (len(packet), packet))
+            self.marionette.sendall(b"%d:%s" % (len(packet), packet))
             _, _, error, result = self.packet()
         if error:
             raise Refused(error)
@@ -133,41 +137,32 @@ class Firefox:
         return told
 
     def end(self) -> None:
-        """Ends the browser, and drops its profile."""
-        self.process.terminate()
+        """Ends the browser and the server, and drops the profile."""
+        self.shutdown()
+        self.server_close()
+        self.browser.terminate()
         with suppress(subprocess.TimeoutExpired):
-            self.process.wait(END)
+            self.browser.wait(END)
         with suppress(ProcessLookupError):
-            os.killpg(self.process.pid, signal.SIGKILL)
-        self.process.wait()
+            os.killpg(self.browser.pid, signal.SIGKILL)
+        self.browser.wait()
         self.told.close()
         shutil.rmtree(self.folder, ignore_errors=True)
-
-
-class Bridge(ThreadingHTTPServer):
-    """WebDriver's server for one session of a Firefox. `address` is where selenium finds it."""
-
-    daemon_threads = True
-
-    def __init__(self, firefox: Firefox) -> None:
-        super().__init__(("127.0.0.1", 0), Request)
-        self.firefox, self.address = firefox, f"http://127.0.0.1:{self.server_port}"
-        threading.Thread(target=self.serve_forever, daemon=True).start()
 
     def value_of(self, method: str, path: str, parameters: dict[str, Any]) -> Any:
         """The value of a request for /session, or for a path within /session/SESSION."""
         if path == "/session":
-            return self.firefox.ask("WebDriver:NewSession")
+            return self.ask("WebDriver:NewSession")
         words = path.split("/")[3:]
         if words[:1] == ["element"] and len(words) > 2:
             parameters["id"], words[1] = words[1], "ID"
         endpoint = f"{method} /{'/'.join(words)}"
         if endpoint == "POST /se/log":
-            return self.firefox.console()
+            return self.console()
         if endpoint not in ENDPOINTS:
             raise Refused({"error": "unknown command", "message": f"the bridge has no {endpoint}", "stacktrace": ""})
         name = ENDPOINTS[endpoint]
-        return self.firefox.ask(name, **parameters, **MORE.get(name, {}))
+        return self.ask(name, **parameters, **MORE.get(name, {}))
 
 
 class Request(BaseHTTPRequestHandler):
@@ -175,7 +170,7 @@ class Request(BaseHTTPRequestHandler):
 
     protocol_version = "HTTP/1.1"
     disable_nagle_algorithm = True
-    server: Bridge
+    server: Firefox
 
     def respond(self) -> None:
         """Sends a JSON object with the value, or with WebDriver's error."""

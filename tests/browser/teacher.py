@@ -31,7 +31,7 @@ TORUS = "document.getElementById('torus').dataset"
 # Where the torus is in the window, which place of it is in its left upper corner there, its side, and the pixels of a cell.
 VIEW = f"""(({{ x, y }}, {{ left, top, side, zoom }}) => [x, y, left, top, side, zoom].map(Number))(
   document.getElementById('torus').getBoundingClientRect(), {TORUS})"""
-# The names of files that a browser has not written yet. Chromium begins with one that is hidden, and has no ending of its own.
+# The names of files that a browser has not written yet. Chromium begins with a hidden one, which has no such ending.
 UNFINISHED = re.compile(r"^\.|\.(crdownload|part|tmp)$")
 
 

@@ -1,8 +1,8 @@
-"""Pages and other clients of the page's program, and hosts that it connects to: requests over HTTP, and WebSockets, frame by
-frame. Requests and frames may be right or wrong. `websockets` has the protocol.
+"""Clients of the page's program, and hosts that it connects to: requests over HTTP, and WebSockets, frame by frame. Requests
+and frames may be right or wrong. `websockets` has the protocol.
 
-The rows of `data` say what is sent, and what has to come back. A text of a row is a text, or a list of its parts. A part may
-say how many times its text comes. `PORT` is the port.
+The rows of `data` say what is sent, and what has to come back. A text of a row is a text, or a list of its parts. A part
+may say how many times its text comes. `PORT` is the port.
 """
 
 from __future__ import annotations
@@ -82,8 +82,8 @@ def answer_of(whole: bytes) -> Answer:
 
 
 def answer_to(port: int, *lines: str, ends: bool = False) -> Answer:
-    """What is answered to the lines of a request and an empty one, until the server ends. If `ends`, there is no empty line,
-    and the client shuts its side."""
+    """What is answered to the lines of a request and an empty one, until the server ends. If `ends`, the client shuts its
+    side after the lines."""
     whole, request = b"", "\r\n".join(lines if ends else (*lines, "", "")).replace("PORT", str(port))
     with socket.create_connection(("127.0.0.1", port), timeout=20) as tcp:
         with suppress(BrokenPipeError, ConnectionResetError):
@@ -112,15 +112,15 @@ class AnyFrame(Frame):
 def frame_of(
     opcode: int, payload: bytes = b"", *, last: bool = True, masked: bool = True, reserved: int = 0, **row: Any
 ) -> bytes:
-    """The bytes of a frame as a client sends it, right or wrong. `reserved` has its three reserved bits. A row may have its
-    payload in digits, or as a text that comes some times."""
+    """The bytes of a frame as a client sends it, right or wrong. `reserved` has its three reserved bits. A row may have
+    its payload in digits, or as a text that comes some times."""
     payload = payload or bytes.fromhex(row.get("hex", "")) or row.get("text", "").encode() * row.get("times", 1)
     bits = (bool(reserved & bit) for bit in (4, 2, 1))
     return AnyFrame(cast(Opcode, opcode), payload, last, *bits).serialize(mask=masked)
 
 
 class Socket(Peer):
-    """A WebSocket to a port of this machine, whose messages are lines. Raises InvalidStatus if the server refuses it."""
+    """A WebSocket to a port of this machine. Its messages are lines. Raises InvalidStatus if the server refuses it."""
 
     def __init__(
         self, port: int, seat: int | None = None, path: str = "/ws", fields: Fields | None = None, patience: float = 20
@@ -166,7 +166,7 @@ class Socket(Peer):
         return bool(data)
 
     def frame(self) -> Frame | None:
-        """The next frame, or None if the server has ended. A message of the server's is one frame. A ping is answered."""
+        """The next frame, or None if the server has ended. Each message of the server is a frame. A ping is answered."""
         while not self.frames:
             if self.protocol.state is State.CLOSED or not self.receive():
                 return None
@@ -221,8 +221,8 @@ def status_of(port: int, path: str = "/ws", fields: Fields | None = None) -> int
 
 
 class Told(StreamRequestHandler):
-    """A connection: what it told the host, and whether it has ended. The line `L` is answered by `[L]`. After `end` the host ends
-    the connection, and `bytes` is answered by a line that isn't UTF-8."""
+    """A connection: what it told the host, and whether it has ended. The line `L` is answered by `[L]`. After `end` the
+    host ends the connection, and `bytes` is answered by a line that isn't UTF-8."""
 
     def handle(self) -> None:
         """Answers lines, until the connection ends."""

@@ -23,7 +23,7 @@ ENDS = {0: b"ended", 5: b"no memory", 7: b"network failed"}
 
 
 class Stream(Peer):
-    """A connection that has a number in its example. If the host takes no more of what is sent, what comes back shows it."""
+    """A connection that has a number in its example. If the host takes no more of what is sent, its answers show it."""
 
     def send(self, data: bytes | str) -> None:
         with suppress(OSError):
@@ -161,7 +161,7 @@ def host_answers(cam6: str, part: Part) -> bytes:
 
 
 def session_answers(cam6: str, part: Part) -> bytes:
-    """What comes back after the seat, of all lines at once; and that there was no seat, or that the host did not end well.
+    """What comes back after the seat, of all lines at once; and that there was no seat, or that the host didn't end well.
     It may end before it has taken all lines, and then it doesn't answer the others."""
     options = ("--users=1", "--boards=1", f"--side={limit_of(part.way)}", "--connections=1")
     heard = bytearray()

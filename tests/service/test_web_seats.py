@@ -15,6 +15,7 @@ from .pages import Recorder, Socket, frame_of, get
 from .users import BALLS, BLANK, COUNT, NO_COMMAND, NO_SEAT, PLANES, RUN, SAVE, SEAT, SEATED, TAKEN
 from .users import Hosts, Pages, Session, answers, seated
 
+Way = Callable[[Socket], object]
 # Seconds in which a seat is free after its page went.
 SEAT_PATIENCE = 5
 # Seconds after which a page is pinged, after which one that answers none is given up, and that a busy machine may add.
@@ -52,7 +53,7 @@ WRONG = {
     "a frame without a mask": frame_of(Opcode.TEXT, CLEAR, masked=False),
 }
 # Ways in which a page goes.
-LEAVES: dict[str, Callable[[Socket], object]] = {
+LEAVES: dict[str, Way] = {
     "a close": Socket.leave,
     "a connection that only ends": Socket.close,
     "a connection that is reset": Socket.reset,
@@ -105,9 +106,7 @@ def test_each_seat_has_a_machine_of_its_own(served: Page, readme: Session) -> No
 
 
 @pytest.mark.parametrize("leave", LEAVES.values(), ids=LEAVES)
-def test_a_seat_is_free_with_its_machine_after(
-    left: tuple[Page, str | None], leave: Callable[[Socket], object]
-) -> None:
+def test_a_seat_is_free_with_its_machine_after(left: tuple[Page, str | None], leave: Way) -> None:
     page, cells = left
     one = seated(Socket, page.port, 1, SEAT_PATIENCE)
     one.socket.settimeout(SEAT_PATIENCE)

@@ -1,4 +1,4 @@
-"""Users of a host or of a page: what they send, how they take seats, and one who goes on beside whatever a test does."""
+"""Users of a host or of a page: what they send, how they take seats, and one who goes on beside what a test does."""
 
 from __future__ import annotations
 
@@ -104,8 +104,8 @@ def connected(port: int, count: int) -> Iterator[list[Peer]]:
 @contextmanager
 def steady(peer: Peer, session: Session, pause: float = 0) -> Iterator[Callable[[], int]]:
     """A user goes on meanwhile, one line after another. They have sent the whole session before, and send it once more
-    afterwards. It fails in the end if one of their replies was not that of a private machine. Yields a function that tells
-    how often they have sent it."""
+    afterwards. It fails in the end if one of their replies was not that of a private machine. Yields a function that
+    tells how often they have sent it."""
     begun, enough, rounds = Event(), Event(), 0
 
     def go_on() -> None:

@@ -24,8 +24,8 @@ def ip(*words: str) -> None:
 
 
 class Ground:
-    """All nodes are this machine, at free ports, and no cable can be pulled. Or each node is a network namespace, and there is
-    one for the switch. That takes root, and `ip`."""
+    """All nodes are this machine, at free ports, and no cable can be pulled. Or each node is a network namespace, and so
+    is the switch. That takes root, and `ip`."""
 
     def __init__(self, *, has_cables: bool = False) -> None:
         self.has_cables, nodes = has_cables, ("switch", *NODES) if has_cables else ()

@@ -1,5 +1,5 @@
-"""The programs of a fleet: hosts, their doors, and the front, and connections to them. They run by the files of deploy/, as these
-stand.
+"""The programs of a fleet: hosts, their doors, and the front; and connections to them. They run by the files of deploy/,
+as these stand.
 
 What the tests give other values than deploy/ does stands in `Fleet.all_values`, and nowhere else.
 """
@@ -235,7 +235,7 @@ class Fleet:
             return socket.create_connection((address, port), timeout=5, source_address=(source, 0) if source else None)
 
     def by_tls(self, stream: socket.socket, name: str | None = NAME, certificate: str = "") -> Peer:
-        """A connection by TLS, to a name that is looked at, with a certificate of the fleet. Without a name none is looked at."""
+        """A connection by TLS, with a certificate of the fleet, to a name that is looked at, if there is one."""
         context = ssl.create_default_context(cafile=self.authority)
         context.check_hostname = name == NAME
         if certificate:
@@ -260,7 +260,7 @@ class Fleet:
             return one.ask(line)
 
     def is_taken(self, name: str, seat: int) -> bool:
-        """Whether a seat of a host is taken. If not, it is for a moment, until the host has seen that this connection is over."""
+        """Whether a seat of a host is taken. If not, it is for a moment, until the host has seen that this one is over."""
         with self.at_host(name) as one:
             return one.ask(SEAT % seat) == TAKEN
 

@@ -1,28 +1,25 @@
-"""A session of the Python client in a process of its own: random commands until it is over, and a last save. If its process was
-killed it goes on with its journal. The journal says which of the last commands count.
+"""A session of the Python client in a process of its own: random commands until it is over, and a last save. If its
+process was killed it goes on with its journal. The journal says which of the last commands count.
 
 What it sent and got is in its record, a file of a JSON object a line, which stays if the process is killed:
 
     {"ask":[..]}                         these lines are about to be sent
     {"got":[..],"seconds":s,             their replies, how long they took, how many new seats were taken meanwhile, and how many
-     "seats":n,"again":n,"at":t}         commands were played again there; and the time at which they had come
+     "seats":n,"again":n}                commands were played again there
     {"kept":n,"got":[..]}                the process was killed amid lines, of which the first n count; their replies, null where
                                          nobody read one
     {"end":true}                         the session has ended by itself
-
-A reply that is long stands as its length and its sum.
 """
 
 from __future__ import annotations
 
-import hashlib
 import json
 import random
 import re
 import ssl
 import sys
 import time
-from collections.abc import Iterator
+from collections.abc import Iterable, Iterator
 from contextlib import suppress
 from dataclasses import dataclass, field
 from pathlib import Path
@@ -33,12 +30,10 @@ from cam6.sessions import Session
 
 from .commands import SAVE, Commands
 
-LONG = 200
 
-
-def digest(reply: bytes) -> str:
-    """A reply, or if it is long its length and its sum."""
-    return reply.decode("latin-1") if len(reply) <= LONG else f"{len(reply)} bytes, {hashlib.sha256(reply).hexdigest()}"
+def texts(lines: Iterable[bytes]) -> list[str]:
+    """Lines as texts of JSON, which may have any bytes."""
+    return [line.decode("latin-1") for line in lines]
 
 
 def rows_of(path: Path) -> Iterator[dict[str, Any]]:
@@ -49,9 +44,9 @@ def rows_of(path: Path) -> Iterator[dict[str, Any]]:
 
 @dataclass
 class Played:
-    """A whole record: each line with its reply, which is None where nobody read it; the seconds of calls with a new seat; how many
-    new seats there were, and commands that were played again; whether the session ended by itself; and the lines that were asked
-    last without an answer."""
+    """A whole record: each line with its reply, which is None where nobody read it; the seconds of calls with a new seat;
+    how many new seats there were, and commands that were played again; whether the session ended by itself; and the lines
+    that were asked last without an answer."""
 
     lines: list[tuple[bytes, str | None]] = field(default_factory=list)
     waits: list[float] = field(default_factory=list)
@@ -82,7 +77,7 @@ def read(path: Path) -> Played:
 
 @dataclass(frozen=True)
 class Player:
-    """What a session is to do: the arguments of `cam6.connect`, TLS by an authority if there is one, and how it plays."""
+    """What a session is to do: the arguments of `cam6.connect`, TLS by an authority, if any, and how it plays."""
 
     how: dict[str, Any]
     authority: str
@@ -105,17 +100,17 @@ class Player:
             raise RuntimeError(f"the journal has {session.asked} commands, {what}")
         if not all(is_left_of(line, whole) for (line, _), whole in zip(resumed, asked[kept - len(resumed) : kept])):
             raise RuntimeError("the journal has other commands without an answer than those that were asked for last")
-        known = [digest(reply) for _, reply in resumed]
+        known = texts(reply for _, reply in resumed)
         self.write(kept=kept, got=[None] * (kept - len(known)) + known)
         return asked[kept:]
 
     def ask(self, machine: cam6.Machine, session: Session, sent: list[bytes]) -> list[bytes]:
         """The replies to lines. Both are written down."""
-        self.write(ask=[line.decode("latin-1") for line in sent])
+        self.write(ask=texts(sent))
         seats, again, begun = session.recoveries, session.replayed, time.monotonic()
         replies = machine._talk(sent)
-        seconds, at, got = round(time.monotonic() - begun, 4), round(time.time(), 2), [*map(digest, replies)]
-        self.write(got=got, seconds=seconds, seats=session.recoveries - seats, again=session.replayed - again, at=at)
+        seconds, seats, again = time.monotonic() - begun, session.recoveries - seats, session.replayed - again
+        self.write(got=texts(replies), seconds=seconds, seats=seats, again=again)
         return replies
 
     def play(self) -> None:

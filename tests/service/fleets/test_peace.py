@@ -13,21 +13,8 @@ from pathlib import Path
 
 import pytest
 from service.pages import Answer, Socket, get
-from service.users import (
-    BALLS,
-    NO_JSON,
-    NO_NAMES,
-    NO_SEAT,
-    PLANES,
-    ROW,
-    RULES,
-    RUN,
-    SAVE,
-    SEAT,
-    SEATED,
-    answers,
-    closed,
-)
+from service.users import BALLS, NO_JSON, NO_NAMES, NO_SEAT, PLANES, ROW, RULES, RUN, SAVE, SEAT, SEATED, answers
+from service.users import closed
 from support.programs import private, until
 from support.sessions import assert_replies, line_of
 
@@ -96,7 +83,7 @@ def test_a_user_who_says_nothing_is_closed_after_a_time(fleet: Fleet) -> None:
 
 
 def at_door(fleet: Fleet, port: int, certificate: str | None) -> Peer:
-    """A connection from the front's machine to a door of the first host, with a certificate, with none, or without TLS."""
+    """A connection from the front's machine to a door of the first host: with a certificate, none, or no TLS."""
     stream = fleet.stream_to("front", fleet.ground.address("one"), port)
     return Peer(stream) if certificate is None else fleet.by_tls(stream, None, certificate)
 

@@ -1,4 +1,4 @@
-"""Trouble for a fleet, for a time and by a seed: hosts that are killed and stopped, fronts, doors, cables and clients."""
+"""Trouble for a fleet, for a time and by a seed: for hosts, which are killed and stopped, fronts, doors and clients."""
 
 from __future__ import annotations
 
@@ -130,7 +130,7 @@ class Troubles:
         yield
 
     def pulled(self, node: str, in_its_place: Service) -> Iterator[None]:
-        """The cable of a node is pulled: what is sent is lost, and nobody is told. Without cables a program is stopped."""
+        """A node's cable is pulled: what is sent is lost, and nobody is told. Without cables a program is stopped."""
         self.counts["cables pulled"] += 1
         with self.fleet.ground.pulled(node):
             if not self.fleet.ground.has_cables:
@@ -142,8 +142,8 @@ class Troubles:
 
 
 class Kind(NamedTuple):
-    """A trouble, how many of 20 are of its kind, and how long it lasts: seconds at least, at most, and at most in the first
-    round. That round has each kind that is marked, so that a short run has them all."""
+    """A trouble, how many of 20 are of its kind, and how long it lasts: seconds at least, at most, and at most in the
+    first round. That round has each kind that is marked, so that a short run has them all."""
 
     play: Callable[[Troubles], Iterator[None]]
     share: int
