@@ -45,6 +45,8 @@ RULES = {
 }
 FIRST_TRY = "life,critters"
 DENSITY = 0.5
+# Seconds in which Dask has to start a worker in the place of a killed one.
+TO_START = 30
 LOOPBACK = ("localhost", "127.0.0.1", "::1")
 NO_DASK = "Dask is not there: apt-get install python3-distributed, and use /usr/bin/python3. Or run with --serial."
 
@@ -208,7 +210,9 @@ def client_of(asked: argparse.Namespace) -> Iterator[Any]:
         client.wait_for_workers(asked.workers)
         yield client
         if asked.kill:
-            client.wait_for_workers(asked.workers)  # Dask complains if the new worker is closed while it starts.
+            # Dask complains if the new worker is closed while it starts. On a busy computer it may never start.
+            with contextlib.suppress(distributed.TimeoutError):
+                client.wait_for_workers(asked.workers, timeout=TO_START)
 
 
 def submitted(client: Any, plan: Plan, tasks: Sequence[Task], number: int, retries: int) -> list[Any]:

@@ -83,6 +83,7 @@ def test_beside_bgolly(
             assert states_of(machine, found, x, y) == [bytes(row) for row in found.cells]
 
 
+@pytest.mark.slow
 def test_the_whole_folder() -> None:
     """Each file of Golly's patterns is read and written again, or refused by its name."""
     read = refused = 0

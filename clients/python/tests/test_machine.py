@@ -31,9 +31,26 @@ Kind = type[Exception]
 @pytest.mark.parametrize("limit", [128, 256, 512])
 def test_random_sessions(limit: int, cam6: str) -> None:
     """Random commands of all kinds have the replies of the oracle."""
-    Calls.words.clear()
-    play(lambda: Calls(cam6, limit), examples=10, steps=30)
-    assert Calls.words >= set(COMMANDS)
+    play(lambda: Calls(cam6, limit), examples=40, steps=30)
+
+
+def test_each_command_by_its_call(cam6: str) -> None:
+    """By hand, so that none is left to chance."""
+    calls = Calls(cam6, 128)
+    calls.words.clear()
+    steps: list[dict[str, Any]] = [{"do": "run", "n": 3}, {"do": "back", "n": 1}]
+    looks = [{"do": "row", "plane": 0, "row": 3}, {"do": "plane", "plane": 0}, {"do": "colours", "row": 3}]
+    for line in (
+        *(compact(do="side", side=128), compact(do="set", plane=0, row=3, bits="8" * 32)),
+        compact(do="rule", name="B", half="A", hood="N/MARG", minor="&/PHASES", text=BALLS),
+        compact(do="cycle", entries=[{"a": "B", "b": "-", "grid": "ODD", "phase": 0}]),
+        *(compact(**said) for said in [*steps, *looks, {"do": "count", "mask": 2}, {"do": "rules"}, {"do": "save"}]),
+        *(compact(do="map", colours=[*range(15, -1, -1)]), Plain(128).load_line(), compact(do="clear", plane=0)),
+        compact(do="drop", name="B"),
+    ):
+        calls.say(line)
+    calls.teardown()
+    assert calls.words == set(COMMANDS)
 
 
 def test_put_and_cells(local: Local) -> None:

@@ -103,7 +103,8 @@ def test_films() -> None:
 
 
 def test_films_as_gif() -> None:
-    frames = [some_cells(random.Random(23), 9, 5) for _ in range(3)]
+    source = random.Random(23)
+    frames = [some_cells(source, 9, 5) for _ in range(3)]
     data = pictures.film(frames, ms=70, scale=2).gif()
     with Image.open(io.BytesIO(data)) as image:
         assert (image.n_frames, image.info["duration"], image.info["loop"]) == (3, 70, 0)
