@@ -6,6 +6,7 @@ A session that fails shrinks, and is printed as lines that can be piped into the
 
 from __future__ import annotations
 
+from copy import deepcopy
 from random import Random
 from typing import Any
 
@@ -17,7 +18,7 @@ from hypothesis.stateful import Bundle, RuleBasedStateMachine, rule
 from oracle.host import Replay
 from oracle.lines import Unclear, lines_of, plain
 from oracle.machine import SIDES, Alone, Machine
-from programs.breaking import Breaker, copied
+from programs.breaking import Breaker
 from programs.texts import rules
 from support.sessions import assert_replies
 from support.talk import Talk
@@ -67,7 +68,7 @@ def change(draw: st.DrawFn, machine: Command) -> None:
 @st.composite
 def changed(draw: st.DrawFn, machine: Command) -> Command:
     """A saved machine with a few things otherwise, which may not be one that was saved; or as the first version saves it."""
-    machine = first_version(machine) if draw(st.integers(0, 4)) == 0 else copied(machine)
+    machine = first_version(machine) if draw(st.integers(0, 4)) == 0 else deepcopy(machine)
     for _ in range(draw(st.integers(0, 3))):
         change(draw, machine)
     return machine
