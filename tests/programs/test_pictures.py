@@ -7,22 +7,23 @@ from __future__ import annotations
 
 import json
 import re
+import runpy
 from argparse import ArgumentParser
 from collections.abc import Iterable
 from io import BytesIO
 from pathlib import Path
+from types import SimpleNamespace
 
 import pytest
 from oracle.pictures import drawn
 from PIL import Image, ImageSequence
 from support.programs import TOP, assert_refused, ran
-from support.tools import tool
 
 FILM = str(TOP / "tools" / "film")
 FOLDER, GALLERY = TOP / "docs" / "pictures", TOP / "docs" / "GALLERY.md"
 LARGEST, LARGEST_FILM = 20_000, 100_000
 
-gallery = tool("tools/gallery-pictures")
+gallery = SimpleNamespace(**runpy.run_path(str(TOP / "tools" / "gallery-pictures")))
 PICTURES: list[str] = gallery.names_of(".lines")
 FILMS: list[str] = gallery.names_of(".frames")
 FILES: list[str] = gallery.names_of(".png")
