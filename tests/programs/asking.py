@@ -18,6 +18,7 @@ from hypothesis.stateful import Bundle, RuleBasedStateMachine, rule
 from oracle.host import Replay
 from oracle.lines import Unclear, lines_of, plain
 from oracle.machine import SIDES, Alone, Machine
+from oracle.wirings import FIRST_PLANE
 from programs.breaking import Breaker
 from programs.texts import rules
 from support.sessions import assert_replies
@@ -148,14 +149,16 @@ class Asking(RuleBasedStateMachine):
 
     @rule(of=rules(("rule", "block", "block")), data=st.data(), way=st.sampled_from(["run", "back"]))
     def keep_a_rule_and_use_it(self, of: dict[str, str], data: st.DataObject, way: str) -> None:
-        """A rule that may be one, a cycle of it, a picture, a step, and a look."""
-        self.do(FREE)
-        self.do(do("rule", name="R", **of))
+        """A rule that may be one, a cycle of it, two rows, of which one is at the seam of the torus, a step, and both planes."""
+        first, side = FIRST_PLANE[of["half"]], self.machine_at().torus.side
         entry = data.draw(entries(st.just("-"), PHASES)) | {of["half"].lower(): "R"}
-        self.do(do("cycle", entries=[entry] * data.draw(st.sampled_from([1, 2, 16]))))
-        self.picture(data)
-        self.do(do(way, n=1))
-        self.do(do("plane", plane={"A": 0, "B": 2}[of["half"]] + data.draw(st.integers(0, 1))))
+        cycle = do("cycle", entries=[entry] * data.draw(st.sampled_from([1, 2, 16])))
+        for command in (FREE, do("rule", name="R", **of), cycle):
+            self.do(command)
+        for row in (data.draw(st.sampled_from([0, side - 1])), self.row(data)):
+            self.do(do("set", plane=first + data.draw(st.integers(0, 1)), row=row, bits=self.digits(data)))
+        for command in (do(way, n=1), do("plane", plane=first), do("plane", plane=first + 1)):
+            self.do(command)
 
     @rule(data=st.data(), count=st.sampled_from([1, 2, 3, 16]))
     def cycle(self, data: st.DataObject, count: int) -> None:
