@@ -169,11 +169,12 @@ class Asking(RuleBasedStateMachine):
         entry = st.fixed_dictionaries({"a": a, "b": b, "grid": GRIDS, "phase": PHASES})
         self.do(do("cycle", entries=data.draw(st.lists(entry, min_size=count, max_size=count))))
 
-    @rule(data=st.data(), count=st.sampled_from([0, 1, 2, 16, 17, 40]))
-    def refused_cycle(self, data: st.DataObject, count: int) -> None:
-        """A cycle with names and phases of all kinds, and any number of entries."""
-        names = st.sampled_from(["-", *self.machine_at().rules, "X", data.draw(NO_NAMES)])
-        entry = entries(names, PHASES | NUMBERS)
+    @rule(data=st.data(), wrong=st.sampled_from(["half", "half", "name", "phase", "count"]))
+    def refused_cycle(self, data: st.DataObject, wrong: str) -> None:
+        """A cycle with rules of the other half, with names or phases of all kinds, or with any number of entries."""
+        names = ["-", *self.machine_at().rules, *(["X", data.draw(NO_NAMES)] if wrong == "name" else [])]
+        entry = entries(st.sampled_from(names), NUMBERS if wrong == "phase" else PHASES)
+        count = data.draw(st.sampled_from([0, 1, 2, 16, 17, 40] if wrong == "count" else [1, 2]))
         self.do(do("cycle", entries=data.draw(st.lists(entry, min_size=count, max_size=count))))
 
     @rule(data=st.data())

@@ -160,7 +160,7 @@ class Breaker:
         inside = self.random.choice([b"1", b"{}", b"[]"])
         inner[key] = Raw(first * depth + inside + last * (depth - (self.random.random() < 0.1)))
 
-    def other_text(self, value: Any, _inner: Any, _key: Any) -> None:
+    def other_text(self, value: Any, inner: Any, key: Any) -> None:
         """A text with a letter more or less."""
         inner, key = self.random.choice([(inner, key) for inner, key in places(value) if isinstance(inner[key], str)])
         i = self.random.randrange(len(inner[key]) + 1)
