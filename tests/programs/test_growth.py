@@ -27,7 +27,8 @@ LINES, MOST_GROWN = 1_000_000, 200
 PIECE = 1 << 16
 # Lines that are sent again and again, with what comes back for each.
 Pairs = list[tuple[bytes, bytes]]
-Send, Read = Callable[[bytes], object], Callable[[int], bytes | None]
+Send = Callable[[bytes], object]
+Read = Callable[[int], Any]
 
 
 def cell_at(row: int) -> Command:
