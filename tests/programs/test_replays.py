@@ -130,6 +130,7 @@ def compare(cam6: str, path: Path, seed: int) -> None:
 
 
 @pytest.mark.slow
+@pytest.mark.timeout(3600)
 @pytest.mark.parametrize("seed", [1, 2, 3])
 @pytest.mark.parametrize("path", [it for it in examples(SESSIONS) if not str(it.id).startswith("wrong_")])
 def test_a_session_has_the_same_replies_by_events(cam6: str, path: Path, seed: int) -> None:
