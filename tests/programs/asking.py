@@ -6,6 +6,7 @@ A session that fails shrinks, and is printed as lines that can be piped into the
 
 from __future__ import annotations
 
+from copy import deepcopy
 from random import Random
 from typing import Any
 
@@ -17,7 +18,8 @@ from hypothesis.stateful import Bundle, RuleBasedStateMachine, rule
 from oracle.host import Replay
 from oracle.lines import Unclear, lines_of, plain
 from oracle.machine import SIDES, Alone, Machine
-from programs.breaking import Breaker, copied
+from oracle.wirings import FIRST_PLANE
+from programs.breaking import Breaker
 from programs.texts import rules
 from support.sessions import assert_replies
 from support.talk import Talk
@@ -67,7 +69,7 @@ def change(draw: st.DrawFn, machine: Command) -> None:
 @st.composite
 def changed(draw: st.DrawFn, machine: Command) -> Command:
     """A saved machine with a few things otherwise, which may not be one that was saved; or as the first version saves it."""
-    machine = first_version(machine) if draw(st.integers(0, 4)) == 0 else copied(machine)
+    machine = first_version(machine) if draw(st.integers(0, 4)) == 0 else deepcopy(machine)
     for _ in range(draw(st.integers(0, 3))):
         change(draw, machine)
     return machine
@@ -147,14 +149,16 @@ class Asking(RuleBasedStateMachine):
 
     @rule(of=rules(("rule", "block", "block")), data=st.data(), way=st.sampled_from(["run", "back"]))
     def keep_a_rule_and_use_it(self, of: dict[str, str], data: st.DataObject, way: str) -> None:
-        """A rule that may be one, a cycle of it, a picture, a step, and a look."""
-        self.do(FREE)
-        self.do(do("rule", name="R", **of))
+        """A rule that may be one, a cycle of it, two rows, of which one is at the seam of the torus, a step, and both planes."""
+        first, side = FIRST_PLANE[of["half"]], self.machine_at().torus.side
         entry = data.draw(entries(st.just("-"), PHASES)) | {of["half"].lower(): "R"}
-        self.do(do("cycle", entries=[entry] * data.draw(st.sampled_from([1, 2, 16]))))
-        self.picture(data)
-        self.do(do(way, n=1))
-        self.do(do("plane", plane={"A": 0, "B": 2}[of["half"]] + data.draw(st.integers(0, 1))))
+        cycle = do("cycle", entries=[entry] * data.draw(st.sampled_from([1, 2, 16])))
+        for command in (FREE, do("rule", name="R", **of), cycle):
+            self.do(command)
+        for row in (data.draw(st.sampled_from([0, side - 1])), self.row(data)):
+            self.do(do("set", plane=first + data.draw(st.integers(0, 1)), row=row, bits=self.digits(data)))
+        for command in (do(way, n=1), do("plane", plane=first), do("plane", plane=first + 1)):
+            self.do(command)
 
     @rule(data=st.data(), count=st.sampled_from([1, 2, 3, 16]))
     def cycle(self, data: st.DataObject, count: int) -> None:
@@ -165,11 +169,12 @@ class Asking(RuleBasedStateMachine):
         entry = st.fixed_dictionaries({"a": a, "b": b, "grid": GRIDS, "phase": PHASES})
         self.do(do("cycle", entries=data.draw(st.lists(entry, min_size=count, max_size=count))))
 
-    @rule(data=st.data(), count=st.sampled_from([0, 1, 2, 16, 17, 40]))
-    def refused_cycle(self, data: st.DataObject, count: int) -> None:
-        """A cycle with names and phases of all kinds, and any number of entries."""
-        names = st.sampled_from(["-", *self.machine_at().rules, "X", data.draw(NO_NAMES)])
-        entry = entries(names, PHASES | NUMBERS)
+    @rule(data=st.data(), wrong=st.sampled_from(["half", "half", "name", "phase", "count"]))
+    def refused_cycle(self, data: st.DataObject, wrong: str) -> None:
+        """A cycle with rules of the other half, with names or phases of all kinds, or with any number of entries."""
+        names = ["-", *self.machine_at().rules, *(["X", data.draw(NO_NAMES)] if wrong == "name" else [])]
+        entry = entries(st.sampled_from(names), NUMBERS if wrong == "phase" else PHASES)
+        count = data.draw(st.sampled_from([0, 1, 2, 16, 17, 40] if wrong == "count" else [1, 2]))
         self.do(do("cycle", entries=data.draw(st.lists(entry, min_size=count, max_size=count))))
 
     @rule(data=st.data())

@@ -15,8 +15,10 @@ from dataclasses import dataclass
 from typing import Any
 
 import pytest
+from examples.writing import Command, cycle_command, do, rule_command
+from oracle.lines import plain
+from oracle.schedules import on
 from support.programs import TOP, Host, Peer, Ran, ran, until
-from support.sessions import line_of
 
 EXAMPLES = TOP / "crates" / "cam6_host" / "arguments.examples"
 STATEMENT = TOP / "crates" / "cam6_modes" / "specs" / "Statuses.antt"
@@ -40,10 +42,10 @@ class Run:
     def name(self) -> str:
         """The run as a reader types it, and the line of the file where it begins."""
         fails = f", as each {self.fails} fails" if self.fails else ""
-        return f"cam6 {self.arguments}{fails} (line {self.line})".replace(" ,", ",").replace("  ", " ")
+        return f"{f'cam6 {self.arguments}'.strip()}{fails} (line {self.line})"
 
-    def take(self, kind: str, text: str, earlier: list[Run]) -> bool:
-        """Takes what a line says. Returns whether it says anything."""
+    def take(self, kind: str, text: str, earlier: list[Run]) -> None:
+        """Takes what a line says."""
         if kind == "=":
             self.status = int(text)
         elif kind in ("<", "<|"):
@@ -52,14 +54,15 @@ class Run:
             self.output += text.encode() + b"\n"
         elif kind == "!":
             self.errors += text.encode() + b"\n"
-        elif (kind, text) in (("read", "fails"), ("write", "fails")):
-            self.fails = kind
         elif kind == "as":
-            like = next(run for run in reversed(earlier) if run.arguments == text.removeprefix("$ cam6").strip())
+            like = next(run for run in reversed(earlier) if f"$ cam6 {run.arguments}".strip() == text)
             self.status, self.output, self.errors = like.status, like.output, like.errors
         else:
-            return False
-        return True
+            assert (kind, text) in (
+                ("read", "fails"),
+                ("write", "fails"),
+            ), f"{EXAMPLES}: no line of a run: {kind} {text}"
+            self.fails = kind
 
 
 def runs_of_examples() -> list[Run]:
@@ -70,7 +73,7 @@ def runs_of_examples() -> list[Run]:
         if line.startswith("$ cam6"):
             runs.append(Run(number, line.removeprefix("$ cam6").strip()))
         elif line and not line.startswith("#"):
-            assert runs[-1].take(kind, text, runs[:-1]), f"{EXAMPLES}:{number}: no line of a run: {line}"
+            runs[-1].take(kind, text, runs[:-1])
     return runs
 
 
@@ -120,45 +123,25 @@ CACHES = [
 FILLED, EVICTED = 66, 67
 
 
-def cycle_of(name: str) -> dict[str, Any]:
-    """A cycle of one rule."""
-    return {"do": "cycle", "entries": [{"a": name, "b": "-", "grid": "EVEN", "phase": 0}]}
-
-
-def filled(number: int) -> list[str]:
-    """Events that have a table filled, of a rule of its own."""
-    text = f": R {number} DROP CENTER >PLN0 ;"
-    rule = {"do": "rule", "name": "R", "half": "A", "hood": "N/VONN", "minor": "&/CENTERS", "text": text}
-    collect = line_of(event="collect", user=1)
-    # A rule that a cycle names can't be defined anew.
-    asks = [line_of(event="ask", user=1, command=command) for command in (cycle_of("-"), rule, cycle_of("R"))]
-    run = [line_of(event="ask", user=1, command={"do": "run", "n": 1}), line_of(event="lease", user=1, board=0)]
-    return [line for ask in asks for line in (ask, collect)] + run + [line_of(event="band", board=0)] * 16 + [collect]
+def filled(number: int) -> list[Command]:
+    """Events that have a table filled, of a rule of its own. A rule that a cycle names can't be defined anew."""
+    free, cycle = (cycle_command((name, "-", "EVEN", 0)) for name in "-R")
+    rule = rule_command("R", "A", "N/VONN", "&/CENTERS", f": R {number} DROP CENTER >PLN0 ;")
+    collect, run = on("collect", user=1), on("ask", user=1, command=do("run", n=1))
+    asks = [event for command in (free, rule, cycle) for event in on("ask", user=1, command=command) + collect]
+    return asks + run + on("lease", user=1, board=0) + on("band", board=0) * 16 + collect
 
 
 @pytest.mark.parametrize(("words", "capacity"), CACHES)
 def test_a_cache_holds_the_tables_that_the_arguments_say(words: str, capacity: int, cam6: str) -> None:
-    events = [line for number in range(FILLED) for line in filled(number)] + [line_of(event="evict")] * EVICTED
-    done = ran([cam6, "replay", *words.split()], "".join(f"{event}\n" for event in events).encode(), patience=PATIENCE)
+    events = [event for number in range(FILLED) for event in filled(number)] + on("evict") * EVICTED
+    done = ran([cam6, "replay", *words.split()], b"".join(plain(event) + b"\n" for event in events), patience=PATIENCE)
     wanted = ['{"ok":"evict"}'] * capacity + ['{"refused":109}'] * (EVICTED - capacity)
     assert done.output.decode().splitlines()[-EVICTED:] == wanted
 
 
 # The users and the boards of a host, by its arguments.
-HOSTS = [
-    ("", 4, 2),
-    ("--users=3", 3, 2),
-    ("--users 32 --boards 1", 32, 1),
-    ("--boards=8", 4, 8),
-]
-
-
-def answers_of_seat(port: int, user: int) -> list[str | None]:
-    """What is answered to a client that asks for a seat, and then for the largest side and the one below."""
-    lines = [line_of(seat=user), line_of(do="side", side=512), line_of(do="side", side=256)]
-    with Peer(port) as peer:
-        peer.send("".join(f"{line}\n" for line in lines))
-        return [peer.read() for _ in lines]
+HOSTS = [("", 4, 2), ("--users=3", 3, 2), ("--users 32 --boards 1", 32, 1), ("--boards=8", 4, 8)]
 
 
 @pytest.mark.parametrize(("words", "users", "boards"), HOSTS)
@@ -170,10 +153,13 @@ def test_a_host_has_the_users_and_boards_that_its_arguments_say(
         it = host(*words.split(), f"--connections={users + 1}", stdin=stream.fileno())
     # Each board has a thread, beside the program's first one and one for a user.
     assert until(lambda: it.of_process("Threads") == 1 + boards, 10), it.of_process("Threads")
-    answers = [answers_of_seat(it.port, user) for user in range(1, users + 1)]
-    assert answers == [['{"ok":"seat"}', '{"fault":67}', '{"ok":"side"}']] * users
-    with Peer(it.port) as peer:
-        assert peer.ask(line_of(seat=users + 1)) == '{"fault":81}'
+    for user in range(1, users + 1):
+        with Peer(it.port, user) as peer:
+            assert peer.said == '{"ok":"seat"}'
+            assert peer.ask('{"do":"side","side":512}') == '{"fault":67}'
+            assert peer.ask('{"do":"side","side":256}') == '{"ok":"side"}'
+    with Peer(it.port, users + 1) as peer:
+        assert peer.said == '{"fault":81}'
     assert it.ended() == Ran(0, b"", b"")
 
 

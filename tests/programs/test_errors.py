@@ -67,11 +67,6 @@ def last_reply(entry: Entry, replies: Replies) -> dict[str, Any]:
     return told
 
 
-def number_told(entry: Entry, reply: dict[str, Any]) -> object:
-    """The number that a reply has in the place of the entry's."""
-    return reply.get("refused" if entry["program"] == "replay" else "fault")
-
-
 def replies_of_host(port: int, lines: list[str]) -> list[str]:
     """The replies of a host to lines that begin with the number of a connection."""
     peers: dict[str, Peer] = {}
@@ -86,39 +81,43 @@ def replies_of_host(port: int, lines: list[str]) -> list[str]:
 
 
 PLAYED = [entry for entry in ENTRIES if entry["lines"] is not None]
+SERVED = [entry for entry in PLAYED if entry["program"] == "serve"]
+OTHERS = [entry for entry in PLAYED if entry not in SERVED]
 
 
-def test_each_number_has_one_entry() -> None:
+def assert_is_told(entry: Entry, replies: Replies) -> None:
+    """Fails if the last reply to an entry's example hasn't its number in its place."""
+    reply = last_reply(entry, replies)
+    assert reply.get("refused" if entry["program"] == "replay" else "fault") == entry["number"]
+
+
+def test_each_number_has_one_entry_and_one_alone_has_no_example() -> None:
     assert sorted(entry["number"] for entry in ENTRIES) == sorted(NUMBERS)
-
-
-def test_one_number_alone_has_no_example() -> None:
     assert [entry["number"] for entry in ENTRIES if entry not in PLAYED] == [0]
 
 
-@of_entries([entry for entry in PLAYED if entry["program"] != "serve"])
+@of_entries(OTHERS)
 def test_the_program_replies_with_the_number(entry: Entry, cam6: str) -> None:
     def replies(lines: list[str]) -> list[str]:
         sent = "".join(f"{line}\n" for line in lines).encode()
         return ran([cam6, entry["program"]], sent).output.decode().splitlines()
 
-    assert number_told(entry, last_reply(entry, replies)) == entry["number"]
+    assert_is_told(entry, replies)
 
 
-@of_entries([entry for entry in PLAYED if entry["program"] == "serve"])
+@of_entries(SERVED)
 def test_a_host_replies_with_the_number(entry: Entry, host: Callable[..., Host]) -> None:
     it = host(f"--users={USERS}", f"--boards={BOARDS}", f"--side={LIMIT}", "--connections=0")
-    reply = last_reply(entry, lambda lines: replies_of_host(it.port, lines))
-    assert number_told(entry, reply) == entry["number"]
+    assert_is_told(entry, lambda lines: replies_of_host(it.port, lines))
 
 
-@of_entries([entry for entry in PLAYED if entry["program"] != "serve"])
+@of_entries(OTHERS)
 def test_the_oracle_replies_with_the_number(entry: Entry) -> None:
     def replies(lines: list[str]) -> list[str]:
         it: Alone | Replay = Alone(LIMIT) if entry["program"] == "alone" else Replay(USERS, BOARDS, TABLES, LIMIT)
         return [it.answer(line.encode()).decode() for line in lines]
 
-    assert number_told(entry, last_reply(entry, replies)) == entry["number"]
+    assert_is_told(entry, replies)
 
 
 @of_entries(ENTRIES)

@@ -9,6 +9,7 @@ from __future__ import annotations
 import subprocess
 import threading
 from collections.abc import Callable
+from contextlib import suppress
 from typing import Any
 
 import pytest
@@ -26,6 +27,8 @@ LINES, MOST_GROWN = 1_000_000, 200
 PIECE = 1 << 16
 # Lines that are sent again and again, with what comes back for each.
 Pairs = list[tuple[bytes, bytes]]
+Send = Callable[[bytes], object]
+Read = Callable[[int], Any]
 
 
 def cell_at(row: int) -> Command:
@@ -34,23 +37,13 @@ def cell_at(row: int) -> Command:
 
 
 # What is done again and again. After it the machine is what it was after the first time.
-ROUND = [
-    *(rule_command("P", *RULES["PARITY"]), cycle_command(("P", "-", "EVEN", 0)), cell_at(1), do("run", n=1)),
-    *(cycle_command(("-", "-", "EVEN", 0)), do("drop", name="P"), do("rules"), do("clear", plane=0)),
-    *(
-        do("map", colours=[*range(16)]),
-        do("colours", row=1),
-        do("plane", plane=0),
-        do("run", n=0),
-        do("drop", name="P"),
-    ),
-    *(
-        command
-        for y in range(0, 250, 5)
-        for command in (cell_at(y), do("row", plane=0, row=y), do("run", n=65536), do("row", plane=0, row=y + 1))
-    ),
-    do("clear", plane=0),
-]
+ROUND = [rule_command("P", *RULES["PARITY"]), cycle_command(("P", "-", "EVEN", 0)), cell_at(1), do("run", n=1)]
+ROUND += [cycle_command(("-", "-", "EVEN", 0)), do("drop", name="P"), do("rules"), do("clear", plane=0)]
+ROUND += [do("map", colours=[*range(16)]), do("colours", row=1), do("plane", plane=0), do("run", n=0)]
+ROUND.append(do("drop", name="P"))
+for row in range(0, 250, 5):
+    ROUND += [cell_at(row), do("row", plane=0, row=row), do("run", n=65536), do("row", plane=0, row=row + 1)]
+ROUND.append(do("clear", plane=0))
 
 
 def bytes_alone() -> Pairs:
@@ -64,18 +57,14 @@ def commands() -> Pairs:
     return [(plain(command), plain(machine.reply(command))) for command in ROUND]
 
 
-def are_answered(
-    pairs: Pairs, times: int, send: Callable[[bytes], object], read: Callable[[int], bytes | None]
-) -> bool:
+def are_answered(pairs: Pairs, times: int, send: Send, read: Read) -> bool:
     """Whether the lines, so many times, come back as they should."""
     sent, back = (b"".join(line + b"\n" for line in lines) for lines in zip(*pairs))
 
     def send_all() -> None:
-        try:
+        with suppress(OSError):
             for _ in range(times):
                 send(sent)
-        except OSError:
-            pass
 
     sender = threading.Thread(target=send_all, daemon=True)
     sender.start()
@@ -89,9 +78,7 @@ def are_answered(
     return True
 
 
-def assert_no_memory_is_held(
-    pairs: Pairs, process: int, send: Callable[[bytes], object], read: Callable[[int], bytes | None]
-) -> None:
+def assert_no_memory_is_held(pairs: Pairs, process: int, send: Send, read: Read) -> None:
     """Sends a million lines. Fails if they aren't answered, or if the program holds more memory after them than after the
     first hundredth."""
     times = -(-LINES // len(pairs))

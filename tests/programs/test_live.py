@@ -5,7 +5,6 @@ It listens at ports of its own choice, 6007 and beside. So these tests are playe
 
 from __future__ import annotations
 
-import glob
 import os
 import pty
 import re
@@ -13,10 +12,10 @@ import select
 import signal
 import socket
 import time
-import urllib.error
 import urllib.request
 from collections.abc import Callable, Iterator
-from contextlib import ExitStack, closing
+from contextlib import ExitStack, closing, suppress
+from pathlib import Path
 
 import pytest
 from support.programs import TOP, until
@@ -43,10 +42,7 @@ class Live:
 
     def is_begun(self) -> bool:
         """Whether the process is another program than this one. It is a copy of this one at first."""
-        with open(f"/proc/{self.process}/comm", encoding="utf-8") as its, open(
-            "/proc/self/comm", encoding="utf-8"
-        ) as own:
-            return its.read() != own.read()
+        return Path(f"/proc/{self.process}/comm").read_text() != Path("/proc/self/comm").read_text()
 
     def press(self, key: bytes) -> None:
         """Types a key."""
@@ -56,12 +52,11 @@ class Live:
         """Takes what is said. Returns False at its end."""
         if not select.select([self.terminal], [], [], seconds)[0]:
             return True
-        try:
+        with suppress(OSError):
             part = os.read(self.terminal, 4096)
-        except OSError:
-            return False
-        self.said += part
-        return part != b""
+            self.said += part
+            return part != b""
+        return False
 
     def address(self) -> str:
         """The address that it prints, or nothing."""
@@ -87,15 +82,11 @@ class Live:
     def left(self) -> list[int]:
         """The processes of its session that still run."""
         found = []
-        for path in glob.glob("/proc/[0-9]*/stat"):
-            try:
-                with open(path, encoding="utf-8", errors="replace") as file:
-                    front, _, rest = file.read().rpartition(")")
-            except OSError:
-                continue
-            state, _, _, session, *_ = rest.split()
-            if int(session) == self.process and state != "Z":
-                found.append(int(front.split()[0]))
+        for path in Path("/proc").glob("[0-9]*/stat"):
+            with suppress(OSError):
+                state, _, _, session, *_ = path.read_text(errors="replace").rpartition(")")[2].split()
+                if int(session) == self.process and state != "Z":
+                    found.append(int(path.parent.name))
         return found
 
     def close_terminal(self) -> None:
@@ -125,46 +116,34 @@ def live(cam6: str, cam6_web: str, monkeypatch: pytest.MonkeyPatch) -> Iterator[
 
 def hosts_at(address: str) -> str:
     """How many hosts a page's program has, or nothing if it isn't there."""
-    try:
-        with urllib.request.urlopen(f"{address}hosts", timeout=5) as answer:
-            said: bytes = answer.read()
-            return said.decode().strip()
-    except (urllib.error.URLError, OSError, ValueError):
-        return ""
+    with suppress(OSError, ValueError), urllib.request.urlopen(f"{address}hosts", timeout=5) as answer:
+        said: bytes = answer.read()
+        return said.decode().strip()
+    return ""
 
 
-def press_ctrl_c(it: Live) -> None:
-    """Presses Ctrl-C."""
-    it.press(CTRL_C)
-
-
-def send_sigterm(it: Live) -> None:
-    """Sends SIGTERM to it."""
-    os.kill(it.process, signal.SIGTERM)
-
-
-def send_sigint(it: Live) -> None:
-    """Sends SIGINT to it alone."""
-    os.kill(it.process, signal.SIGINT)
+# How it is ended: by Ctrl-C, or by a signal to it alone.
+ENDS: dict[str, Callable[[Live], object]] = {
+    "ctrl_c": lambda it: it.press(CTRL_C),
+    "sigterm": lambda it: os.kill(it.process, signal.SIGTERM),
+    "sigint": lambda it: os.kill(it.process, signal.SIGINT),
+}
 
 
 @pytest.mark.parametrize(
     ("words", "hosts", "end"),
     [
-        ("", "1", press_ctrl_c),
-        ("--alone", "0", press_ctrl_c),
-        ("--users 2 --port 6117", "1", press_ctrl_c),
-        ("", "1", send_sigterm),
-        ("", "1", send_sigint),
+        *(("", "1", end) for end in ENDS),
+        ("--alone", "0", "ctrl_c"),
+        ("--users 2 --port 6117", "1", "ctrl_c"),
     ],
 )
-def test_both_programs_end(words: str, hosts: str, end: Callable[[Live], None], live: Starts) -> None:
+def test_both_programs_end(words: str, hosts: str, end: str, live: Starts) -> None:
     it = live(*words.split())
     address = it.address()
     assert hosts_at(address) == hosts, "the page is there"
-    end(it)
-    assert it.status() == 0
-    assert it.left() == []
+    ENDS[end](it)
+    assert (it.status(), it.left()) == (0, [])
     assert hosts_at(address) == "", "nobody listens"
     assert b"line" not in it.said and b"rror" not in it.said, it.said
 
@@ -176,7 +155,8 @@ def test_both_programs_end_with_their_terminal(live: Starts) -> None:
     it.close_terminal()
 
     def is_gone() -> bool:
-        os.waitpid(it.process, os.WNOHANG)
+        with suppress(ChildProcessError):
+            os.waitpid(it.process, os.WNOHANG)
         return not it.left()
 
     assert until(is_gone, END), it.left()
@@ -195,12 +175,8 @@ def test_ctrl_c_while_it_starts_leaves_nothing(pause: float, live: Starts) -> No
 
 def process_of(it: Live, word: bytes) -> int:
     """The process of a program that was called with this word."""
-    for process in it.left():
-        with open(f"/proc/{process}/cmdline", "rb") as file:
-            words = file.read().split(b"\0")
-        if word in words and b"bash" not in words[0]:
-            return process
-    raise AssertionError(f"no program has the word {word.decode()}")
+    words = {process: Path(f"/proc/{process}/cmdline").read_bytes().split(b"\0") for process in it.left()}
+    return next(process for process, said in words.items() if word in said and b"bash" not in said[0])
 
 
 @pytest.mark.parametrize(("what", "word"), [("the host", b"serve"), ("the page's program", b"--host")])
@@ -208,9 +184,8 @@ def test_it_ends_with_each_of_its_programs(what: str, word: bytes, live: Starts)
     it = live()
     assert it.address()
     os.kill(process_of(it, word), signal.SIGKILL)
-    assert it.status() == 1
+    assert (it.status(), it.left()) == (1, [])
     assert f"{what} ended".encode() in it.said
-    assert it.left() == []
 
 
 def take(port: int) -> socket.socket:
@@ -239,9 +214,8 @@ def test_it_takes_other_ports_than_those_that_are_taken(taken: None, live: Start
 
 def test_a_port_that_is_named_has_to_be_free(taken: None, live: Starts) -> None:
     it = live("--port", "6007")
-    assert it.status() == 3
+    assert (it.status(), it.left()) == (3, [])
     assert b"no port is free" in it.said
-    assert it.left() == []
 
 
 @pytest.mark.parametrize(

@@ -15,22 +15,18 @@ import struct
 import subprocess
 import termios
 from collections.abc import Iterator
-from dataclasses import dataclass
 from pathlib import Path
-from typing import Any
+from typing import NamedTuple
 
 import pytest
-from oracle.palette import PALETTE
+from oracle.palette import PALETTE, default_palette
 from support.programs import TOP, Ran, private, ran
 
 LOOK = str(TOP / "look")
 FOLDER, SHOWN, GALLERY = TOP / "examples", TOP / "examples" / "shown.txt", TOP / "docs" / "GALLERY.md"
-SETTING_UP = {"side", "rule", "cycle", "set", "map"}
-SIDE = 128
-COLUMNS, ROWS = 80, 24
+SIDE, COLUMNS, ROWS = 128, 80, 24
 # A flash is a pair of changes, up and down, by a tenth of full light. Viewers should not see more than three a second.
 CHANGE, FLASHES = 0.1, 3
-LIGHTS = PALETTE
 # What begins a picture on a terminal.
 HOME = b"\x1b[H"
 
@@ -43,8 +39,7 @@ def lines_of(path: Path) -> list[str]:
     return path.read_text(encoding="utf-8").splitlines()
 
 
-@dataclass(frozen=True)
-class Film:
+class Film(NamedTuple):
     """How an example is shown: a line of examples/shown.txt, whose head says what its columns mean."""
 
     name: str
@@ -98,11 +93,7 @@ each_film = pytest.mark.parametrize("film", FILMS, ids=NAMES)
 def test_the_gallery_has_twenty_entries_and_the_letters() -> None:
     entries = re.findall(r"^    \./look (\w+)$", GALLERY.read_text(encoding="utf-8"), re.M)
     assert len(entries) == 21
-    assert sorted(entries) == sorted(path.stem for path in FOLDER.glob("*.lines"))
-
-
-def test_each_example_has_its_line_in_shown() -> None:
-    assert sorted(NAMES) == sorted(path.stem for path in FOLDER.glob("*.lines"))
+    assert sorted(entries) == sorted(NAMES) == sorted(path.stem for path in FOLDER.glob("*.lines"))
 
 
 def test_an_example_has_lines_that_turn_it_round_if_shown_says_so() -> None:
@@ -110,45 +101,27 @@ def test_an_example_has_lines_that_turn_it_round_if_shown_says_so() -> None:
 
 
 @each_film
-def test_a_picture_is_drawn_from_its_example(film: Film) -> None:
-    picture = lines_of(TOP / "docs" / "pictures" / f"{film.name}.lines")
+def test_an_example_only_sets_a_machine_up(film: Film, cam6: str) -> None:
+    picture, commands = lines_of(TOP / "docs" / "pictures" / f"{film.name}.lines"), [*map(json.loads, film.lines)]
     assert (picture[1], picture[-1]) == ("example", "picture")
-
-
-class TestExample:
-    """The lines of an example."""
-
-    pytestmark = each_film
-
-    def test_they_only_set_a_machine_up(self, film: Film) -> None:
-        assert {json.loads(line)["do"] for line in film.lines} <= SETTING_UP
-
-    def test_the_first_one_sets_the_side(self, film: Film) -> None:
-        assert json.loads(film.lines[0]) == {"do": "side", "side": SIDE}
-
-    def test_each_is_done(self, film: Film, cam6: str) -> None:
-        commands = [json.loads(line) for line in film.lines]
-        assert [json.loads(reply).get("ok") for reply in private(cam6, film.lines, 256)] == [
-            it["do"] for it in commands
-        ]
-
-    def test_the_light_is_that_of_its_colours(self, film: Film) -> None:
-        commands = [json.loads(line) for line in film.lines]
-        colours = next((it["colours"] for it in commands if it["do"] == "map"), [*range(16)])
-        assert film.light in ("-", LIGHTS[colours[1]])
+    assert {it["do"] for it in commands} <= {"side", "rule", "cycle", "set", "map"}
+    assert commands[0] == {"do": "side", "side": SIDE}
+    assert [json.loads(it).get("ok") for it in private(cam6, film.lines, 256)] == [it["do"] for it in commands]
+    colours = next((it["colours"] for it in commands if it["do"] == "map"), [*range(16)])
+    assert film.light in ("-", PALETTE[colours[1]])
 
 
 # Films.
 
 
-def brightness_of(light: str) -> float:
-    """The relative luminance of a light of six hexadecimal digits, 0 to 1."""
-    parts = [int(light[at : at + 2], 16) / 255 for at in (0, 2, 4)]
+def brightness_of(light: tuple[int, int, int]) -> float:
+    """The relative luminance of a light, 0 to 1."""
+    parts = [part / 255 for part in light]
     red, green, blue = (part / 12.92 if part <= 0.04045 else ((part + 0.055) / 1.055) ** 2.4 for part in parts)
     return float(0.2126 * red + 0.7152 * green + 0.0722 * blue)
 
 
-BRIGHTNESS = {f"{colour:x}": brightness_of(light) for colour, light in enumerate(LIGHTS)}
+BRIGHTNESS = {f"{colour:x}": brightness_of(light) for colour, light in enumerate(default_palette())}
 
 
 def flashes(lights: list[float], rate: int) -> float:
@@ -163,72 +136,24 @@ def flashes(lights: list[float], rate: int) -> float:
     return max((sum(begin <= at < begin + rate for at in changes) for begin in changes), default=0) / 2
 
 
-def mean_light(part: Picture) -> float:
-    """The mean light of colours."""
-    return sum(BRIGHTNESS[cell] for line in part for cell in line) / sum(map(len, part))
+def test_flashes_are_counted() -> None:
+    """By hand: eight pictures a second, dark and light by turns, change eight times."""
+    assert flashes([0.0, 1.0, 0.0, 1.0, 0.0, 1.0, 0.0, 1.0, 0.0], 8) == 4
+    assert flashes([0.0, 0.09, 0.0, 0.09], 4) == 0
 
 
-@dataclass(frozen=True)
-class Played:
-    """A film that was played: all cells of each picture, and the replies that show none."""
-
-    film: Film
-    pictures: list[Picture]
-    others: list[dict[str, Any]]
-
-
-class TestFilm:
-    """A film, as a private machine plays it."""
-
-    @pytest.fixture(scope="class", params=FILMS, ids=NAMES)
-    def played(self, request: pytest.FixtureRequest, cam6: str) -> Played:
-        """The film, on and back."""
-        film: Film = request.param
-        picture = [f'{{"do":"colours","row":{row}}}' for row in range(SIDE)]
-        on = film.pictures * [f'{{"do":"run","n":{film.each}}}', *picture]
-        lines = [*film.lines, *picture, *on]
-        if film.way == "turn":
-            lines += [*lines_of(FOLDER / f"{film.name}.turn"), *on]
-        elif film.way == "back":
-            lines += film.pictures * [f'{{"do":"back","n":{film.each}}}', *picture]
-        replies = [json.loads(reply) for reply in private(cam6, lines, 256)]
-        rows = [reply["colours"] for reply in replies if "colours" in reply]
-        pictures = [rows[at : at + SIDE] for at in range(0, len(rows), SIDE)]
-        return Played(film, pictures, [reply for reply in replies if "colours" not in reply])
-
-    def test_all_pictures_come(self, played: Played) -> None:
-        assert len(played.pictures) == 1 + played.film.pictures * (1 if played.film.way == "none" else 2)
-
-    def test_nothing_is_refused(self, played: Played) -> None:
-        assert not [reply for reply in played.others if "fault" in reply]
-
-    def test_the_window_fits_a_terminal(self, played: Played) -> None:
-        assert played.film.w <= COLUMNS
-        assert (played.film.h + 1) // 2 + 2 <= ROWS
-
-    def test_no_picture_is_empty(self, played: Played) -> None:
-        assert all(set("".join(played.film.window(cells))) != {"0"} for cells in played.pictures)
-
-    def test_plane_0_is_all_that_is_seen(self, played: Played) -> None:
-        seen = {cell for cells in played.pictures for row in cells for cell in row}
-        light = played.film.light
-        assert light == "-" or seen <= {"0", f"{LIGHTS.index(light):x}"}
-
-    def test_nothing_flashes(self, played: Played) -> None:
-        windows = [played.film.window(cells) for cells in played.pictures]
-        for column, row, width, height in played.film.areas():
-            parts = [[line[column : column + width] for line in window[row : row + height]] for window in windows]
-            assert flashes([mean_light(part) for part in parts], played.film.rate) <= FLASHES, (column, row)
-
-    def test_the_way_back_ends_with_the_first_picture(self, played: Played, cam6: str) -> None:
-        first, last = played.pictures[0], played.pictures[-1]
-        if played.film.way == "back":
-            assert last == first
-            return
-        undone = private(cam6, [*played.film.lines, '{"do":"back","n":0}'], 256)[-1]
-        assert json.loads(undone).get("fault") == 64, "it can't be undone"
-        if played.film.way == "turn":
-            assert lit(last) == lit(first)
+def played(film: Film, cam6: str) -> list[Picture]:
+    """All cells of each picture, on and back, as a private machine plays the film. Nothing may be refused."""
+    picture = [f'{{"do":"colours","row":{row}}}' for row in range(SIDE)]
+    on = film.pictures * [f'{{"do":"run","n":{film.each}}}', *picture]
+    back = film.pictures * [f'{{"do":"back","n":{film.each}}}', *picture]
+    if film.way == "turn":
+        back = [*lines_of(FOLDER / f"{film.name}.turn"), *on]
+    lines = [*film.lines, *picture, *on, *(back if film.way != "none" else [])]
+    replies = [json.loads(reply) for reply in private(cam6, lines, 256)]
+    assert not [reply for reply in replies if "fault" in reply]
+    rows = [reply["colours"] for reply in replies if "colours" in reply]
+    return [rows[at : at + SIDE] for at in range(0, len(rows), SIDE)]
 
 
 def lit(cells: Picture) -> Picture:
@@ -236,10 +161,26 @@ def lit(cells: Picture) -> Picture:
     return [re.sub("[^0]", "#", row) for row in cells]
 
 
-def test_flashes_are_counted() -> None:
-    """By hand: eight pictures a second, dark and light by turns, change eight times."""
-    assert flashes([0.0, 1.0, 0.0, 1.0, 0.0, 1.0, 0.0, 1.0, 0.0], 8) == 4
-    assert flashes([0.0, 0.09, 0.0, 0.09], 4) == 0
+@each_film
+def test_a_film(film: Film, cam6: str) -> None:
+    """It fits a terminal, is never empty, shows plane 0 alone, doesn't flash, and ends with its first picture."""
+    pictures = played(film, cam6)
+    assert len(pictures) == 1 + film.pictures * (1 if film.way == "none" else 2)
+    assert film.w <= COLUMNS and (film.h + 1) // 2 + 2 <= ROWS
+    windows = [*map(film.window, pictures)]
+    assert all(set("".join(window)) != {"0"} for window in windows)
+    seen = {cell for cells in pictures for row in cells for cell in row}
+    assert film.light == "-" or seen <= {"0", f"{PALETTE.index(film.light):x}"}
+    for column, row, w, h in film.areas():
+        parts = ["".join(line[column : column + w] for line in window[row : row + h]) for window in windows]
+        lights = [sum(map(BRIGHTNESS.__getitem__, part)) / len(part) for part in parts]
+        assert flashes(lights, film.rate) <= FLASHES, (column, row)
+    if film.way == "back":
+        assert pictures[-1] == pictures[0]
+        return
+    undone = private(cam6, [*film.lines, '{"do":"back","n":0}'], 256)[-1]
+    assert json.loads(undone).get("fault") == 64, "it can't be undone"
+    assert film.way != "turn" or lit(pictures[-1]) == lit(pictures[0])
 
 
 # The script that shows them.
@@ -297,13 +238,10 @@ def test_the_letters_are_shown_without_a_name(look: Look) -> None:
     assert look("4") == look("letters", "4")
 
 
-def test_the_names_are_listed(look: Look) -> None:
+def test_the_names_are_listed_and_help_is_printed(look: Look) -> None:
     done = look("--list")
     assert done.status == 0
     assert [line.split()[0] for line in done.output.decode().splitlines()] == NAMES
-
-
-def test_help_is_printed(look: Look) -> None:
     assert look("--help").output.startswith(b"Shows a rule of the gallery")
 
 

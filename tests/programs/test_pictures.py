@@ -7,22 +7,23 @@ from __future__ import annotations
 
 import json
 import re
+import runpy
 from argparse import ArgumentParser
+from collections.abc import Iterable
 from io import BytesIO
 from pathlib import Path
-from typing import Any
+from types import SimpleNamespace
 
 import pytest
 from oracle.pictures import drawn
 from PIL import Image, ImageSequence
 from support.programs import TOP, assert_refused, ran
-from support.tools import tool
 
 FILM = str(TOP / "tools" / "film")
 FOLDER, GALLERY = TOP / "docs" / "pictures", TOP / "docs" / "GALLERY.md"
 LARGEST, LARGEST_FILM = 20_000, 100_000
 
-gallery = tool("tools/gallery-pictures")
+gallery = SimpleNamespace(**runpy.run_path(str(TOP / "tools" / "gallery-pictures")))
 PICTURES: list[str] = gallery.names_of(".lines")
 FILMS: list[str] = gallery.names_of(".frames")
 FILES: list[str] = gallery.names_of(".png")
@@ -59,26 +60,30 @@ def test_a_file_is_small(name: str) -> None:
     assert (FOLDER / f"{name}.png").stat().st_size < (LARGEST_FILM if name in FILMS else LARGEST)
 
 
-def ppm_of(image: Image.Image) -> bytes:
-    """A picture as a P6 file."""
-    pixels: bytes = image.convert("RGB").tobytes()
-    return f"P6\n{image.width} {image.height}\n255\n".encode() + pixels
+# The size of a picture, and its pixels.
+Picture = tuple[tuple[int, int], bytes]
 
 
-def pictures_in(file: Path | BytesIO) -> list[bytes]:
-    """The pictures of a PNG file as P6 files: one, or those of an animation."""
-    with Image.open(file) as image:
-        assert image.format == "PNG"
-        return [ppm_of(frame) for frame in ImageSequence.Iterator(image)]
+def pixels_of(images: Iterable[Image.Image]) -> list[Picture]:
+    """The sizes and the pixels of pictures."""
+    return [(image.size, image.convert("RGB").tobytes()) for image in images]
 
 
-def files_in(drawn: bytes) -> list[bytes]:
-    """The P6 files that follow one another. All have one size."""
-    head = re.match(rb"P6\n([0-9]+) ([0-9]+)\n255\n", drawn)
-    assert head, drawn[:40]
-    size = head.end() + 3 * int(head[1]) * int(head[2])
-    assert len(drawn) % size == 0
-    return [drawn[at : at + size] for at in range(0, len(drawn), size)]
+def pictures_in(file: Path | BytesIO) -> list[Picture]:
+    """The pictures of a PNG file: one, or those of an animation."""
+    with Image.open(file, formats=["PNG"]) as image:
+        return pixels_of(ImageSequence.Iterator(image))
+
+
+def files_in(data: bytes) -> list[Picture]:
+    """The pictures of P6 files that follow one another."""
+    file, pictures = BytesIO(data), []
+    while file.tell() < len(data):
+        head = [file.readline() for _ in range(3)]
+        assert head[0] == b"P6\n" and head[2] == b"255\n", head
+        width, height = map(int, head[1].split())
+        pictures.append(((width, height), file.read(3 * width * height)))
+    return pictures
 
 
 def drawn_plainly(replies: bytes, options: list[str]) -> list[Image.Image]:
@@ -100,48 +105,24 @@ def beside(images: list[Image.Image], gap: int) -> Image.Image:
     return strip
 
 
-class TestDrawing:
-    """A picture or a film, as the programs draw it."""
-
-    @pytest.fixture(scope="class", params=PICTURES + FILMS)
-    def drawing(self, request: pytest.FixtureRequest) -> Any:
-        """How it is drawn."""
-        return gallery.drawing_of(request.param)
-
-    @pytest.fixture(scope="class")
-    def replies(self, drawing: Any, cam6: str) -> bytes:
-        """The replies of cam6 to its lines."""
-        done = ran([cam6], "".join(f"{line}\n" for line in drawing.lines).encode())
-        assert done.status == 0
-        return done.output
-
-    @pytest.fixture(scope="class")
-    def wanted(self, drawing: Any) -> list[bytes]:
-        """The pictures of its file."""
-        return pictures_in(FOLDER / f"{drawing.name}.png")
-
-    def test_each_of_its_lines_is_done(self, drawing: Any, replies: bytes) -> None:
-        told = [json.loads(reply) for reply in replies.splitlines()]
-        assert len(told) == len(drawing.lines)
-        assert not [reply for reply in told if "fault" in reply]
-
-    def test_the_programs_draw_it(self, drawing: Any, replies: bytes, wanted: list[bytes], cam6_draw: str) -> None:
-        drawn = ran([cam6_draw, "--ppm", *drawing.draw], replies)
-        assert drawn.status == 0
-        if not drawing.is_film:
-            assert files_in(drawn.output)[-1:] == wanted
-            return
-        packed = ran([FILM, *drawing.film], drawn.output)
-        assert packed.status == 0
-        assert pictures_in(BytesIO(packed.output)) == wanted
-
-    def test_the_oracle_draws_it(self, drawing: Any, replies: bytes, wanted: list[bytes]) -> None:
-        images = drawn_plainly(replies, drawing.draw)
-        if not drawing.is_film:
-            images = images[-1:]
-        elif "--strip" in drawing.film:
-            images = [beside(images, int(drawing.film[drawing.film.index("--gap") + 1]))]
-        assert list(map(ppm_of, images)) == wanted
+@pytest.mark.parametrize("name", PICTURES + FILMS)
+def test_the_programs_and_the_oracle_draw_it(name: str, cam6: str, cam6_draw: str) -> None:
+    drawing, wanted = gallery.drawing_of(name), pictures_in(FOLDER / f"{name}.png")
+    done = ran([cam6], "".join(f"{line}\n" for line in drawing.lines).encode())
+    told = [json.loads(reply) for reply in done.output.splitlines()]
+    assert (done.status, len(told)) == (0, len(drawing.lines))
+    assert not [reply for reply in told if "fault" in reply]
+    ours, theirs = drawn_plainly(done.output, drawing.draw), ran([cam6_draw, "--ppm", *drawing.draw], done.output)
+    assert theirs.status == 0
+    if not drawing.is_film:
+        assert pixels_of(ours[-1:]) == wanted
+        assert files_in(theirs.output)[-1:] == wanted
+        return
+    gap = int(drawing.film[drawing.film.index("--gap") + 1]) if "--strip" in drawing.film else None
+    assert pixels_of(ours if gap is None else [beside(ours, gap)]) == wanted
+    packed = ran([FILM, *drawing.film], theirs.output)
+    assert packed.status == 0
+    assert pictures_in(BytesIO(packed.output)) == wanted
 
 
 # Arguments that are refused, and lines that show no pictures: the status, and what stands on standard error.

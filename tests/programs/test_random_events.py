@@ -19,6 +19,9 @@ from oracle.machine import Machine
 from oracle.schedules import LARGEST, Scheduler, on
 from programs.asking import Asking
 
+# Many more examples are tried by `--hypothesis-profile long`.
+pytestmark = [pytest.mark.slow, pytest.mark.timeout(7200)]
+
 NUMBERS = st.integers(0, 5) | st.sampled_from([2**32, LARGEST])
 # Users, boards, tables of the cache, and the limit.
 SIZES = [(1, 1, 1, 128), (3, 2, 2, 128), (3, 2, 2, 256), (2, 8, 64, 512), (32, 1, 3, 128)]
@@ -131,7 +134,6 @@ class Schedules(Asking):
             self.end(b"")
 
 
-@pytest.mark.slow
 @pytest.mark.parametrize("sizes", SIZES)
 def test_schedules(cam6: str, sizes: tuple[int, int, int, int]) -> None:
     settings = hypothesis.settings(max_examples=hypothesis.settings().max_examples // 5)

@@ -21,6 +21,9 @@ from programs.breaking import Breaker
 from support.programs import ran
 from support.sessions import assert_replies
 
+# Many more examples are tried by `--hypothesis-profile long`.
+pytestmark = [pytest.mark.slow, pytest.mark.timeout(7200)]
+
 # What a machine is begun with.
 BEGIN: list[Command] = [
     do("side", side=128),
@@ -58,14 +61,12 @@ def broken(random: Random, values: list[dict[str, Any]]) -> list[bytes]:
     return [line for value in values for line in breaker.line(value).split(b"\n")]
 
 
-@pytest.mark.slow
 @hypothesis.given(random=st.randoms(), values=st.lists(st.sampled_from([*COMMANDS, LOAD]), min_size=1, max_size=30))
 def test_broken_commands(cam6: str, random: Random, values: list[Command]) -> None:
     lines = [*map(plain, BEGIN), *broken(random, values), plain(SAVE)]
     compare([cam6, "alone", "--side", "256"], Alone(256), lines)
 
 
-@pytest.mark.slow
 @hypothesis.given(random=st.randoms(), values=st.lists(st.sampled_from(EVENTS), min_size=1, max_size=30))
 def test_broken_events(cam6: str, random: Random, values: list[Command]) -> None:
     lines = [line for value in values for line in (plain(value), *broken(random, [value]))]

@@ -11,6 +11,9 @@ from oracle.lines import plain
 from oracle.machine import SIDES, Alone, Machine
 from programs.asking import Asking
 
+# Many more examples are tried by `--hypothesis-profile long`.
+pytestmark = [pytest.mark.slow, pytest.mark.timeout(7200)]
+
 # The most cells that the steps of a line may have.
 MOST_CELLS = 70_000
 
@@ -47,7 +50,6 @@ class Sessions(Asking):
             self.end(plain(do("rules"))[: 1 + len(self.lines) % 14])
 
 
-@pytest.mark.slow
 @pytest.mark.parametrize("limit", SIDES)
 def test_sessions(cam6: str, limit: int) -> None:
     settings = hypothesis.settings(max_examples=hypothesis.settings().max_examples // 4)

@@ -16,7 +16,7 @@ import pytest
 from examples.schedules import RuleAsker
 from oracle.examples import Example, Part, limit_of
 from oracle.host import BAND, Replay
-from oracle.lines import is_event, lines_of, plain, read_line
+from oracle.lines import LINE_LIMIT, LOAD_HEAD, is_event, lines_of, plain, read_line
 from oracle.machine import Machine
 from oracle.schedules import Scheduler
 from programs.test_examples import SESSIONS
@@ -26,8 +26,8 @@ from support.sessions import assert_replies
 
 # A session of more bands is played by one schedule of three, or by none.
 MANY_BANDS, TOO_MANY_BANDS = 300_000, 1_500_000
-# How many commands the other user has at least, and how many bytes a line has at most that an ask may hold.
-LEAST_OTHERS, MOST_HELD = 20, 16_384
+# How many commands the other user has at least.
+LEAST_OTHERS = 20
 OUT_OF_TURN = [b'{"do":"run","n":1}', b'{"do":"side","side":128}', b'{"do":"clear","plane":0}']
 
 
@@ -49,7 +49,7 @@ class Recorded(Machine):
 def ask_of(user: int, line: bytes) -> bytes | None:
     """The event that asks for a line, or None if the line is no JSON, or if no ask can hold it."""
     ask = b'{"event":"ask","user":%d,"command":%s}' % (user, line)
-    return None if len(line) > MOST_HELD or read_line(ask, is_event) in (1, 2) else ask
+    return None if len(line) > LINE_LIMIT or read_line(ask, is_event) in (1, 2) else ask
 
 
 class Play:
@@ -63,9 +63,11 @@ class Play:
         self.words = f"replay --users 2 --boards {boards} --cache {cache} --side {limit}".split()
         self.replay = Replay(2, boards, cache, limit)
         self.one, other = self.replay.host.users[self.user], self.replay.host.users[3 - self.user]
-        # A load is refused in an ask, so that what comes after it has other replies than in the session.
-        if not any(reply == b'{"ok":"load"}' for _, reply in self.left):
-            self.one.machine = Recorded(limit)
+        # After a command that no ask can hold the replies are others than in the session.
+        done = [line for line, reply in self.left if b'"ok":' in reply]
+        is_whole = all(ask_of(1, line) and not line.startswith(LOAD_HEAD) for line in done)
+        self.recorded = Recorded(limit) if is_whole else None
+        self.one.machine = self.recorded or self.one.machine
         self.asker = RuleAsker(other.machine, limit, random)
         self.sent: list[bytes] = []
         self.wanted: list[bytes] = []
@@ -87,9 +89,11 @@ class Play:
         """The session's lines, up to one that isn't finished at once. A line that no ask can hold stands by itself."""
         while self.left and self.one.status == "resting":
             line, reply = self.left.popleft()
-            if isinstance(self.one.machine, Recorded):
-                self.one.machine.wanted = reply
+            if self.recorded:
+                self.recorded.wanted = reply
             self.send(ask_of(self.user, line) or line)
+            if self.recorded:
+                self.recorded.wanted = b""
             if self.one.status == "finished" and self.random.random() < 0.9:
                 self.send(b'{"event":"collect","user":%d}' % self.user)
 
@@ -126,6 +130,7 @@ def compare(cam6: str, path: Path, seed: int) -> None:
 
 
 @pytest.mark.slow
+@pytest.mark.timeout(3600)
 @pytest.mark.parametrize("seed", [1, 2, 3])
 @pytest.mark.parametrize("path", [it for it in examples(SESSIONS) if not str(it.id).startswith("wrong_")])
 def test_a_session_has_the_same_replies_by_events(cam6: str, path: Path, seed: int) -> None:

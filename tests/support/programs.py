@@ -11,13 +11,14 @@ import threading
 import time
 from collections.abc import Callable, Iterable, Mapping
 from pathlib import Path
-from typing import Any, NamedTuple, TypeVar
+from typing import Any, NamedTuple, Self
 
 TOP = Path(__file__).parents[2]
 # The crate of each program, and the players, which ./build doesn't build.
 CRATES = {"cam6": "cam6_host", "cam6_draw": "cam6_draw", "cam6_rle": "cam6_rle", "cam6_web": "cam6_web"}
 PLAYERS = {"cam6_try_rules": "cam6_try_rules"}
-Self = TypeVar("Self", bound="Listener")
+# What is added to the environment of a program.
+Env = Mapping[str, str] | None
 # Seconds within which a program has to listen, to answer a line, and to end.
 START, PATIENCE, END = 20.0, 60.0, 600.0
 # The exit status of a host whose port is taken, and how often another port is tried.
@@ -39,7 +40,7 @@ class Ran(NamedTuple):
     errors: bytes = b""
 
 
-def ran(command: Iterable[str], data: bytes = b"", env: Mapping[str, str] | None = None, patience: float = END) -> Ran:
+def ran(command: Iterable[str], data: bytes = b"", env: Env = None, patience: float = END) -> Ran:
     """Runs a program to its end, with these bytes as its input."""
     all_env = os.environ | dict(env or {})
     # By files, since megabytes go through a pipe in thousands of turns of two processes.
@@ -82,11 +83,9 @@ def of_process(pid: int, name: str) -> int:
 def until(is_so: Callable[[], Any], seconds: float = PATIENCE, pause: float = 0.02) -> bool:
     """Waits until something is so, for so many seconds at most. Returns whether it came to be so."""
     end = time.monotonic() + seconds
-    while time.monotonic() < end:
-        if is_so():
-            return True
+    while not (found := is_so()) and time.monotonic() < end:
         time.sleep(pause)
-    return bool(is_so())
+    return bool(found)
 
 
 class NotListening(OSError):
@@ -105,11 +104,7 @@ class Listener:
     first = "listening on 127.0.0.1:{}"
 
     def __init__(
-        self,
-        command: Callable[[int], list[str]],
-        port: int | None,
-        env: Mapping[str, str] | None,
-        stdin: int = subprocess.DEVNULL,
+        self, command: Callable[[int], list[str]], port: int | None, env: Env = None, stdin: int = subprocess.DEVNULL
     ) -> None:
         self.command_at, self.port, self.env, self.stdin = command, port or free_port(), dict(env or {}), stdin
         self.said: list[str] = []
@@ -175,7 +170,7 @@ class Listener:
         """A number that the system knows of the process, as VmRSS (in kB) or Threads."""
         return of_process(self.process.pid, name)
 
-    def __enter__(self: Self) -> Self:
+    def __enter__(self) -> Self:
         return self
 
     def __exit__(self, *_: object) -> None:
@@ -186,12 +181,7 @@ class Host(Listener):
     """`cam6 serve`, with options such as `--users=4`."""
 
     def __init__(
-        self,
-        cam6: str,
-        *options: str,
-        port: int | None = None,
-        env: Mapping[str, str] | None = None,
-        stdin: int = subprocess.DEVNULL,
+        self, cam6: str, *options: str, port: int | None = None, env: Env = None, stdin: int = subprocess.DEVNULL
     ) -> None:
         super().__init__(lambda at: [cam6, "serve", f"--port={at}", *options], port, env, stdin)
 
@@ -203,7 +193,7 @@ class Page(Listener):
 
     def __init__(self, cam6_web: str, *ports: int, port: int | None = None, options: tuple[str, ...] = ()) -> None:
         hosts = [word for at in ports for word in ("--host", f"127.0.0.1:{at}")]
-        super().__init__(lambda at: [cam6_web, "--port", str(at), *hosts, *options], port, None)
+        super().__init__(lambda at: [cam6_web, "--port", str(at), *hosts, *options], port)
 
     @property
     def address(self) -> str:
