@@ -7,7 +7,7 @@ from __future__ import annotations
 
 import json
 import re
-from collections import Counter
+from collections import Counter, deque
 from collections.abc import Callable, Iterable, Sequence
 from functools import cache, lru_cache
 from itertools import product
@@ -151,21 +151,18 @@ def of_names(text: str) -> Rule:
 
 
 class PlainMachine:
-    """A blank machine. `known` has its rules by their names. Any other rule writes what names show."""
+    """A blank machine, which can go back by so many steps. `known` has its rules by their names. Any other rule writes what
+    names show."""
 
-    def __init__(self, known: dict[str, Rule], side: int = 256) -> None:
+    def __init__(self, known: dict[str, Rule], backs: int = 0) -> None:
         self.known, self.rules = known, dict[str, Rule]()
         self.entries: list[dict[str, Any]] = []
         self.position, self.colours = 0, list(range(16))
-        self.blank(side)
-
-    def blank(self, side: int) -> None:
-        """Blank planes, without a past."""
-        self.side, self.planes = side, [Plane()] * 4
-        self.past: list[list[Plane]] = []
+        self.past: deque[list[Plane]] = deque(maxlen=backs)
+        self.side, self.planes = 256, [Plane()] * 4
 
     def step(self) -> None:
-        """A step, whose past is kept."""
+        """A step."""
         entry = self.entries[self.position]
         torus, planes = Torus(self.side, self.planes, entry["grid"] == "ODD", entry["phase"]), [*self.planes]
         for name in {entry["a"], entry["b"]} - {"-"}:
@@ -185,8 +182,8 @@ class PlainMachine:
         ).encode()
 
     def do_side(self, side: int) -> dict[str, Any]:
-        """A blank torus."""
-        self.blank(side)
+        """A blank torus, from the first entry on."""
+        self.side, self.planes, self.position = side, [Plane()] * 4, 0
         return {}
 
     def do_rule(self, name: str, half: str, hood: str, minor: str, text: str) -> dict[str, Any]:
@@ -205,7 +202,7 @@ class PlainMachine:
         """A row."""
         kept = frozenset(cell for cell in Torus(self.side, self.planes).cells(plane) if cell[1] != row)
         cells = enumerate(f"{int(bits, 16):0{self.side}b}")
-        self.planes, self.past = [*self.planes], []
+        self.planes = [*self.planes]
         self.planes[plane] = Plane(0, kept.union((x, row) for x, bit in cells if bit == "1"))
         return {}
 
@@ -217,8 +214,8 @@ class PlainMachine:
 
     def do_back(self, n: int) -> dict[str, Any]:
         """Back to what was there."""
-        self.planes = self.past[-n]
-        self.past[-n:] = []
+        for _ in range(n):
+            self.planes = self.past.pop()
         self.position = (self.position - n) % len(self.entries)
         return {"position": self.position}
 

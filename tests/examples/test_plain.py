@@ -158,8 +158,9 @@ def example(name: str) -> Example:
 
 def answers(name: str) -> Iterator[bytes]:
     """What comes back for each part of an example."""
+    backs = sum(json.loads(line)["n"] for part in lines(name) for line in part if b'"do":"back"' in line)
     for part in lines(name):
-        machine = PlainMachine(KNOWN[name])
+        machine = PlainMachine(KNOWN[name], backs)
         yield b"".join(machine.answer(line) + b"\n" for line in part)
 
 
@@ -198,10 +199,11 @@ def starts(name: str) -> list[PlainMachine]:
 
 def history(machine: PlainMachine, steps: int, plane: int = 0) -> list[Plane]:
     """A plane at the start, and after each of so many steps."""
-    machine = copy(machine)
-    machine.past = []
-    machine.do_run(steps)
-    return [planes[plane] for planes in [*machine.past, machine.planes]]
+    machine, planes = copy(machine), [machine.planes[plane]]
+    for _ in range(steps):
+        machine.step()
+        planes.append(machine.planes[plane])
+    return planes
 
 
 def flights(name: str, number: int, steps: int, side: int = 128) -> list[Cells]:
