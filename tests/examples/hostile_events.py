@@ -201,10 +201,15 @@ def longest(event: Command) -> Iterator[Line]:
 
 # Of a long line its front, what is repeated, its rear, and what it says.
 LONG: list[tuple[str, str, str, Meaning]] = [
-    ('"', "x", '"', NO_COMMAND), ("", "1", "", NO_JSON), ("[1", ",1", "]", NO_COMMAND), ("", "\0", "", NO_JSON),
-    ('{"event":"', "x", '"}', NO_COMMAND), ('{"event":"band","board":', "1", "}", NO_JSON),
-    ('{"event":"band","board":0', " ", "}", BAND), ('{"event":"', "x", '","event":"evict"}', EVICT),
-]  # fmt: skip
+    ('"', "x", '"', NO_COMMAND),
+    ("", "1", "", NO_JSON),
+    ("[1", ",1", "]", NO_COMMAND),
+    ("", "\0", "", NO_JSON),
+    ('{"event":"', "x", '"}', NO_COMMAND),
+    ('{"event":"band","board":', "1", "}", NO_JSON),
+    ('{"event":"band","board":0', " ", "}", BAND),
+    ('{"event":"', "x", '","event":"evict"}', EVICT),
+]
 
 
 def with_other_bytes() -> Iterator[Line]:

@@ -162,18 +162,34 @@ def in_no_places() -> Iterator[Line]:
 DROP = do("drop", name="x")
 # Of a long line its front, what is repeated, its rear, and what it says.
 LONG: list[tuple[str, str, str, Meaning]] = [
-    ('"', "x", '"', NO_COMMAND), ("", "1", "", NO_JSON), ("0.", "1", "", NO_COMMAND), ("-", "1", "", NO_JSON),
-    ("1e-", "1", "", NO_COMMAND), ("[1", ",1", "]", NO_COMMAND), ("[[]", ",[]", "]", NO_COMMAND),
-    ('{"x":1', ',"x":1', "}", NO_COMMAND), ('{"', "x", '":0}', NO_COMMAND), ('{"do":"', "x", '"}', NO_COMMAND),
-    ('{"do":"rules","', "x", '":0}', NO_COMMAND), ('{"do":"set","plane":0,"row":0,"bits":"', "0", '"}', NO_COMMAND),
-    ('{"do":"map","colours":[0', ",0", "]}", NO_COMMAND), ('{"do":"run","n":', "1", "}", NO_JSON),
-    ('{"do":"run","n":0.', "1", "}", NO_COMMAND), ('{"do":"cycle","entries":[{}', ",{}", "]}", NO_COMMAND),
-    ('{"do":"drop","name":"', "x", '"}', DROP), ('{"do":"drop","name":"', r"\u0078", '"}', DROP),
-    ('{"do":"drop","name":"', "\u00e9", '"}', DROP), ('{"do":"', "x", '","do":"rules"}', RULES),
-    ('{"do":"rules"', ',"do":"rules"', "}", RULES), ("", " ", "", NO_JSON), ("", "\t", "", NO_JSON),
-    ("", "\0", "", NO_JSON), ("", text_of(b"\xff"), "", NO_JSON), (LINE, "\r", "", COUNT),
+    ('"', "x", '"', NO_COMMAND),
+    ("", "1", "", NO_JSON),
+    ("0.", "1", "", NO_COMMAND),
+    ("-", "1", "", NO_JSON),
+    ("1e-", "1", "", NO_COMMAND),
+    ("[1", ",1", "]", NO_COMMAND),
+    ("[[]", ",[]", "]", NO_COMMAND),
+    ('{"x":1', ',"x":1', "}", NO_COMMAND),
+    ('{"', "x", '":0}', NO_COMMAND),
+    ('{"do":"', "x", '"}', NO_COMMAND),
+    ('{"do":"rules","', "x", '":0}', NO_COMMAND),
+    ('{"do":"set","plane":0,"row":0,"bits":"', "0", '"}', NO_COMMAND),
+    ('{"do":"map","colours":[0', ",0", "]}", NO_COMMAND),
+    ('{"do":"run","n":', "1", "}", NO_JSON),
+    ('{"do":"run","n":0.', "1", "}", NO_COMMAND),
+    ('{"do":"cycle","entries":[{}', ",{}", "]}", NO_COMMAND),
+    ('{"do":"drop","name":"', "x", '"}', DROP),
+    ('{"do":"drop","name":"', r"\u0078", '"}', DROP),
+    ('{"do":"drop","name":"', "\u00e9", '"}', DROP),
+    ('{"do":"', "x", '","do":"rules"}', RULES),
+    ('{"do":"rules"', ',"do":"rules"', "}", RULES),
+    ("", " ", "", NO_JSON),
+    ("", "\t", "", NO_JSON),
+    ("", "\0", "", NO_JSON),
+    ("", text_of(b"\xff"), "", NO_JSON),
+    (LINE, "\r", "", COUNT),
     ('{"do":"rules"}', " ", "\r", RULES),
-]  # fmt: skip
+]
 
 
 def longest_lines() -> LineWriter:

@@ -245,19 +245,29 @@ def in_values() -> Iterator[Line]:
 
 
 WHOLES = [
-    (f'{{"machine":{MACHINE},"do":"load"}}', OTHER_SPELLING), (f'{{"do":"save",{LINE[1:]}', OTHER_SPELLING),
-    (f'{LINE[:-1]},"do":"load"}}', OTHER_SPELLING), (f'{LINE[:-1]},"do":"save"}}', NO_COMMAND),
+    (f'{{"machine":{MACHINE},"do":"load"}}', OTHER_SPELLING),
+    (f'{{"do":"save",{LINE[1:]}', OTHER_SPELLING),
+    (f'{LINE[:-1]},"do":"load"}}', OTHER_SPELLING),
+    (f'{LINE[:-1]},"do":"save"}}', NO_COMMAND),
     (f'{{"do":"load","machine":0,{LINE[len(HEAD):]}', OTHER_SPELLING),
-    (f'{LINE[:-1]},"machine":{MACHINE}}}', OTHER_SPELLING), (f'{LINE[:-1]},"machine":0}}', NO_COMMAND),
-    (f'{LINE[:-1]},"x":0}}', NO_COMMAND), (f"{{{LINE[13:]}", NO_COMMAND), ('{"do":"load"}', NO_COMMAND),
-    ('{"do":"load",}', NO_JSON), (HEAD, NO_JSON), (HEAD[:-1], NO_JSON), (f"[{LINE}]", NO_COMMAND),
-    (said(LINE), NO_COMMAND), (MACHINE, NO_COMMAND),
+    (f'{LINE[:-1]},"machine":{MACHINE}}}', OTHER_SPELLING),
+    (f'{LINE[:-1]},"machine":0}}', NO_COMMAND),
+    (f'{LINE[:-1]},"x":0}}', NO_COMMAND),
+    (f"{{{LINE[13:]}", NO_COMMAND),
+    ('{"do":"load"}', NO_COMMAND),
+    ('{"do":"load",}', NO_JSON),
+    (HEAD, NO_JSON),
+    (HEAD[:-1], NO_JSON),
+    (f"[{LINE}]", NO_COMMAND),
+    (said(LINE), NO_COMMAND),
+    (MACHINE, NO_COMMAND),
     *((wrong.replace("@", LINE), OTHER_SPELLING) for wrong in (" @", "@ ", "@\r")),
     *((wrong.replace("@", LINE), NO_JSON) for wrong in ("\ufeff@", "@\ufeff", "@\0", "@,", "@}", "@@")),
     (LINE[:-1], NO_JSON),
     *((LINE.replace(*pair), NO_JSON) for pair in [("}", ",}"), ("[],", "[,],"), ('"', "'"), ("[]]", "[],]")]),
-    (text_of(LINE.encode("utf-16-le")), NO_JSON), (LINE, NEVER_SAVED),
-]  # fmt: skip
+    (text_of(LINE.encode("utf-16-le")), NO_JSON),
+    (LINE, NEVER_SAVED),
+]
 
 
 def in_wholes() -> Iterator[Line]:
@@ -301,10 +311,16 @@ def up_to_a_byte() -> Iterator[Line]:
 
 # Of a long line its front, what is repeated, its rear and its fault.
 LONG = [
-    (HEAD + '"x":"', "x", '"}', NO_COMMAND), (HEAD, " ", '"x":0}', NO_COMMAND), (HEAD, "\0", "", NO_JSON),
-    (HEAD + '"machine":', "[", "", NO_JSON), (HEAD, "{", "", NO_JSON), (HEAD, text_of(b"\xff"), "", NO_JSON),
-    (HEAD + '"x":1', "1", "}", NO_JSON), (HEAD + '"x":0.', "1", "}", NO_COMMAND), (HEAD + '"x":[0', ",0", "]}", NO_COMMAND),
-]  # fmt: skip
+    (HEAD + '"x":"', "x", '"}', NO_COMMAND),
+    (HEAD, " ", '"x":0}', NO_COMMAND),
+    (HEAD, "\0", "", NO_JSON),
+    (HEAD + '"machine":', "[", "", NO_JSON),
+    (HEAD, "{", "", NO_JSON),
+    (HEAD, text_of(b"\xff"), "", NO_JSON),
+    (HEAD + '"x":1', "1", "}", NO_JSON),
+    (HEAD + '"x":0.', "1", "}", NO_COMMAND),
+    (HEAD + '"x":[0', ",0", "]}", NO_COMMAND),
+]
 
 
 def of_all_kinds() -> Iterator[Line]:

@@ -13,11 +13,12 @@ import hypothesis
 import pytest
 from examples.writing import Command, do
 from hypothesis import strategies as st
-from hypothesis.stateful import precondition, rule, run_state_machine_as_test
+from hypothesis.stateful import precondition, rule
 from oracle.host import DEAD, IDLE, REFUSALS, Replay
 from oracle.machine import Machine
 from oracle.schedules import LARGEST, Scheduler, on
 from programs.asking import Asking
+from support.stateful import play
 
 # Many more examples are tried by `--hypothesis-profile long`.
 pytestmark = [pytest.mark.slow, pytest.mark.timeout(7200)]
@@ -136,5 +137,4 @@ class Schedules(Asking):
 
 @pytest.mark.parametrize("sizes", SIZES)
 def test_schedules(cam6: str, sizes: tuple[int, int, int, int]) -> None:
-    settings = hypothesis.settings(max_examples=hypothesis.settings().max_examples // 5)
-    run_state_machine_as_test(lambda: Schedules(cam6, sizes), settings=settings)  # type: ignore[no-untyped-call]
+    play(lambda: Schedules(cam6, sizes), examples=hypothesis.settings().max_examples // 5)

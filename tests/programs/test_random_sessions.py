@@ -6,10 +6,11 @@ import hypothesis
 import pytest
 from examples.writing import Command, do
 from hypothesis import strategies as st
-from hypothesis.stateful import initialize, run_state_machine_as_test
+from hypothesis.stateful import initialize
 from oracle.lines import plain
 from oracle.machine import SIDES, Alone, Machine
 from programs.asking import Asking
+from support.stateful import play
 
 # Many more examples are tried by `--hypothesis-profile long`.
 pytestmark = [pytest.mark.slow, pytest.mark.timeout(7200)]
@@ -52,5 +53,4 @@ class Sessions(Asking):
 
 @pytest.mark.parametrize("limit", SIDES)
 def test_sessions(cam6: str, limit: int) -> None:
-    settings = hypothesis.settings(max_examples=hypothesis.settings().max_examples // 4)
-    run_state_machine_as_test(lambda: Sessions(cam6, limit), settings=settings)  # type: ignore[no-untyped-call]
+    play(lambda: Sessions(cam6, limit), examples=hypothesis.settings().max_examples // 4)

@@ -39,7 +39,8 @@ class Recorded(Machine):
     def do(self, command: dict[str, Any]) -> dict[str, Any]:
         """The reply of the file, if there is one."""
         reply, wanted, self.wanted = super().do(command), self.wanted, b""
-        return json.loads(wanted) if wanted else reply  # type: ignore[no-any-return]
+        replied: dict[str, Any] = json.loads(wanted) if wanted else reply
+        return replied
 
     def settle(self) -> None:
         """Does no steps."""

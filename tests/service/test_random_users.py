@@ -9,15 +9,15 @@ from __future__ import annotations
 from dataclasses import dataclass, field
 from typing import Any
 
-import hypothesis
 import pytest
 from hypothesis import strategies as st
-from hypothesis.stateful import RuleBasedStateMachine, initialize, rule, run_state_machine_as_test
+from hypothesis.stateful import RuleBasedStateMachine, initialize, rule
 from oracle.lines import plain
 from oracle.machine import Alone
 from programs.texts import rules
 from support.programs import Host, Peer
 from support.sessions import assert_replies
+from support.stateful import play
 
 from .users import TAKEN, seated
 
@@ -116,5 +116,4 @@ class Users(RuleBasedStateMachine):
 
 @pytest.mark.slow
 def test_users(cam6: str) -> None:
-    settings = hypothesis.settings(stateful_step_count=25, max_examples=25)
-    run_state_machine_as_test(lambda: Users(cam6), settings=settings)  # type: ignore[no-untyped-call]
+    play(lambda: Users(cam6), examples=25, steps=25)

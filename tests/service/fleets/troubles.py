@@ -40,7 +40,7 @@ class Troubles:
             try:
                 with contextmanager(KINDS[name].play)(self):
                     self.pause(*KINDS[name].seconds)
-            except Exception as error:  # noqa: BLE001  whatever goes wrong, the trouble goes on
+            except Exception as error:  # whatever goes wrong, the trouble goes on
                 self.note(False, f"{name}: {error!r}")
             self.pause(0.1, 3, 0.4)
 
