@@ -62,7 +62,7 @@ class Speller:
         if isinstance(value, Raw):
             text = bytes(value)
         elif isinstance(value, dict):
-            keys = self.random.sample(list(value), len(value)) if self.random.random() < 0.6 else list(value)
+            keys = self.random.sample(list(value), len(value)) if value and self.random.random() < 0.6 else list(value)
             text = self.joined(self.text(key) + self.space() + b":" + self.spelled(value[key]) for key in keys)
             text = b"{" + text + b"}"
         elif isinstance(value, list):

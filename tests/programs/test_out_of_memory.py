@@ -263,7 +263,7 @@ def of_player(word: str, of: Callable[[], Lines], how_of: Callable[[Lines, Lines
     """Runs the player on lines. It does again what ran out of memory."""
 
     def once(bench: Bench, number: int) -> tuple[How, object]:
-        done = bench.ran([bench.player, "scarce", *word.split()], of(), number)
+        done = bench.ran([bench.player, "scarce", word], of(), number)
         got = whole_lines(done.output)
         if done.status == 0:
             return None if got is None else how_of(got, of()), done

@@ -117,19 +117,25 @@ def cycle_of(machine: Machine) -> Any:
     return json.loads(machine.save())["machine"]["cycle"]
 
 
+class Balls:
+    """What a builder of rules returns."""
+
+    text, name, half, hood, minor = BALLS, "balls", "A", "N/MARG", "&/PHASES"
+    cycle = (("EVEN", 0), ("ODD", 0))
+
+
 def test_rules_of_builders(local: Local) -> None:
-    wiring = {"hood": "N/MARG", "minor": "&/PHASES", "half": "A"}
-    value: Any = SimpleNamespace(text=BALLS, name="balls", cycle=(("EVEN", 0), ("ODD", 0)), **wiring)
+    value: Any = Balls()
     machine = local()
     machine.rule("mine", value)
     machine.cycle(value)
     assert cycle_of(machine) == [{"a": "mine", "b": "-", "grid": grid, "phase": 0} for grid in ("EVEN", "ODD")]
-    machine.rule(value)
+    machine.rule(Balls())
     assert machine.rules() == ["mine", "balls"]
     with pytest.raises(ValueError):
         machine.rule("other", value, hood="N/MARG")
     saved = json.loads(machine.save())["machine"]["rules"][0]
-    assert saved == {**wiring, "name": "mine", "text": BALLS}
+    assert saved == {"name": "mine", "half": "A", "hood": "N/MARG", "minor": "&/PHASES", "text": BALLS}
 
 
 P_ENTRY = {"a": "P", "b": "-", "grid": "EVEN", "phase": 0}
