@@ -95,6 +95,19 @@ def test_a_file_without_a_whole_line_is_no_journal(path: Path, opened: Opened) -
         assert path.read_bytes() == data[:cut]
 
 
+def test_a_file_that_an_earlier_version_wrote_anew_is_read(path: Path, opened: Opened) -> None:
+    """Its commands with replies had lines of their own."""
+    first = opened()
+    first.close()
+    rows = [
+        '{"done":"{\\"do\\":\\"clear\\",\\"plane\\":0}","reply":"{\\"ok\\":\\"clear\\"}"}',
+        '{"ask":"{\\"do\\":\\"rules\\"}"}',
+    ]
+    path.write_bytes(path.read_bytes() + "".join(f"{row}\n" for row in rows).encode())
+    tail = [(b'{"do":"clear","plane":0}', b'{"ok":"clear"}')]
+    assert state_of(opened()) == (first.load, tail, [b'{"do":"rules"}'], 1)
+
+
 def test_an_empty_file_is_a_new_journal(path: Path, opened: Opened) -> None:
     path.write_bytes(b"")
     assert opened().number == 0

@@ -119,6 +119,9 @@ class Journal:
             self.number += 1
         elif "part" in said:
             self._part(bytes_of(said["part"]), bytes_of(said["reply"]))
+        elif "done" in said:
+            # A command that changed the machine, of a file that an earlier version wrote anew.
+            self.tail.append((bytes_of(said["done"]), bytes_of(said["reply"])))
         elif "drop" in said:
             self._drop(int(said["drop"]))
         else:
