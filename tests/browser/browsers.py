@@ -9,22 +9,23 @@ from contextlib import contextmanager
 from dataclasses import dataclass
 from pathlib import Path
 
+import pytest
 from selenium import webdriver
 from selenium.webdriver.chrome.service import Service
 from selenium.webdriver.remote.file_detector import UselessFileDetector
 from selenium.webdriver.remote.webdriver import WebDriver
 
-from browser.firefox import Bridge, Firefox, Preferences
+from browser.firefox import Firefox, Preferences
 
 # The width and the height that a page has of a window.
 WINDOW = (1280, 800)
 OPTIONS = ("--headless=new", "--disable-gpu", "--no-first-run", "--hide-scrollbars")
-# Of each program, the package that has it.
-PACKAGES = {"chromium": "chromium", "chromedriver": "chromium-driver", "firefox-esr": "firefox-esr"}
-
-
-class Missing(Exception):
-    """A program isn't there."""
+# The program of each package. Other systems have some of them under another name.
+PROGRAMS = {
+    "chromium": ("chromium", "chromium-browser", "google-chrome"),
+    "chromium-driver": ("chromedriver",),
+    "firefox-esr": ("firefox-esr", "firefox"),
+}
 
 
 @dataclass(frozen=True)
@@ -39,12 +40,13 @@ class Browser:
         return f"{self.name} {self.driver.capabilities['browserVersion']}"
 
 
-def path_of(program: str) -> str:
-    """The path of a program. Raises Missing if it isn't there."""
-    path = shutil.which(program)
-    if path is None:
-        raise Missing(f"there is no {program} on the PATH: install the package {PACKAGES[program]} of packages.txt")
-    return path
+def path_of(package: str) -> str:
+    """The path of a package's program. Fails if it isn't there."""
+    names = PROGRAMS[package]
+    for name in names:
+        if path := shutil.which(name):
+            return path
+    pytest.fail(f"there is no {' or '.join(names)}: install the package {package} of packages.txt", pytrace=False)
 
 
 @contextmanager
@@ -57,7 +59,7 @@ def chromium(downloads: Path) -> Iterator[Browser]:
         options.add_argument(option)
     options.add_experimental_option("prefs", {"download.default_directory": str(downloads)})
     options.set_capability("goog:loggingPrefs", {"browser": "ALL"})
-    driver = webdriver.Chrome(service=Service(path_of("chromedriver")), options=options)
+    driver = webdriver.Chrome(service=Service(path_of("chromium-driver")), options=options)
     try:
         yield Browser("chromium", driver, downloads)
     finally:
@@ -68,16 +70,14 @@ def chromium(downloads: Path) -> Iterator[Browser]:
 def firefox(downloads: Path) -> Iterator[Browser]:
     """Firefox, until the end of the context."""
     keeps: Preferences = {"browser.download.folderList": 2, "browser.download.dir": str(downloads)}
-    process = Firefox(path_of("firefox-esr"), keeps)
+    bridge = Firefox(path_of("firefox-esr"), keeps)
     try:
-        with Bridge(process) as bridge:
-            driver = webdriver.Remote(command_executor=bridge.address, options=webdriver.FirefoxOptions())
-            # A file that is typed into a field is at hand, since the browser runs here.
-            driver.file_detector = UselessFileDetector()
-            yield Browser("firefox", driver, downloads)
-            bridge.shutdown()
+        driver = webdriver.Remote(command_executor=bridge.address, options=webdriver.FirefoxOptions())
+        # A file that is typed into a field is at hand, since the browser runs here.
+        driver.file_detector = UselessFileDetector()
+        yield Browser("firefox", driver, downloads)
     finally:
-        process.end()
+        bridge.end()
 
 
 BROWSERS = {"chromium": chromium, "firefox": firefox}

@@ -7,13 +7,10 @@ from collections.abc import Iterable
 from itertools import product
 from typing import Any
 
+from oracle.palette import PALETTE
 from PIL import Image
 from support.programs import TOP, private
 
-# The lights of the sixteen colours: red, green and blue of each.
-PALETTE = (
-    "000000 ffd23f 3fa7ff 9be564 ee4266 ff8c42 b388eb ffb3c6 3bceac d9f2b4 7fdbff e8f8ff c98a5b ffe8c2 d0c8ff ffffff"
-).split()
 BLACK = (0, 0, 0, 255)
 
 

@@ -8,7 +8,7 @@ import pytest
 from _pytest.terminal import TerminalReporter
 from support.programs import Host, Page
 
-from browser.browsers import BROWSERS, WINDOW, Browser, Missing
+from browser.browsers import BROWSERS, WINDOW, Browser
 from browser.teacher import Teacher
 
 
@@ -24,12 +24,8 @@ def pytest_terminal_summary(terminalreporter: TerminalReporter) -> None:
 @pytest.fixture(scope="session", params=[pytest.param(one, marks=pytest.mark.xdist_group(one)) for one in BROWSERS])
 def browser(request: pytest.FixtureRequest, tmp_path_factory: pytest.TempPathFactory) -> Iterator[Browser]:
     """Each of the browsers, one after another."""
-    downloads = tmp_path_factory.mktemp("downloads")
-    try:
-        with BROWSERS[request.param](downloads) as one:
-            yield one
-    except Missing as missing:
-        pytest.fail(str(missing), pytrace=False)
+    with BROWSERS[request.param](tmp_path_factory.mktemp("downloads")) as one:
+        yield one
 
 
 @pytest.fixture

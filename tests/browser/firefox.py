@@ -15,6 +15,7 @@ import socket
 import subprocess
 import tempfile
 import threading
+from contextlib import suppress
 from http.server import BaseHTTPRequestHandler, ThreadingHTTPServer
 from pathlib import Path
 from typing import Any, Union
@@ -24,14 +25,12 @@ from support.programs import until
 # The commands that the tests use: WebDriver's method and path within a session, and Marionette's name.
 ENDPOINTS = {
     "POST /url": "WebDriver:Navigate",
-    "GET /url": "WebDriver:GetCurrentURL",
     "POST /refresh": "WebDriver:Refresh",
     "GET /window": "WebDriver:GetWindowHandle",
     "GET /window/handles": "WebDriver:GetWindowHandles",
     "POST /window": "WebDriver:SwitchToWindow",
     "POST /window/new": "WebDriver:NewWindow",
     "DELETE /window": "WebDriver:CloseWindow",
-    "GET /window/rect": "WebDriver:GetWindowRect",
     "POST /window/rect": "WebDriver:SetWindowRect",
     "POST /element": "WebDriver:FindElement",
     "POST /element/ID/click": "WebDriver:ElementClick",
@@ -56,6 +55,9 @@ CALLS = re.compile(r"^console\.(error|assert|warn): (?!\w+: )(.*)", re.M)
 # Seconds in which the browser has to listen, to do a command, and to end.
 START, PATIENCE, END = 120, 300, 20
 Preferences = dict[str, Union[bool, int, str]]
+OPTIONS = ("--headless", "--no-remote", "--marionette", "--remote-allow-system-access")
+# Any free port, and what pages write to their consoles on the browser's output.
+OWN: Preferences = {"marionette.port": 0, "devtools.console.stdout.content": True}
 
 
 class Refused(Exception):
@@ -66,48 +68,42 @@ class Refused(Exception):
         self.told = told
 
 
-class Firefox:
-    """A Firefox without a window, with a profile of its own, and a connection to its Marionette."""
+class Firefox(ThreadingHTTPServer):
+    """A Firefox without a window, with a profile of its own and a connection to its Marionette, and WebDriver's server for its
+    session. `address` is where selenium finds it."""
+
+    daemon_threads = True
 
     def __init__(self, path: str, preferences: Preferences) -> None:
+        super().__init__(("127.0.0.1", 0), Request)
+        self.address = f"http://127.0.0.1:{self.server_port}"
         self.folder = Path(tempfile.mkdtemp(prefix="firefox-"))
-        # Any free port, and what pages write to their consoles on the browser's output too.
-        all_preferences = preferences | {"marionette.port": 0, "devtools.console.stdout.content": True}
-        lines = (f"user_pref({json.dumps(name)}, {json.dumps(value)});\n" for name, value in all_preferences.items())
+        lines = (f"user_pref({json.dumps(name)}, {json.dumps(one)});\n" for name, one in (preferences | OWN).items())
         (self.folder / "user.js").write_text("".join(lines))
-        options = [
-            "--headless",
-            "--no-remote",
-            "--marionette",
-            "--remote-allow-system-access",
-            "--profile",
-            str(self.folder),
-        ]
-        self.output, self.number, self.lock = self.folder / "output", 0, threading.Lock()
-        with self.output.open("wb") as output:
+        command = [path, *OPTIONS, "--profile", str(self.folder), "about:blank"]
+        self.lock, self.number = threading.Lock(), 0
+        output, none = self.folder / "output", subprocess.DEVNULL
+        with output.open("wb") as file:
             # In a group of its own, so that all of its processes can be ended.
-            how: dict[str, Any] = {
-                "stdin": subprocess.DEVNULL,
-                "stdout": output,
-                "stderr": output,
-                "start_new_session": True,
-            }
-            self.process = subprocess.Popen([path, *options, "about:blank"], **how)
+            self.browser = subprocess.Popen(command, stdin=none, stdout=file, stderr=file, start_new_session=True)
+        self.told = output.open(errors="replace")
+        threading.Thread(target=self.serve_forever, daemon=True).start()
         try:
             self.connect()
         except BaseException:
             self.end()
             raise
-        self.told = self.output.open(errors="replace")
 
     def connect(self) -> None:
         """Connects to Marionette, as soon as the browser has written its port to a file."""
         place = self.folder / "MarionetteActivePort"
-        if not until(lambda: self.process.poll() is not None or place.exists() and place.read_text(), START):
-            raise OSError(f"{self.process.args!r} doesn't listen")
-        self.socket = socket.create_connection(("127.0.0.1", int(place.read_text())), timeout=PATIENCE)
-        self.socket.setsockopt(socket.IPPROTO_TCP, socket.TCP_NODELAY, 1)
-        self.file = self.socket.makefile("rb")
+        until(lambda: place.exists() and place.read_text() or self.browser.poll() is not None, START)
+        if not place.exists():
+            raise OSError(f"Firefox doesn't listen: {self.told.read()}")
+        self.marionette = socket.create_connection(("127.0.0.1", int(place.read_text())), timeout=PATIENCE)
+        self.marionette.setsockopt(socket.IPPROTO_TCP, socket.TCP_NODELAY, 1)
+        self.file = self.marionette.makefile("rb")
+        # Marionette says first who it is.
         self.packet()
 
     def packet(self) -> Any:
@@ -124,7 +120,7 @@ class Firefox:
         with self.lock:
             self.number += 1
             packet = json.dumps([0, self.number, name, parameters]).encode()
-            self.socket.sendall(b"%d:%s" % (len(packet), packet))
+            self.marionette.sendall(b"%d:%s" % (len(packet), packet))
             _, _, error, result = self.packet()
         if error:
             raise Refused(error)
@@ -141,44 +137,32 @@ class Firefox:
         return told
 
     def end(self) -> None:
-        """Ends the browser, and drops its profile."""
-        self.process.terminate()
-        try:
-            self.process.wait(END)
-        except subprocess.TimeoutExpired:
-            pass
-        try:
-            os.killpg(self.process.pid, signal.SIGKILL)
-        except ProcessLookupError:
-            pass
-        self.process.wait()
+        """Ends the browser and the server, and drops the profile."""
+        self.shutdown()
+        self.server_close()
+        self.browser.terminate()
+        with suppress(subprocess.TimeoutExpired):
+            self.browser.wait(END)
+        with suppress(ProcessLookupError):
+            os.killpg(self.browser.pid, signal.SIGKILL)
+        self.browser.wait()
+        self.told.close()
         shutil.rmtree(self.folder, ignore_errors=True)
 
-
-class Bridge(ThreadingHTTPServer):
-    """WebDriver's server for one session of a Firefox. `address` is where selenium finds it."""
-
-    daemon_threads = True
-
-    def __init__(self, firefox: Firefox) -> None:
-        super().__init__(("127.0.0.1", 0), Request)
-        self.firefox, self.address = firefox, f"http://127.0.0.1:{self.server_port}"
-        threading.Thread(target=self.serve_forever, daemon=True).start()
-
     def value_of(self, method: str, path: str, parameters: dict[str, Any]) -> Any:
-        """The value of a request for /session, /session/SESSION, or a path within it."""
+        """The value of a request for /session, or for a path within /session/SESSION."""
+        if path == "/session":
+            return self.ask("WebDriver:NewSession")
         words = path.split("/")[3:]
-        if not words:
-            return self.firefox.ask("WebDriver:NewSession") if method == "POST" else self.firefox.end()
-        if words[0] == "element" and len(words) > 2:
+        if words[:1] == ["element"] and len(words) > 2:
             parameters["id"], words[1] = words[1], "ID"
         endpoint = f"{method} /{'/'.join(words)}"
         if endpoint == "POST /se/log":
-            return self.firefox.console()
+            return self.console()
         if endpoint not in ENDPOINTS:
             raise Refused({"error": "unknown command", "message": f"the bridge has no {endpoint}", "stacktrace": ""})
         name = ENDPOINTS[endpoint]
-        return self.firefox.ask(name, **parameters, **MORE.get(name, {}))
+        return self.ask(name, **parameters, **MORE.get(name, {}))
 
 
 class Request(BaseHTTPRequestHandler):
@@ -186,7 +170,7 @@ class Request(BaseHTTPRequestHandler):
 
     protocol_version = "HTTP/1.1"
     disable_nagle_algorithm = True
-    server: Bridge
+    server: Firefox
 
     def respond(self) -> None:
         """Sends a JSON object with the value, or with WebDriver's error."""

@@ -52,6 +52,14 @@ class Photographer(Teacher):
         """Closes what is open, or gives up what is under way."""
         self.key(Keys.ESCAPE)
 
+    def show(self, selector: str, name: str, **texts: str) -> None:
+        """Clicks what opens something, fills its fields, takes a picture, and closes it."""
+        self.click(selector)
+        for field, text in texts.items():
+            self.fill(f"#{field.replace('_', '-')}", text)
+        self.take(name)
+        self.close()
+
 
 def take_letters(one: Photographer) -> None:
     """The first page, and letters in the middle of a run, dark and light."""
@@ -69,9 +77,7 @@ def take_letters(one: Photographer) -> None:
 
 def take_rules(one: Photographer) -> None:
     """The gallery, a faulty rule, a step that can't be undone, a cycle, and the help."""
-    one.click("#gallery")
-    one.take("live-gallery")
-    one.close()
+    one.show("#gallery", "live-gallery")
     one.write_rule(FAULTY)
     one.until("!document.getElementById('rule-fault').hidden")
     one.take("live-rule")
@@ -84,9 +90,7 @@ def take_rules(one: Photographer) -> None:
     one.set_up("critters")
     one.click("#tab-cycle")
     one.take("live-cycle")
-    one.click("#help")
-    one.take("live-help")
-    one.close()
+    one.show("#help", "live-help")
 
 
 def take_cells(one: Photographer) -> None:
@@ -96,13 +100,8 @@ def take_cells(one: Photographer) -> None:
     one.drag((50, 50), (60, 60), (80, 75))
     one.take("live-select")
     one.close()
-    one.click("#pattern")
-    one.fill("#paste-text", GLIDER)
-    one.take("live-pattern")
-    one.close()
-    one.click("#keep-picture")
-    one.take("live-picture")
-    one.close()
+    one.show("#pattern", "live-pattern", paste_text=GLIDER)
+    one.show("#keep-picture", "live-picture")
 
 
 def take_loss(one: Photographer, host: Host) -> None:

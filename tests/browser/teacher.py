@@ -3,9 +3,10 @@
 from __future__ import annotations
 
 import base64
+import re
 import time
 from collections.abc import Callable, Iterator
-from contextlib import contextmanager
+from contextlib import contextmanager, suppress
 from io import BytesIO
 from pathlib import Path
 from typing import Any
@@ -23,15 +24,15 @@ from browser import cells
 from browser.browsers import Browser
 
 POLL = 0.03
-# Seconds for which a count has to stay, so that no step is under way.
-STAYS = 1.0
+# The seconds and the looks for which a count has to stay, so that no step is under way.
+STAYS, LOOKS = 1.0, 25
 READY = "document.documentElement.dataset.ready === '1'"
 TORUS = "document.getElementById('torus').dataset"
 # Where the torus is in the window, which place of it is in its left upper corner there, its side, and the pixels of a cell.
 VIEW = f"""(({{ x, y }}, {{ left, top, side, zoom }}) => [x, y, left, top, side, zoom].map(Number))(
   document.getElementById('torus').getBoundingClientRect(), {TORUS})"""
-# The endings of files that a browser has not written yet.
-UNFINISHED = (".crdownload", ".part", ".tmp")
+# The names of files that a browser has not written yet. Chromium begins with a hidden one, which has no such ending.
+UNFINISHED = re.compile(r"^\.|\.(crdownload|part|tmp)$")
 
 
 def moved(count: int) -> str:
@@ -97,17 +98,22 @@ class Teacher:
         return int(self.torus("count"))
 
     def settled(self) -> int:
-        """The count, as soon as it stays."""
-        seen: list[tuple[float, int]] = []
+        """The count, as soon as it stays: for a second, and for so many looks, since steps take longer on a busy computer."""
+        looks: list[tuple[float, int]] = []
 
         def stays() -> bool:
-            now = (time.monotonic(), self.count())
-            if not seen or seen[0][1] != now[1]:
-                seen[:] = [now]
-            return now[0] - seen[0][0] > STAYS and self.torus("state") == "ready"
+            looks.append((time.monotonic(), self.count()))
+            if looks[0][1] != looks[-1][1] or self.torus("state") != "ready":
+                looks[:-1] = []
+            return len(looks) > LOOKS and looks[-1][0] - looks[0][0] > STAYS
 
-        assert until(stays, PATIENCE), f"the count doesn't settle: {seen}"
-        return seen[0][1]
+        assert until(stays), f"the count doesn't settle: {looks}"
+        return looks[0][1]
+
+    def assert_count(self, count: int) -> None:
+        """Fails if the count doesn't come to be this one, and stay."""
+        until(lambda: self.count() == count)
+        assert self.settled() == count
 
     def assert_shows(self, lines: list[str]) -> None:
         """Fails if the canvas doesn't come to show what a private machine has after these lines."""
@@ -233,13 +239,16 @@ class Teacher:
         """The file that the page gives to keep after something is pressed."""
         folder = self.browser.downloads
         before = {*folder.iterdir()}
-        press()
 
         def new() -> list[Path]:
-            names = {*folder.iterdir()} - before
-            is_whole = all(path.suffix not in UNFINISHED and path.stat().st_size > 0 for path in names)
-            return [*names] if is_whole else []
+            # A file may get another name while it is looked at.
+            with suppress(FileNotFoundError):
+                names = {*folder.iterdir()} - before
+                if all(not UNFINISHED.search(path.name) and path.stat().st_size > 0 for path in names):
+                    return [*names]
+            return []
 
+        press()
         assert until(new), "no file was kept"
         (path,) = new()
         return path

@@ -5,18 +5,24 @@ from __future__ import annotations
 import threading
 import time
 from collections.abc import Callable, Iterator
-from http.server import BaseHTTPRequestHandler, ThreadingHTTPServer
+from functools import partial
+from http.server import SimpleHTTPRequestHandler, ThreadingHTTPServer
+from pathlib import Path
 
 import pytest
 from support.programs import Host, Page, until
 
-from browser.teacher import READY, Teacher, moved
+from browser.teacher import READY, TORUS, Teacher, moved
 
 pytestmark = pytest.mark.browser
+Hosts = Callable[..., Host]
+Pages = Callable[..., Page]
 BALLS, LETTERS = "billiard_balls", "letters"
+# The options of hosts with four seats and with two.
+FOUR, TWO = ("--users=4", "--side=512"), ("--users=2", "--side=512")
 # Seconds for which a program is away, so that the page tries in vain to reach it.
 AWAY = 0.5
-# Seconds within which the page has to go on at another host.
+# Seconds within which the page has to go on at another host, beside those that it took to open it on a busy computer.
 ELSEWHERE = 5
 SEAT = "document.getElementById('seat').textContent.trim()"
 # Keeps each state of the page from now on, with its time in milliseconds.
@@ -35,9 +41,10 @@ OPEN = """(new Promise(done => {
 }))"""
 
 
-def state_is(teacher: Teacher, state: str) -> None:
-    """Waits until the page has a state."""
-    teacher.until(f"document.getElementById('torus').dataset.state === '{state}'")
+def state_is(teacher: Teacher, state: str, text: str = "") -> None:
+    """Waits until the page has a state, and says this text of it. It says so only until it tries again."""
+    says = f"document.getElementById('state-says').textContent.includes('{text}')"
+    teacher.until(f"{TORUS}.state === '{state}' && {says}")
 
 
 def run_on(teacher: Teacher, steps: int) -> None:
@@ -55,15 +62,12 @@ def at_host(teacher: Teacher, address: str) -> list[str]:
     return lines
 
 
-def test_time_runs_on_after_a_host_was_killed_twice(
-    teacher: Teacher, host: Callable[..., Host], page: Callable[..., Page]
-) -> None:
-    one = host("--users=4", "--side=512")
+def test_time_runs_on_after_a_host_was_killed_twice(teacher: Teacher, host: Hosts, page: Pages) -> None:
+    one = host(*FOUR)
     lines = at_host(teacher, page(one.port).address)
     for _ in range(2):
         one.kill()
-        state_is(teacher, "lost")
-        assert "connection is lost" in teacher.text("state-says")
+        state_is(teacher, "lost", "connection is lost")
         time.sleep(AWAY)
         one.begin()
         state_is(teacher, "ready")
@@ -74,9 +78,9 @@ def test_time_runs_on_after_a_host_was_killed_twice(
 
 
 def test_each_step_is_done_once_though_a_host_went_while_nobody_asked(
-    teacher: Teacher, host: Callable[..., Host], page: Callable[..., Page]
+    teacher: Teacher, host: Hosts, page: Pages
 ) -> None:
-    one = host("--users=4", "--side=512")
+    one = host(*FOUR)
     lines = at_host(teacher, page(one.port).address)
     count = teacher.pause()
     one.kill()
@@ -84,13 +88,11 @@ def test_each_step_is_done_once_though_a_host_went_while_nobody_asked(
     one.begin()
     teacher.click("#step", 5)
     teacher.assert_shows([*lines, moved(count + 5)])
-    assert teacher.settled() == count + 5
+    teacher.assert_count(count + 5)
 
 
-def test_the_page_goes_on_when_its_program_is_started_again(
-    teacher: Teacher, host: Callable[..., Host], page: Callable[..., Page]
-) -> None:
-    site = page(host("--users=4", "--side=512").port)
+def test_the_page_goes_on_when_its_program_is_started_again(teacher: Teacher, host: Hosts, page: Pages) -> None:
+    site = page(host(*FOUR).port)
     lines = at_host(teacher, site.address)
     count = teacher.pause()
     site.kill()
@@ -103,19 +105,18 @@ def test_the_page_goes_on_when_its_program_is_started_again(
     assert teacher.errors("ERR_CONNECTION_REFUSED", "can’t establish a connection") == []
 
 
-def test_the_page_goes_on_at_another_host(
-    teacher: Teacher, host: Callable[..., Host], page: Callable[..., Page]
-) -> None:
-    one, other = host("--users=4", "--side=512"), host("--users=4", "--side=512")
+def test_the_page_goes_on_at_another_host(teacher: Teacher, host: Hosts, page: Pages) -> None:
+    one, other = host(*FOUR), host(*FOUR)
+    begun = time.monotonic()
     lines = at_host(teacher, page(one.port, other.port).address)
+    opened = time.monotonic() - begun
     teacher.script(WATCH)
     one.kill()
     teacher.until("window.states.some(([state]) => state === 'lost')")
-    state_is(teacher, "ready")
+    state_is(teacher, "ready", "of host 2")
     told = [(state, when) for state, when in teacher.value("window.states") if state in ("lost", "ready")]
     assert [state for state, _ in told] == ["lost", "ready"]
-    assert told[1][1] - told[0][1] < 1000 * ELSEWHERE
-    assert "of host 2" in teacher.text("state-says")
+    assert told[1][1] - told[0][1] < 1000 * (ELSEWHERE + opened)
     run_on(teacher, 30)
     count = teacher.pause()
     teacher.assert_shows([*lines, moved(count)])
@@ -124,9 +125,9 @@ def test_the_page_goes_on_at_another_host(
 
 
 @pytest.fixture
-def classroom(host: Callable[..., Host], page: Callable[..., Page]) -> str:
+def classroom(host: Hosts, page: Pages) -> str:
     """The address of a page whose host has two seats."""
-    return page(host("--users=2", "--side=512").port).address
+    return page(host(*TWO).port).address
 
 
 def test_each_page_takes_the_first_free_seat_and_has_a_machine(teacher: Teacher, classroom: str) -> None:
@@ -147,8 +148,7 @@ def test_a_page_too_many_says_so_and_takes_a_seat_that_becomes_free(teacher: Tea
         teacher.open(classroom)
         with teacher.window():
             teacher.go(classroom)
-            state_is(teacher, "full")
-            assert "seats are taken" in teacher.text("state-says")
+            state_is(teacher, "full", "seats are taken")
             third = teacher.driver.current_window_handle
         teacher.driver.get("about:blank")
         teacher.driver.switch_to.window(third)
@@ -161,37 +161,24 @@ def test_a_page_takes_the_seat_in_its_address(teacher: Teacher, classroom: str) 
     assert teacher.until(SEAT) == "2"
 
 
-class Nothing(BaseHTTPRequestHandler):
-    """A server whose page is empty, and has no policy."""
-
-    def do_GET(self) -> None:
-        """Sends an empty page."""
-        self.send_response(200)
-        self.send_header("Content-Type", "text/html")
-        self.end_headers()
-
-    def log_message(self, *_: object) -> None:
-        """Writes nothing."""
-
-
 @pytest.fixture
-def elsewhere() -> Iterator[str]:
-    """The address of a page of another server."""
-    with ThreadingHTTPServer(("127.0.0.1", 0), Nothing) as server:
+def elsewhere(tmp_path: Path) -> Iterator[str]:
+    """The address of a page of another server, which is empty and has no policy."""
+    (tmp_path / "index.html").touch()
+    handler = partial(SimpleHTTPRequestHandler, directory=str(tmp_path))
+    with ThreadingHTTPServer(("127.0.0.1", 0), handler) as server:
         threading.Thread(target=server.serve_forever, daemon=True).start()
         yield f"http://127.0.0.1:{server.server_port}/"
         server.shutdown()
 
 
-@pytest.mark.parametrize("is_other", [False, True], ids=["about:blank", "another server"])
-def test_a_page_of_another_server_gets_no_socket(
-    teacher: Teacher, page: Callable[..., Page], elsewhere: str, is_other: bool
-) -> None:
+def test_a_page_of_another_server_gets_no_socket(teacher: Teacher, page: Pages, elsewhere: str) -> None:
     site = page()
     socket = f"ws://127.0.0.1:{site.port}/ws"
-    teacher.driver.get(elsewhere if is_other else "about:blank")
+    # An empty tab would show nothing: Chromium opens no socket to this computer for it, whatever the server says.
+    teacher.driver.get(elsewhere)
     assert teacher.value(OPEN, socket) == "closed 1006"
     teacher.errors()
-    # Its own page gets one.
+    # The server's own page gets one.
     teacher.open(site.address)
     assert teacher.value(OPEN, socket) == "open"

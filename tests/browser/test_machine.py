@@ -3,6 +3,7 @@
 from __future__ import annotations
 
 import json
+from collections.abc import Callable
 from typing import NamedTuple
 
 import pytest
@@ -50,15 +51,15 @@ def test_balls_run_and_are_taken_back(own: Teacher) -> None:
     own.click("#step", STEPS // 2)
     own.key(Keys.ARROW_RIGHT, STEPS // 2)
     own.assert_shows([*lines, moved(STEPS)])
-    assert own.settled() == STEPS
+    own.assert_count(STEPS)
     own.click("#back", STEPS // 2)
     own.key(Keys.ARROW_LEFT, STEPS // 2)
     own.assert_shows(lines)
-    assert own.settled() == 0
+    own.assert_count(0)
     assert own.canvas().tobytes() == first.tobytes()
     own.click("#back")
     own.assert_shows([*lines, moved(-1)])
-    assert own.settled() == -1
+    own.assert_count(-1)
 
 
 def test_the_window_shows_the_cells(own: Teacher) -> None:
@@ -69,25 +70,23 @@ def test_the_window_shows_the_cells(own: Teacher) -> None:
     shown = cells.picture_of(cells.machine_after(own.cam6, [*lines, moved(FEW)]))
     middle = ImageChops.offset(shown, 50, 50).crop((0, 0, 100, 100))
     assert len(cells.drawn(middle)) > 50
-    assert until(lambda: own.seen(-50, -50, 100).tobytes() == middle.tobytes()), cells.difference(
-        own.seen(-50, -50, 100), middle
-    )
+    until(lambda: own.seen(-50, -50, 100).tobytes() == middle.tobytes())
+    assert cells.difference(own.seen(-50, -50, 100), middle) == ""
 
 
 class Way(NamedTuple):
-    """A way to run: what is clicked or pressed, where the dial stands, and for how many steps."""
+    """A way to run and to pause, where the dial stands, and for how many steps; below 0 they are undone."""
 
-    clicked: str
-    pressed: str
+    press: Callable[[Teacher], None]
     dial: float
     steps: int
 
 
 WAYS = {
-    "run": Way("#run", "", 0.5, 40),
-    "space": Way("", " ", 0.5, 20),
-    "b": Way("", "b", 0.5, -30),
-    "dial": Way("#run", "", -1, -30),
+    "button": Way(lambda own: own.click("#run"), 0.5, 40),
+    "space": Way(lambda own: own.key(" "), 0.5, 20),
+    "b": Way(lambda own: own.key("b"), 0.5, -30),
+    "dial": Way(lambda own: own.click("#run"), -1, -30),
 }
 
 
@@ -95,14 +94,10 @@ WAYS = {
 def test_time_runs_and_pauses(own: Teacher, way: Way) -> None:
     lines = own.set_up(LETTERS)
     own.slide("#dial", way.dial)
-    own.value("document.activeElement.blur()")
-
-    def press() -> None:
-        own.click(way.clicked) if way.clicked else own.key(way.pressed)
-
-    press()
-    assert until(lambda: own.count() < way.steps if way.steps < 0 else own.count() > way.steps)
-    press()
+    own.script("document.activeElement.blur()")
+    way.press(own)
+    assert until(lambda: own.count() / way.steps > 1)
+    way.press(own)
     own.assert_shows([*lines, moved(own.settled())])
 
 
@@ -111,9 +106,10 @@ def test_the_scrubber_goes_to_a_step(own: Teacher) -> None:
     own.click("#run")
     assert until(lambda: own.count() > 40)
     count = own.pause()
-    for step in (count // 2, 0):
-        own.slide("#scrubber", step)
-        own.assert_shows([*lines, *[moved(step)][: step > 0]])
+    own.slide("#scrubber", count // 2)
+    own.assert_shows([*lines, moved(count // 2)])
+    own.slide("#scrubber", 0)
+    own.assert_shows(lines)
 
 
 FAULTS = {
@@ -139,12 +135,9 @@ def test_a_fault_is_told_at_its_token(own: Teacher, text: str) -> None:
     assert title.lower() in own.text("rule-fault").lower()
     # A fault at the end of the text has the number of the token that is missing.
     tokens = [*text.split(), ""]
-    marked = own.value(
-        "[...document.querySelectorAll('#rule-marks mark')].map(one => [one.dataset.token, one.textContent])"
-    )
-    assert [(number, text.strip("⏎ \n")) for number, text in marked] == (
-        [(str(token), tokens[min(token, len(tokens)) - 1])] if token else []
-    )
+    marks = "[...document.querySelectorAll('#rule-marks mark')].map(one => [one.dataset.token, one.textContent])"
+    marked = [(number, text.strip("⏎ \n")) for number, text in own.value(marks)]
+    assert marked == ([(str(token), tokens[min(token, len(tokens)) - 1])] if token else [])
     own.write_rule(rule | {"text": ": F CENTER >PLN0 ;"})
     own.until("document.getElementById('rule-fault').hidden")
 
@@ -161,8 +154,9 @@ def test_a_box_is_drawn_in_two_planes_and_cleared(own: Teacher) -> None:
     own.pick("box", 6)
     own.drag((40, 60), (42, 62), (43, 63))
     rows = {60: "f", 61: "9", 62: "9", 63: "f"}
+    cells_of_rows = {row: f"{0:010x}{digit}{0:053x}" for row, digit in rows.items()}
     own.assert_shows(
-        [line_of(do="set", plane=p, row=y, bits=f"{0:010x}{bits}{0:053x}") for p in (1, 2) for y, bits in rows.items()]
+        [line_of(do="set", plane=p, row=row, bits=bits) for p in (1, 2) for row, bits in cells_of_rows.items()]
     )
     own.key(Keys.ESCAPE)
     own.click("#clear")
@@ -195,7 +189,7 @@ def test_a_text_that_is_no_pattern_is_named_with_its_line(own: Teacher) -> None:
 def test_a_page_that_is_loaded_again_goes_on(own: Teacher) -> None:
     lines = own.set_up(BALLS)
     own.click("#step", FEW)
-    assert own.settled() == FEW
+    own.assert_count(FEW)
     for _ in range(2):
         own.reload()
         own.assert_shows([*lines, moved(FEW)])
@@ -213,7 +207,7 @@ def test_a_machine_is_kept_as_a_file_and_loaded(own: Teacher) -> None:
     assert machine.get("machine", machine) == cells.machine_after(own.cam6, lines)
     assert private(own.cam6, [line]) == ['{"ok":"load"}']
     own.begin_anew()
-    own.driver.find_element("id", "load-file").send_keys(str(path))
+    own.element("#load-file").send_keys(str(path))
     own.assert_shows(lines)
 
 

@@ -5,7 +5,9 @@ A file is refused whole if one of its lines can't be read, or if it wants no lin
 
 from __future__ import annotations
 
+import argparse
 import re
+import sys
 from collections.abc import Callable
 from pathlib import Path
 
@@ -178,7 +180,7 @@ class Example:
             self.rows.read(mark, written_out(rest, self.named).decode())
             return
         self.end_rows()
-        readers = {"as": self.begin, "let": self.name_text, "side": self.set_side}
+        readers = {"as": lambda way: self.parts.append(Part(way)), "let": self.name_text, "side": self.set_side}
         readers |= {">": self.read_sent, "<": self.read_wanted}
         if mark == ">>":
             self.send(rest, b"")
@@ -186,10 +188,6 @@ class Example:
             readers[mark](rest)
         elif mark not in ("", "#"):
             raise Unplayable(f"there is no mark {mark}")
-
-    def begin(self, way: str) -> None:
-        """Begins a part."""
-        self.parts.append(Part(way))
 
     def name_text(self, rest: str) -> None:
         """Names a text."""
@@ -266,3 +264,19 @@ def whole_reply(answer: Callable[[bytes], bytes], user: bytes, command: bytes) -
                 answer(b'{"event":"band","board":%d}' % board)
             break
     return answer(b'{"event":"collect","user":%s}' % user)
+
+
+def main() -> None:
+    """Prints what a part of a file sends."""
+    parser = argparse.ArgumentParser(description="Prints the lines that a part of a worked example sends.")
+    parser.add_argument("file", metavar="FILE", type=Path)
+    parser.add_argument("number", metavar="NUMBER", nargs="?", type=int, default=1)
+    asked = parser.parse_args()
+    parts = Example(asked.file).parts
+    if not 1 <= asked.number <= len(parts):
+        parser.error(f"{asked.file} has parts 1 to {len(parts)}")
+    sys.stdout.buffer.write(parts[asked.number - 1].bytes_sent())
+
+
+if __name__ == "__main__":
+    main()

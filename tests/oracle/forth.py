@@ -48,6 +48,7 @@ OUTPUTS = {
 }
 NEIGHBOURS = {name for hood in HOODS for minor in MINORS for name in names_of(hood, minor)}
 SIGNS = {":", ";", "(", ")", "{", "}", "IF", "ELSE", "THEN"}
+LITERAL = re.compile("[0-9]+")
 RESERVED = SIGNS | set(STACK_WORDS) | set(OUTPUTS) | NEIGHBOURS
 
 
@@ -60,21 +61,7 @@ class TextFault(Exception):
 
 
 class RuleFault(Exception):
-    """The words of a rule stop."""
-
-    def __init__(self, number: int) -> None:
-        super().__init__(number)
-        self.number = number
-
-
-def tokens_of(text: str) -> list[str]:
-    """The tokens of a text."""
-    return re.findall("[^ \t\r\n]+", text)
-
-
-def is_literal(token: str) -> bool:
-    """Whether a token is a number."""
-    return re.fullmatch("[0-9]+", token) is not None
+    """The words of a rule stop, with the number of a fault."""
 
 
 class Definition(NamedTuple):
@@ -105,7 +92,7 @@ class Reader:
     def __init__(self, text: str, half: str, hood: str, minor: str) -> None:
         self.half, self.neighbours = half, names_of(hood, minor)
         self.is_long = len(text.encode()) > MOST_BYTES
-        self.tokens, self.at, self.size = tokens_of(text), 0, 0
+        self.tokens, self.at, self.size = re.findall("[^ \t\r\n]+", text), 0, 0
         self.definitions: dict[str, Definition] = {}
 
     def fault(self, number: int) -> NoReturn:
@@ -145,7 +132,7 @@ class Reader:
     def definition(self) -> Definition:
         """A name and a body."""
         name = self.token() or self.fault(22)
-        if name in RESERVED or is_literal(name) or name in self.definitions:
+        if name in RESERVED or LITERAL.fullmatch(name) or name in self.definitions:
             self.fault(21)
         self.size = 0
         body = self.body()
@@ -199,7 +186,7 @@ class Reader:
 
     def known(self, token: str) -> Item:
         """What a token stands for."""
-        if is_literal(token):
+        if LITERAL.fullmatch(token):
             digits = token.lstrip("0") or "0"
             if len(digits) > 5 or int(digits) > LARGEST:
                 self.fault(26)

@@ -44,11 +44,7 @@ class User:
         self.bands, self.is_back = self.machine.torus.side // BAND, command["do"] == "back"
         self.left = self.home = command["n"] * self.bands if "position" in self.reply else 0
         self.status = "queued" if self.left else "finished"
-        self.settle()
-
-    def settle(self) -> None:
-        """Does the steps, if no band is left."""
-        if self.left == 0:
+        if not self.left:
             self.machine.settle()
 
     def tables(self) -> list[object]:
@@ -118,7 +114,7 @@ class Host:
         user.left -= 1
         if user.left == 0:
             user.status, self.boards[board] = "finished", IDLE
-            user.settle()
+            user.machine.settle()
         return {"left": user.left}
 
     def on_preempt(self, board: int) -> dict[str, Any]:

@@ -1,9 +1,8 @@
 """Lines: what the bytes of one say as JSON, and which command or event that is; or the line's fault.
 
-The reader of JSON is as strict as serde_json is: a text is UTF-8 without a byte order
-mark, no control character stands by itself in a string, a surrogate has its other half, lists and objects are 127 deep
-at most, and a number that is too large for a float is none. Of a key that is repeated the last one counts. A line that
-loads a machine has one spelling, which is the plainest.
+The reader of JSON is as strict as serde_json is, and so stricter than Python's: a surrogate has its other half, lists and
+objects are 127 deep at most, and a number that is too large for a float is none. Of a key that is repeated the last one
+counts. A line that loads a machine has one spelling, which is the plainest.
 """
 
 from __future__ import annotations
@@ -11,6 +10,7 @@ from __future__ import annotations
 import json
 import re
 from collections.abc import Callable
+from itertools import accumulate
 from typing import Any
 
 from oracle.wirings import HOODS, MINORS
@@ -25,7 +25,7 @@ Shape = Callable[[Any], bool]
 DIGITS = "0123456789abcdefABCDEF"
 
 
-class NoJson(Exception):
+class NoJson(ValueError):
     """The bytes are no JSON value."""
 
 
@@ -33,147 +33,45 @@ class Unclear(Exception):
     """It takes exact arithmetic to say whether a number is too large: no line of ours has one."""
 
 
-class OtherNumber:
-    """A number that is none of 0 to 2**64 - 1 in digits alone."""
+def json_of(line: bytes) -> Any:
+    """The value that a line is. Numbers that no line may have are floats."""
+    text = line.decode()
+    marks = [mark for mark in re.findall(r'"(?:[^"\\]|\\.)*"?|[][{}]', text, re.DOTALL) if mark in "[]{}"]
+    if max(accumulate(1 if mark in "[{" else -1 for mark in marks), default=0) > MOST_NESTED:
+        raise NoJson
+    value = json.loads(text, parse_int=number, parse_float=number, parse_constant=number, object_pairs_hook=members)
+    return members([("", value)])[""]
 
 
-class Reader:
-    """Reads a line from its first byte on. `depth` is how many lists and objects are open."""
-
-    def __init__(self, line: bytes) -> None:
-        self.line, self.at, self.depth = line, 0, 0
-
-    def found(self, pattern: bytes) -> re.Match[bytes] | None:
-        """What stands here, if it is of this pattern; it is passed."""
-        if found := re.compile(pattern).match(self.line, self.at):
-            self.at = found.end()
-        return found
-
-    def need(self, pattern: bytes) -> bytes:
-        """What stands here, which has to be of this pattern."""
-        found = self.found(pattern)
-        if not found:
-            raise NoJson
-        return found[0]
-
-    def space(self) -> None:
-        """Passes blanks."""
-        self.found(rb"[ \t\n\r]*")
-
-    def whole(self) -> Any:
-        """The value that is the whole line."""
-        value = self.value()
-        self.space()
-        if self.at < len(self.line):
-            raise NoJson
-        return value
-
-    def value(self) -> Any:
-        """Any value, and what it is."""
-        self.space()
-        for word, value in (rb"null", None), (rb"true", True), (rb"false", False):
-            if self.found(word):
-                return value
-        first = self.line[self.at : self.at + 1]
-        if first == b'"':
-            return self.text()
-        if first in (b"[", b"{"):
-            self.depth += 1
-            if self.depth > MOST_NESTED:
-                raise NoJson
-            inner: Any = self.items() if first == b"[" else self.members()
-            self.depth -= 1
-            return inner
-        return self.number()
-
-    def items(self) -> list[Any]:
-        """A list."""
-        self.need(rb"\[")
-        items: list[Any] = []
-        self.space()
-        if self.found(rb"\]"):
-            return items
-        while True:
-            items.append(self.value())
-            self.space()
-            if self.need(rb"[],]") == b"]":
-                return items
-
-    def members(self) -> dict[str, Any]:
-        """An object."""
-        self.need(rb"\{")
-        members: dict[str, Any] = {}
-        self.space()
-        if self.found(rb"\}"):
-            return members
-        while True:
-            self.space()
-            key = self.text()
-            self.space()
-            self.need(rb":")
-            members[key] = self.value()
-            self.space()
-            if self.need(rb"[},]") == b"}":
-                return members
-
-    def text(self) -> str:
-        """A string."""
-        self.need(rb'"')
-        text = b""
-        while not self.found(rb'"'):
-            text += self.need(rb'[^"\\\x00-\x1f]*')
-            if self.found(rb"\\"):
-                text += self.escaped().encode()
-            elif self.line[self.at : self.at + 1] != b'"':
-                raise NoJson
-        try:
-            return text.decode()
-        except UnicodeDecodeError:
-            raise NoJson from None
-
-    def escaped(self) -> str:
-        """What stands behind a backslash."""
-        letter = self.need(rb'["\\/bfnrtu]').decode()
-        if letter != "u":
-            return {"b": "\b", "f": "\f", "n": "\n", "r": "\r", "t": "\t"}.get(letter, letter)
-        unit = self.unit()
-        if 0xD800 <= unit < 0xDC00:
-            self.need(rb"\\u")
-            low = self.unit()
-            if not 0xDC00 <= low < 0xE000:
-                raise NoJson
-            return chr(0x10000 + (unit - 0xD800 << 10) + low - 0xDC00)
-        if 0xDC00 <= unit < 0xE000:
-            raise NoJson
-        return chr(unit)
-
-    def unit(self) -> int:
-        """Four digits of an escape."""
-        return int(self.need(rb"[0-9a-fA-F]{4}"), 16)
-
-    def number(self) -> OtherNumber | int:
-        """A number. One that no line may have is some other number, and one that is too large for a float is no JSON."""
-        found = self.found(rb"(-?)(0|[1-9][0-9]*)(\.([0-9]+))?([eE]([+-]?[0-9]+))?")
-        if not found:
-            raise NoJson
-        minus, whole, point, part, power, exponent = found.groups()
-        if not minus and not point and not power and len(whole) <= 20 and int(whole) <= LARGEST_NUMBER:
-            return int(whole)
-        if is_too_large(whole + (part or b""), len(whole), exponent or b"0"):
-            raise NoJson
-        return OtherNumber()
+def members(pairs: list[tuple[str, Any]]) -> dict[str, Any]:
+    """An object. A half of a surrogate pair in it can't be encoded, and raises what is a ValueError too."""
+    json.dumps(pairs, ensure_ascii=False).encode()
+    return dict(pairs)
 
 
-def is_too_large(digits: bytes, whole: int, exponent: bytes) -> bool:
+def number(text: str) -> int | float:
+    """A number. One that is too large for a float is no JSON."""
+    found = re.fullmatch(r"(-?)([0-9]+)(?:\.([0-9]+))?(?:[eE]([+-]?[0-9]+))?", text)
+    if not found:
+        raise NoJson
+    _, whole, part, exponent = found.groups("")
+    if text == whole and len(whole) <= 20 and int(whole) <= LARGEST_NUMBER:
+        return int(whole)
+    if is_too_large(whole + part, len(whole), exponent or "0"):
+        raise NoJson
+    return float(text)
+
+
+def is_too_large(digits: str, whole: int, exponent: str) -> bool:
     """Whether the digits, with so many of them before the point, are too large for a float with this exponent."""
-    first, power = digits.lstrip(b"0"), exponent.lstrip(b"+-").lstrip(b"0") or b"0"
+    first, power = digits.lstrip("0"), exponent.lstrip("+-").lstrip("0") or "0"
     if not first or len(power) > 9:
-        return bool(first) and not exponent.startswith(b"-")
-    ten = -int(power) if exponent.startswith(b"-") else int(power)
+        return bool(first) and not exponent.startswith("-")
+    ten = -int(power) if exponent.startswith("-") else int(power)
     length = whole - (len(digits) - len(first)) + ten
     if length != TOO_LONG:
         return length > TOO_LONG
-    beyond = int(first[:17].ljust(17, b"0")) - TOO_LARGE
+    beyond = int(first[:17].ljust(17, "0")) - TOO_LARGE
     if abs(beyond) < 1000:
         raise Unclear
     return beyond > 0
@@ -201,53 +99,29 @@ def one_of(*words: str) -> Shape:
 
 def is_object(value: Any, **shapes: Shape) -> bool:
     """Whether the value is an object with exactly these keys, each of its shape."""
-    return (
-        isinstance(value, dict)
-        and set(value) == set(shapes)
-        and all(is_shape(value[key]) for key, is_shape in shapes.items())
-    )
+    is_keyed = isinstance(value, dict) and set(value) == set(shapes)
+    return is_keyed and all(is_shape(value[key]) for key, is_shape in shapes.items())
 
 
-def is_entry(value: Any) -> bool:
-    """Whether a value is an entry of a cycle."""
-    return is_object(value, a=is_text, b=is_text, grid=one_of("EVEN", "ODD"), phase=is_number)
+def object_of(**shapes: Shape) -> Shape:
+    """What says whether a value is such an object."""
+    return lambda value: is_object(value, **shapes)
 
 
-def is_list_of(is_shape: Shape) -> Shape:
-    """What says whether a value is a list of such values."""
-    return lambda value: isinstance(value, list) and all(map(is_shape, value))
+def is_list_of(is_shape: Shape, length: int | None = None) -> Shape:
+    """What says whether a value is a list of such values, maybe of so many."""
+    return lambda value: isinstance(value, list) and len(value) in (length or len(value),) and all(map(is_shape, value))
 
 
-def is_map(value: Any) -> bool:
-    """Whether a value has a number for each of the sixteen states."""
-    return is_list_of(is_number)(value) and len(value) == 16
-
-
-RULE = {
-    "name": is_text,
-    "half": one_of("A", "B"),
-    "hood": one_of(*HOODS),
-    "minor": one_of(*MINORS),
-    "text": is_text,
-}
-
-
-def is_rule(value: Any) -> bool:
-    """Whether a value is a rule of a saved machine."""
-    return is_object(value, **RULE)
-
-
-def are_planes(value: Any) -> bool:
-    """Whether a value has four lists of rows."""
-    return is_list_of(is_list_of(is_bits))(value) and len(value) == 4
-
-
+RULE = {"name": is_text, "half": one_of("A", "B"), "hood": one_of(*HOODS), "minor": one_of(*MINORS), "text": is_text}
+ENTRY = {"a": is_text, "b": is_text, "grid": one_of("EVEN", "ODD"), "phase": is_number}
+MAP, CYCLE = is_list_of(is_number, 16), is_list_of(object_of(**ENTRY))
 MACHINE = {
-    "colours": is_map,
-    "cycle": is_list_of(is_entry),
-    "planes": are_planes,
+    "colours": MAP,
+    "cycle": CYCLE,
+    "planes": is_list_of(is_list_of(is_bits), 4),
     "position": is_number,
-    "rules": is_list_of(is_rule),
+    "rules": is_list_of(object_of(**RULE)),
     "version": is_number,
 }
 # By its version: a saved machine of the first one has no side.
@@ -260,21 +134,26 @@ def is_machine(value: Any) -> bool:
     return is_number(version) and version in MACHINES and is_object(value, **MACHINES[version])
 
 
+def numbers(names: str) -> dict[str, Shape]:
+    """Keys that have numbers."""
+    return dict.fromkeys(names.split(), is_number)
+
+
 COMMANDS: dict[str, dict[str, Shape]] = {
-    "set": {"plane": is_number, "row": is_number, "bits": is_bits},
-    "clear": {"plane": is_number},
-    "row": {"plane": is_number, "row": is_number},
-    "plane": {"plane": is_number},
+    "set": {**numbers("plane row"), "bits": is_bits},
+    "clear": numbers("plane"),
+    "row": numbers("plane row"),
+    "plane": numbers("plane"),
     "rule": RULE,
     "drop": {"name": is_text},
     "rules": {},
-    "cycle": {"entries": is_list_of(is_entry)},
-    "run": {"n": is_number},
-    "back": {"n": is_number},
-    "map": {"colours": is_map},
-    "colours": {"row": is_number},
-    "count": {"mask": is_number},
-    "side": {"side": is_number},
+    "cycle": {"entries": CYCLE},
+    "run": numbers("n"),
+    "back": numbers("n"),
+    "map": {"colours": MAP},
+    "colours": numbers("row"),
+    "count": numbers("mask"),
+    "side": numbers("side"),
     "save": {},
     "load": {"machine": is_machine},
 }
@@ -297,14 +176,11 @@ def is_asked(value: Any) -> bool:
 
 
 EVENTS: dict[str, dict[str, Shape]] = {
-    "ask": {"user": is_number, "command": is_asked},
-    "lease": {"user": is_number, "board": is_number},
-    "band": {"board": is_number},
-    "preempt": {"board": is_number},
-    "fail": {"board": is_number},
-    "repair": {"board": is_number},
+    "ask": {**numbers("user"), "command": is_asked},
+    "lease": numbers("user board"),
+    **dict.fromkeys(("band", "preempt", "fail", "repair"), numbers("board")),
     "evict": {},
-    "collect": {"user": is_number},
+    "collect": numbers("user"),
 }
 
 
@@ -313,26 +189,21 @@ def is_event(value: Any) -> bool:
     return is_one_of(value, "event", EVENTS)
 
 
-def line_limit(line: bytes) -> int:
-    """How many bytes a line may have that begins as this one does."""
-    return LOAD_LIMIT if line.startswith(LOAD_HEAD) else LINE_LIMIT
-
-
 def is_spelled(line: bytes, said: dict[str, Any]) -> bool:
     """Whether a line is spelled as it has to be: one that loads a machine has one spelling."""
     if said.get("do") != "load":
         return True
-    texts = [digits for rows in said["machine"]["planes"] for digits in rows]
-    return line == plain(said) and all(digits == digits.lower() for digits in texts)
+    digits = str(said["machine"]["planes"])
+    return line == plain(said) and digits == digits.lower()
 
 
 def read_line(line: bytes, is_said: Shape) -> int | dict[str, Any]:
     """What a line says, a command or an event; or the number of its fault."""
-    if len(line) > line_limit(line):
+    if len(line) > (LOAD_LIMIT if line.startswith(LOAD_HEAD) else LINE_LIMIT):
         return 1
     try:
-        value = Reader(line).whole()
-    except NoJson:
+        value = json_of(line)
+    except ValueError:
         return 2
     if not is_said(value):
         return 3

@@ -44,6 +44,12 @@ class Machine:
             return {"fault": answer}
         return sorted_by_keys(answer if "fault" in answer else {"ok": word} | answer)
 
+    def reply(self, command: dict[str, Any]) -> dict[str, Any]:
+        """The reply to a command. Its steps are done too."""
+        reply = self.do(command)
+        self.settle()
+        return reply
+
     def is_long(self, most: int) -> bool:
         """Whether the steps that were put off are of more cells than this."""
         return self.due is not None and self.due[1] * self.torus.side**2 > most
@@ -58,13 +64,17 @@ class Machine:
         if not self.due:
             return
         way, n, self.position = self.due
-        self.due = None
-        for _ in range(n):
+        self.due, start, done = None, (self.position, self.torus.planes), 0
+        while n:
             if way == "before":
                 self.position = (self.position - 1) % len(self.entries)
             self.step(way)
             if way == "after":
                 self.position = (self.position + 1) % len(self.entries)
+            n, done = n - 1, done + 1
+            if (self.position, self.torus.planes) == start:
+                # From here on all comes again.
+                n %= done
 
     def step(self, way: str) -> None:
         """The planes after the entry at the position, or before it. A half without a rule keeps its planes."""
@@ -228,10 +238,12 @@ class Machine:
 
 def saved_machine(machine: dict[str, Any]) -> Machine | None:
     """The machine that was saved so, whatever its limit; or None, if none was."""
-    new, cycle, torus = Machine(max(SIDES)), machine["cycle"], saved_torus(machine.get("side", 256), machine["planes"])
-    if torus is None:
+    new, cycle, side, planes = Machine(max(SIDES)), machine["cycle"], machine.get("side", 256), machine["planes"]
+    if new.do_side(side) != {} or any(len(rows) != side for rows in planes):
         return None
-    new.torus = torus
+    rows = [(plane, y, digits) for plane, rows in enumerate(planes) for y, digits in enumerate(rows)]
+    if any(new.do_set(*row) != {} for row in rows if row[2] != "0" * (side // 4)):
+        return None
     for rule in machine["rules"]:
         if rule["name"] in new.rules or new.do_rule(**rule) != {}:
             return None
@@ -239,20 +251,6 @@ def saved_machine(machine: dict[str, Any]) -> Machine | None:
         return None
     new.position = machine["position"]
     return new if new.position < max(1, len(cycle)) else None
-
-
-def saved_torus(side: int, planes: list[list[str]]) -> Torus | None:
-    """The torus of this side with these planes, or None if there is none."""
-    if side not in SIDES or any(len(rows) != side for rows in planes):
-        return None
-    if any(len(digits) != side // 4 for rows in planes for digits in rows):
-        return None
-    torus = Torus(side)
-    for plane, rows in enumerate(planes):
-        for y, digits in enumerate(rows):
-            if digits.strip("0"):
-                torus.put(plane, y, digits)
-    return torus
 
 
 class Alone:
@@ -263,9 +261,7 @@ class Alone:
 
     def answer(self, line: bytes) -> bytes:
         """The reply to a line."""
-        answer = self.short_answer(line, None)
-        assert answer is not None
-        return answer
+        return self.short_answer(line, None) or b""
 
     def short_answer(self, line: bytes, most: int | None) -> bytes | None:
         """The reply to a line; or None, if it has steps of more cells than the most, and nothing is done."""

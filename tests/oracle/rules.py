@@ -52,7 +52,7 @@ class Rule:
                 lower, upper = self.said[bits[::-1]] = forth.bits_of(definition, seen)
             except forth.RuleFault as fault:
                 address = sum(bit << lines.index(name) for name, bit in seen.items())
-                self.stop = {"address": address, "fault": fault.number}
+                self.stop = {"address": address, "fault": fault.args[0]}
                 return
             sight = sum(bit << place for place, bit in enumerate(bits[::-1]))
             self.tables[sight >> 8][sight & 255] = lower | upper << 1

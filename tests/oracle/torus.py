@@ -11,7 +11,8 @@ from collections.abc import Iterator
 from oracle.rules import Rule
 from oracle.wirings import BESIDE, FIRST_PLANE, PLACES, TURNS
 
-BITS = [tuple(state >> place & 1 for place in range(8)) for state in range(256)]
+# Of each number below 256 the bit at a place.
+BITS = [bytes(number >> place & 1 for number in range(256)) for place in range(8)]
 
 
 def numbers(planes: list[bytes]) -> bytes:
@@ -77,26 +78,23 @@ class Torus:
         """The two planes of the rule's half after a step."""
         rows, half = range(self.side), rule.key.half
         said = said_to(rule, [b"".join(self.shown(name, half, grid, phase, y) for y in rows) for name in rule.names])
-        bits = (said.translate(bytes(number >> place & 1 for number in range(256))) for place in (0, 1))
+        bits = (said.translate(BITS[place]) for place in (0, 1))
         return [[plane[y * self.side : (y + 1) * self.side] for y in rows] for plane in bits]
 
     def before(self, rule: Rule, grid: str, phase: int) -> list[list[bytes]]:
         """The two planes of the rule's half before a step: of each block the state that becomes this one."""
-        odd, own = int(grid == "ODD"), FIRST_PLANE[rule.key.half]
-        was = {BITS[image]: BITS[state] for state, image in enumerate(rule.images(phase))}
-        old = [[b""] * self.side for _ in range(2)]
-        for y in range(odd, self.side + odd, 2):
-            rows = [[shifted(self.row(own + level, y + j), odd) for j in (0, 1)] for level in (0, 1)]
-            cells = [rows[level][j][i::2] for level in (0, 1) for i, j in PLACES]
-            blocks = [bytes(places) for places in zip(*(was[block] for block in zip(*cells)))]
-            for level in (0, 1):
-                for j in (0, 1):
-                    row = bytearray(self.side)
-                    for place, (i, low) in enumerate(PLACES):
-                        if low == j:
-                            row[i::2] = blocks[4 * level + place]
-                    old[level][(y + j) % self.side] = shifted(bytes(row), -odd)
-        return old
+        odd, own, half = int(grid == "ODD"), FIRST_PLANE[rule.key.half], self.side // 2
+        was, old = bytearray(256), [[bytearray(self.side) for _ in range(self.side)] for _ in range(2)]
+        for state, image in enumerate(rule.images(phase)):
+            was[image] = state
+        rows, places = range(odd, self.side + odd, 2), [(level, i, j) for level in (0, 1) for i, j in PLACES]
+        cells = [[shifted(self.row(own + level, y + j), odd + i)[::2] for y in rows] for level, i, j in places]
+        states = numbers([b"".join(rows_of_place) for rows_of_place in cells]).translate(was)
+        for place, (level, i, j) in enumerate(places):
+            bits = states.translate(BITS[place])
+            for first, y in zip(range(0, len(bits), half), rows):
+                old[level][(y + j) % self.side][i::2] = bits[first : first + half]
+        return [[shifted(bytes(row), -odd) for row in plane] for plane in old]
 
     def digits(self, plane: int, y: int) -> str:
         """The hexadecimal digits of a row."""

@@ -5,7 +5,8 @@ Nobody knows here what a changed line says, if anything. `oracle.lines` reads it
 
 from __future__ import annotations
 
-from collections.abc import Callable, Iterator
+from collections.abc import Callable, Iterable, Iterator
+from copy import deepcopy
 from random import Random
 from typing import Any
 
@@ -39,51 +40,6 @@ class Raw(bytes):
     """JSON, or none, as it is to stand in a line."""
 
 
-class Speller:
-    """Writes a value as JSON, in any of its spellings."""
-
-    def __init__(self, random: Random) -> None:
-        self.random = random
-        self.escapes, self.spaces = random.choice([0, 0, 0.02, 0.5]), random.random() < 0.4
-
-    def space(self) -> bytes:
-        """Blanks, or none."""
-        return self.random.choice(SPACES) if self.spaces else b""
-
-    def spelled(self, value: Any) -> bytes:
-        """A value in some spelling."""
-        if isinstance(value, Raw):
-            text = bytes(value)
-        elif isinstance(value, dict):
-            members = [self.text(key) + self.space() + b":" + self.spelled(value[key]) for key in self.keys(value)]
-            text = self.joined(b"{", members, b"}")
-        elif isinstance(value, list):
-            text = self.joined(b"[", [self.spelled(item) for item in value], b"]")
-        else:
-            text = self.text(value) if isinstance(value, str) else plain(value)
-        return self.space() + text + self.space()
-
-    def keys(self, value: dict[str, Any]) -> list[str]:
-        """The keys of an object, in some order."""
-        return self.random.sample(list(value), len(value)) if value and self.random.random() < 0.6 else list(value)
-
-    def joined(self, first: bytes, parts: list[bytes], last: bytes) -> bytes:
-        """Parts with commas, between brackets."""
-        return first + (b",".join(parts) or self.space()) + last
-
-    def text(self, text: str) -> bytes:
-        """A string, whose letters may be escapes."""
-        return b'"' + b"".join(self.letter(letter) for letter in text) + b'"'
-
-    def letter(self, letter: str) -> bytes:
-        """A letter, maybe as an escape."""
-        if self.random.random() < self.escapes:
-            digits = letter.encode("utf-16-be").hex()
-            units = [digits[i : i + 4] for i in range(0, len(digits), 4)]
-            return "".join("\\u" + self.random.choice([unit, unit.upper()]) for unit in units).encode()
-        return b"\\/" if letter == "/" and self.random.random() < 0.1 else plain(letter)[1:-1]
-
-
 def places(value: Any) -> Iterator[tuple[Any, int | str]]:
     """The places in a value: of each the list or object, and the index or key. Of a list of many there are three."""
     keys = value if isinstance(value, dict) else range(len(value)) if isinstance(value, list) else []
@@ -94,38 +50,68 @@ def places(value: Any) -> Iterator[tuple[Any, int | str]]:
         yield from places(value[key])
 
 
-def copied(value: Any) -> Any:
-    """A copy of a value."""
-    if isinstance(value, dict):
-        return {key: copied(item) for key, item in value.items()}
-    return [copied(item) for item in value] if isinstance(value, list) else value
+class Speller:
+    """Writes a value as JSON, in any of its spellings."""
+
+    def __init__(self, random: Random) -> None:
+        self.random, self.escapes = random, random.choice([0, 0, 0.02, 0.5])
+        self.spaces = SPACES if random.random() < 0.4 else [b""]
+
+    def spelled(self, value: Any) -> bytes:
+        """A value in some spelling, between blanks or not. The keys of an object are in some order."""
+        if isinstance(value, Raw):
+            text = bytes(value)
+        elif isinstance(value, dict):
+            keys = self.random.sample(list(value), len(value)) if value and self.random.random() < 0.6 else list(value)
+            text = self.joined(self.text(key) + self.space() + b":" + self.spelled(value[key]) for key in keys)
+            text = b"{" + text + b"}"
+        elif isinstance(value, list):
+            text = b"[" + self.joined(map(self.spelled, value)) + b"]"
+        else:
+            text = self.text(value) if isinstance(value, str) else plain(value)
+        return self.space() + text + self.space()
+
+    def space(self) -> bytes:
+        """Blanks, or none."""
+        return self.random.choice(self.spaces)
+
+    def joined(self, parts: Iterable[bytes]) -> bytes:
+        """Parts with commas, or blanks."""
+        return b",".join(parts) or self.space()
+
+    def text(self, text: str) -> bytes:
+        """A string, whose letters may be escapes."""
+        return b'"' + b"".join(map(self.letter, text)) + b'"'
+
+    def letter(self, letter: str) -> bytes:
+        """A letter, maybe as an escape."""
+        if self.random.random() < self.escapes:
+            digits = letter.encode("utf-16-be").hex()
+            units = [digits[i : i + 4] for i in range(0, len(digits), 4)]
+            return "".join("\\u" + self.random.choice([unit, unit.upper()]) for unit in units).encode()
+        return b"\\/" if letter == "/" and self.random.random() < 0.1 else plain(letter)[1:-1]
 
 
 class Breaker:
-    """Changes lines at random."""
+    """Changes lines at random, in what they say, in their spelling, or in their bytes."""
 
     def __init__(self, random: Random) -> None:
         self.random = random
-        # Ways to change what a line says, its spelling, and its bytes.
-        self.saying = [self.number, self.number, self.other_value, self.key_away, self.key_more, self.key_renamed]
+        self.saying = [self.number, self.number, self.other_value, self.left_out, self.key_more, self.key_renamed]
         self.saying += [self.nested, self.other_text]
         self.writing = [self.spelled] * 4 + [self.twice, self.in_a_string]
-        self.bytes = [self.byte, self.byte, self.byte_away, self.cut, self.doubled, self.padded, self.around]
-        self.bytes += [self.split, self.coded]
 
     def line(self, value: dict[str, Any]) -> bytes:
         """The bytes of a line that says this value, or of one like it; an LF among them makes two lines."""
-        choice = self.random.random()
+        choice, pick = self.random.random(), self.random.choice
         if choice < 0.35:
-            value = copied(value)
-            self.random.choice(self.saying)(value)
+            value = deepcopy(value)
+            pick(self.saying)(value, *pick(list(places(value))))
             return self.spelled(value)
         if choice < 0.7:
-            spell: Callable[[dict[str, Any]], bytes] = self.random.choice(self.writing)
+            spell: Callable[[dict[str, Any]], bytes] = pick(self.writing)
             return spell(value)
-        line = self.spelled(value) if self.random.random() < 0.5 else plain(value)
-        change: Callable[[bytes], bytes] = self.random.choice(self.bytes)
-        return change(line)
+        return self.other_bytes(self.spelled(value) if self.random.random() < 0.5 else plain(value))
 
     def spelled(self, value: Any) -> bytes:
         """A line in any spelling. One that is to load a machine mostly begins so that it may be long."""
@@ -135,73 +121,61 @@ class Breaker:
             return LOAD_HEAD + b'"machine":' + speller.spelled(value["machine"]) + b"}"
         return speller.spelled(value)
 
-    def place(self, value: dict[str, Any]) -> tuple[Any, int | str]:
-        """A place in a value."""
-        return self.random.choice(list(places(value)))
-
     def any_value(self) -> Raw:
         """A number or another value, or what is none."""
         return Raw(self.random.choice(self.random.choice([NUMBERS, NUMBERS, VALUES])).encode())
 
-    def other_value(self, value: dict[str, Any]) -> None:
+    def other_value(self, _: Any, inner: Any, key: Any) -> None:
         """Another value at a place."""
-        inner, key = self.place(value)
         inner[key] = self.any_value()
 
-    def number(self, value: dict[str, Any]) -> None:
+    def number(self, value: Any, inner: Any, key: Any) -> None:
         """Another number in the place of one, if there is any."""
         numbers = [(inner, key) for inner, key in places(value) if isinstance(inner[key], int)]
-        inner, key = self.random.choice(numbers or list(places(value)))
+        inner, key = self.random.choice(numbers or [(inner, key)])
         inner[key] = Raw(self.random.choice(NUMBERS).encode())
 
-    def key_away(self, value: dict[str, Any]) -> None:
+    def left_out(self, _: Any, inner: Any, key: Any) -> None:
         """Something is left out."""
-        inner, key = self.place(value)
         del inner[key]
 
-    def key_more(self, value: dict[str, Any]) -> None:
+    def key_more(self, _: Any, inner: Any, key: Any) -> None:
         """A key or an item more."""
-        inner, _ = self.place(value)
         if isinstance(inner, dict):
             inner[self.random.choice(KEYS)] = self.random.choice([0, "x", self.any_value()])
         else:
             inner.append(self.random.choice([0, 15, *inner]))
 
-    def key_renamed(self, value: dict[str, Any]) -> None:
+    def key_renamed(self, _: Any, inner: Any, key: Any) -> None:
         """A key has another name, or a list is turned round."""
-        inner, key = self.place(value)
-        if isinstance(inner, dict) and isinstance(key, str):
+        if isinstance(inner, dict):
             inner[self.random.choice([*KEYS, key.upper(), key + " "])] = inner.pop(key)
         else:
             inner.reverse()
 
-    def nested(self, value: dict[str, Any]) -> None:
+    def nested(self, _: Any, inner: Any, key: Any) -> None:
         """Something as deep as can be, or deeper."""
-        inner, key = self.place(value)
         depth = self.random.choice([1, *range(122, 129), *range(122, 129), 5000])
         first, last = self.random.choice([(b"[", b"]"), (b'{"a":', b"}")])
         inside = self.random.choice([b"1", b"{}", b"[]"])
         inner[key] = Raw(first * depth + inside + last * (depth - (self.random.random() < 0.1)))
 
-    def other_text(self, value: dict[str, Any]) -> None:
+    def other_text(self, value: Any, inner: Any, key: Any) -> None:
         """A text with a letter more or less."""
-        texts = [(inner, key) for inner, key in places(value) if isinstance(inner[key], str)]
-        inner, key = self.random.choice(texts)
+        inner, key = self.random.choice([(inner, key) for inner, key in places(value) if isinstance(inner[key], str)])
         i = self.random.randrange(len(inner[key]) + 1)
         letter = self.random.choice([*"AB-0f()>;: \t\n\x00\x0b", "é", "😀", " ; ", " DUP ", ""])
         inner[key] = inner[key][:i] + letter + inner[key][i + self.random.randrange(2) :]
 
     def twice(self, value: dict[str, Any]) -> bytes:
         """A key of the line stands in it twice, or an object has all of its keys twice."""
+        line = self.spelled(value).strip()
         if self.random.random() < 0.2:
-            return self.spelled(value).rstrip()[:-1] + b"," + self.spelled(value).lstrip()[1:]
+            return line[:-1] + b"," + self.spelled(value).lstrip()[1:]
         key = self.random.choice(list(value))
         other = self.random.choice([self.any_value(), value[key], self.random.choice(["run", "evict", "x"])])
         member = Speller(self.random).text(key) + b":" + self.spelled(other)
-        line = self.spelled(value).strip()
-        if self.random.random() < 0.5:
-            return b"{" + member + b"," + line[1:]
-        return line[:-1] + b"," + member + b"}"
+        return self.random.choice([b"{" + member + b"," + line[1:], line[:-1] + b"," + member + b"}"])
 
     def in_a_string(self, value: dict[str, Any]) -> bytes:
         """Something stands in a string that belongs there or doesn't."""
@@ -210,55 +184,28 @@ class Breaker:
         i = self.random.choice(quotes if self.random.random() < 0.5 else quotes[:20] + quotes[-60:])
         return line[: i + 1] + self.random.choice(PIECES) + line[i + 1 :]
 
-    def at(self, line: bytes) -> int:
-        """Where a line is changed: of a long one as often near its ends."""
-        if len(line) > LINE_LIMIT and self.random.random() < 0.5:
-            return self.random.choice([self.random.randrange(100), len(line) - 1 - self.random.randrange(400)])
-        return self.random.randrange(len(line))
+    def other_bytes(self, line: bytes) -> bytes:
+        """A line with other bytes at a place, which is as often near an end of a long one. Or it is cut, doubled, made longer,
+        in another code, with something before or after it, or empty."""
+        random, i = self.random, self.random.randrange(len(line))
+        if len(line) > LINE_LIMIT and random.random() < 0.5:
+            i = random.choice([random.randrange(100), len(line) - 1 - random.randrange(400)])
+        first, last, byte = line[:i], line[i:], bytes([random.choice([*BYTES, random.randrange(256)])])
+        more, code = random.choice([*NO_SPACES, *[b"\r"] * 3]), random.choice(["utf-16-le", "utf-16", "utf-8-sig"])
+        ways = [[first + byte + last, first + byte + last[1:]]] * 2
+        ways += [[first + last[1:]] * 2 + [first + last[2:], first + last[5:]], [first, last], [first + b"\n" + last]]
+        ways += [
+            [line + between + line for between in (b"", b" ", b",", b"\r", b"\n")],
+            [line + more] * 2 + [more + line],
+        ]
+        ways += [[line.decode(errors="replace").encode(code)] * 3 + [b"", b" ", b"\r", b"\x00"], self.padded(line)]
+        return random.choice(random.choice(ways))
 
-    def byte(self, line: bytes) -> bytes:
-        """A byte more, or another one."""
-        i = self.at(line)
-        byte = self.random.choice([*BYTES, self.random.randrange(256)])
-        return line[:i] + bytes([byte]) + line[i + self.random.randrange(2) :]
-
-    def byte_away(self, line: bytes) -> bytes:
-        """Bytes are left out."""
-        i = self.at(line)
-        return line[:i] + line[i + self.random.choice([1, 1, 2, 5]) :]
-
-    def cut(self, line: bytes) -> bytes:
-        """One part of a line."""
-        i = self.at(line)
-        return self.random.choice([line[:i], line[i:]])
-
-    def doubled(self, line: bytes) -> bytes:
-        """A line twice."""
-        return line + self.random.choice([b"", b" ", b",", b"\r", b"\n"]) + line
-
-    def padded(self, line: bytes) -> bytes:
+    def padded(self, line: bytes) -> list[bytes]:
         """A line with space up to the largest length, or about it; seldom up to the largest one of a load."""
         is_longest = line.startswith(LOAD_HEAD) and self.random.random() < 0.2
-        limit = LOAD_LIMIT if is_longest else LINE_LIMIT
+        limit, at = (LOAD_LIMIT, len(LOAD_HEAD)) if is_longest else (LINE_LIMIT, 1)
         length = limit + self.random.choice([-1, 0, 0, 1, 1, 2, LINE_LIMIT, 2 * LINE_LIMIT])
         space = self.random.choice([b" ", b" ", b"\t", b"x"]) * max(0, length - len(line))
-        padded = [line + space, space + line, line[:1] + space + line[1:]]
-        if is_longest:
-            behind = len(LOAD_HEAD)
-            padded = [line + space, line[:-1] + space + line[-1:], line[:behind] + space + line[behind:]]
-        return self.random.choice(padded)
-
-    def around(self, line: bytes) -> bytes:
-        """Something that is no JSON before a line or after it, or a CR, which is space."""
-        more = self.random.choice([*NO_SPACES, b"\r", b"\r", b"\r"])
-        return line + more if self.random.random() < 0.7 else more + line
-
-    def split(self, line: bytes) -> bytes:
-        """A line in two."""
-        i = self.at(line)
-        return line[:i] + b"\n" + line[i:]
-
-    def coded(self, line: bytes) -> bytes:
-        """In another code; or nothing, or no line at all."""
-        codes = [line.decode(errors="replace").encode(code) for code in ("utf-16-le", "utf-16", "utf-8-sig")]
-        return self.random.choice([*codes, b"", b" ", b"\r", b"\x00"])
+        front = line[:-1] + space + line[-1:] if is_longest else space + line
+        return [line + space, front, line[:at] + space + line[at:]]

@@ -5,6 +5,7 @@ These strategies don't know which texts are rules. The oracle judges each text.
 
 from __future__ import annotations
 
+from examples.named_rules import RULES
 from hypothesis import strategies as st
 from oracle.forth import OUTPUTS, RESERVED
 from oracle.wirings import BLOCKS, HOODS, MINORS, SEEN_BY_BLOCKS, names_of, reads_cells
@@ -14,17 +15,17 @@ HALVES = st.sampled_from("AB")
 EMPTY: Tokens = []
 ONES: st.SearchStrategy[Tokens] = st.sampled_from([["0="], ["DUP", "XOR"], ["1", "AND"], ["DUP", "AND", "0="], EMPTY])
 TWOS: st.SearchStrategy[Tokens] = st.sampled_from(
-    [["+"], ["XOR"], ["AND"], ["OR"], ["*"], ["="], ["<"], [">"], ["SWAP", "-", "DROP", "1"], ["-"]]
+    [["+"], ["XOR"], ["AND"], ["OR"], ["*"], ["="], ["<"], [">"], ["SWAP", "-", "DROP", "1"], ["-"], ["DROP"]]
 )
+# Bodies that nothing may do, or that do nothing.
+UNUSED: st.SearchStrategy[Tokens] = st.sampled_from([["DROP", "{", "}", "ROT"], EMPTY])
 NUMBERS = st.sampled_from(["0", "1", "2", "3", "007", "12", "300", "65535"])
 # Names that can be defined, though they look like other words.
-NAMES = st.sampled_from(
-    ["R", "S", "T", "8SUM", "if", "x)", "()", ":)", ";;", "0==", "-1", "PLN0", ">PLN9", "N/VONN", "é"]
-)
-SPACES = st.sampled_from(
-    [" ", " ", " ", "  ", "\t", "\n", "\r\n", "\r", " \n\t", " ( a ) ", " ( : R ; ) ", "  (  x\t) "]
-)
-ALL_TOKENS = sorted(RESERVED) + ["70000", "65536", "99999999999999999999", "١", "FOO", "R", "-", "+1", "2.", "((", "0"]
+NAMES = "R S T 8SUM if dup x) () :) ;; 0== -1 +1 PLN0 >PLN9 N/VONN {} é ١".split()
+# What stands between some tokens.
+SPACES = ["  ", "\t", "\r\n", "\r ", " \n\t", "( ) ", "( a ) ", "( : R ; ) ", "( ( IF ) ", "( {\n} ;) ", " (  x\t) "]
+ALL_TOKENS = [*sorted(RESERVED), *NAMES, *"65536 99999999999999999999 FOO - 2. ((".split()]
+ALL_TOKENS += ["0" * 30 + "7", "1\v2", "\u00a0", "a\u2028b", "\x00", "65535", "70000", "0"]
 
 
 def outputs_of(half: str) -> list[str]:
@@ -32,21 +33,25 @@ def outputs_of(half: str) -> list[str]:
     return [word for word, (of, _) in OUTPUTS.items() if of == half]
 
 
-def values(seen: list[str]) -> st.SearchStrategy[Tokens]:
+def values(
+    seen: list[str], ones: st.SearchStrategy[Tokens] = ONES, twos: st.SearchStrategy[Tokens] = TWOS
+) -> st.SearchStrategy[Tokens]:
     """Words that leave a value, if they don't stop."""
     leaves = (st.sampled_from(seen) | NUMBERS).map(lambda token: [token])
     sums = st.lists(st.sampled_from(seen), min_size=1, max_size=4)
 
     def larger(inner: st.SearchStrategy[Tokens]) -> st.SearchStrategy[Tokens]:
-        two = st.tuples(inner, inner)
+        two, three = st.tuples(inner, inner), st.tuples(inner, inner, inner)
         return st.one_of(
-            st.tuples(inner, ONES).map(lambda parts: [*parts[0], *parts[1]]),
-            st.tuples(two, TWOS).map(lambda parts: [*parts[0][0], *parts[0][1], *parts[1]]),
-            two.map(lambda parts: [*parts[0], *parts[1], "SWAP", "-"]),
-            two.map(lambda parts: [*parts[0], *parts[1], "OVER", "OR", "XOR"]),
-            st.tuples(inner, inner, inner).map(lambda parts: [*parts[0], *parts[1], *parts[2], "ROT", "AND", "OR"]),
-            st.tuples(inner, inner, inner).map(lambda p: [*p[0], "IF", *p[1], "ELSE", *p[2], "THEN"]),
-            st.tuples(inner, inner, ONES).map(lambda p: [*p[0], *p[1], "IF", *p[2], "THEN"]),
+            st.tuples(inner, ones).map(lambda p: [*p[0], *p[1]]),
+            st.tuples(two, twos).map(lambda p: [*p[0][0], *p[0][1], *p[1]]),
+            st.tuples(inner, twos).map(lambda p: [*p[0], "DUP", *p[1]]),
+            st.tuples(two, twos).map(lambda p: [*p[0][0], *p[0][1], "SWAP", *p[1]]),
+            st.tuples(two, twos, twos).map(lambda p: [*p[0][0], *p[0][1], "OVER", *p[1], *p[2]]),
+            st.tuples(three, twos, twos).map(lambda p: [*p[0][0], *p[0][1], *p[0][2], "ROT", *p[1], *p[2]]),
+            three.map(lambda p: [*p[0], "IF", *p[1], "ELSE", *p[2], "THEN"]),
+            st.tuples(two, ones).map(lambda p: [*p[0][0], *p[0][1], "IF", *p[1], "THEN"]),
+            st.tuples(inner, ones).map(lambda p: [*p[0], "DUP", "1", "AND", "{", *(p[1][:1] or ["0="]), "0=", "}"]),
             st.tuples(sums, st.lists(leaves, min_size=1, max_size=6)).map(lambda parts: chosen(*parts)),
         )
 
@@ -60,15 +65,18 @@ def chosen(seen: Tokens, words: list[Tokens]) -> Tokens:
 
 
 @st.composite
-def writes(draw: st.DrawFn, half: str, seen: list[str]) -> Tokens:
+def writes(draw: st.DrawFn, half: str, value: st.SearchStrategy[Tokens], seen: list[str]) -> Tokens:
     """Words that write a plane of a half, or both, maybe on a condition."""
-    value, outputs = draw(values(seen)), st.sampled_from(outputs_of(half))
-    form = draw(st.integers(0, 3))
+    first, second = (draw(st.sampled_from(outputs_of(half))) for _ in range(2))
+    form, a = draw(st.integers(0, 4)), draw(value)
+    if form == 0:
+        return [*a, first]
     if form == 1:
-        return [*value, "IF", *draw(values(seen)), draw(outputs), "ELSE", *draw(values(seen)), draw(outputs), "THEN"]
+        return [*a, "DUP", first, second]
     if form == 2:
-        return [*value, draw(st.sampled_from(seen)), "{", draw(outputs), draw(outputs), "}"]
-    return [*value, "DUP", draw(outputs), draw(outputs)] if form == 3 else [*value, draw(outputs)]
+        return [*a, *draw(value), draw(st.sampled_from(seen)), "{", first, second, "}"]
+    other = ["ELSE", *draw(value), second] if form == 3 else []
+    return [*a, "IF", *draw(value), first, *other, "THEN"]
 
 
 @st.composite
@@ -76,12 +84,18 @@ def rule_tokens(draw: st.DrawFn, half: str, hood: str, minor: str) -> Tokens:
     """Some definitions, and the rule. It looks at few neighbours, so that it is soon tried at all addresses."""
     seen = draw(st.lists(st.sampled_from(names_of(hood, minor)), min_size=1, max_size=4, unique=True))
     tokens: Tokens = []
-    names = draw(st.lists(NAMES, min_size=1, max_size=3, unique=True))
+    names = draw(st.lists(st.sampled_from(NAMES), min_size=1, max_size=4, unique=True))
+    ones, twos = ONES, TWOS
     for name in names[1:]:
-        tokens += [":", name, *draw(values(seen)), ";"]
-        seen = [*seen, name]
-    bodies = draw(st.lists(writes(half, seen), min_size=1, max_size=2))
-    return [*tokens, ":", names[0], *(token for body in bodies for token in body), ";"]
+        # It leaves a value, changes one, makes one of two, or is never used.
+        kind = draw(st.integers(0, 3))
+        tokens += [":", name, *draw([values(seen, ones, twos), ones, twos, UNUSED][kind]), ";"]
+        seen = [*seen, name] if kind == 0 else seen
+        ones = ones | st.just([name]) if kind == 1 else ones
+        twos = twos | st.just([name]) if kind == 2 else twos
+    bodies = draw(st.lists(writes(half, values(seen, ones, twos), seen), min_size=1, max_size=3))
+    left = draw(st.sampled_from([EMPTY, EMPTY, EMPTY, ["1", "2"]]))
+    return [*tokens, ":", names[0], *(token for body in bodies for token in body), *left, ";"]
 
 
 @st.composite
@@ -92,6 +106,10 @@ def block_tokens(draw: st.DrawFn, half: str, hood: str, minor: str) -> Tokens:
     turns = st.sampled_from(["CENTER", "CW", "OPP", "CCW"])
     others = st.sampled_from([name for name in names_of(hood, minor) if not reads_cells(name)])
     a, b, other, another = draw(turns), draw(turns), draw(others), draw(others)
+    if draw(st.integers(0, 3)) == 0:
+        named = draw(st.sampled_from([text for of, place, _, text in RULES.values() if of == half and place in BLOCKS]))
+        names = names_of(hood, minor)
+        return [token if token in names else token.lstrip("&") for token in named.split()]
     forms = [
         [a, low],
         [a, low, f"{b}'", high],
@@ -101,6 +119,8 @@ def block_tokens(draw: st.DrawFn, half: str, hood: str, minor: str) -> Tokens:
         ["CENTER'", *draw(values(["CENTER", "CW", "OPP", other])), "1", "AND", "XOR", high],
         ["CENTER", *draw(values(["CENTER'", "CW'", another])), "1", "AND", "XOR", low],
         [other, "IF", a, "ELSE", b, "THEN", low],
+        [a, other, "XOR", another, "XOR", low],
+        [other, "{", a, b, "}", low, f"{a}'", f"{b}'", other, "IF", "SWAP", "THEN", high],
     ]
     return [":", "R", *draw(st.sampled_from(forms)), ";"]
 
@@ -108,7 +128,7 @@ def block_tokens(draw: st.DrawFn, half: str, hood: str, minor: str) -> Tokens:
 @st.composite
 def broken_tokens(draw: st.DrawFn, half: str, hood: str, minor: str) -> Tokens:
     """The tokens of a rule with a few changes."""
-    tokens = [*draw(rule_tokens(half, hood, minor))]
+    tokens = [*draw(rule_tokens(half, hood, minor) | block_tokens(half, "N/MARG-HV", "&/PHASES"))]
     for _ in range(draw(st.integers(1, 3))):
         at, token = draw(st.integers(0, len(tokens) - 1)), draw(st.sampled_from([*ALL_TOKENS, *tokens]))
         tokens[at : at + draw(st.integers(0, 1))] = draw(st.sampled_from([[token], []]))
@@ -134,41 +154,31 @@ def texts_at_limits(draw: st.DrawFn, half: str) -> str:
         " ".join(f": A{k} ;" for k in range(64 + more)),
         doubled("D", "1 DROP", 11 + more),
         doubled("A", "", 12 + more),
-        filled.ljust(8192 + more),
-        filled.rjust(8192 + more),
-        filled.ljust(8190 + more) + "é",
+        *(filled.ljust(8192 + more), filled.rjust(8192 + more), filled.ljust(8190 + more) + "é", " " * (8192 + more)),
         ": R 0 { " + "1 " * (2047 + more) + f"}} {output} ;",
         ": R " + "1 " * (32 + more) + ";",
         ": R CENTER IF 1 " + "DUP " * (31 + more) + "THEN ;",
+        ": R 1 2 " + "OVER " * (30 + more) + ";",
         f": R CENTER CENTER' + {{ 1 0 {'1' * (1 - more)} }} {output} ;",
         f": R {65535 - more} CENTER + CENTER' + {output} ;",
         f": R 255 {257 + more} * {output} ;",
         f": R 1 {1 + more} - {output} ;",
         ": R CENTER IF " + "DROP " * more + "THEN ;",
         f": R {65535 + more} {output} ;",
-        *(
-            "",
-            " ",
-            "( a )",
-            "\n( )\t",
-            "( a ) ( b )",
-            ": R ( ;",
-            "( x",
-            ": R ; ( a",
-            ": ( a ) R ;",
-            ": R { ( a ) } ;",
-            "(a b )",
-        ),
-        *(": R ; : R ;", ": ;", ": R", ":", ": R ; :", ": R { } ;", ": R 0 { } ;", ": R 1 >PLN3 ;", ": R 1 >PLN1 ;"),
+        *("", " ", "( a )", "\n( )\t", "( a ) ( b )", ": R ( ;", "( x", ": R ; ( a", ": ( a ) R ;", ": R ( a ) ;"),
+        *(": R { ( a ) } ;", "(a b )", ": R ; : R ;", ": ;", ": R", ":", ": R ; :", ": R { } ;", ": R 0 { } ;"),
+        *(": R 1 >PLN3 ;", ": R 1 >PLN1 ;"),
     ]
     return draw(st.sampled_from(forms))
 
 
 @st.composite
 def spaced(draw: st.DrawFn, tokens: st.SearchStrategy[Tokens]) -> str:
-    """Tokens as a text. Between some of them there is space of other kinds, or a comment."""
-    space = draw(SPACES)
-    return space.join(draw(tokens)) + draw(st.sampled_from(["", " ", "\n"]))
+    """Tokens as a text. Before some of them there is space of other kinds, or a comment."""
+    words, space = draw(tokens), draw(st.sampled_from([" ", " ", "\n", "\t"]))
+    more = draw(st.dictionaries(st.integers(0, len(words)), st.sampled_from(SPACES), max_size=3))
+    text = "".join(f"{more.get(place, '')}{word}{space}" for place, word in enumerate(words))
+    return text + more.get(len(words), "") if draw(st.booleans()) else text.rstrip()
 
 
 @st.composite

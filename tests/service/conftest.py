@@ -7,10 +7,9 @@ from collections.abc import Iterator
 from contextlib import ExitStack
 
 import pytest
-from support.programs import TOP, Host, Page, private
+from support.programs import TOP, Host, Page, Peer, private
 
-from .steady import Hosts, steady
-from .steady_page import Session
+from .users import Hosts, Session, seated, steady, usual
 
 
 @pytest.fixture
@@ -20,7 +19,7 @@ def beside(cam6: str, host: Hosts) -> Iterator[Hosts]:
 
         def begin(user: int, *options: str) -> Host:
             one = host(*options)
-            stack.enter_context(steady(cam6, one.port, user))
+            stack.enter_context(steady(seated(Peer, one.port, user), usual(cam6)))
             return one
 
         yield begin

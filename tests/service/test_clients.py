@@ -14,8 +14,8 @@ import pytest
 from support.programs import Host, Peer, private, until
 from support.sessions import assert_replies
 
-from .lines import CELL, NO_JSON, NO_NAMES, NO_SEAT, ONE_NAME, PARITY, PLANE, ROW, RULES, RUN, SEATED, START, TAKEN
-from .steady import Hosts, connected, seated
+from .users import CELL, NO_JSON, NO_NAMES, NO_SEAT, ONE_NAME, PARITY, PLANES, ROW, RULES, RUN, SEAT, SEATED, START
+from .users import TAKEN, Hosts, answers, connected, seated
 
 Way = Callable[[Peer], None]
 by_each_way = pytest.mark.parametrize("go", [Peer.close, Peer.reset], ids=["close", "reset"])
@@ -29,73 +29,77 @@ def there(beside: Hosts) -> Host:
     return beside(2, "--users=5", "--connections=0")
 
 
+def is_free(there: Host, user: int) -> None:
+    """The seat of a user has to be free soon."""
+    seated(Peer, there.port, user).close()
+
+
 @by_each_way
 @pytest.mark.parametrize("seat, part", [(None, '{"sea'), (1, '{"do":"ru')], ids=["first", "later"])
 def test_who_goes_within_a_line_leaves_the_seat(there: Host, go: Way, seat: int | None, part: str) -> None:
     peer = Peer(there.port, seat)
     peer.send(part)
     go(peer)
-    seated(there.port, 1).close()
+    is_free(there, 1)
 
 
 @by_each_way
 def test_a_line_without_its_end_is_the_last_one(there: Host, go: Way) -> None:
-    peer = seated(there.port, 1)
+    peer = Peer(there.port, 1)
     peer.send('{"do":"rules"}\n{"do":"ru')
     peer.socket.shutdown(socket.SHUT_WR)
     assert [peer.read() for _ in range(3)] == [NO_NAMES, NO_JSON, None]
     go(peer)
-    seated(there.port, 1).close()
+    is_free(there, 1)
 
 
 @by_each_way
 def test_who_goes_within_a_run_is_seated_until_it_is_done(cam6: str, there: Host, go: Way) -> None:
-    peer = seated(there.port, 1)
-    assert [peer.ask(line) for line in START] == ['{"ok":"rule"}', '{"ok":"cycle"}', '{"ok":"set"}']
+    peer = Peer(there.port, 1)
+    assert answers(peer, START) == ['{"ok":"rule"}', '{"ok":"cycle"}', '{"ok":"set"}']
     peer.send(f"{RUN % 20001}\n")
     go(peer)
     with Peer(there.port, 1) as other:
         assert (other.said, other.read()) == (TAKEN, None)
-    with seated(there.port, 1) as again:
+    with seated(Peer, there.port, 1) as again:
         # The run is done all the same.
-        shown = [again.ask(ROW % 6), again.ask(ROW % 7)]
+        shown = answers(again, [ROW % 6, ROW % 7])
     assert shown == private(cam6, [*START, RUN % 20001, ROW % 6, ROW % 7])[-2:]
 
 
 def test_who_asks_for_341_runs_and_goes_leaves_the_seat(there: Host) -> None:
     # The command that is under way is done, and so are those with answers that were sent before the host saw that the
     # client is gone. No other is done.
-    peer = seated(there.port, 1)
-    for line in START:
-        peer.ask(line)
+    peer = Peer(there.port, 1)
+    answers(peer, START)
     begun = time.monotonic()
     peer.ask(RUN % 2000)
     one = time.monotonic() - begun
     peer.send(f"{RUN % 2000}\n" * 341)
     peer.reset()
     begun = time.monotonic()
-    seated(there.port, 1).close()
+    is_free(there, 1)
     assert time.monotonic() - begun < 10 * one + 2, one
 
 
 def test_who_never_reads_keeps_the_seat_and_leaves_it_by_going(there: Host) -> None:
-    peer = seated(there.port, 3)
+    peer = Peer(there.port, 3)
     peer.socket.settimeout(0.5)
     with suppress(OSError):
         for _ in range(2000):
-            peer.send(f"{PLANE}\n")
+            peer.send(f"{PLANES[0]}\n")
             time.sleep(0.0005)
     with Peer(there.port, 3) as other:
-        assert other.said == TAKEN
+        assert (peer.said, other.said) == (SEATED, TAKEN)
     time.sleep(1)
     peer.reset()
-    seated(there.port, 3).close()
+    is_free(there, 3)
 
 
 @pytest.mark.slow
 def test_who_sends_two_bytes_a_second_is_served(there: Host) -> None:
     with Peer(there.port) as peer:
-        for byte in f'{{"seat":4}}\n{RULES}\n':
+        for byte in f"{SEAT % 4}\n{RULES}\n":
             peer.send(byte)
             time.sleep(0.5)
         assert [peer.read(), peer.read()] == [SEATED, NO_NAMES]
@@ -108,9 +112,9 @@ def test_a_connection_without_a_line_gets_no_answer(there: Host) -> None:
 
 
 def test_lines_that_come_at_once_are_answered_one_after_another(cam6: str, there: Host) -> None:
-    rounds = [(CELL % y, ROW % y, RUN % 1, PLANE, '{"do":"fly"}') for y in range(100)]
+    rounds = [(CELL % y, ROW % y, RUN % 1, PLANES[0], '{"do":"fly"}') for y in range(100)]
     session = [*START[:2], *(line for lines in rounds for line in lines)]
-    with seated(there.port, 1) as peer, ThreadPoolExecutor(1) as pool:
+    with Peer(there.port, 1) as peer, ThreadPoolExecutor(1) as pool:
         pool.submit(peer.send, "".join(f"{line}\n" for line in session))
         assert_replies(session, [peer.read() for _ in session], private(cam6, session))
 
@@ -159,12 +163,12 @@ def test_connections_without_a_thread_are_closed_and_others_are_served(there: Ho
     with connected(there.port, 30) as peers:
         for peer in peers:
             try:
-                said.add(peer.ask('{"seat":9}'))
+                said.add(peer.ask(SEAT % 9))
             except ConnectionError:
                 said.add(None)
     limit(there, resource.RLIMIT_AS, before)
     assert said in ({None}, {None, NO_SEAT})
-    seated(there.port, 4).close()
+    is_free(there, 4)
 
 
 def files(host: Host) -> set[int]:
@@ -179,13 +183,13 @@ def test_who_finds_no_file_left_is_answered_once_others_have_gone(there: Host) -
     with connected(there.port, 20):
         assert until(lambda: len(there.said) > 1)
         waits = Peer(there.port)
-        waits.send('{"seat":9}\n')
+        waits.send(f"{SEAT % 9}\n")
         assert there.is_running()
         assert len(files(there)) <= most
     with waits:
         assert waits.read() == NO_SEAT
     limit(there, resource.RLIMIT_NOFILE, before)
-    seated(there.port, 4).close()
+    is_free(there, 4)
 
 
 def without_files(host: Host) -> int:
@@ -199,13 +203,13 @@ def test_a_host_that_had_a_client_does_not_end_if_nobody_can_be_accepted(host: H
     own = files(one)
     with Peer(one.port, 1) as peer:
         peer.ask(PARITY)
-    seated(one.port, 1).close()
+    is_free(one, 1)
     assert until(lambda: files(one) == own)
     before = without_files(one)
     # The call that waits for a connection has a file for it already.
-    seated(one.port, 1).close()
+    is_free(one, 1)
     with Peer(one.port) as waits:
-        waits.send(f'{{"seat":1}}\n{RULES}\n')
+        waits.send(f"{SEAT % 1}\n{RULES}\n")
         assert one.ended(4) is None
         limit(one, resource.RLIMIT_NOFILE, before)
         assert [waits.read(), waits.read()] == [SEATED, ONE_NAME]

@@ -5,82 +5,62 @@ from __future__ import annotations
 
 import re
 import socket
-import threading
 import time
+from concurrent.futures import ThreadPoolExecutor
+from contextlib import ExitStack, closing, suppress
 from pathlib import Path
 
 import pytest
 from oracle.examples import Example, Part, Unplayable, limit_of
 from support.playing import assert_answers, examples
-from support.programs import Host
+from support.programs import Host, Peer
 
-# Seconds in which an answer has to come, and in which a whole session has to be answered.
-PATIENCE, SESSION_PATIENCE = 10, 600
-SEAT, SEATED = b'{"seat":1}\n', b'{"ok":"seat"}\n'
+# Seconds in which a whole session has to be answered.
+SESSION_PATIENCE = 600
+SEAT, SEATED, TAKEN = b'{"seat":%d}\n', b'{"ok":"seat"}', b'{"fault":80}'
 # What an example says of a host's end, by its exit status.
 ENDS = {0: b"ended", 5: b"no memory", 7: b"network failed"}
 
 
-class Stream:
-    """A connection that has a number in its example."""
+class Stream(Peer):
+    """A connection that has a number in its example. If the host takes no more of what is sent, its answers show it."""
 
-    def __init__(self, port: int) -> None:
-        self.socket = socket.create_connection(("127.0.0.1", port), timeout=PATIENCE)
-        self.socket.setsockopt(socket.IPPROTO_TCP, socket.TCP_NODELAY, 1)
-        self.unread = b""
+    def send(self, data: bytes | str) -> None:
+        with suppress(OSError):
+            super().send(data)
 
-    def send(self, data: bytes) -> None:
-        """Sends bytes. If the host takes no more of them, what comes back shows it."""
-        try:
-            self.socket.sendall(data)
-        except OSError:
-            pass
-
-    def send_slowly(self, line: bytes) -> None:
-        """Sends a line byte by byte."""
-        for byte in line:
-            self.send(bytes([byte]))
-            time.sleep(0.001)
-        self.send(b"\n")
-
-    def read(self) -> bytes:
+    def line(self) -> bytes:
         """The next line that comes back, or that there is none."""
-        while b"\n" not in self.unread:
-            try:
-                more = self.socket.recv(65_536)
-            except TimeoutError:
-                return b"nothing"
-            except OSError:
-                more = b""
-            if not more:
-                return b"end"
-            self.unread += more
-        line, _, self.unread = self.unread.partition(b"\n")
-        return line
-
-    def shut(self) -> bytes:
-        """Says that nothing more is sent."""
         try:
-            self.socket.shutdown(socket.SHUT_WR)
+            line = self.file.readline()
+        except TimeoutError:
+            return b"nothing"
         except OSError:
-            pass
-        return b"shut"
+            line = b""
+        return line[:-1] if line.endswith(b"\n") else b"end"
+
+    def shut(self) -> None:
+        """Says that nothing more is sent."""
+        with suppress(OSError):
+            self.socket.shutdown(socket.SHUT_WR)
 
     def do(self, rest: bytes) -> bytes:
         """What comes of something that is done at the connection."""
-        word, _, text = rest.partition(b" ")
-        if rest == b"read":
-            return self.read()
+        word, blank, text = rest.partition(b" ")
         if rest == b"shut":
-            return self.shut()
-        if word in (b"send", b"part") and b" " in rest:
+            self.shut()
+            return b"shut"
+        if blank and word in (b"send", b"part"):
             self.send(text + (b"\n" if word == b"send" else b""))
             return b"sent"
-        if word == b"slowly" and b" " in rest:
-            self.send_slowly(text)
-        else:
+        if blank and word == b"slowly":
+            for byte in text:
+                self.send(bytes([byte]))
+                time.sleep(0.001)
+            self.send(b"\n")
+        elif rest != b"read":
             self.send(rest + b"\n")
-        return self.read()
+        return self.line()
 
 
 def is_number(text: bytes) -> bool:
@@ -89,10 +69,10 @@ def is_number(text: bytes) -> bool:
 
 
 class Connections:
-    """What is done at connections to a host, line by line."""
+    """What is done at connections to a host, line by line. All are closed in the end."""
 
-    def __init__(self, host: Host) -> None:
-        self.host, self.streams = host, dict[int, Stream]()
+    def __init__(self, host: Host, stack: ExitStack) -> None:
+        self.host, self.stack, self.streams = host, stack, dict[int, Stream]()
         self.is_told = False
 
     def ended(self) -> bytes:
@@ -101,6 +81,12 @@ class Connections:
             return b"told before"
         self.is_told = True
         return how_it_ends(self.host)
+
+    def stream(self) -> Stream:
+        """A new connection."""
+        one = Stream(self.host.port)
+        self.stack.callback(one.close)
+        return one
 
     def answer(self, line: bytes) -> bytes:
         """What comes back for a line."""
@@ -113,19 +99,17 @@ class Connections:
             return self.crowd(*map(int, numbers)) if is_well else b"unread"
         if not is_number(number) or rest != b"open" and int(number) not in self.streams:
             return b"unread"
-        if rest == b"open":
-            return self.open(int(number))
-        if rest == b"close":
-            self.streams.pop(int(number)).socket.close()
-            return b"closed"
+        if rest in (b"open", b"close"):
+            # A connection that has the number is closed before another one is opened.
+            if int(number) in self.streams:
+                self.streams.pop(int(number)).close()
+            return self.open(int(number)) if rest == b"open" else b"closed"
         return self.streams[int(number)].do(rest)
 
     def open(self, number: int) -> bytes:
-        """Connects. A connection that has the number is closed before."""
-        if number in self.streams:
-            self.streams.pop(number).socket.close()
+        """Connects."""
         try:
-            self.streams[number] = Stream(self.host.port)
+            self.streams[number] = self.stream()
         except OSError:
             return b"refused"
         return b"open"
@@ -133,30 +117,23 @@ class Connections:
     def crowd(self, count: int, users: int) -> bytes:
         """So many connect, and then ask for the seats of so many users in turn: how many are seated, and how many hear that
         somebody has the seat, and are closed. Whoever hears another answer is the last that counts."""
-        streams = [Stream(self.host.port) for _ in range(count)]
+        streams = [self.stream() for _ in range(count)]
         for number, stream in enumerate(streams):
-            stream.send(b'{"seat":%d}\n' % (number % users + 1))
-        seated = taken = 0
+            stream.send(SEAT % (number % users + 1))
+        heard = []
         for stream in streams:
-            if (heard := stream.read() + b"\n") == SEATED:
-                seated += 1
-            elif heard == b'{"fault":80}\n' and stream.read() == b"end":
-                taken += 1
-            else:
+            heard.append(stream.line())
+            if heard[-1] != SEATED and (heard[-1] != TAKEN or stream.line() != b"end"):
+                heard.pop()
                 break
         for stream in streams:
-            stream.socket.close()
-        return b"%d seated, %d taken" % (seated, taken)
-
-    def close(self) -> None:
-        """Closes all connections."""
-        for stream in self.streams.values():
-            stream.socket.close()
+            stream.close()
+        return b"%d seated, %d taken" % (heard.count(SEATED), heard.count(TAKEN))
 
 
 def how_it_ends(host: Host) -> bytes:
     """How a host ends, as an example says it."""
-    done = host.ended(PATIENCE)
+    done = host.ended()
     if done is None:
         return b"not ended"
     if done.status == 0 and (done.output or done.errors):
@@ -172,50 +149,32 @@ def host_answers(cam6: str, part: Part) -> bytes:
     users, boards, limit, connections = sizes.groups()
     options = (f"--users={users}", f"--boards={boards}", f"--side={limit or 256}", f"--connections={connections}")
     answers = []
-    with Host(cam6, *options) as host:
-        there = Connections(host)
+    with Host(cam6, *options) as host, ExitStack() as stack:
+        there = Connections(host, stack)
         for line, _ in part.sent:
             answers.append(there.answer(line))
             if answers[-1] == b"nothing":
                 break
         else:
             answers += [] if there.is_told else [there.ended()]
-        there.close()
     return b"".join(answer + b"\n" for answer in answers)
 
 
 def session_answers(cam6: str, part: Part) -> bytes:
-    """What comes back after the seat, of all lines at once; and that there was no seat, or that the host did not end well."""
+    """What comes back after the seat, of all lines at once; and that there was no seat, or that the host didn't end well.
+    It may end before it has taken all lines, and then it doesn't answer the others."""
     options = ("--users=1", "--boards=1", f"--side={limit_of(part.way)}", "--connections=1")
-    with Host(cam6, *options) as host:
-        with socket.create_connection(("127.0.0.1", host.port), timeout=SESSION_PATIENCE) as stream:
-            sender = threading.Thread(target=say, args=(stream, SEAT + part.bytes_sent()))
-            sender.start()
-            heard = all_of(stream)
-            sender.join()
-        end = how_it_ends(host)
-    answers = heard.removeprefix(SEATED) if heard.startswith(SEATED) else b"no seat\n"
-    return answers if end == b"ended" else answers + b"the host: " + end + b"\n"
-
-
-def say(stream: socket.socket, data: bytes) -> None:
-    """Sends bytes, as far as the host takes them. It may end before, and then it doesn't answer the others."""
-    try:
-        stream.sendall(data)
-        stream.shutdown(socket.SHUT_WR)
-    except OSError:
-        pass
-
-
-def all_of(stream: socket.socket) -> bytes:
-    """All that comes back until there is no more."""
     heard = bytearray()
-    try:
-        while more := stream.recv(1 << 20):
-            heard += more
-    except OSError:
-        pass
-    return bytes(heard)
+    with Host(cam6, *options) as host:
+        with closing(Stream(host.port, patience=SESSION_PATIENCE)) as stream, ThreadPoolExecutor(1) as pool:
+            pool.submit(stream.send, SEAT % 1 + part.bytes_sent()).add_done_callback(lambda _: stream.shut())
+            with suppress(OSError):
+                while more := stream.socket.recv(1 << 20):
+                    heard += more
+        end = how_it_ends(host)
+    first, end_of_first, rest = bytes(heard).partition(b"\n")
+    answers = rest if (first, end_of_first) == (SEATED, b"\n") else b"no seat\n"
+    return answers if end == b"ended" else answers + b"the host: " + end + b"\n"
 
 
 @pytest.mark.parametrize("path", examples("crates/cam6_host/connections"))

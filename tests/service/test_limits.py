@@ -11,33 +11,17 @@ from contextlib import suppress
 from statistics import median_high
 
 import pytest
-from support.programs import Peer, Ran, private
+from support.programs import Peer, Ran, private, until
 from support.sessions import line_of
 
-from .lines import BACK, NO_JSON, NO_NAMES, NO_SEAT, ONE_NAME, PARITY, PLANE, ROW, RULES, RUN
-from .lines import SEATED, START, TAKEN, TOO_LONG, cycle
-from .steady import Hosts, connected, seated
+from .users import BACK, NO_JSON, NO_NAMES, NO_SEAT, ONE_NAME, PARITY, PLANES, ROW, RULES, RUN, SEAT, SEATED, START
+from .users import TAKEN, TOO_LONG, Hosts, answers, closed, connected, cycle, seated
 
 # How many may wait for a seat, beside one for each user; how many of them with a long line.
 MORE, LONG = 64, 8
 # Seconds within which a seat must be taken, for which a client may read nothing, and that a busy machine may add.
-SEAT, SEND, GRACE = 10, 60, 5
-FIRST, LOAD = '{"seat":1}', '{"do":"load",'
-
-
-def is_over(stream: socket.socket) -> bool:
-    """Whether a connection has ended. What comes over it is thrown away."""
-    with suppress(ConnectionError):
-        return stream.recv(4096) == b""
-    return True
-
-
-def closed(peers: list[Peer], within: float) -> int:
-    """How many of these connections the host closes within so many seconds."""
-    left, end = {peer.socket for peer in peers}, time.monotonic() + within
-    while left and (ready := select.select(left, [], [], max(0.0, end - time.monotonic()))[0]):
-        left -= {stream for stream in ready if is_over(stream)}
-    return len(peers) - len(left)
+WAIT, SEND, GRACE = 10, 60, 5
+FIRST, LOAD = SEAT % 1, '{"do":"load",'
 
 
 def first_answer(port: int, line: str) -> str | None:
@@ -50,19 +34,20 @@ def first_answer(port: int, line: str) -> str | None:
 def test_of_300_silent_clients_68_may_wait_for_a_seat(beside: Hosts) -> None:
     one, begun = beside(1, "--users=4"), time.monotonic()
     with connected(one.port, 300) as peers:
-        assert closed(peers, 3) == 300 - (4 + MORE)
-        assert time.monotonic() - begun < SEAT
+        assert until(lambda: closed(peers, 0.1) >= 300 - (4 + MORE), WAIT - 2)
+        assert closed(peers, 0.5) == 300 - (4 + MORE)
+        assert time.monotonic() - begun < WAIT
         # So is who comes then.
-        assert first_answer(one.port, '{"seat":2}') is None
+        assert first_answer(one.port, SEAT % 2) is None
 
 
 @pytest.mark.slow
 def test_silent_clients_are_closed_after_ten_seconds(beside: Hosts) -> None:
     one, begun = beside(1, "--users=4"), time.monotonic()
     with connected(one.port, 300) as peers:
-        assert closed(peers, SEAT + GRACE) == 300
-        assert time.monotonic() - begun > SEAT - 1
-        seated(one.port, 2).close()
+        assert closed(peers, WAIT + GRACE) == 300
+        assert time.monotonic() - begun > WAIT - 1
+        seated(Peer, one.port, 2).close()
 
 
 @pytest.mark.slow
@@ -73,7 +58,7 @@ def test_a_first_line_that_takes_longer_than_ten_seconds_is_not_answered(host: H
             peer.send(byte)
             if closed([peer], 2):
                 break
-    assert SEAT - 1 < time.monotonic() - begun < SEAT + GRACE
+    assert WAIT - 1 < time.monotonic() - begun < WAIT + GRACE
 
 
 @pytest.mark.parametrize("text, size", [(FIRST[:-1], 16_385), (LOAD, 2_097_153)], ids=["seat", "load"])
@@ -95,11 +80,11 @@ FIRST_LINES = {
 }
 
 
-@pytest.mark.parametrize("line, answers", FIRST_LINES.values(), ids=FIRST_LINES)
-def test_a_first_line_is_text_and_has_a_greatest_length(beside: Hosts, line: bytes, answers: list[str | None]) -> None:
+@pytest.mark.parametrize("line, wanted", FIRST_LINES.values(), ids=FIRST_LINES)
+def test_a_first_line_is_text_and_has_a_greatest_length(beside: Hosts, line: bytes, wanted: list[str | None]) -> None:
     with Peer(beside(2, "--users=2").port) as peer:
         peer.send(line + b"\n")
-        assert [peer.read() for _ in answers] == answers
+        assert [peer.read() for _ in wanted] == wanted
 
 
 def test_of_60_clients_that_send_a_load_first_eight_are_heard(beside: Hosts) -> None:
@@ -109,7 +94,8 @@ def test_of_60_clients_that_send_a_load_first_eight_are_heard(beside: Hosts) -> 
         for peer in peers:
             with suppress(ConnectionError):
                 peer.send(LOAD + "0" * 2_000_000)
-        assert closed(peers, 3) == 60 - LONG
+        assert until(lambda: closed(peers, 0.1) >= 60 - LONG, WAIT - 2)
+        assert closed(peers, 0.5) == 60 - LONG
         assert one.of_process("VmRSS") - before < 30_000
 
 
@@ -118,7 +104,7 @@ def fill(peer: Peer) -> None:
     peer.socket.settimeout(1)
     with suppress(OSError):
         while True:
-            peer.send(f"{PLANE}\n" * 40)
+            peer.send(f"{PLANES[0]}\n" * 40)
 
 
 @pytest.mark.slow
@@ -133,15 +119,15 @@ def test_who_reads_nothing_loses_the_seat_after_a_minute(beside: Hosts) -> None:
         with Peer(one.port, 1) as first, Peer(one.port, 2) as second:
             assert (first.said, second.said) == (TAKEN, TAKEN)
         for user in (1, 2):
-            seated(one.port, user, end - time.monotonic()).close()
+            seated(Peer, one.port, user, end - time.monotonic()).close()
 
 
 def test_a_seat_is_free_after_two_seconds_of_silence_and_its_machine_stays(beside: Hosts) -> None:
     one = beside(3, "--users=3", "--idle=2")
     with Peer(one.port, 1) as quiet:
         quiet.ask(PARITY)
-        assert closed([quiet], 5) == 1
-        with seated(one.port, 1) as again:
+        assert closed([quiet], 2 + GRACE) == 1
+        with seated(Peer, one.port, 1) as again:
             assert again.ask(RULES) == ONE_NAME
 
 
@@ -157,7 +143,7 @@ def test_runs_are_no_silence(cam6: str, beside: Hosts) -> None:
     session = [*START, RUN % 65535, ROW % 7]
     with Peer(beside(3, "--users=3", "--idle=2").port, 1) as peer:
         begun = time.monotonic()
-        said = [peer.ask(line) for line in session]
+        said = answers(peer, session)
         # So many runs take three seconds, for which the client says nothing.
         count = 1 + int(3 / (time.monotonic() - begun))
         peer.send(f"{RUN % 65535}\n" * count)
@@ -176,6 +162,12 @@ def expensive_lines() -> list[str]:
     return [*rules, cycle(*(f"R{n}" for n in range(16)))]
 
 
+def prepare(user: Peer, other: Peer) -> None:
+    """A user has a rule that is done, and the other one expensive tables."""
+    answers(user, START[:2])
+    assert {*answers(other, expensive_lines())} == {'{"ok":"rule"}', '{"ok":"cycle"}'}
+
+
 def seconds(peer: Peer, line: str, pause: float = 0) -> float:
     """How long the answer to a line takes, which is asked after a pause."""
     time.sleep(pause)
@@ -188,9 +180,7 @@ def test_beside_sixteen_expensive_tables_another_user_waits_for_a_few(beside: Ho
     # Each table is filled under the cache's lock, and others may have it in between.
     one = beside(1)
     with Peer(one.port, 2) as user, Peer(one.port, 3) as other, ThreadPoolExecutor(1) as pool:
-        for line in START[:2]:
-            user.ask(line)
-        assert {other.ask(line) for line in expensive_lines()} == {'{"ok":"rule"}', '{"ok":"cycle"}'}
+        prepare(user, other)
         waiting = pool.submit(lambda: [seconds(user, RUN % 1, 0.01) for _ in range(40)])
         # The other user does a step and undoes it, until the user has done forty.
         taken = [seconds(other, line) for _ in iter(waiting.done, True) for line in (RUN % 1, BACK)]
@@ -201,16 +191,14 @@ def test_beside_a_long_run_by_such_tables_another_user_waits_for_one_filling(hos
     # Filling tables is a part of the time for which a command has its board, and no reason to have it longer.
     one = host("--users=2", "--boards=1")
     with Peer(one.port, 1) as user, Peer(one.port, 2) as other:
-        for line in START[:2]:
-            user.ask(line)
-        assert {other.ask(line) for line in expensive_lines()} == {'{"ok":"rule"}', '{"ok":"cycle"}'}
+        prepare(user, other)
         end = time.monotonic() + 2
         taken = [seconds(other, line) for _ in iter(lambda: time.monotonic() > end, True) for line in (RUN % 1, BACK)]
         other.send(f"{RUN % 65535}\n" * 50)
         assert median_high(seconds(user, RUN % 1, 0.01) for _ in range(9)) < 3 * median_high(taken)
 
 
-REFUSED = [(FIRST, TAKEN), ('{"seat":9}', NO_SEAT), ("{", NO_JSON), (FIRST.ljust(100_010), TOO_LONG)]
+REFUSED = [(FIRST, TAKEN), (SEAT % 9, NO_SEAT), ("{", NO_JSON), (FIRST.ljust(100_010), TOO_LONG)]
 
 
 @pytest.mark.parametrize("shuts", [True, False], ids=["shut", "open"])
@@ -242,4 +230,4 @@ def test_a_silent_client_holds_the_end_up_for_ten_seconds_at_most(host: Hosts) -
     one = host("--connections=2")
     with Peer(one.port):
         Peer(one.port, 1).close()
-        assert one.ended(SEAT + GRACE) == Ran(0, b"", b"")
+        assert one.ended(WAIT + GRACE) == Ran(0, b"", b"")

@@ -3,7 +3,7 @@
 Eight users ask for runs that take seconds, so that all boards are busy. Then all others ask for shorter steps, and
 three of them go back. Each of these must be answered before any of the eight, although there are no other boards: so
 commands were taken off boards, and went on later, maybe elsewhere. In the end each reply, and each plane of each user,
-must be what a private machine gives, by the plain script `machines`, which knows no bands and no boards.
+must be what a private machine of the oracle gives, which knows no bands and no boards.
 
 The eight have the largest torus. Their runs come back to their beginning, and so the plain machine does only the step
 that is left over. A step of parity is a sum, so that 512 steps put five copies of the cells onto themselves, which
@@ -19,21 +19,22 @@ from random import Random
 from typing import Any
 
 import pytest
-from support.plain_scripts import plain_script
+from examples import named_rules
+from examples.writing import rule_command
+from oracle.machine import Alone
+from oracle.wirings import FIRST_PLANE
 from support.programs import Host, Peer, Ran, until
 from support.sessions import assert_replies, line_of
 
-from .lines import SEATED
-from .steady import Hosts
+from .users import SEATED, Hosts
 
 USERS, BOARDS, TABLES = 32, 8, 4
 # The sides of users with long runs, and of the others.
 LARGE, SMALL = 512, 128
 # Nearly as many steps as a command may have: one more than a multiple of each period.
 LONG = 127 * LARGE + 1
-EVENTS, FIRST_PLANE = plain_script("events"), plain_script("hosts").FIRST_PLANE
-VOTE = ("B", *EVENTS.CELLS, ": R CENTER NORTH + SOUTH + WEST + EAST + { 0 0 0 1 1 1 } >PLN2 ;")
-WAYS = EVENTS.RULES | {"VOTE": VOTE}
+VOTE = ("B", *named_rules.CELLS, ": R CENTER NORTH + SOUTH + WEST + EAST + { 0 0 0 1 1 1 } >PLN2 ;")
+WAYS = named_rules.RULES | {"VOTE": VOTE}
 # The rules of users with long runs, one after another, and after how many steps a run is where it began.
 AROUND = [("PARITY", LARGE), ("LIFE", 2), ("BALLS", LARGE), ("TURN", 4)]
 # The rules of the others, one after another, and again from the first. Those who go back, by their numbers.
@@ -58,14 +59,14 @@ class User:
 
     def __init__(self, number: int, port: int) -> None:
         self.number, self.random, self.is_long = number, Random(number), number <= BOARDS
-        self.peer, self.machine = Peer(port, number), plain_script("machines").Alone(LARGE)
+        self.peer, self.machine = Peer(port, number), Alone(LARGE)
         self.sent, self.came, self.wanted = ["the seat"], [self.peer.said], [SEATED]
         self.side = LARGE if self.is_long else SMALL
         others = [(words, 1) for words in WORDS.split(", ")]
         words, self.period = AROUND[(number - 1) % 4] if self.is_long else others[(number - 1) % len(others)]
         self.words = words.split()
         is_back = number in BACK
-        assert not is_back or all(word in EVENTS.REVERSIBLE for word in self.words)
+        assert not is_back or all(word in named_rules.REVERSIBLE for word in self.words)
         self.steps = {"do": "back" if is_back else "run", "n": LONG if self.is_long else 20 + number % 8}
 
     def keep(self, command: dict[str, Any], came: str | None, plain: dict[str, Any]) -> None:
@@ -89,7 +90,7 @@ class User:
         """Keeps the rules and a cycle of them, and sets rows with a few cells."""
         self.ask(do="side", side=self.side)
         for word in self.words:
-            self.ask(**EVENTS.rule_line(word, *WAYS[word]))
+            self.ask(**rule_command(word, *WAYS[word]))
         self.ask(do="cycle", entries=self.entries())
         # A run of Life or of a ball that comes back needs a row of three cells, or one cell.
         digits = {"LIFE": "e", "BALLS": "8"}.get(self.words[0]) if self.is_long else None

@@ -6,20 +6,22 @@ A play that fails shrinks, and the lines of the user whose reply differs are pri
 
 from __future__ import annotations
 
+from dataclasses import dataclass, field
 from typing import Any
 
-import hypothesis
 import pytest
 from hypothesis import strategies as st
-from hypothesis.stateful import RuleBasedStateMachine, initialize, precondition, rule, run_state_machine_as_test
+from hypothesis.stateful import RuleBasedStateMachine, initialize, rule
 from oracle.lines import plain
 from oracle.machine import Alone
 from programs.texts import rules
-from support.programs import Host, Peer, until
+from support.programs import Host, Peer
 from support.sessions import assert_replies
+from support.stateful import play
+
+from .users import TAKEN, seated
 
 USERS, BOARDS, SIDE = 3, 2, 128
-SEATED, TAKEN = '{"ok":"seat"}', '{"fault":80}'
 NUMBERS = st.integers(1, USERS)
 LINES = st.sampled_from(
     [
@@ -27,14 +29,22 @@ LINES = st.sampled_from(
         plain({"do": "set", "plane": 0, "row": 15, "bits": "0" * 15 + "18" + "0" * 15}),
         plain({"do": "set", "plane": 2, "row": 127, "bits": "8" + "0" * 31}),
         *(plain({"do": "plane", "plane": plane}) for plane in range(4)),
-        plain({"do": "count", "mask": 2}),
-        plain({"do": "rules"}),
-        plain({"do": "save"}),
+        *(plain(line) for line in ({"do": "count", "mask": 2}, {"do": "rules"}, {"do": "save"})),
         plain({"do": "clear", "plane": 0}),
         b"{}",
         b"{",
     ]
 )
+
+
+@dataclass
+class Play:
+    """What a user sent, what came, and what was wanted, by a machine of the oracle."""
+
+    machine: Alone = field(default_factory=lambda: Alone(SIDE))
+    sent: list[bytes] = field(default_factory=list)
+    came: list[bytes] = field(default_factory=list)
+    wanted: list[bytes] = field(default_factory=list)
 
 
 class Users(RuleBasedStateMachine):
@@ -45,41 +55,33 @@ class Users(RuleBasedStateMachine):
         options = (f"--users={USERS}", f"--boards={BOARDS}", f"--side={SIDE}", "--connections=0", "--cache=2")
         self.host = Host(cam6, *options)
         self.peers: dict[int, Peer] = {}
-        self.machines = {user: Alone(SIDE) for user in range(1, USERS + 1)}
-        self.lines: dict[int, list[bytes]] = {user: [] for user in self.machines}
-        self.came: dict[int, list[bytes]] = {user: [] for user in self.machines}
-        self.wanted: dict[int, list[bytes]] = {user: [] for user in self.machines}
+        self.plays = {user: Play() for user in range(1, USERS + 1)}
 
     def sits(self, user: int) -> Peer:
         """The connection of a user, who takes the seat as soon as the host has seen that it is free."""
-
-        def is_seated() -> bool:
-            self.peers[user] = Peer(self.host.port, user)
-            return self.peers[user].said == SEATED
-
         if user not in self.peers:
-            assert until(is_seated, 20), self.peers[user].said
+            self.peers[user] = seated(Peer, self.host.port, user, 20)
         return self.peers[user]
 
-    def send(self, user: int, lines: list[bytes]) -> None:
+    def send(self, user: int, *lines: bytes) -> None:
         """Sends lines at once, and compares their replies."""
-        peer = self.sits(user)
+        peer, play = self.sits(user), self.plays[user]
         peer.send(b"".join(line + b"\n" for line in lines))
-        self.lines[user] += lines
-        self.wanted[user] += [self.machines[user].answer(line) for line in lines]
-        self.came[user] += [str(peer.read()).encode() for _ in lines]
-        assert_replies(self.lines[user], self.came[user], self.wanted[user], f"./cam6 alone --side {SIDE}")
+        play.sent += lines
+        play.wanted += [play.machine.answer(line) for line in lines]
+        play.came += [str(peer.read()).encode() for _ in lines]
+        assert_replies(play.sent, play.came, play.wanted, f"./cam6 alone --side {SIDE}")
 
     @initialize()
     def begin(self) -> None:
         """All sit."""
-        for user in self.machines:
+        for user in self.plays:
             self.sits(user)
 
     @rule(user=NUMBERS, lines=st.lists(LINES, min_size=1, max_size=8))
     def say(self, user: int, lines: list[bytes]) -> None:
         """Lines of one user, at once."""
-        self.send(user, lines)
+        self.send(user, *lines)
 
     @rule(user=NUMBERS, of=rules(("rule", "block", "block")), grid=st.sampled_from(["EVEN", "ODD"]))
     def keep_a_rule_and_use_it(self, user: int, of: dict[str, str], grid: str) -> None:
@@ -87,9 +89,8 @@ class Users(RuleBasedStateMachine):
         free = {"a": "-", "b": "-", "grid": grid, "phase": 2}
         commands: list[dict[str, Any]] = [{"do": "cycle", "entries": [free]}, {"do": "rule", "name": "R", **of}]
         used = {"do": "cycle", "entries": [free | {of["half"].lower(): "R"}]}
-        self.send(user, [plain(command) for command in [*commands, used]])
+        self.send(user, *(plain(command) for command in [*commands, used]))
 
-    @precondition(lambda self: bool(self.peers))
     @rule(user=NUMBERS, way=st.sampled_from([Peer.close, Peer.reset]), part=st.sampled_from([b"", b'{"do":"ru']))
     def go(self, user: int, way: Any, part: bytes) -> None:
         """A user goes, maybe within a line, which is not done."""
@@ -108,12 +109,11 @@ class Users(RuleBasedStateMachine):
     def teardown(self) -> None:
         """In the end each machine is compared."""
         with self.host:
-            for user in self.machines:
-                self.send(user, [plain({"do": "save"})])
+            for user in self.plays:
+                self.send(user, plain({"do": "save"}))
                 self.peers[user].close()
 
 
 @pytest.mark.slow
 def test_users(cam6: str) -> None:
-    settings = hypothesis.settings(stateful_step_count=25, max_examples=25)
-    run_state_machine_as_test(lambda: Users(cam6), settings=settings)  # type: ignore[no-untyped-call]
+    play(lambda: Users(cam6), examples=25, steps=25)

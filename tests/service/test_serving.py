@@ -11,8 +11,8 @@ import pytest
 from support.programs import PATIENCE, Listener, Peer, Ran, free_port, private, ran
 from support.sessions import line_of
 
-from .lines import CELL, NO_NAMES, NO_SEAT, ONE_NAME, PARITY, PLANE, ROW, RULES, RUN, SEATED, START, TAKEN
-from .steady import Hosts, connected, seated
+from .users import CELL, NO_NAMES, NO_SEAT, ONE_NAME, PARITY, PLANES, ROW, RULES, RUN, SEAT, SEATED, START, TAKEN
+from .users import Hosts, connected, seated
 
 # There are runs between the other commands, so that the answers to all of them go in several sends.
 CHANGES = [*START[:2], *(line for y in range(5) for line in (CELL % (40 * y), ROW % (40 * y), RUN % 1))]
@@ -36,7 +36,7 @@ def test_of_64_clients_at_once_four_have_the_seats_of_four_users(host: Hosts) ->
     one = host("--connections=64")
     with connected(one.port, 64) as peers:
         for number, peer in enumerate(peers):
-            peer.send(f'{{"seat":{1 + number % 4}}}\n')
+            peer.send(f"{SEAT % (1 + number % 4)}\n")
         said = [peer.read() for peer in peers]
         assert sorted(1 + number % 4 for number, line in enumerate(said) if line == SEATED) == [1, 2, 3, 4]
         assert said.count(TAKEN) == 60
@@ -105,8 +105,8 @@ def at_once(host: Hosts, library: Callable[[str], str]) -> AtOnce:
                 peer.send("".join(f"{line}\n" for line in CHANGES))
                 peer.socket.shutdown(socket.SHUT_WR)
             said = list(iter(peer.read, None))
-        with seated(one.port, 1) as peer:
-            return said, peer.ask(PLANE)
+        with seated(Peer, one.port, 1) as peer:
+            return said, peer.ask(PLANES[0])
 
     return play
 
@@ -114,7 +114,7 @@ def at_once(host: Hosts, library: Callable[[str], str]) -> AtOnce:
 @cache
 def planes(cam6: str) -> list[str]:
     """The plane of a private machine after none of the changes, after the first, and so on."""
-    return [private(cam6, [*CHANGES[:done], PLANE])[-1] for done in range(len(CHANGES) + 1)]
+    return [private(cam6, [*CHANGES[:done], PLANES[0]])[-1] for done in range(len(CHANGES) + 1)]
 
 
 def test_answers_break_off_where_a_send_fails_and_none_is_lost_before(cam6: str, at_once: AtOnce) -> None:

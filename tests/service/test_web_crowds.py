@@ -2,38 +2,37 @@
 
 from __future__ import annotations
 
-import asyncio
 import resource
+import socket
 import threading
 import time
 from collections.abc import Callable, Iterator
-from contextlib import ExitStack, suppress
+from concurrent.futures import ThreadPoolExecutor
+from contextlib import AbstractContextManager, ExitStack, suppress
+from functools import partial
 
 import pytest
 from support.programs import Page, until
-from support.sessions import line_of
 from websockets.exceptions import InvalidStatus
 from websockets.frames import Opcode
 
-from .answers import answer_of, answer_to, get
-from .sockets import Socket, frame_of, status_of
-from .steady_page import Session, Steady
+from .pages import Socket, answer_of, answer_to, frame_of, get, status_of
+from .users import NO_COMMAND, PLANES, Pages, Session, closed, connected, steady
 
-# Seconds in which a request has to be whole, that a busy machine may add, and in which those that are too many are closed.
-REQUEST, GRACE, AT_ONCE = 10, 8, 5
+# Seconds in which a request has to be whole, and that a busy machine may add.
+REQUEST, GRACE = 10, 8
 # Clients of a crowd, sockets that a program has if it isn't told another number, and threads that it may have besides.
 CROWD, SOCKETS, MORE_THREADS = 1000, 64, 80
 # Kilobytes that may be held for a crowd, and for sockets that never read.
 HELD, HELD_FOR_DEAF = 32 * 1024, 64 * 1024
-FAULT = '{"fault":3}'
+Ended = tuple[float, int]
 
 
 def slow_requests(port: int) -> dict[str, list[bytes]]:
     """Requests that never become whole. Of each the first piece is sent at once, and then a piece a second."""
     head = b"GET / HTTP/1.1\r\nHost: 127.0.0.1:%d\r\n" % port
-    shake = (
-        head.replace(b"/ ", b"/ws ", 1) + b"Upgrade: websocket\r\nConnection: Upgrade\r\nSec-WebSocket-Version: 13\r\n"
-    )
+    shake = head.replace(b"/ ", b"/ws ", 1)
+    shake += b"Upgrade: websocket\r\nConnection: Upgrade\r\nSec-WebSocket-Version: 13\r\n"
     return {
         "a client that says nothing": [b""],
         "half a request": [b"GET / HT"],
@@ -44,48 +43,44 @@ def slow_requests(port: int) -> dict[str, list[bytes]]:
     }
 
 
-async def ended_after(port: int, pieces: list[bytes]) -> tuple[float, int]:
+def ended_after(port: int, pieces: list[bytes]) -> Ended:
     """Sends pieces. Returns after how many seconds the server ends the connection, and with which status; 0 if with none."""
     whole, begun = b"", time.monotonic()
-    reader, writer = await asyncio.open_connection("127.0.0.1", port)
-
-    async def send() -> None:
-        for piece in pieces:
-            writer.write(piece)
-            await asyncio.sleep(1)
-
-    sending = asyncio.create_task(send())
-    with suppress(ConnectionError):
-        while part := await asyncio.wait_for(reader.read(65536), REQUEST + GRACE + 5):
-            whole += part
-    sending.cancel()
-    writer.close()
+    with socket.create_connection(("127.0.0.1", port), timeout=1) as tcp, suppress(ConnectionError):
+        for piece in [*pieces, *[b""] * 2 * (REQUEST + GRACE)]:
+            tcp.sendall(piece)
+            with suppress(TimeoutError):
+                while part := tcp.recv(65536):
+                    whole += part
+                break
     return time.monotonic() - begun, answer_of(whole).status
 
 
+def goes_on(page: Page, session: Session) -> AbstractContextManager[Callable[[], int]]:
+    """A page that goes on beside what a test does, on a machine of its own."""
+    return steady(Socket(page.port, patience=60), session, 0.2)
+
+
 @pytest.fixture(scope="module")
-def slow(bare: Page, readme: Session) -> dict[str, tuple[float, int]]:
+def slow(bare: Page, readme: Session) -> dict[str, Ended]:
     """After how many seconds each slow request is ended, and with which status. All of them come at once."""
-
-    async def all_of_them() -> list[tuple[float, int]]:
-        return await asyncio.gather(*(ended_after(bare.port, pieces) for pieces in slow_requests(bare.port).values()))
-
-    with Steady(bare.port, readme):
-        ended = dict(zip(slow_requests(0), asyncio.run(all_of_them())))
+    requests = slow_requests(bare.port)
+    with goes_on(bare, readme), ThreadPoolExecutor(len(requests)) as pool:
+        ended = dict(zip(requests, pool.map(partial(ended_after, bare.port), requests.values())))
         assert get(bare.port, "/").status == 200
         return ended
 
 
 @pytest.mark.slow
 @pytest.mark.parametrize("what", slow_requests(0))
-def test_a_request_is_given_up_after_ten_seconds(slow: dict[str, tuple[float, int]], what: str) -> None:
+def test_a_request_is_given_up_after_ten_seconds(slow: dict[str, Ended], what: str) -> None:
     seconds, status = slow[what]
     assert REQUEST - 1 < seconds < REQUEST + GRACE
     assert status in (0, 400, 408)
 
 
 def test_half_a_request_that_ends_is_refused(bare: Page) -> None:
-    assert answer_to(bare.port, b"GET / HT", ends=True).status in (0, 400)
+    assert answer_to(bare.port, "GET / HT", ends=True).status in (0, 400)
 
 
 @pytest.fixture
@@ -97,33 +92,20 @@ def many_files() -> Iterator[None]:
     resource.setrlimit(resource.RLIMIT_NOFILE, (soft, hard))
 
 
-async def crowd(page: Page) -> tuple[list[float], int]:
-    """After how many seconds each client of a silent crowd is closed, and the most threads of the program meanwhile. One that isn't
-    accepted counts as 0 seconds."""
-
-    async def client() -> float:
-        with suppress(ConnectionError):
-            return (await ended_after(page.port, []))[0]
-        return 0.0
-
-    clients = [asyncio.create_task(client()) for _ in range(CROWD)]
-    most = 0
-    while not all(one.done() for one in clients):
-        most = max(most, page.of_process("Threads"))
-        await asyncio.sleep(0.1)
-    return [one.result() for one in clients], most
-
-
 @pytest.mark.slow
 @pytest.mark.usefixtures("many_files")
-def test_a_crowd_that_says_nothing_is_bounded(page: Callable[..., Page], readme: Session) -> None:
+def test_a_crowd_that_says_nothing_is_bounded(page: Pages, readme: Session) -> None:
     crowded = page()
     before = crowded.of_process("VmRSS")
-    with Steady(crowded.port, readme):
-        seconds, threads = asyncio.run(crowd(crowded))
-        assert threads <= SOCKETS + MORE_THREADS
-        assert sum(one < AT_ONCE for one in seconds) >= CROWD - SOCKETS - MORE_THREADS, "the rest is closed at once"
-        assert REQUEST - 1 < max(seconds) < REQUEST + GRACE, "those that are taken are closed after ten seconds"
+    with goes_on(crowded, readme):
+        begun = time.monotonic()
+        with connected(crowded.port, CROWD) as many:
+            threads = crowded.of_process("Threads")
+            at_once = closed(many, begun + REQUEST - 1 - time.monotonic())
+            assert at_once >= CROWD - SOCKETS - MORE_THREADS, "the rest is closed before those that are taken"
+            assert max(threads, crowded.of_process("Threads")) <= SOCKETS + MORE_THREADS
+            assert at_once < closed(many, REQUEST + GRACE) == CROWD, "those that are taken are closed after ten seconds"
+            assert time.monotonic() - begun > REQUEST - 1
         assert until(lambda: get(crowded.port, "/").status == 200, 5)
         assert crowded.of_process("VmRSS") - before < HELD, "kilobytes are held for a crowd"
 
@@ -139,38 +121,41 @@ def refusal(port: int) -> object:
 
 
 @pytest.mark.parametrize(("options", "most"), [(("--connections", "2"), 2), ((), SOCKETS)])
-def test_so_many_sockets_are_open_and_no_more(page: Callable[..., Page], options: tuple[str, ...], most: int) -> None:
+def test_so_many_sockets_are_open_and_no_more(page: Pages, options: tuple[str, ...], most: int) -> None:
     port = page(options=options).port
     with ExitStack() as stack:
         many = [stack.enter_context(Socket(port)) for _ in range(most)]
         assert {refusal(port) for _ in range(3)} <= {503, 1013}
         assert get(port, "/").status == 200, "the page is shown beside them"
         assert status_of(port, fields={"Origin": "http://x"}) == 403, "another origin is told before that"
-        assert [one.ask("{}") for one in many] == [FAULT] * most, "those that are open go on"
-        many[0].close()
+        assert [one.ask("{}") for one in many] == [NO_COMMAND] * most, "those that are open go on"
+        many[0].leave()
         assert until(lambda: status_of(port) == 101, 5), "there is room after one was closed"
     assert until(lambda: status_of(port) == 101, 5), "there is room after all of them went"
 
 
+# What sockets send without reading: each for planes, for faults, and for pongs.
+ASKS = {
+    "planes": frame_of(Opcode.TEXT, PLANES[0].encode()),
+    "long lines": frame_of(Opcode.TEXT, b" " * 1_000_000),
+    "pings": frame_of(Opcode.PING, b"x" * 125) * 100,
+}
+
+
 @pytest.mark.slow
-def test_sockets_that_never_read_are_held_back(page: Callable[..., Page], readme: Session) -> None:
-    asks = {
-        "planes": frame_of(Opcode.TEXT, line_of(do="plane", plane=0).encode()),
-        "long lines": frame_of(Opcode.TEXT, b" " * 1_000_000),
-        "pings": frame_of(Opcode.PING, b"x" * 125) * 100,
-    }
-    most, sent, asked = 2000, dict.fromkeys(asks, 0), page()
+def test_sockets_that_never_read_are_held_back(page: Pages, readme: Session) -> None:
+    most, sent, asked = 2000, dict.fromkeys(ASKS, 0), page()
 
     def send(what: str, deaf: Socket) -> None:
         with suppress(OSError):
             while sent[what] < most:
-                deaf.raw(asks[what])
+                deaf.send(ASKS[what])
                 sent[what] += 1
 
-    with ExitStack() as stack, Steady(asked.port, readme):
+    with ExitStack() as stack, goes_on(asked, readme):
         before = asked.of_process("VmRSS")
-        deaf = [stack.enter_context(Socket(asked.port, patience=3)) for _ in asks]
-        threads = [threading.Thread(target=send, args=pair, daemon=True) for pair in zip(asks, deaf)]
+        deaf = [stack.enter_context(Socket(asked.port, patience=3)) for _ in ASKS]
+        threads = [threading.Thread(target=send, args=pair, daemon=True) for pair in zip(ASKS, deaf)]
         for thread in threads:
             thread.start()
         for thread in threads:
@@ -182,27 +167,27 @@ def test_sockets_that_never_read_are_held_back(page: Callable[..., Page], readme
 
 def test_pings_by_the_thousand_are_answered_in_order(bare: Page, readme: Session) -> None:
     count = 20_000
-    with Steady(bare.port, readme) as steady, Socket(bare.port) as one:
+    with goes_on(bare, readme) as rounds, Socket(bare.port) as one:
 
         def send() -> None:
             for first in range(0, count, 100):
-                one.raw(b"".join(frame_of(Opcode.PING, b"%d" % number) for number in range(first, first + 100)))
+                one.send(b"".join(frame_of(Opcode.PING, b"%d" % number) for number in range(first, first + 100)))
                 if first % 2000 == 0:
                     one.send("{}")
 
         threading.Thread(target=send, daemon=True).start()
         numbers, texts = [-1], []
         while numbers[-1] != count - 1:
-            got = one.read()
+            got = one.frame()
             assert got and got.opcode in (Opcode.PONG, Opcode.TEXT), f"{got} after the pong {numbers[-1]}"
             if got.opcode is Opcode.PONG:
                 numbers.append(int(got.data))
             else:
                 texts.append(got.data.decode())
         assert numbers == sorted(set(numbers))
-        assert texts == [FAULT] * (count // 2000), "lines among pings are answered too"
+        assert texts == [NO_COMMAND] * (count // 2000), "lines among pings are answered too"
         # All of them may be answered before the page plays once more, so further ones follow until it has.
         last = time.monotonic() + 20
-        while steady.rounds < 2 and not steady.wrong and time.monotonic() < last:
-            one.frame(Opcode.PING, b"once more")
-            one.read()
+        while rounds() < 2 and time.monotonic() < last:
+            one.send(frame_of(Opcode.PING, b"once more"))
+            one.frame()

@@ -10,40 +10,31 @@ from support.programs import Page, private, until
 from support.sessions import assert_replies, line_of
 from websockets.frames import Opcode
 
-from .recorder import Recorder
-from .rows import Row, among, each_row, frame_of_row, rows_of, text_of
-from .sockets import Socket, frame_of
-from .steady_page import Session
+from .pages import Recorder, Row, Socket, among, each_row, frame_of, rows_of, text_of
+from .users import BACK, BALLS, BLANK, COUNT, PLANES, RUN, Session, answers
 
-COUNT, BLANK = line_of(do="count", mask=65534), '{"count":0,"ok":"count"}'
 LINES = ["a", "", "é☃😀", "a\r", "\0", *(f"n{number}" for number in range(200)), "x" * 2097152, "last"]
-EURO = [frame_of(at == 0, bytes([byte]), is_last=at == 2) for at, byte in enumerate("€".encode())]
+EURO = [frame_of(at == 0, bytes([byte]), last=at == 2) for at, byte in enumerate("€".encode())]
 FRAGMENTS = [
-    frame_of(Opcode.TEXT, b"fr", is_last=False),
+    frame_of(Opcode.TEXT, b"fr", last=False),
     frame_of(Opcode.PING, b"hey"),
-    frame_of(Opcode.CONT, b"ag", is_last=False),
-    frame_of(Opcode.CONT, b"", is_last=False),
+    frame_of(Opcode.CONT, b"ag", last=False),
+    frame_of(Opcode.CONT, b"", last=False),
     frame_of(Opcode.CONT, b"ment"),
 ]
+AFTER_PONG = [frame_of(Opcode.PONG, b"nobody"), frame_of(Opcode.TEXT, b"after")]
+IN_ONE = b"".join(frame_of(Opcode.TEXT, b"%d" % at) for at in range(50))
 # What is sent in pieces, the pongs that come first, and the lines that a host is told.
 PIECES: dict[str, tuple[list[bytes], list[bytes], list[str]]] = {
     "fragments, with a ping within": (FRAGMENTS, [b"hey"], ["fragment"]),
-    "a pong that nobody asked for": (
-        [frame_of(Opcode.PONG, b"nobody"), frame_of(Opcode.TEXT, b"after")],
-        [],
-        ["after"],
-    ),
+    "a pong that nobody asked for": (AFTER_PONG, [], ["after"]),
     "a character in three fragments": ([b"".join(EURO)], [], ["€"]),
     "a frame byte by byte": ([bytes([byte]) for byte in frame_of(Opcode.TEXT, b"byte by byte")], [], ["byte by byte"]),
-    "frames in one piece": (
-        [b"".join(frame_of(Opcode.TEXT, b"%d" % at) for at in range(50))],
-        [],
-        [*map(str, range(50))],
-    ),
+    "frames in one piece": ([IN_ONE], [], [*map(str, range(50))]),
 }
 
 
-def answers_to(one: Socket, lines: list[str]) -> list[str | None]:
+def answers_at_once(one: Socket, lines: list[str]) -> list[str | None]:
     """The answers to lines that don't wait for them."""
 
     def send() -> None:
@@ -51,7 +42,7 @@ def answers_to(one: Socket, lines: list[str]) -> list[str | None]:
             one.send(line)
 
     threading.Thread(target=send, daemon=True).start()
-    return [one.text() for _ in lines]
+    return [one.read() for _ in lines]
 
 
 # A page without a host has a machine of its own.
@@ -60,23 +51,29 @@ def answers_to(one: Socket, lines: list[str]) -> list[str | None]:
 @pytest.fixture(scope="module")
 def odd(cam6: str, bare: Page) -> dict[str, tuple[str | None, str]]:
     """The answer to each row of lines.json, one after another, and the reply of a private machine."""
-    rows = rows_of("lines")
-    lines = [text_of(row["line"]) for row in rows]
+    lines = {row["what"]: text_of(row["line"]) for row in rows_of("lines")}
     with Socket(bare.port, patience=60) as one:
-        came = [one.ask(line) for line in lines]
-    return {row["what"]: pair for row, pair in zip(rows, zip(came, private(cam6, lines)))}
+        return dict(zip(lines, zip(answers(one, [*lines.values()]), private(cam6, lines.values()))))
 
 
 def test_the_session_of_readme_has_the_replies_of_a_private_machine(bare: Page, readme: Session) -> None:
     with Socket(bare.port, patience=60) as one:
-        assert_replies(readme.lines, [one.ask(line) for line in readme.lines], readme.replies)
+        assert_replies(readme.lines, answers(one, readme.lines), readme.replies)
+
+
+def test_balls_run_and_are_taken_back(cam6: str, bare: Page) -> None:
+    lines = [*BALLS, *PLANES, *[RUN % 1] * 60, *PLANES, *[BACK] * 60, *PLANES]
+    with Socket(bare.port, patience=60) as one:
+        came = answers(one, lines)
+    assert_replies(lines, came, private(cam6, lines))
+    assert came[-4:] == came[len(BALLS) : len(BALLS) + 4]
 
 
 def test_each_page_has_a_machine_of_its_own(bare: Page, readme: Session) -> None:
     with Socket(bare.port) as one, Socket(bare.port) as other:
-        assert [one.ask(line) for line in readme.lines] == readme.replies
+        assert answers(one, readme.lines) == readme.replies
         assert one.ask(COUNT) != other.ask(COUNT) == BLANK
-        assert one.close(1000, "bye") == 1000
+        assert one.leave("bye") == 1000
     with Socket(bare.port) as other:
         assert other.ask(COUNT) == BLANK, "a new page has a new machine"
 
@@ -85,7 +82,7 @@ def test_lines_need_not_wait_for_their_answers(cam6: str, bare: Page) -> None:
     lines = [line_of(do="set", plane=2, row=y, bits="8" + "0" * 63) for y in range(256)]
     lines += [line for y in range(256) for line in (line_of(do="row", plane=2, row=y), line_of(do="drop", name=str(y)))]
     with Socket(bare.port, patience=60) as one:
-        assert_replies(lines, answers_to(one, lines), private(cam6, lines))
+        assert_replies(lines, answers_at_once(one, lines), private(cam6, lines))
 
 
 @pytest.mark.parametrize("row", each_row("lines"))
@@ -126,9 +123,9 @@ def steady(carrying: Page) -> Iterator[Socket]:
 
 
 def test_a_host_is_told_each_message_as_its_line(host: Recorder, one: Socket) -> None:
-    assert answers_to(one, LINES) == [f"[{line}]" for line in LINES]
+    assert answers_at_once(one, LINES) == [f"[{line}]" for line in LINES]
     assert host.told[-1].data.decode() == "".join(f"{line}\n" for line in LINES)
-    assert one.close(1000, "bye") == 1000
+    assert one.leave("bye") == 1000
 
 
 @pytest.mark.parametrize(("pieces", "pongs", "lines"), PIECES.values(), ids=PIECES)
@@ -136,8 +133,8 @@ def test_frames_may_come_in_any_pieces(
     host: Recorder, one: Socket, pieces: list[bytes], pongs: list[bytes], lines: list[str]
 ) -> None:
     for piece in pieces:
-        one.raw(piece)
-    came = [one.read() for _ in [*pongs, *lines]]
+        one.send(piece)
+    came = [one.frame() for _ in [*pongs, *lines]]
     assert [frame and frame.data for frame in came] == [*pongs, *(f"[{line}]".encode() for line in lines)]
     assert host.told[-1].data.decode() == "".join(f"{line}\n" for line in lines)
 
@@ -147,10 +144,9 @@ def test_a_message_that_is_no_line_closes_the_socket(host: Recorder, one: Socket
     assert one.ask("first") == "[first]"
     told = host.told[-1]
     # What comes behind a frame in the same piece isn't told either.
-    data = bytes.fromhex(row.get("raw", "")) or b"".join(map(frame_of_row, row["frames"])) + frame_of(
-        Opcode.TEXT, b"behind"
-    )
-    threading.Thread(target=one.try_raw, args=(data,), daemon=True).start()
+    frames = [frame_of(**{"opcode": 1} | frame) for frame in row.get("frames", [])]
+    data = bytes.fromhex(row.get("raw", "")) or b"".join([*frames, frame_of(Opcode.TEXT, b"behind")])
+    threading.Thread(target=one.try_to_send, args=(data,), daemon=True).start()
     (code, reason), end = row["close"], one.closed()
     assert end and end[0] in among(code) and reason in (None, end[1])
     assert until(told.has_ended.is_set), "the connection to the host is still open"

@@ -3,21 +3,20 @@
 from __future__ import annotations
 
 import re
-from collections.abc import Callable, Iterator
+from collections.abc import Iterator
 
 import pytest
 from support.programs import TOP, Page
 
-from .answers import Answer, answer_to, get
-from .recorder import Recorder
-from .rows import Row, among, each_row, request_of
-from .sockets import status_of
+from .pages import Answer, Recorder, Row, among, answer_to, each_row, get, status_of, text_of
+from .users import Pages
 
 # The most bytes that the page may have as it is sent.
 MOST = 150_000
 # What a page names, and what a sheet or a module does.
 NAMED = r"<(?:script|link|img)\b[^>]*?\b(?:src|href)=\"?([^\"\s>]+)"
 IMPORTED = r"\b(?:from|import)\s*\(?\s*['\"](\.[^'\"]+)['\"]"
+ADDED = ("--name", "cam6.example")
 
 
 @pytest.fixture(scope="module")
@@ -43,7 +42,7 @@ def files(bare: Page) -> dict[str, Answer]:
 
 @pytest.mark.parametrize("row", each_row("requests"))
 def test_a_request_has_its_answer(bare: Page, row: Row) -> None:
-    came, wanted = answer_to(bare.port, request_of(row, bare.port)), row.get("fields", {})
+    came, wanted = answer_to(bare.port, *map(text_of, row["request"])), row.get("fields", {})
     assert came.status in among(row["status"])
     assert "body" not in row or came.text.strip() == row["body"]
     assert {name: came.fields.get(name, "").lower() for name in wanted} == wanted
@@ -61,7 +60,7 @@ def test_each_file_is_sent_as_it_stands(files: dict[str, Answer]) -> None:
 
 def test_a_head_is_that_of_its_file(bare: Page, files: dict[str, Answer]) -> None:
     for path, file in files.items():
-        head = answer_to(bare.port, f"HEAD {path} HTTP/1.1\r\nHost: 127.0.0.1:{bare.port}\r\n\r\n".encode())
+        head = answer_to(bare.port, f"HEAD {path} HTTP/1.1", "Host: 127.0.0.1:PORT")
         assert (path, head.body, dict(head.fields)) == (path, b"", dict(file.fields))
 
 
@@ -86,23 +85,21 @@ def test_two_hosts_are_counted(hosted: Page) -> None:
 
 
 @pytest.mark.parametrize("fields", [{"Host": "cam6.example"}, {}], ids=["the name", "the address"])
-def test_a_page_is_shown_by_a_name_that_was_added(page: Callable[..., Page], fields: dict[str, str]) -> None:
-    assert get(page(options=("--name", "cam6.example")).port, "/", fields).status == 200
+def test_a_page_is_shown_by_a_name_that_was_added(page: Pages, fields: dict[str, str]) -> None:
+    assert get(page(options=ADDED).port, "/", fields).status == 200
 
 
-@pytest.mark.parametrize(
-    ("host", "origin", "status"),
-    [
-        ("cam6.example", "http://cam6.example", 101),
-        ("cam6.example", "https://cam6.example", 101),
-        ("cam6.example", "https://cam6.example.evil.example", 403),
-        ("cam6.example", "http://127.0.0.1:PORT", 403),
-        ("127.0.0.1:PORT", "https://127.0.0.1:PORT", 403),
-    ],
-)
-def test_a_name_that_was_added_has_its_own_origins(
-    page: Callable[..., Page], host: str, origin: str, status: int
-) -> None:
-    port = page(options=("--name", "cam6.example")).port
-    fields = {"Host": host.replace("PORT", str(port)), "Origin": origin.replace("PORT", str(port))}
+ORIGINS = [
+    ("cam6.example", "http://cam6.example", 101),
+    ("cam6.example", "https://cam6.example", 101),
+    ("cam6.example", "https://cam6.example.evil.example", 403),
+    ("cam6.example", "http://127.0.0.1:PORT", 403),
+    ("127.0.0.1:PORT", "https://127.0.0.1:PORT", 403),
+]
+
+
+@pytest.mark.parametrize(("host", "origin", "status"), ORIGINS)
+def test_a_name_that_was_added_has_its_own_origins(page: Pages, host: str, origin: str, status: int) -> None:
+    port = page(options=ADDED).port
+    fields = {name: text.replace("PORT", str(port)) for name, text in (("Host", host), ("Origin", origin))}
     assert status_of(port, fields=fields) == status

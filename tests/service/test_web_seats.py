@@ -4,72 +4,66 @@ from __future__ import annotations
 
 import time
 from collections.abc import Callable, Iterator
+from functools import partial
 
 import pytest
-from support.programs import Host, Page, free_port, until
-from support.sessions import assert_replies, line_of
+from support.programs import Host, Page, free_port, private, until
+from support.sessions import assert_replies
 from websockets.frames import Opcode
 
-from .answers import get
-from .recorder import Recorder
-from .sockets import SEAT_PATIENCE, SEATED, Socket, frame_of, seat, seated
-from .steady_page import Session
+from .pages import Recorder, Socket, frame_of, get
+from .users import BALLS, BLANK, COUNT, NO_COMMAND, NO_SEAT, PLANES, RUN, SAVE, SEAT, SEATED, TAKEN
+from .users import Hosts, Pages, Session, answers, seated
 
+Way = Callable[[Socket], object]
+# Seconds in which a seat is free after its page went.
+SEAT_PATIENCE = 5
 # Seconds after which a page is pinged, after which one that answers none is given up, and that a busy machine may add.
 PINGS, DEAF, GRACE = 30, 90, 8
 GONE = (1001, "the host is gone")
-TAKEN, NO_SEAT = '{"fault":80}', '{"fault":81}'
-COUNT, BLANK = line_of(do="count", mask=65534), '{"count":0,"ok":"count"}'
-CLEAR = line_of(do="clear", plane=0).encode()
+CLEAR = b'{"do":"clear","plane":0}'
 
 
 def end_of_next(one: Socket) -> tuple[int, str] | None:
     """How a socket is closed if the host has ended: at the next line at the latest."""
-    one.try_raw(frame_of(Opcode.TEXT, b"{}"))
+    one.try_to_send(frame_of(Opcode.TEXT, b"{}"))
     return one.closed()
 
 
-def broken(data: bytes) -> Callable[[Socket], None]:
-    """Sends what is only a part of something, and goes."""
-
-    def leave(one: Socket) -> None:
-        one.try_raw(data)
-        one.drop()
-
-    return leave
+def left_by(data: bytes, is_wrong: bool, one: Socket) -> None:
+    """Sends what is only a part of something, and goes. If it is no line, waits for the close before."""
+    one.try_to_send(data)
+    with one:
+        assert not is_wrong or one.closed()
 
 
-def violates(data: bytes) -> Callable[[Socket], None]:
-    """Sends what is no line, waits for the close, and goes."""
-
-    def leave(one: Socket) -> None:
-        one.try_raw(data)
-        assert one.closed()
-        one.drop()
-
-    return leave
-
-
-# Ways in which a page goes. Each of them would clear a plane if it were handed over.
-LEAVES: dict[str, Callable[[Socket], object]] = {
-    "a close": Socket.close,
-    "a connection that only ends": Socket.drop,
+# What is only a part of something, and what is no line. Each would clear a plane if it were handed over.
+PARTS = {
+    "a close in the middle of a frame's head": frame_of(Opcode.TEXT, CLEAR)[:1],
+    "a close in the middle of a frame": frame_of(Opcode.TEXT, CLEAR)[:-1],
+    "a close in the middle of a message": frame_of(Opcode.TEXT, CLEAR, last=False),
+    "a close frame without its end": frame_of(Opcode.CLOSE, b"\x03\xe8bye")[:4],
+}
+WRONG = {
+    "a text with an LF": frame_of(Opcode.TEXT, CLEAR + b"\n"),
+    "two lines in a text": frame_of(Opcode.TEXT, CLEAR + b"\n" + CLEAR),
+    "bytes": frame_of(Opcode.BINARY, CLEAR),
+    "a text that isn't UTF-8": frame_of(Opcode.TEXT, CLEAR + b"\xff"),
+    "a text that is too long": frame_of(Opcode.TEXT, CLEAR + b" " * 2097153),
+    "a frame without a mask": frame_of(Opcode.TEXT, CLEAR, masked=False),
+}
+# Ways in which a page goes.
+LEAVES: dict[str, Way] = {
+    "a close": Socket.leave,
+    "a connection that only ends": Socket.close,
     "a connection that is reset": Socket.reset,
-    "a close in the middle of a frame's head": broken(frame_of(Opcode.TEXT, CLEAR)[:1]),
-    "a close in the middle of a frame": broken(frame_of(Opcode.TEXT, CLEAR)[:-1]),
-    "a close in the middle of a message": broken(frame_of(Opcode.TEXT, CLEAR, is_last=False)),
-    "a close frame without its end": broken(frame_of(Opcode.CLOSE, b"\x03\xe8bye")[:4]),
-    "a text with an LF": violates(frame_of(Opcode.TEXT, CLEAR + b"\n")),
-    "two lines in a text": violates(frame_of(Opcode.TEXT, CLEAR + b"\n" + CLEAR)),
-    "bytes": violates(frame_of(Opcode.BINARY, CLEAR)),
-    "a text that isn't UTF-8": violates(frame_of(Opcode.TEXT, CLEAR + b"\xff")),
-    "a text that is too long": violates(frame_of(Opcode.TEXT, CLEAR + b" " * 2097153)),
-    "a frame without a mask": violates(frame_of(Opcode.TEXT, CLEAR, is_masked=False)),
+    **{what: partial(left_by, data, False) for what, data in PARTS.items()},
+    **{what: partial(left_by, data, True) for what, data in WRONG.items()},
 }
 
 
 @pytest.fixture
-def served(host: Callable[..., Host], page: Callable[..., Page]) -> Page:
+def served(host: Hosts, page: Pages) -> Page:
     """A page of a host with two seats."""
     return page(host("--users=2", "--side=512").port)
 
@@ -78,58 +72,56 @@ def served(host: Callable[..., Host], page: Callable[..., Page]) -> Page:
 def left(cam6: str, cam6_web: str, readme: Session) -> Iterator[tuple[Page, str | None]]:
     """A page of a host whose first seat has the cells of README's session, and their count."""
     with Host(cam6, "--users=2", "--side=512") as host, Page(cam6_web, host.port) as page:
-        with seated(page.port, 1) as one:
-            assert [one.ask(line) for line in readme.lines] == readme.replies
+        with Socket(page.port, 1) as one:
+            assert answers(one, readme.lines) == readme.replies
             cells = one.ask(COUNT)
         yield page, cells
 
 
 def test_the_session_of_readme_at_a_seat(served: Page, readme: Session) -> None:
-    with Socket(served.port) as one:
-        assert one.ask(seat(1)) == SEATED
-        assert_replies(readme.lines, [one.ask(line) for line in readme.lines], readme.replies)
+    with Socket(served.port, 1) as one:
+        assert one.said == SEATED
+        assert_replies(readme.lines, answers(one, readme.lines), readme.replies)
 
 
-@pytest.mark.parametrize(
-    ("line", "reply"),
-    [
-        pytest.param(seat(1), TAKEN, id="a seat that is taken"),
-        pytest.param(seat(3), NO_SEAT, id="a seat that isn't there"),
-        pytest.param("{}", '{"fault":3}', id="a first message that is no seat"),
-    ],
-)
+FIRST = {
+    "a seat that is taken": (SEAT % 1, TAKEN),
+    "a seat that isn't there": (SEAT % 3, NO_SEAT),
+    "a first message that is no seat": ("{}", NO_COMMAND),
+}
+
+
+@pytest.mark.parametrize(("line", "reply"), FIRST.values(), ids=FIRST)
 def test_after_a_first_message_that_takes_no_seat_the_host_is_gone(served: Page, line: str, reply: str) -> None:
-    with seated(served.port, 1), Socket(served.port) as other:
+    with seated(Socket, served.port, 1), Socket(served.port) as other:
         assert other.ask(line) == reply
         assert end_of_next(other) == GONE
 
 
 def test_each_seat_has_a_machine_of_its_own(served: Page, readme: Session) -> None:
-    with seated(served.port, 1) as one, Socket(served.port) as other:
-        assert [one.ask(line) for line in readme.lines] == readme.replies
-        assert other.ask(seat(2)) == SEATED
+    with seated(Socket, served.port, 1) as one, Socket(served.port, 2) as other:
+        assert answers(one, readme.lines) == readme.replies
+        assert other.said == SEATED
         assert one.ask(COUNT) != other.ask(COUNT) == BLANK
 
 
 @pytest.mark.parametrize("leave", LEAVES.values(), ids=LEAVES)
-def test_a_seat_is_free_with_its_machine_after(
-    left: tuple[Page, str | None], leave: Callable[[Socket], object]
-) -> None:
+def test_a_seat_is_free_with_its_machine_after(left: tuple[Page, str | None], leave: Way) -> None:
     page, cells = left
-    one = seated(page.port, 1)
-    one.tcp.settimeout(SEAT_PATIENCE)
+    one = seated(Socket, page.port, 1, SEAT_PATIENCE)
+    one.socket.settimeout(SEAT_PATIENCE)
     leave(one)
-    with seated(page.port, 1) as other:
+    with seated(Socket, page.port, 1, SEAT_PATIENCE) as other:
         assert other.ask(COUNT) == cells
 
 
-def test_pages_that_only_come_and_go_leave_nothing(host: Callable[..., Host], page: Callable[..., Page]) -> None:
+def test_pages_that_only_come_and_go_leave_nothing(host: Hosts, page: Pages) -> None:
     served = page(host("--users=4", "--side=512").port)
     for number in range(300):
         with Socket(served.port) as one:
             if number % 3:
-                one.send(seat(1 + number % 4))
-    seated(served.port, 1).drop()
+                one.send(SEAT % (1 + number % 4))
+    seated(Socket, served.port, 1, SEAT_PATIENCE).close()
     assert until(lambda: served.of_process("Threads") <= 12, 10), served.of_process("Threads")
 
 
@@ -137,7 +129,7 @@ def test_pages_that_only_come_and_go_leave_nothing(host: Callable[..., Host], pa
 
 
 @pytest.fixture
-def two_hosts(host: Callable[..., Host], page: Callable[..., Page]) -> tuple[Host, Page]:
+def two_hosts(host: Hosts, page: Pages) -> tuple[Host, Page]:
     """The second one of two hosts with a seat each, and their page."""
     first, second = host("--users=1", "--side=512"), host("--users=1", "--side=512")
     return second, page(first.port, second.port)
@@ -145,23 +137,22 @@ def two_hosts(host: Callable[..., Host], page: Callable[..., Page]) -> tuple[Hos
 
 def test_sockets_of_the_second_path_are_those_of_the_second_host(two_hosts: tuple[Host, Page], readme: Session) -> None:
     port = two_hosts[1].port
-    with Socket(port, "/ws/1") as one, Socket(port, "/ws/2") as two, Socket(port) as other:
-        assert one.ask(seat(1)) == SEATED
-        assert two.ask(seat(1)) == SEATED
-        assert [two.ask(line) for line in readme.lines] == readme.replies
+    with Socket(port, 1, "/ws/1") as one, Socket(port, 1, "/ws/2") as two, Socket(port, 1) as other:
+        assert (one.said, two.said) == (SEATED, SEATED)
+        assert answers(two, readme.lines) == readme.replies
         assert one.ask(COUNT) == BLANK
-        assert other.ask(seat(1)) == TAKEN, "the path without a number is the first host"
+        assert other.said == TAKEN, "the path without a number is the first host"
 
 
 def test_one_of_two_hosts_goes_alone(two_hosts: tuple[Host, Page]) -> None:
     second, page = two_hosts
     second.kill()
-    with Socket(page.port, "/ws/2") as two:
+    with Socket(page.port, path="/ws/2") as two:
         assert two.closed() == GONE
-    seated(page.port, 1, "/ws/1").drop()
+    seated(partial(Socket, path="/ws/1"), page.port, 1).close()
 
 
-def test_a_page_is_shown_though_its_host_is_not_there(page: Callable[..., Page]) -> None:
+def test_a_page_is_shown_though_its_host_is_not_there(page: Pages) -> None:
     served = page(free_port())
     for _ in range(3):
         with Socket(served.port) as one:
@@ -169,15 +160,15 @@ def test_a_page_is_shown_though_its_host_is_not_there(page: Callable[..., Page])
     assert get(served.port, "/").status == 200
 
 
-def test_a_host_may_go_and_come_back(host: Callable[..., Host], page: Callable[..., Page], readme: Session) -> None:
+def test_a_host_may_go_and_come_back(host: Hosts, page: Pages, readme: Session) -> None:
     its_host = host("--users=4", "--side=512")
     served = page(its_host.port)
     for life in range(3):
         if life:
             its_host.begin()
-        with Socket(served.port) as one, Socket(served.port, patience=SEAT_PATIENCE) as silent:
-            assert (one.ask(seat(1)), silent.ask(seat(2))) == (SEATED, SEATED)
-            assert [one.ask(line) for line in readme.lines] == readme.replies
+        with Socket(served.port, 1) as one, Socket(served.port, 2, patience=SEAT_PATIENCE) as silent:
+            assert (one.said, silent.said) == (SEATED, SEATED)
+            assert answers(one, readme.lines) == readme.replies
             its_host.kill()
             assert end_of_next(one) == GONE
             assert silent.closed() == GONE, "a page that says nothing is told too"
@@ -185,10 +176,24 @@ def test_a_host_may_go_and_come_back(host: Callable[..., Host], page: Callable[.
             assert one.closed() == GONE
 
 
-@pytest.mark.parametrize(
-    "word", [pytest.param("end", id="an end"), pytest.param("bytes", id="a line that isn't UTF-8")]
-)
-def test_a_socket_is_closed_by_its_hosts(page: Callable[..., Page], word: str) -> None:
+def test_a_machine_goes_on_after_its_host_was_killed(cam6: str, host: Hosts, page: Pages) -> None:
+    one, run = host("--users=4", "--side=512"), RUN % 1
+    port = page(one.port).port
+    with Socket(port, 1) as first:
+        *_, saved = answers(first, [*BALLS, *[run] * 10, SAVE])
+        answers(first, [run] * 7)
+        one.kill()
+        assert end_of_next(first) == GONE
+    one.begin()
+    load = str(saved).replace(',"ok":"save"}', "}").replace("{", '{"do":"load",', 1)
+    with Socket(port, 1) as again:
+        came = answers(again, [load, *[run] * 7, *PLANES])
+    assert came[0] == '{"ok":"load"}'
+    assert came[-4:] == private(cam6, [*BALLS, *[run] * 17, *PLANES])[-4:]
+
+
+@pytest.mark.parametrize("word", ["end", "bytes"], ids=["an end", "a line that isn't UTF-8"])
+def test_a_socket_is_closed_by_its_hosts(page: Pages, word: str) -> None:
     with Recorder() as recorder, Socket(page(recorder.port).port) as one:
         assert one.ask("a") == "[a]"
         one.send(word)
@@ -199,29 +204,29 @@ def test_a_socket_is_closed_by_its_hosts(page: Callable[..., Page], word: str) -
 
 
 @pytest.fixture
-def silent(host: Callable[..., Host], page: Callable[..., Page]) -> Socket:
+def silent(host: Hosts, page: Pages) -> Socket:
     """A page that has a seat."""
-    return seated(page(host("--users=1", "--side=512").port).port, 1)
+    return seated(Socket, page(host("--users=1", "--side=512").port).port, 1)
 
 
 @pytest.mark.long
 def test_a_page_that_answers_pings_keeps_its_seat(silent: Socket) -> None:
     begun = time.monotonic()
-    silent.tcp.settimeout(PINGS + GRACE)
-    ping = silent.read()
+    silent.socket.settimeout(PINGS + GRACE)
+    ping = silent.frame()
     assert ping and ping.opcode is Opcode.PING
     assert PINGS - 2 < time.monotonic() - begun < PINGS + GRACE
     while time.monotonic() < begun + DEAF + PINGS + 10:
-        ping = silent.read()
+        ping = silent.frame()
         assert ping and ping.opcode is Opcode.PING
-    assert silent.ask("{}") == '{"fault":3}'
+    assert silent.ask("{}") == NO_COMMAND
 
 
 @pytest.mark.long
 def test_a_page_that_answers_no_ping_is_closed(silent: Socket) -> None:
-    begun, port = time.monotonic(), silent.tcp.getpeername()[1]
-    silent.tcp.settimeout(DEAF + PINGS + GRACE)
-    while silent.tcp.recv(65536):
+    begun, port = time.monotonic(), silent.socket.getpeername()[1]
+    silent.socket.settimeout(DEAF + PINGS + GRACE)
+    while silent.socket.recv(65536):
         pass
     assert DEAF - 2 < time.monotonic() - begun < DEAF + PINGS + GRACE
-    seated(port, 1).drop()
+    seated(Socket, port, 1).close()

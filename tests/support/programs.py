@@ -6,17 +6,19 @@ import os
 import socket
 import struct
 import subprocess
+import tempfile
 import threading
 import time
 from collections.abc import Callable, Iterable, Mapping
-from dataclasses import dataclass
 from pathlib import Path
-from typing import Any, TypeVar
+from typing import Any, NamedTuple, Self
 
 TOP = Path(__file__).parents[2]
-# The crate of each program.
+# The crate of each program, and the players, which ./build doesn't build.
 CRATES = {"cam6": "cam6_host", "cam6_draw": "cam6_draw", "cam6_rle": "cam6_rle", "cam6_web": "cam6_web"}
-Self = TypeVar("Self", bound="Listener")
+PLAYERS = {"cam6_try_rules": "cam6_try_rules"}
+# What is added to the environment of a program.
+Env = Mapping[str, str] | None
 # Seconds within which a program has to listen, to answer a line, and to end.
 START, PATIENCE, END = 20.0, 60.0, 600.0
 # The exit status of a host whose port is taken, and how often another port is tried.
@@ -25,13 +27,12 @@ NETWORK_FAILED, STARTS = 7, 5
 
 def built(name: str, named: str | None = None) -> Path | None:
     """The path of a program, if it is there: the one that is named, or else the one that the gate built."""
-    crate = CRATES[name]
+    crate = (CRATES | PLAYERS)[name]
     places = [Path(named)] if named else [TOP / "crates" / crate / "out" / crate, TOP / name]
     return next((path.resolve() for path in places if os.access(path, os.X_OK)), None)
 
 
-@dataclass(frozen=True)
-class Ran:
+class Ran(NamedTuple):
     """What a program did: its exit status, and what it wrote to its output and to its errors."""
 
     status: int
@@ -39,11 +40,23 @@ class Ran:
     errors: bytes = b""
 
 
-def ran(command: Iterable[str], data: bytes = b"", env: Mapping[str, str] | None = None, patience: float = END) -> Ran:
+def ran(command: Iterable[str], data: bytes = b"", env: Env = None, patience: float = END) -> Ran:
     """Runs a program to its end, with these bytes as its input."""
     all_env = os.environ | dict(env or {})
-    done = subprocess.run([*command], input=data, capture_output=True, timeout=patience, env=all_env, check=False)
-    return Ran(done.returncode, done.stdout, done.stderr)
+    # By files, since megabytes go through a pipe in thousands of turns of two processes.
+    with tempfile.TemporaryFile() as given, tempfile.TemporaryFile() as output:
+        given.write(data)
+        given.seek(0)
+        how: dict[str, Any] = {"stdin": given, "stdout": output, "stderr": subprocess.PIPE}
+        done = subprocess.run([*command], timeout=patience, env=all_env, check=False, **how)
+        output.seek(0)
+        return Ran(done.returncode, output.read(), done.stderr)
+
+
+def assert_refused(done: Ran, status: int, told: str) -> None:
+    """Fails if a program didn't end with this status, without output, and with this text among its errors."""
+    assert (done.status, done.output) == (status, b"")
+    assert told in done.errors.decode()
 
 
 def private(cam6: str, lines: Iterable[str], side: int = 512) -> list[str]:
@@ -70,22 +83,30 @@ def of_process(pid: int, name: str) -> int:
 def until(is_so: Callable[[], Any], seconds: float = PATIENCE, pause: float = 0.02) -> bool:
     """Waits until something is so, for so many seconds at most. Returns whether it came to be so."""
     end = time.monotonic() + seconds
-    while time.monotonic() < end:
-        if is_so():
-            return True
+    while not (found := is_so()) and time.monotonic() < end:
         time.sleep(pause)
-    return bool(is_so())
+    return bool(found)
+
+
+class NotListening(OSError):
+    """A program doesn't begin to listen. `done` is how it ended."""
+
+    def __init__(self, command: list[str], done: Ran) -> None:
+        super().__init__(f"{' '.join(command)} doesn't listen: {done}")
+        self.done = done
 
 
 class Listener:
-    """A program that listens at a port until it is ended. Raises OSError if it doesn't begin to."""
+    """A program that listens at a port until it is ended."""
 
     process: subprocess.Popen[bytes]
     # The first line of its errors.
     first = "listening on 127.0.0.1:{}"
 
-    def __init__(self, command: Callable[[int], list[str]], port: int | None, env: Mapping[str, str] | None) -> None:
-        self.command_at, self.port, self.env = command, port or free_port(), dict(env or {})
+    def __init__(
+        self, command: Callable[[int], list[str]], port: int | None, env: Env = None, stdin: int = subprocess.DEVNULL
+    ) -> None:
+        self.command_at, self.port, self.env, self.stdin = command, port or free_port(), dict(env or {}), stdin
         self.said: list[str] = []
         for _ in range(1 if port else STARTS):
             if self.begins():
@@ -93,12 +114,13 @@ class Listener:
             if self.process.returncode != NETWORK_FAILED:
                 break
             self.port = free_port()
-        raise OSError(f"{' '.join(self.command_at(self.port))} doesn't listen: {self.said}")
+        errors = "".join(f"{line}\n" for line in self.said).encode()
+        raise NotListening(self.command_at(self.port), Ran(self.process.returncode, b"", errors))
 
     def begins(self) -> bool:
         """Starts the program. Returns whether it listens."""
         self.said = []
-        how: dict[str, Any] = {"stdin": subprocess.DEVNULL, "stdout": subprocess.PIPE, "stderr": subprocess.PIPE}
+        how: dict[str, Any] = {"stdin": self.stdin, "stdout": subprocess.PIPE, "stderr": subprocess.PIPE}
         self.process = subprocess.Popen(self.command_at(self.port), env=os.environ | self.env, **how)
         is_told = threading.Event()
 
@@ -145,10 +167,10 @@ class Listener:
         return self.process.poll() is None
 
     def of_process(self, name: str) -> int:
-        """A number that the system knows of the process."""
+        """A number that the system knows of the process, as VmRSS (in kB) or Threads."""
         return of_process(self.process.pid, name)
 
-    def __enter__(self: Self) -> Self:
+    def __enter__(self) -> Self:
         return self
 
     def __exit__(self, *_: object) -> None:
@@ -158,8 +180,10 @@ class Listener:
 class Host(Listener):
     """`cam6 serve`, with options such as `--users=4`."""
 
-    def __init__(self, cam6: str, *options: str, port: int | None = None, env: Mapping[str, str] | None = None) -> None:
-        super().__init__(lambda at: [cam6, "serve", f"--port={at}", *options], port, env)
+    def __init__(
+        self, cam6: str, *options: str, port: int | None = None, env: Env = None, stdin: int = subprocess.DEVNULL
+    ) -> None:
+        super().__init__(lambda at: [cam6, "serve", f"--port={at}", *options], port, env, stdin)
 
 
 class Page(Listener):
@@ -169,7 +193,7 @@ class Page(Listener):
 
     def __init__(self, cam6_web: str, *ports: int, port: int | None = None, options: tuple[str, ...] = ()) -> None:
         hosts = [word for at in ports for word in ("--host", f"127.0.0.1:{at}")]
-        super().__init__(lambda at: [cam6_web, "--port", str(at), *hosts, *options], port, None)
+        super().__init__(lambda at: [cam6_web, "--port", str(at), *hosts, *options], port)
 
     @property
     def address(self) -> str:

@@ -4,6 +4,7 @@ from __future__ import annotations
 
 import json
 from collections.abc import Sequence
+from itertools import zip_longest
 from typing import Any
 
 # The most characters of a line that are shown.
@@ -23,10 +24,8 @@ def short(line: object) -> str:
 
 def first_difference(came: Sequence[object], wanted: Sequence[object]) -> int | None:
     """The place at which two lists first differ, or None if they are equal."""
-    pairs = zip(came, wanted)
-    differing = (place for place, (one, other) in enumerate(pairs) if one != other)
-    shorter = min(len(came), len(wanted))
-    return next(differing, None if len(came) == len(wanted) else shorter)
+    pairs = zip_longest(came, wanted, fillvalue=Ellipsis)
+    return next((place for place, (one, other) in enumerate(pairs) if one != other), None)
 
 
 def text_of(line: bytes | str) -> str:

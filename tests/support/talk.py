@@ -39,15 +39,14 @@ class Talk:
         except BrokenPipeError:
             pass
 
-    def more(self) -> bytes:
-        """Some more bytes; or none, at the end or if nothing comes."""
-        return os.read(self.output, 1 << 16) if select.select([self.output], [], [], self.left())[0] else b""
-
     def reply(self, line: bytes) -> bytes:
         """The next line that comes back once this one is sent."""
         self.say(line + b"\n")
-        while b"\n" not in self.unread and (more := self.more()):
+        while b"\n" not in self.unread and select.select([self.output], [], [], self.left())[0]:
+            more = os.read(self.output, 1 << 16)
             self.unread += more
+            if not more:
+                break
         reply, end, self.unread = self.unread.partition(b"\n")
         return reply if end else b"nothing"
 

@@ -9,17 +9,15 @@ from support.programs import Host, Page, Peer, Ran, private
 from support.sessions import assert_replies
 
 
-def test_a_host_begins_again_at_its_port(host: Callable[..., Host]) -> None:
+def test_a_host_begins_again_at_its_port_and_a_page_listens(
+    host: Callable[..., Host], page: Callable[..., Page]
+) -> None:
     one = host("--connections=1")
     with Peer(one.port, 1) as peer:
         assert peer.said == '{"ok":"seat"}'
     assert one.ended() == Ran(0, b"", b"")
     one.begin()
-    assert one.is_running()
-
-
-def test_a_page_listens(page: Callable[..., Page]) -> None:
-    assert page().is_running()
+    assert one.is_running() and page().is_running()
 
 
 def test_a_private_machine_replies(cam6: str) -> None:

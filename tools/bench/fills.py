@@ -27,7 +27,12 @@ def size_of(unit: str) -> int:
 
 def rule(start: str, unit: str) -> Callable[[int], str]:
     """The texts of a rule: each number gives another one."""
-    return lambda number: repeated(number, start, unit, size_of(unit))
+    size = size_of(unit)
+
+    def text_of(number: int) -> str:
+        return repeated(number, start, unit, size)
+
+    return text_of
 
 
 def over(values: int) -> str:
@@ -51,7 +56,7 @@ def at_once(values: int = 1) -> str:
 
 def in_groups(*groups: Iterable[str]) -> str:
     """Values more by each line of a group, and less again, group by group."""
-    return " ".join(f"{ups(group)} {downs(group)}" for group in map(list, groups))
+    return " ".join(f"{ups(group)} {downs(group)}" for group in [list(group) for group in groups])
 
 
 RULES = {
@@ -86,7 +91,10 @@ def random_rule(source: random.Random) -> tuple[str, Callable[[int], str]]:
     between = [f"{source.choice(LINES)} XOR", "SWAP", "DUP XOR"] if depth > 2 else [""]
 
     def words(way: Callable[..., str], order: list[tuple[str, int]]) -> list[str]:
-        return [f"{way([line], values)} {' '.join(source.choices(between, k=source.choice([0, 0, 0, 1, 2])))}" for line, values in order]
+        return [
+            f"{way([line], values)} {' '.join(source.choices(between, k=source.choice([0, 0, 0, 1, 2])))}"
+            for line, values in order
+        ]
 
     back = source.choice([chosen, chosen[::-1], source.sample(chosen, count)])
     unit = " ".join(" ".join([*words(ups, chosen), *words(downs, back)]).split())
@@ -117,7 +125,9 @@ def least_times(program: str, rules: dict[str, Callable[[int], str]], times: int
 
 
 def main() -> None:
-    parser = argparse.ArgumentParser(prog="fills.py", description=__doc__, formatter_class=argparse.RawDescriptionHelpFormatter)
+    parser = argparse.ArgumentParser(
+        prog="fills.py", description=__doc__, formatter_class=argparse.RawDescriptionHelpFormatter
+    )
     parser.add_argument("program")
     parser.add_argument("times", nargs="?", type=int, default=12)
     parser.add_argument("--random", type=int, metavar="SEED")
@@ -127,7 +137,9 @@ def main() -> None:
         found = list(least_times(asked.program, RULES, asked.times).items())
     else:
         source = random.Random(asked.random)
-        found = list(least_times(asked.program, dict(random_rule(source) for _ in range(asked.count)), asked.times).items())
+        found = list(
+            least_times(asked.program, dict(random_rule(source) for _ in range(asked.count)), asked.times).items()
+        )
         found = sorted(found, key=lambda it: -it[1])[:MOST_SHOWN]
     print("| a line that keeps a rule | milliseconds |\n|---|---|")
     for name, milliseconds in found:

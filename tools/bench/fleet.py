@@ -19,25 +19,28 @@ import time
 from argparse import ArgumentParser, RawDescriptionHelpFormatter
 from collections.abc import Callable, Iterator
 from contextlib import ExitStack, contextmanager
+from pathlib import Path
 
-sys.path.insert(0, os.path.join(os.path.dirname(os.path.abspath(__file__)), "..", "..", "checks", "scripts"))
+sys.path.insert(0, str(Path(__file__).resolve().parents[2] / "tests"))
 
-from fleets import peers  # noqa: E402
-from fleets.commands import CRITTERS, LIFE  # noqa: E402
-from fleets.grounds import Ports  # noqa: E402
-from fleets.peers import Peer  # noqa: E402
-from fleets.services import HOSTS, Fleet, Service  # noqa: E402
+from service.fleets.commands import CRITTERS, LIFE
+from service.fleets.grounds import Ground
+from service.fleets.services import HOSTS, Fleet, Peer, Service
+from service.users import SEATED, TAKEN
 
 RULES = {"Critters": ("N/MARG", "&/PHASES", CRITTERS), "Life": ("N/MOORE", "&/CENTERS", LIFE)}
 SECONDS = 4
+Connect = Callable[[Fleet], Peer]
+# How a client comes to the front.
+WAYS: dict[str, Connect] = {"without TLS": Fleet.user, "by TLS": Fleet.tls_user}
 
 
 @contextmanager
-def host(cam6: str, folder: str, boards: int, side: int = 256) -> Iterator[tuple[Service, int]]:
+def host(cam6: str, folder: Path, boards: int, side: int = 256) -> Iterator[tuple[Service, int]]:
     """A host of 32 users, with its port."""
-    port = Ports().port(7001)
+    port = Ground().port(7001)
     words = [cam6, "serve", "--port", str(port), "--users", "32", "--boards", str(boards), "--side", str(side)]
-    service = Service("one", words, os.path.join(folder, "host.log"))
+    service = Service(Ground(), "one", words, folder / "host.log")
     service.start()
     try:
         for _ in range(200):
@@ -55,7 +58,7 @@ def seated(port: int, seat: int) -> Peer:
     """A connection that has a seat."""
     while True:
         one = Peer(socket.create_connection(("127.0.0.1", port)))
-        if one.ask(b'{"seat":%d}' % seat) != peers.TAKEN:
+        if one.ask(f'{{"seat":{seat}}}') != TAKEN:
             return one
         one.close()
 
@@ -68,17 +71,20 @@ def prepared(port: int, seat: int, rule: str, side: int) -> Peer:
     lines = ['{"do":"side","side":%d}' % side]
     lines += ['{"do":"rule","name":"R","half":"A","hood":"%s","minor":"%s","text":"%s"}' % (hood, minor, text)]
     lines += ['{"do":"cycle","entries":[%s]}' % entries]
-    lines += ['{"do":"set","plane":0,"row":%d,"bits":"%s"}' % (y, "0123456789abcdef" * (side // 64)) for y in range(0, side, 2)]
+    lines += [
+        '{"do":"set","plane":0,"row":%d,"bits":"%s"}' % (y, "0123456789abcdef" * (side // 64))
+        for y in range(0, side, 2)
+    ]
     for line in lines:
-        reply = one.ask(line.encode())
-        assert reply is not None and b"fault" not in reply, (line, reply)
+        reply = one.ask(line)
+        assert reply is not None and "fault" not in reply, (line, reply)
     return one
 
 
-def asked_for(ones: list[Peer], lines: list[bytes], seconds: float) -> int:
+def asked_for(ones: list[Peer], lines: list[str], seconds: float) -> int:
     """How often all of these users, at once, have all of these lines answered."""
     counts, end = [0] * len(ones), time.monotonic() + seconds
-    sent = b"".join(line + b"\n" for line in lines)
+    sent = "".join(f"{line}\n" for line in lines)
 
     def ask(at: int) -> None:
         while time.monotonic() < end:
@@ -95,50 +101,51 @@ def asked_for(ones: list[Peer], lines: list[bytes], seconds: float) -> int:
     return sum(counts)
 
 
-def memory(cam6: str, folder: str) -> None:
+def memory(cam6: str, folder: Path) -> None:
     """Memory of a host, at first, with 32 users who have a rule and did steps each way, and when all load a machine at once."""
     for side in (128, 256, 512):
         with host(cam6, folder, 2, 512) as (service, port), ExitStack() as open_:
             first = service.of_process("VmRSS")
             ones = [open_.enter_context(prepared(port, seat, "Critters", side)) for seat in range(1, 33)]
             for one in ones:
-                one.ask(b'{"do":"run","n":2}')
-                one.ask(b'{"do":"back","n":2}')
-                saved = one.ask(b'{"do":"save"}')
+                one.ask('{"do":"run","n":2}')
+                one.ask('{"do":"back","n":2}')
+                saved = one.ask('{"do":"save"}')
             then = service.of_process("VmRSS")
             assert saved is not None
-            asked_for(ones, [b'{"do":"load","machine":' + saved[len(b'{"machine":') : -len(b',"ok":"save"}')] + b"}"], 1)
+            machine = saved.removeprefix('{"machine":').removesuffix(',"ok":"save"}')
+            asked_for(ones, [f'{{"do":"load","machine":{machine}}}'], 1)
             print(f"memory: side {side}: {first / 1024:.1f} MB at first, {then / 1024:.1f} MB with 32 users", end="")
             print(f": {(then - first) / 32:.0f} KB a user; {service.of_process('Threads')} threads", end="")
             print(f"; at most {service.of_process('VmHWM') / 1024:.1f} MB")
 
 
-def steps(cam6: str, folder: str) -> None:
+def steps(cam6: str, folder: Path) -> None:
     """Steps of users who run without a pause, by the number of boards."""
     for rule in RULES:
         for boards in (1, 2, 4):
             with host(cam6, folder, boards) as (service, port), ExitStack() as open_:
                 ones = [open_.enter_context(prepared(port, seat, rule, 256)) for seat in range(1, 9)]
                 before = service.seconds()
-                count = 500 * asked_for(ones, [b'{"do":"run","n":500}'], SECONDS)
+                count = 500 * asked_for(ones, ['{"do":"run","n":500}'], SECONDS)
                 spent = service.seconds() - before
                 print(f"steps: {rule}, side 256, {boards} boards, 8 users: {count / SECONDS:,.0f} a second", end="")
                 print(f" by {spent / SECONDS:.2f} cores: {count / spent:,.0f} a core")
 
 
-def frames(cam6: str, folder: str) -> None:
+def frames(cam6: str, folder: Path) -> None:
     """What a page asks for: a step and a plane, by users who draw without a pause."""
     for side in (128, 256, 512):
         with host(cam6, folder, 2, 512) as (service, port), ExitStack() as open_:
             ones = [open_.enter_context(prepared(port, seat, "Critters", side)) for seat in range(1, 5)]
             before = service.seconds()
-            count = asked_for(ones, [b'{"do":"run","n":1}', b'{"do":"plane","plane":0}'], SECONDS)
+            count = asked_for(ones, ['{"do":"run","n":1}', '{"do":"plane","plane":0}'], SECONDS)
             spent = service.seconds() - before
             print(f"frames: side {side}: {count / SECONDS:,.0f} a second by {spent / SECONDS:.2f} cores", end="")
             print(f": {1e3 * spent / count:.3f} ms of a core each")
 
 
-def rest(cam6: str, folder: str) -> None:
+def rest(cam6: str, folder: Path) -> None:
     """What users cost who do nothing."""
     with host(cam6, folder, 2) as (service, port), ExitStack() as open_:
         for seat in range(1, 33):
@@ -148,9 +155,9 @@ def rest(cam6: str, folder: str) -> None:
         print(f"rest: 32 silent users: {(service.seconds() - before) / SECONDS:.4f} cores")
 
 
-def front(cam6: str, folder: str) -> None:
+def front(cam6: str, folder: Path) -> None:
     """What a front and a door add: to a round trip, to a connection, and in memory."""
-    fleet = Fleet(Ports(), cam6, folder, users=32, boards=2)
+    fleet = Fleet(Ground(), cam6, folder, users=32, boards=2)
     try:
         fleet.start()
         round_trips(fleet)
@@ -170,16 +177,20 @@ def spent_by(fleet: Fleet, play: Callable[[], int]) -> tuple[int, float, float]:
 
 def round_trips(fleet: Fleet) -> None:
     """A line and its reply: at a host, by the front without TLS, and by TLS."""
-    ways = {"at a host": lambda fleet: peers.at_host(fleet, "one"), "by the front": peers.user, "by TLS": peers.tls_user}
+    ways: dict[str, Connect] = {
+        "at a host": lambda fleet: fleet.at_host("one"),
+        "by the front": Fleet.user,
+        "by TLS": Fleet.tls_user,
+    }
     for what, connect in ways.items():
         with connect(fleet) as one:
-            one.ask(b'{"seat":9}')
-            times = []
+            one.ask('{"seat":9}')
+            times: list[float] = []
 
             def play(one: Peer = one, times: list[float] = times) -> int:
                 for _ in range(5000):
                     begun = time.perf_counter()
-                    one.ask(b'{"do":"rules"}')
+                    one.ask('{"do":"rules"}')
                     times.append(time.perf_counter() - begun)
                 return len(times)
 
@@ -190,12 +201,12 @@ def round_trips(fleet: Fleet) -> None:
 
 def connections(fleet: Fleet) -> None:
     """New connections, one after another, each with a seat that isn't there."""
-    for what, connect in (("without TLS", peers.user), ("by TLS", peers.tls_user)):
+    for what, connect in WAYS.items():
 
-        def play(connect: Callable[[Fleet], Peer] = connect) -> int:
+        def play(connect: Connect = connect) -> int:
             for _ in range(300):
                 with connect(fleet) as one:
-                    one.ask(b'{"seat":99}')
+                    one.ask('{"seat":99}')
             return 300
 
         begun = time.monotonic()
@@ -207,14 +218,16 @@ def connections(fleet: Fleet) -> None:
 
 def open_connections(fleet: Fleet) -> None:
     """Memory for connections that stay."""
-    for what, connect in (("without TLS", peers.user), ("by TLS", peers.tls_user)):
+    for what, connect in WAYS.items():
         with ExitStack() as open_:
             before = fleet.front.of_process("VmRSS")
             held = 0
             for seat in list(range(1, 33)) * len(HOSTS):
                 one = open_.enter_context(connect(fleet))
-                held += one.ask(b'{"seat":%d}' % seat) == peers.SEATED
-            print(f"front: {(fleet.front.of_process('VmRSS') - before) / held:.0f} KB for each of {held} connections {what}")
+                held += one.ask(f'{{"seat":{seat}}}') == SEATED
+            print(
+                f"front: {(fleet.front.of_process('VmRSS') - before) / held:.0f} KB for each of {held} connections {what}"
+            )
 
 
 PARTS = {"memory": memory, "steps": steps, "frames": frames, "rest": rest, "front": front}
@@ -228,7 +241,7 @@ def main() -> None:
     for name, part in PARTS.items():
         if asked.part in (None, name):
             with tempfile.TemporaryDirectory() as folder:
-                part(os.path.abspath(asked.cam6), folder)
+                part(os.path.abspath(asked.cam6), Path(folder))
             sys.stdout.flush()
 
 

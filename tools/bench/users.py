@@ -28,7 +28,9 @@ class Host:
             port = free.getsockname()[1]
         self.process = subprocess.Popen(
             [program, "serve", "--port", str(port), "--users", str(users), "--boards", str(boards)],
-            stderr=subprocess.PIPE)
+            stderr=subprocess.PIPE,
+        )
+        assert self.process.stderr
         self.process.stderr.readline()
         self.peers = []
         for user in range(1, users + 1):
@@ -43,7 +45,7 @@ class Host:
         peer.sendall(line.encode() + b"\n")
         reply = file.readline()
         if b'"ok"' not in reply:
-            raise SystemExit("%s: %s" % (line[:60], reply))
+            raise SystemExit("%s: %r" % (line[:60], reply))
 
     def time(self, steps: int) -> float:
         """The seconds in which each user's steps are done, asked at once."""
@@ -79,7 +81,9 @@ def cells() -> Iterator[str]:
 def main() -> None:
     parser = argparse.ArgumentParser(description=__doc__)
     parser.add_argument("program", metavar="PROGRAM")
-    parser.add_argument("steps", metavar="STEPS", nargs="?", type=int, default=1000, help="steps of each user, 1,000 if it isn't said")
+    parser.add_argument(
+        "steps", metavar="STEPS", nargs="?", type=int, default=1000, help="steps of each user, 1,000 if it isn't said"
+    )
     parser.add_argument("times", metavar="TIMES", nargs="?", type=int, default=5, help="runs, 5 if it isn't said")
     asked = parser.parse_args()
     steps = asked.steps
@@ -91,8 +95,10 @@ def main() -> None:
         ratios.append(together.time(steps) / single)
     ratios.sort()
     print("one user on one board: %.0f to %.0f ms for %d steps" % (1000 * min(one), 1000 * max(one), steps))
-    print("four users on two boards: %.2f times as long (%.2f to %.2f)"
-          % (ratios[len(ratios) // 2], ratios[0], ratios[-1]))
+    print(
+        "four users on two boards: %.2f times as long (%.2f to %.2f)"
+        % (ratios[len(ratios) // 2], ratios[0], ratios[-1])
+    )
     before = together.spent()
     time.sleep(10)
     print("at rest: %.2f %% of a core" % ((together.spent() - before) * 10))

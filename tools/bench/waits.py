@@ -27,7 +27,9 @@ BACK = b'{"do":"back","n":1}\n'
 
 
 def rule_line(name: str, half: str, hood: str, minor: str, text: str) -> bytes:
-    return (f'{{"do":"rule","name":"{name}","half":"{half}","hood":"{hood}","minor":"{minor}","text":"{text}"}}\n').encode()
+    return (
+        f'{{"do":"rule","name":"{name}","half":"{half}","hood":"{hood}","minor":"{minor}","text":"{text}"}}\n'
+    ).encode()
 
 
 def cycle_line(entries: list[tuple[str, str]]) -> bytes:
@@ -80,10 +82,11 @@ class Alone:
     """A machine of its own, on standard input."""
 
     def __init__(self, program: str) -> None:
-        how = {"stdin": subprocess.PIPE, "stdout": subprocess.PIPE, "bufsize": 0}
-        self.process = subprocess.Popen([program, "alone"], **how)
+        pipe = subprocess.PIPE
+        self.process = subprocess.Popen([program, "alone"], stdin=pipe, stdout=pipe, bufsize=0)
 
     def ask(self, line: bytes) -> bytes:
+        assert self.process.stdin and self.process.stdout
         self.process.stdin.write(line)
         return read_line(self.process.stdout.fileno())
 
@@ -108,6 +111,7 @@ class Host:
             self.port = free.getsockname()[1]
         command = [program, "serve", "--port", str(self.port), *words]
         self.process = subprocess.Popen(command, stderr=subprocess.PIPE)
+        assert self.process.stderr
         self.process.stderr.readline()
 
     def user(self, number: int) -> User:
@@ -133,7 +137,7 @@ def prepare(asked: Alone | User, lines: list[bytes]) -> None:
     for line in lines:
         reply = asked.ask(line)
         if b'"ok"' not in reply:
-            raise SystemExit(f"waits.py: {line[:60]}: {reply}")
+            raise SystemExit(f"waits.py: {line[:60]!r}: {reply!r}")
 
 
 def waits(asked: Alone | User, count: int, pause: float) -> list[float]:
@@ -190,7 +194,7 @@ def bothered(program: str, count: int) -> None:
     tell("a step that fills sixteen tables of the largest rules", waits(other, 20, 0))
     is_over = threading.Event()
 
-    def bother():
+    def bother() -> None:
         while not is_over.is_set():
             other.ask(RUN)
 
@@ -210,7 +214,7 @@ class Hostile:
     def __init__(self, host: Host, number: int, lines: list[bytes]) -> None:
         self.user = host.user(number)
         prepare(self.user, lines)
-        self.steps = []
+        self.steps: list[float] = []
         self.is_over = threading.Event()
         self.thread = threading.Thread(target=self.go_on)
 
@@ -221,7 +225,7 @@ class Hostile:
                 reply = self.user.ask(line)
                 self.steps.append((time.perf_counter() - began) * 1e6)
                 if b'"ok"' not in reply:
-                    raise SystemExit(f"waits.py: {reply}")
+                    raise SystemExit(f"waits.py: {reply!r}")
 
 
 def beside(program: str, text_of: Callable[[int], str], hostile: int, *words: str) -> None:
@@ -232,7 +236,7 @@ def beside(program: str, text_of: Callable[[int], str], hostile: int, *words: st
     others = [Hostile(host, number, lines_of(text_of)) for number in range(2, 2 + hostile)]
     for other in others:
         other.thread.start()
-    what = f"beside {hostile} hostile, {text_of.__doc__.split(':')[0].lower()}"
+    what = f"beside {hostile} hostile, {(text_of.__doc__ or '').split(':')[0].lower()}"
     tell(f"{what}: the first {FIRST} seconds", waits_for(user, FIRST))
     while any(len(other.steps) < 2 for other in others):
         time.sleep(PAUSE)
@@ -246,7 +250,9 @@ def beside(program: str, text_of: Callable[[int], str], hostile: int, *words: st
 
 
 def main() -> None:
-    parser = argparse.ArgumentParser(prog="waits.py", description=__doc__, formatter_class=argparse.RawDescriptionHelpFormatter)
+    parser = argparse.ArgumentParser(
+        prog="waits.py", description=__doc__, formatter_class=argparse.RawDescriptionHelpFormatter
+    )
     parser.add_argument("program")
     parser.add_argument("count", nargs="?", type=int, default=1000)
     asked = parser.parse_args()

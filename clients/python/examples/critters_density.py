@@ -9,6 +9,7 @@
 
 # %%
 import os
+from typing import Any
 
 import cam6
 
@@ -40,7 +41,7 @@ film
 
 
 # %%
-def density(plane):
+def density(plane: Any) -> float:
     """The share of set cells in the square."""
     return sum(bytes(row[LOW:HIGH]).count(1) for row in plane[LOW:HIGH]) / (HIGH - LOW) ** 2
 

@@ -45,6 +45,8 @@ RULES = {
 }
 FIRST_TRY = "life,critters"
 DENSITY = 0.5
+# Seconds in which Dask has to start a worker in the place of a killed one.
+TO_START = 30
 LOOPBACK = ("localhost", "127.0.0.1", "::1")
 NO_DASK = "Dask is not there: apt-get install python3-distributed, and use /usr/bin/python3. Or run with --serial."
 
@@ -208,7 +210,9 @@ def client_of(asked: argparse.Namespace) -> Iterator[Any]:
         client.wait_for_workers(asked.workers)
         yield client
         if asked.kill:
-            client.wait_for_workers(asked.workers)  # Dask complains if the new worker is closed while it starts.
+            # Dask complains if the new worker is closed while it starts. On a busy computer it may never start.
+            with contextlib.suppress(distributed.TimeoutError):
+                client.wait_for_workers(asked.workers, timeout=TO_START)
 
 
 def submitted(client: Any, plan: Plan, tasks: Sequence[Task], number: int, retries: int) -> list[Any]:
@@ -285,7 +289,7 @@ def by_dask(plan: Plan, tasks: Sequence[Task], asked: argparse.Namespace) -> Don
                 to_kill = 0
                 print(f"a worker was killed after {len(found)} of {len(tasks) * plan.parts} parts")
         seconds = time.perf_counter() - began
-    counts = {task: sum((found[task, number] for number in range(plan.parts)), []) for task in tasks}
+    counts = {task: [count for number in range(plan.parts) for count in found[task, number]] for task in tasks}
     return Done(counts, seconds, within, workers)
 
 
@@ -428,7 +432,7 @@ def main() -> int:
             return ran(asked, folder)
         except (cam6.Cam6Error, Failed, OSError) as error:
             print(f"ensemble.py: {error}", file=sys.stderr)
-            return 1
+    return 1
 
 
 if __name__ == "__main__":

@@ -10,6 +10,7 @@
 # %%
 import os
 import zlib
+from typing import Any
 
 import cam6
 
@@ -30,7 +31,7 @@ FACE = [
 cells = [[int(sign == "#") for sign in line for _ in range(4)] for line in FACE for _ in range(4)]
 
 
-def size(plane):
+def size(plane: Any) -> int:
     """The compressed size of a plane, in bytes."""
     return len(zlib.compress(b"".join(map(bytes, plane)), 9))
 

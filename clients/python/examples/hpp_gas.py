@@ -9,6 +9,7 @@
 
 # %%
 import os
+from typing import Any
 
 import cam6
 
@@ -33,7 +34,7 @@ first = machine.save()
 print(machine.count(), "particles")
 
 
-def share(plane):
+def share(plane: Any) -> float:
     """The share of particles that run along falling diagonals."""
     even = sum(bytes(row[y % 2 :: 2]).count(1) for y, row in enumerate(plane))
     return even / sum(bytes(row).count(1) for row in plane)

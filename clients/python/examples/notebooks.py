@@ -45,8 +45,10 @@ def lines_of(text: str) -> List[str]:
 def executed(text: str, number: int, names: Dict[str, Any]) -> List[Dict[str, Any]]:
     """The outputs of a cell."""
     tree, last = ast.parse(text), None
-    if tree.body and isinstance(tree.body[-1], ast.Expr):
-        last = ast.Expression(tree.body.pop().value)  # type: ignore[attr-defined]
+    end = tree.body[-1] if tree.body else None
+    if isinstance(end, ast.Expr):
+        del tree.body[-1]
+        last = ast.Expression(end.value)
     printed = io.StringIO()
     with contextlib.redirect_stdout(printed):
         exec(compile(tree, f"cell {number}", "exec"), names)
@@ -74,7 +76,7 @@ def data_of(value: Any) -> Dict[str, Any]:
 
 def figures() -> List[str]:
     """The figures that are open, which are closed then."""
-    pyplot = sys.modules.get("matplotlib.pyplot")
+    pyplot: Any = sys.modules.get("matplotlib.pyplot")
     found = []
     for number in pyplot.get_fignums() if pyplot else []:
         out = io.BytesIO()

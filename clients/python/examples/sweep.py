@@ -13,11 +13,14 @@ import collections
 import itertools
 import math
 import os
+from collections.abc import Iterator, Sequence
+from typing import Optional
 
 import cam6
 
 PROGRAM = os.environ.get("CAM6", "cam6")
 SIDE, MOST = 128, 1536
+Rule = tuple[int, ...]  # the image of each block
 CELLS = [[0, 1, 1], [1, 1, 0], [0, 1, 0]]
 
 BITS = range(4)  # upper left, upper right, lower left, lower right
@@ -34,11 +37,11 @@ SINGLES, PAIRS, TRIPLES = GROUPS[1:4]
 TURN, MIRROR = (2, 0, 3, 1), (1, 0, 3, 2)
 
 
-def moved(block, places):
+def moved(block: int, places: Sequence[int]) -> int:
     return sum((block >> places[bit] & 1) << bit for bit in BITS)
 
 
-def views():
+def views() -> Iterator[list[int]]:
     """The changes of a block that turn, mirror and complement, each as a list of sixteen."""
     for turns, is_mirrored, is_inverted in itertools.product(range(4), (False, True), (False, True)):
         change = list(range(16))
@@ -51,7 +54,7 @@ def views():
 VIEWS = list(views())
 
 
-def seen(rule, view, is_undone):
+def seen(rule: Rule, view: list[int], is_undone: bool) -> Rule:
     """The rule in a view, or the one that undoes it."""
     other = [0] * 16
     for block, image in enumerate(rule):
@@ -62,7 +65,7 @@ def seen(rule, view, is_undone):
     return tuple(other)
 
 
-def rule_of(singles, pairs, triples):
+def rule_of(singles: Sequence[int], pairs: Sequence[int], triples: Sequence[int]) -> Rule:
     rule = list(range(16))
     for group, images in ((SINGLES, singles), (PAIRS, pairs), (TRIPLES, triples)):
         for block, image in zip(group, images):
@@ -70,7 +73,7 @@ def rule_of(singles, pairs, triples):
     return tuple(rule)
 
 
-def classes():
+def classes() -> Iterator[tuple[Rule, int]]:
     """The least rule of each class, and how many rules are in it."""
     ways = [(view, is_undone) for view in VIEWS for is_undone in (False, True)]
     for singles, triples in itertools.product(itertools.permutations(SINGLES), itertools.permutations(TRIPLES)):
@@ -98,7 +101,7 @@ print(f"{len(found):,} classes of {sum(size for _, size in found):,} rules")
 # needs 128 steps for a turn of the torus.
 
 # %%
-TIMES = sorted({2 * 2**a * 3**b for a in range(12) for b in (0, 1, 2) if 2 * 2**a * 3**b <= MOST})
+TIMES: list[int] = sorted({2 * 2**a * 3**b for a in range(12) for b in (0, 1, 2) if 2 * 2**a * 3**b <= MOST})
 LONG = f"more than {MOST:,}"
 
 machine = cam6.local(PROGRAM)
@@ -108,7 +111,7 @@ rows = [bytes(row) for row in machine.plane(0)]
 first = b"".join(rows)
 
 
-def period(rule):
+def period(rule: Rule) -> Optional[int]:
     """The least time of TIMES after which the cells are there again, or None."""
     for times in (TIMES[:8], TIMES[8:16], TIMES[16:]):
         pipeline = machine.pipeline()
@@ -128,9 +131,9 @@ def period(rule):
 
 
 limit = int(os.environ.get("SWEEP", len(found)))  # SWEEP=100 tries a hundred classes
-periods = collections.Counter()
-members = collections.Counter()
-examples = {}
+periods: dict[Optional[int], int] = collections.Counter()
+members: dict[Optional[int], int] = collections.Counter()
+examples: dict[Optional[int], Rule] = {}
 for rule, size in found if limit >= len(found) else found[:: len(found) // limit][:limit]:
     time = period(rule)
     periods[time] += 1

@@ -7,27 +7,30 @@ is expected comes from the package, from the script or from the program.
 from __future__ import annotations
 
 import functools
-import importlib.util
+import itertools
 import json
 import os
 import random
 import subprocess
 import sys
 import tempfile
-from subprocess import PIPE
+from pathlib import Path
 from types import SimpleNamespace
-from typing import Any, Optional
+from typing import Any
 
 import plain
-import support
+from support.programs import TOP
+from support.tools import tool
 
-SCRIPT = os.path.join(os.path.dirname(support.HERE), "examples", "ensemble.py")
+SCRIPT = str(TOP / "clients" / "python" / "examples" / "ensemble.py")
+SOURCE = str(TOP / "clients" / "python" / "src")
 SIDE = 128
 # Seconds in which a run has to end.
-PATIENCE = 600
-# Tasks that the plain machine can do: three seeds, and a step a part.
+PATIENCE = 500
+# Tasks that the plain machine does soon: three seeds, and a step a part.
 FEW_STEPS, FEW_SEEDS = 3, 3
-FEW = [f"--seeds={FEW_SEEDS}", "--rules=all", f"--steps={FEW_STEPS}", "--every=1", "--part=1", f"--side={SIDE}"]
+LIMIT = f"--limit={PATIENCE}"
+FEW = [f"--seeds={FEW_SEEDS}", "--rules=all", f"--steps={FEW_STEPS}", "--every=1", "--part=1", f"--side={SIDE}", LIMIT]
 
 AROUND = ": N NORTH SOUTH + WEST + EAST + N.WEST + N.EAST + S.WEST + S.EAST + ;"
 BLOCK = ": S CENTER CW + OPP + CCW + ; : NC CENTER 0= ; : NO OPP 0= ;"
@@ -57,78 +60,51 @@ TEXTS = {
 BLOCK_RULES = ("critters", "tron")
 
 
-def first_cells(seed: int) -> list[list[int]]:
-    """The cells at step 0, of which half are set: the bits of a random number, from the highest on."""
-    text = f"{random.Random(seed).getrandbits(SIDE * SIDE):0{SIDE * SIDE}b}"
-    return [[int(bit) for bit in text[at : at + SIDE]] for at in range(0, SIDE * SIDE, SIDE)]
-
-
-def count(torus: plain.Torus) -> int:
-    """How many cells are set in some plane."""
-    return sum(any(bits) for rows in zip(*torus.planes) for bits in zip(*rows))
-
-
 @functools.lru_cache(maxsize=None)
 def counts_of(rule: str, seed: int, steps: int) -> tuple[int, ...]:
-    """The counts at steps 0, 1, 2 and so on, by the plain machine."""
-    torus = plain.Torus(SIDE)
-    torus.planes[0] = first_cells(seed)
-    found = [count(torus)]
+    """The counts at steps 0, 1, 2 and so on, by the plain machine: how many cells are set in some plane. At step 0 the cells
+    are the bits of a random number, from the highest on."""
+    is_block = rule in BLOCK_RULES
+    wiring = {"hood": "N/MARG", "minor": "&/PHASES"} if is_block else {"hood": "N/MOORE", "minor": "&/CENTERS"}
+    torus, kept = plain.Torus(SIDE), SimpleNamespace(text=TEXTS[rule], half="A", **wiring)
+    text = f"{random.Random(seed).getrandbits(SIDE * SIDE):0{SIDE * SIDE // 4}x}"
+    for y in range(SIDE):
+        torus.put(0, y, text[y * SIDE // 4 : (y + 1) * SIDE // 4])
+    found = [torus.count(0xFFFE)]
     for step in range(steps):
-        grid = "ODD" if rule in BLOCK_RULES and step % 2 else "EVEN"
-        torus.step(SimpleNamespace(text=TEXTS[rule], half="A"), grid)
-        found.append(count(torus))
+        torus.step(kept, "ODD" if is_block and step % 2 else "EVEN")
+        found.append(torus.count(0xFFFE))
     return tuple(found)
 
 
-def unlike_plain(counts: dict[str, list[int]]) -> list[str]:
-    """What the counts of the tasks `FEW` have otherwise than the plain machine, which does each rule with one seed."""
-    wrong = []
-    if sorted(counts) != sorted(f"{rule}/{seed}" for rule in TEXTS for seed in range(FEW_SEEDS)):
-        wrong.append(f"tasks {sorted(counts)}")
-    for name, found in counts.items():
-        rule, seed = name.split("/")
-        steps = FEW_STEPS if int(seed) == list(TEXTS).index(rule) % FEW_SEEDS else 0
-        want = list(counts_of(rule, int(seed), steps))
-        if len(found) != FEW_STEPS + 1 or found[: steps + 1] != want:
-            wrong.append(f"{name}: {found}, and not {want}")
-    return wrong
+def plain_counts() -> dict[str, list[int]]:
+    """The counts of the tasks `FEW` by the plain machine."""
+    tasks = itertools.product(TEXTS, range(FEW_SEEDS))
+    return {f"{rule}/{seed}": list(counts_of(rule, seed, FEW_STEPS)) for rule, seed in tasks}
 
 
-def environment(program: Optional[str] = None, first: str = "") -> dict[str, str]:
+def environment(program: str, first: str = "") -> dict[str, str]:
     """An environment with the package, and the program. `first` is a folder whose modules hide others."""
-    path = [first, support.SOURCE] if first else [support.SOURCE]
-    return dict(os.environ, PYTHONPATH=os.pathsep.join(path), CAM6=program or support.program())
+    path = [first, SOURCE] if first else [SOURCE]
+    return dict(os.environ, PYTHONPATH=os.pathsep.join(path), CAM6=program)
 
 
-def run(*words: str, program: Optional[str] = None, first: str = "") -> subprocess.CompletedProcess[str]:
-    """Runs the script to its end. One that doesn't come to it fails with what it has written."""
-    command = [sys.executable, SCRIPT, *words]
-    with subprocess.Popen(command, env=environment(program, first), stdout=PIPE, stderr=PIPE, text=True) as process:
-        try:
-            told = process.communicate(timeout=PATIENCE)
-        except subprocess.TimeoutExpired:
-            process.kill()
-            raise AssertionError(f"{words} did not end: {process.communicate()}") from None
-    return subprocess.CompletedProcess(command, process.returncode, *told)
+def run(program: str, *words: str, first: str = "") -> subprocess.CompletedProcess[str]:
+    """Runs the script to its end."""
+    command, env = [sys.executable, SCRIPT, *words], environment(program, first)
+    return subprocess.run(command, env=env, capture_output=True, text=True, timeout=PATIENCE, check=False)
 
 
-def counts_by(*words: str, program: Optional[str] = None) -> dict[str, list[int]]:
+def counts_by(program: str, *words: str) -> dict[str, list[int]]:
     """The counts that the script writes."""
     with tempfile.TemporaryDirectory() as folder:
-        path = os.path.join(folder, "counts")
-        done = run(*words, "--output", path, program=program)
+        path = Path(folder) / "counts"
+        done = run(program, *words, "--output", str(path))
         assert done.returncode == 0, f"{done.stdout}{done.stderr}"
-        with open(path, encoding="utf-8") as file:
-            counts: dict[str, list[int]] = json.load(file)
+        counts: dict[str, list[int]] = json.loads(path.read_text())
     return counts
 
 
 def script() -> Any:
     """The script as a module."""
-    spec = importlib.util.spec_from_file_location("ensemble", SCRIPT)
-    assert spec and spec.loader
-    module = importlib.util.module_from_spec(spec)
-    sys.modules["ensemble"] = module
-    spec.loader.exec_module(module)
-    return module
+    return tool("clients/python/examples/ensemble.py")

@@ -1,6 +1,6 @@
 """Golly's own emulated patterns beside bgolly, for a hundred generations forward and back.
 
-Skipped if bgolly, its patterns or the program are not there. GOLLY is Golly's folder, by default /usr/share/golly.
+They need the package golly of packages.txt. GOLLY is its folder, by default /usr/share/golly.
 """
 
 from __future__ import annotations
@@ -8,80 +8,43 @@ from __future__ import annotations
 import os
 import shutil
 import subprocess
-import tempfile
-import unittest
-from typing import Any, Dict, List, Sequence
+from collections.abc import Sequence
+from pathlib import Path
+from typing import Any
 
-import plain
-from cam6 import patterns, rules
+import pytest
+from plain import lists
+
+from cam6 import Machine, local, patterns, rules
 from cam6.patterns import PatternError
 
-GOLLY = os.environ.get("GOLLY", "/usr/share/golly")
-FOLDER = os.path.join(GOLLY, "Patterns/Margolus")
-# The pattern, the side, the generations, how it is taken apart, and whether it can be undone.
-BESIDE: List[Any] = [
-    ("BBM", 128, 100, {}, True),
-    ("CrittersOscillators", 128, 100, {"torus": None}, True),
-    ("TMGas", 128, 100, {"outside": 1}, True),
-    ("Sand-Test", 128, 100, {}, False),
-    ("DLA", 512, 12, {}, False),
-    ("TMGas_largeWithHole", 512, 12, {"outside": 1}, True),
-]
-IS_THERE = bool(plain.program() and shutil.which("bgolly") and os.path.isdir(FOLDER))
-
-
-def generation(path: str, number: int) -> patterns.Pattern:
-    """The pattern of a file as bgolly has it after so many generations."""
-    with tempfile.TemporaryDirectory() as folder:
-        out = os.path.join(folder, "out.rle")
-        rule_folder = os.path.join(GOLLY, "Rules") + "/"
-        words = ["bgolly", "-q", "-q", "-a", "RuleLoader", "-s", rule_folder, "-m", str(number), "-o", out, path]
-        subprocess.run(words, stdout=subprocess.DEVNULL, stderr=subprocess.DEVNULL, check=True)
-        return patterns.load(out)
-
-
-def commands_of(found: patterns.Emulated, side: int) -> List[Dict[str, Any]]:
-    """The lines that put a pattern on a blank machine."""
-    lower, upper, grids = found.planes(side)
-    rule = found.rule
-    entries = [{"a": "R", "b": "-", "grid": grid, "phase": 0} for grid in grids]
-    lines: List[Dict[str, Any]] = [
-        {"do": "side", "side": side},
-        {"do": "rule", "name": "R", "half": "A", "hood": rule.hood, "minor": rule.minor, "text": rule.text},
-        {"do": "cycle", "entries": entries},
-    ]
-    for plane, rows in enumerate((lower, upper)):
-        lines += [
-            {"do": "set", "plane": plane, "row": y, "bits": plain.digits(list(map(int, row)))}
-            for y, row in enumerate(rows)
-        ]
-    return lines
-
-
-SHOWN = [{"do": "plane", "plane": 0}, {"do": "plane", "plane": 1}]
-
-
+GOLLY = Path(os.environ.get("GOLLY", "/usr/share/golly"))
 # What a state with marks is without them. 255 stands for no cell.
 UNMARKED = bytes([255]) + bytes((state - 1) // 2 for state in range(1, 256))
 
 
-def rows_of(found: patterns.Emulated, side: int, reply: Dict[str, Any]) -> List[bytes]:
-    """The bits of the pattern's cells by a reply that shows a plane."""
-    x, y = found._place(side, None, None)
-    rows = []
-    for j in range(found.height):
-        text = f"{int(reply['rows'][(y + j) % side], 16):0{side}b}"
-        rows.append((2 * text)[x % side :][: found.width].encode().translate(bytes.maketrans(b"01", b"\0\1")))
-    return rows
+@pytest.fixture(scope="session", autouse=True)
+def golly() -> None:
+    """Fails if bgolly or its patterns are not there."""
+    if not shutil.which("bgolly") or not (GOLLY / "Patterns" / "Margolus").is_dir():
+        pytest.fail(f"there is no bgolly, or no folder {GOLLY}: packages.txt has the package golly", pytrace=False)
 
 
-def states_of(found: patterns.Emulated, side: int, replies: List[Dict[str, Any]]) -> List[bytes]:
-    """The states of the pattern's cells by the replies that show planes 0 and 1."""
-    lower, upper = (rows_of(found, side, reply) for reply in replies)
-    return [bytes(a + 2 * b for a, b in zip(*rows)) for rows in zip(lower, upper)]
+def generation(path: Path, number: int, folder: Path) -> patterns.Pattern:
+    """The pattern of a file as bgolly has it after so many generations."""
+    out = str(folder / "out.rle")
+    words = ["-q", "-q", "-a", "RuleLoader", "-s", f"{GOLLY}/Rules/", "-m", str(number), "-o", out, str(path)]
+    subprocess.run(["bgolly", *words], stdout=subprocess.DEVNULL, stderr=subprocess.DEVNULL, check=True)
+    return patterns.load(out)
 
 
-def are_equal(ours: List[bytes], theirs: Sequence[bytes]) -> bool:
+def states_of(machine: Machine, found: patterns.Emulated, x: int, y: int) -> list[bytes]:
+    """The states of the cells at which a pattern was put, round the torus."""
+    rows, side = [bytes(row) * 2 for row in lists(machine.cells())], machine.side
+    return [rows[(y + j) % side][x % side :][: found.width] for j in range(found.height)]
+
+
+def are_equal(ours: list[bytes], theirs: Sequence[bytes]) -> bool:
     """Whether the states are those of the pattern with marks, where that has cells."""
     for row, marked in zip(ours, theirs):
         want = marked.translate(UNMARKED)
@@ -90,43 +53,49 @@ def are_equal(ours: List[bytes], theirs: Sequence[bytes]) -> bool:
     return len(ours) == len(theirs)
 
 
-@unittest.skipUnless(IS_THERE, "bgolly, its patterns or the program are not there")
-class Golly(unittest.TestCase):
-    def test_beside_bgolly(self) -> None:
-        for name, side, generations, given, can_be_undone in BESIDE:
-            with self.subTest(name):
-                path = os.path.join(FOLDER, name + ".rle")
-                found = patterns.emulated(patterns.load(path), **given)
-                self.assertEqual(rules.is_reversible(found.rule), can_be_undone)
-                lines = commands_of(found, side)
-                begin = len(lines)
-                for _ in range(generations):
-                    lines += [{"do": "run", "n": 1}, *SHOWN]
-                lines += [{"do": "back", "n": generations}, *SHOWN]
-                replies = plain.played(lines, side)
-                for number in range(1, generations + 1):
-                    at = begin + 3 * (number - 1)
-                    ours = states_of(found, side, replies[at + 1 : at + 3])
-                    self.assertTrue(are_equal(ours, generation(path, number).rows), f"{name}, generation {number}")
-                if can_be_undone:
-                    first = states_of(found, side, replies[-2:])
-                    self.assertEqual(first, [bytes(row) for row in found.cells])
-
-    def test_the_whole_folder(self) -> None:
-        """Each file of Golly's patterns is read and written again, or refused by its name."""
-        read = refused = 0
-        for folder, _, names in os.walk(os.path.join(GOLLY, "Patterns")):
-            for name in names:
-                try:
-                    pattern = patterns.load(os.path.join(folder, name))
-                except PatternError as error:
-                    self.assertIn(name, str(error))
-                    refused += 1
-                    continue
-                self.assertEqual(patterns.read(patterns.write(pattern)).rows, pattern.rows)
-                read += 1
-        self.assertGreater(read, 3 * refused)
+@pytest.mark.slow
+@pytest.mark.parametrize(
+    ("name", "side", "generations", "given", "can_be_undone"),
+    [
+        ("BBM", 128, 100, {}, True),
+        ("CrittersOscillators", 128, 100, {"torus": None}, True),
+        ("TMGas", 128, 100, {"outside": 1}, True),
+        ("Sand-Test", 128, 100, {}, False),
+        ("DLA", 512, 12, {}, False),
+        ("TMGas_largeWithHole", 512, 12, {"outside": 1}, True),
+    ],
+)
+def test_beside_bgolly(
+    name: str, side: int, generations: int, given: dict[str, Any], can_be_undone: bool, cam6: str, tmp_path: Path
+) -> None:
+    path = GOLLY / "Patterns" / "Margolus" / f"{name}.rle"
+    found = patterns.emulated(patterns.load(str(path)), **given)
+    assert rules.is_reversible(found.rule) == can_be_undone
+    with local(cam6, side_limit=side) as machine:
+        machine.set_side(side)
+        x, y = found.put(machine)
+        for number in range(1, generations + 1):
+            machine.run()
+            ours = states_of(machine, found, x, y)
+            assert are_equal(ours, generation(path, number, tmp_path).rows), f"generation {number}"
+        if can_be_undone:
+            machine.back(generations)
+            assert states_of(machine, found, x, y) == [bytes(row) for row in found.cells]
 
 
-if __name__ == "__main__":
-    unittest.main()
+@pytest.mark.slow
+def test_the_whole_folder() -> None:
+    """Each file of Golly's patterns is read and written again, or refused by its name."""
+    read = refused = 0
+    for path in (GOLLY / "Patterns").rglob("*"):
+        if path.is_dir():
+            continue
+        try:
+            pattern = patterns.load(str(path))
+        except PatternError as error:
+            assert path.name in str(error)
+            refused += 1
+            continue
+        assert patterns.read(patterns.write(pattern)).rows == pattern.rows
+        read += 1
+    assert read > 3 * refused

@@ -1,532 +1,402 @@
-"""Machines: every call against the plain machine of checks/, and bad input of every call."""
+"""Machines: every call against the oracle, and bad input of every call."""
 
 from __future__ import annotations
 
+import contextlib
 import inspect
 import json
-import os
 import random
-import threading
-import unittest
-from collections.abc import Sequence
+from collections.abc import Callable, Sequence
+from concurrent.futures import ThreadPoolExecutor
 from typing import Any
 
-import support
-from support import BALLS, PARITY, Plain, compact
+import pytest
+from calls import Calls
+from fakes import BALLS, PARITY, Plain, compact
+from oracle.lines import COMMANDS
+from plain import bits_of, digits, value
+from support.stateful import play
 
 import cam6
-from cam6 import cells, lines
 from cam6.errors import FAULTS
 from cam6.machine import Machine
 from cam6.pipeline import Pipeline
 
-# Steps of more cells than this are left out, as the plain machine would take too long for them.
-MOST_CELLS = 170_000
+Local = Callable[..., Machine]
+Kind = type[Exception]
 
 
-def bits_of(digits: str) -> list[int]:
-    """The cells of a row, as docs/MANUAL.md has it."""
-    return [int(bit) for digit in digits for bit in f"{int(digit, 16):04b}"]
+@pytest.mark.slow
+@pytest.mark.parametrize("limit", [128, 256, 512])
+def test_random_sessions(limit: int, cam6: str) -> None:
+    """Random commands of all kinds have the replies of the oracle."""
+    play(lambda: Calls(cam6, limit), examples=40, steps=30)
 
 
-def plain_value(value: Any) -> Any:
-    """An array, or bytes of cells, as lists of numbers. All else stays."""
-    if hasattr(value, "tolist"):
-        return value.tolist()
-    if isinstance(value, list) and value and isinstance(value[0], bytes):
-        return [list(row) for row in value]
-    return list(value) if isinstance(value, bytes) and not value.startswith(b"{") else value
+def test_each_command_by_its_call(cam6: str) -> None:
+    """By hand, so that none is left to chance."""
+    calls = Calls(cam6, 128)
+    calls.words.clear()
+    steps: list[dict[str, Any]] = [{"do": "run", "n": 3}, {"do": "back", "n": 1}]
+    looks = [{"do": "row", "plane": 0, "row": 3}, {"do": "plane", "plane": 0}, {"do": "colours", "row": 3}]
+    for line in (
+        *(compact(do="side", side=128), compact(do="set", plane=0, row=3, bits="8" * 32)),
+        compact(do="rule", name="B", half="A", hood="N/MARG", minor="&/PHASES", text=BALLS),
+        compact(do="cycle", entries=[{"a": "B", "b": "-", "grid": "ODD", "phase": 0}]),
+        *(compact(**said) for said in [*steps, *looks, {"do": "count", "mask": 2}, {"do": "rules"}, {"do": "save"}]),
+        *(compact(do="map", colours=[*range(15, -1, -1)]), Plain(128).load_line(), compact(do="clear", plane=0)),
+        compact(do="drop", name="B"),
+    ):
+        calls.say(line)
+    calls.teardown()
+    assert calls.words == set(COMMANDS)
 
 
-def wanted(command: dict[str, Any], reply: bytes) -> Any:
-    """What a call returns for a command, by a reply of the plain machine; or the fields of its fault."""
-    said = json.loads(reply)
-    if "fault" in said:
-        return said
-    word = command["do"]
-    if word == "row":
-        return bits_of(said["bits"])
-    if word == "plane":
-        return [bits_of(row) for row in said["rows"]]
-    if word == "save":
-        return b'{"do":"load","machine":' + reply[len(b'{"machine":') : -len(b',"ok":"save"}')] + b"}"
-    keys = {"run": "position", "back": "position", "rules": "names", "colours": "colours", "count": "count"}
-    return said[keys[word]] if word in keys else None
+def test_put_and_cells(local: Local) -> None:
+    plain, source, machine = Plain(128), random.Random(9), local(side_limit=128)
+    for plane in range(4):
+        machine.random(plane, 0.4, seed=plane)
+        bits = [[source.randrange(2) for _ in range(50)] for _ in range(9)]
+        machine.put(plane, bits, x=100, y=-5)
+        rows = value(machine.plane(plane))
+        assert [[rows[(j - 5) % 128][(100 + i) % 128] for i in range(50)] for j in range(9)] == bits
+        for row, cells in enumerate(rows):
+            plain.ask(do="set", plane=plane, row=row, bits=digits(cells))
+    assert machine.save() == plain.load_line()
+    states = value(machine.cells())
+    for mask in (1, 2, 0xFFFE, 0x8001):
+        assert machine.count(mask) == sum(mask >> state & 1 for row in states for state in row)
+        assert machine.count(mask) == plain.ask(do="count", mask=mask)["count"]
+    assert machine.count([0, 15]) == machine.count(0x8001)
+    machine.colour_map([*range(15, -1, -1)])
+    assert machine.colours(3) == "".join(f"{15 - state:x}" for state in states[3])
 
 
-def called(machine: Any, command: dict[str, Any]) -> Any:
-    """Does a command by its own call."""
-    word, rest = command["do"], {key: value for key, value in command.items() if key != "do"}
-    if word == "cycle":
-        return machine.cycle(*rest["entries"])
-    if word == "load":
-        return machine.load(support.script("lines").plain(command))
-    if word == "side":
-        return machine.set_side(rest["side"])
-    return getattr(machine, {"set": "set_row", "map": "colour_map"}.get(word, word))(**rest)
+def test_ask(local: Local) -> None:
+    machine = local()
+    for line in ('{"do":"rules"}', b'{"do":"rules"}', {"do": "rules"}):
+        assert machine.ask(line) == {"names": [], "ok": "rules"}
+    machine.ask('{"do": "side", "side": 128}')
+    assert machine.side == 128
+    with pytest.raises(FAULTS[65]):
+        machine.ask({"do": "side", "side": 99})
+    with pytest.raises(FAULTS[2]):
+        machine.ask("")
+    assert machine.side == 128
+    saved = machine.save()
+    machine.set_side(256)
+    machine.ask(saved)
+    assert (machine.side, machine.save()) == (128, saved)
 
 
-def outcome(machine: Any, command: dict[str, Any]) -> Any:
-    """What comes of a call: its value, the fields of its fault, or the kind of error of an argument."""
-    try:
-        return plain_value(called(machine, command))
-    except cam6.Fault as fault:
-        assert type(fault) is FAULTS[fault.number]
-        return fault.reply
-    except (TypeError, ValueError) as error:
-        return type(error)
+def test_more_steps_than_a_command_may_ask_for(local: Local) -> None:
+    """The rule does nothing, so that it is quick."""
+    machine = local(side_limit=128)
+    machine.cycle({}, {}, {})
+    assert machine.run(0) == 0
+    assert machine.run(65_536) == 65_536 % 3
+    assert machine.back(65_538) == (65_536 - 65_538) % 3
+    with pytest.raises(FAULTS[63]):
+        local().run(1_000_000)
 
 
-class TestAgainstThePlainMachine(unittest.TestCase):
-    """Random commands of all kinds, by calls."""
-
-    def test_random_sessions(self) -> None:
-        seeds = range(3 if support.is_plain() else 8)
-        words: dict[str, int] = {}
-        for seed in seeds:
-            with self.subTest(seed=seed):
-                self.play(seed, words)
-        kinds = {"set", "clear", "row", "plane", "rule", "drop", "rules", "cycle", "run", "back", "map", "colours"}
-        self.assertLessEqual(kinds | {"count", "side", "save", "load"}, set(words))
-
-    def play(self, seed: int, words: dict[str, int]) -> None:
-        source = random.Random(f"python {seed}")
-        limit = source.choice([128, 256, 512])
-        plain = Plain(limit)
-        asker = support.script("asks").Asker(plain.alone.machine, source)
-        with cam6.local(support.program(), side_limit=limit) as machine:
-            for _ in range(100):
-                command = asker.command()
-                if command.get("n", 0) > lines.MOST_STEPS:
-                    continue  # A call may ask for more steps than a command.
-                reply = plain.alone.answer(support.script("lines").plain(command), MOST_CELLS)
-                if reply is None:
-                    continue
-                got = outcome(machine, command)
-                if isinstance(got, type):
-                    # What is refused here would have been refused there, and nothing has changed.
-                    self.assertIn("fault", json.loads(reply), command)
-                    continue
-                words[command["do"]] = words.get(command["do"], 0) + 1
-                # Without assertEqual, which takes minutes to say how two long lists differ.
-                self.assertTrue(got == wanted(command, reply), str(command)[:300])
-                self.assertEqual(machine.side, plain.alone.machine.torus.side)
-            self.assertEqual(machine.save(), support.load_line(plain))
-
-    def test_put_cells_and_counts(self) -> None:
-        plain = Plain(128)
-        source = random.Random(9)
-        with cam6.local(support.program(), side_limit=128) as machine:
-            for plane in range(4):
-                machine.random(plane, 0.4, seed=plane)
-                bits = [[source.randrange(2) for _ in range(50)] for _ in range(9)]
-                machine.put(plane, bits, x=100, y=-5)
-                rows = plain_value(machine.plane(plane))
-                self.assertEqual([[rows[(j - 5) % 128][(100 + i) % 128] for i in range(50)] for j in range(9)], bits)
-                for row, bits_of_row in enumerate(rows):
-                    plain.ask(do="set", plane=plane, row=row, bits=f"{int(''.join(map(str, bits_of_row)), 2):032x}")
-            self.assertEqual(machine.save(), support.load_line(plain))
-            states = plain_value(machine.cells())
-            for mask in (1, 2, 0xFFFE, 0x8001):
-                self.assertEqual(machine.count(mask), sum(mask >> state & 1 for row in states for state in row))
-                self.assertEqual(machine.count(mask), plain.ask(do="count", mask=mask)["count"])
-            self.assertEqual(machine.count([0, 15]), machine.count(0x8001))
-            machine.colour_map(range(15, -1, -1))  # type: ignore[arg-type]
-            self.assertEqual(machine.colours(3), "".join(f"{15 - state:x}" for state in states[3]))
-
-    def test_ask(self) -> None:
-        with cam6.local(support.program()) as machine:
-            for line in ('{"do":"rules"}', b'{"do":"rules"}', {"do": "rules"}):
-                self.assertEqual(machine.ask(line), {"names": [], "ok": "rules"})
-            machine.ask('{"do": "side", "side": 128}')
-            self.assertEqual(machine.side, 128)
-            with self.assertRaises(FAULTS[65]):
-                machine.ask({"do": "side", "side": 99})
-            with self.assertRaises(FAULTS[2]):
-                machine.ask("")
-            self.assertEqual(machine.side, 128)
-            saved = machine.save()
-            machine.set_side(256)
-            machine.ask(saved)
-            self.assertEqual((machine.side, machine.save()), (128, saved))
-
-    def test_long_runs(self) -> None:
-        """More steps than a command may ask for. The rule does nothing, so that it is quick."""
-        with cam6.local(support.program(), side_limit=128) as machine:
-            machine.cycle({}, {}, {})
-            self.assertEqual(machine.run(0), 0)
-            if not support.is_plain():
-                self.assertEqual(machine.run(65_536), 65_536 % 3)
-                self.assertEqual(machine.back(100_000), (65_536 - 100_000) % 3)
-        with cam6.local(support.program()) as machine, self.assertRaises(FAULTS[63]):
-            machine.run(1_000_000)
-
-    def test_saved_elsewhere(self) -> None:
-        with cam6.local(support.program(), side_limit=512) as one, cam6.local(support.program()) as other:
-            one.random(2, seed=1)
-            other.load(one.save() + b"\n")
-            self.assertEqual(other.save(), one.save())
-            one.set_side(512)
-            with self.assertRaises(FAULTS[67]):
-                other.load(one.save())
-            self.assertEqual(other.side, 256)
+def test_a_saved_machine_is_loaded_elsewhere(local: Local) -> None:
+    one, other = local(side_limit=512), local()
+    one.random(2, seed=1)
+    other.load(one.save() + b"\n")
+    assert other.save() == one.save()
+    one.set_side(512)
+    with pytest.raises(FAULTS[67]):
+        other.load(one.save())
+    assert other.side == 256
 
 
-class Value:
-    """A rule as a builder makes it."""
+def cycle_of(machine: Machine) -> Any:
+    """The entries of a machine's cycle."""
+    return json.loads(machine.save())["machine"]["cycle"]
 
-    text, hood, minor, half, name = BALLS, "N/MARG", "&/PHASES", "A", "balls"
+
+class Balls:
+    """What a builder of rules returns."""
+
+    text, name, half, hood, minor = BALLS, "balls", "A", "N/MARG", "&/PHASES"
     cycle = (("EVEN", 0), ("ODD", 0))
 
 
-class TestRules(unittest.TestCase):
-    """Rules and cycles by values of builders, names, mappings and tuples."""
-
-    def cycle_of(self, machine: Machine) -> Any:
-        return json.loads(machine.save())["machine"]["cycle"]
-
-    def test_values(self) -> None:
-        value = Value()
-        want = [{"a": "mine", "b": "-", "grid": grid, "phase": 0} for grid in ("EVEN", "ODD")]
-        with cam6.local(support.program()) as machine:
-            machine.rule("mine", value)
-            machine.cycle(value)
-            self.assertEqual(self.cycle_of(machine), want)
-            machine.rule(Value())
-            self.assertEqual(machine.rules(), ["mine", "balls"])
-            with self.assertRaises(ValueError):
-                machine.rule("other", value, hood="N/MARG")
-            saved = json.loads(machine.save())["machine"]["rules"][0]
-            self.assertEqual(saved, {"half": "A", "hood": "N/MARG", "minor": "&/PHASES", "name": "mine", "text": BALLS})
-
-    def test_entries(self) -> None:
-        entry = {"a": "P", "b": "-", "grid": "EVEN", "phase": 0}
-        with cam6.local(support.program()) as machine:
-            machine.rule("P", PARITY, hood="N/VONN")
-            machine.rule("Q", ": Q NORTH >PLN2 ;", half="B")
-            for said, want in [
-                (["P"], [entry]),
-                (["Q"], [{**entry, "a": "-", "b": "Q"}]),
-                ([{}], [{**entry, "a": "-"}]),
-                ([("P", "Q", "ODD", 3)], [{"a": "P", "b": "Q", "grid": "ODD", "phase": 3}]),
-                ([("P",), {"b": "Q", "phase": 1}], [entry, {**entry, "a": "-", "b": "Q", "phase": 1}]),
-                (["P"] * 16, [entry] * 16),
-            ]:
-                machine.cycle(*said)
-                self.assertEqual(self.cycle_of(machine), want)
-            with self.assertRaises(FAULTS[61]):
-                machine.drop("P")
-            machine.cycle({})
-            machine.drop("P")
-            with self.assertRaises(FAULTS[60]):
-                machine.cycle("P")
+def test_rules_of_builders(local: Local) -> None:
+    value: Any = Balls()
+    machine = local()
+    machine.rule("mine", value)
+    machine.cycle(value)
+    assert cycle_of(machine) == [{"a": "mine", "b": "-", "grid": grid, "phase": 0} for grid in ("EVEN", "ODD")]
+    machine.rule(Balls())
+    assert machine.rules() == ["mine", "balls"]
+    with pytest.raises(ValueError):
+        machine.rule("other", value, hood="N/MARG")
+    saved = json.loads(machine.save())["machine"]["rules"][0]
+    assert saved == {"name": "mine", "half": "A", "hood": "N/MARG", "minor": "&/PHASES", "text": BALLS}
 
 
-class TestFrames(unittest.TestCase):
-    def test_forward_and_back(self) -> None:
-        """Frames are the planes that single calls show, and the way back ends at the first one."""
-        with cam6.local(support.program(), side_limit=128) as machine, cam6.local(support.program(), side_limit=128) as one:
-            for each in (machine, one):
-                each.rule("B", BALLS, hood="N/MARG", minor="&/PHASES")
-                each.cycle(("B", "-", "EVEN"), ("B", "-", "ODD"))
-                each.random(0, 0.1, seed=4)
-            want = []
-            for _ in range(7):
-                want.append(plain_value(one.plane(0)))
-                one.run(2)
-            self.assertTrue([plain_value(frame) for frame in machine.frames(7, 2, ahead=3)] == want)
-            self.assertEqual(machine.save(), one.save())
-            back = [plain_value(frame) for frame in machine.frames(7, 2, back=True)]
-            self.assertTrue(back[1:] == want[:0:-1])
-            self.assertTrue(plain_value(machine.plane(0)) == want[0])
-            self.assertEqual(list(machine.frames(0)), [])
-
-    def test_a_loop_that_is_left(self) -> None:
-        with cam6.local(support.program(), side_limit=128) as machine:
-            machine.cycle(*[{}] * 16)
-            for number, _ in enumerate(machine.frames(10)):
-                if number == 4:
-                    break
-            self.assertEqual(machine.run(0), 5)
-
-    def test_faults(self) -> None:
-        with cam6.local(support.program(), side_limit=128) as machine:
-            with self.assertRaises(FAULTS[63]):
-                list(machine.frames(3))
+P_ENTRY = {"a": "P", "b": "-", "grid": "EVEN", "phase": 0}
 
 
-class TestInterrupts(unittest.TestCase):
-    def test_replies_of_an_interrupted_call_are_dropped(self) -> None:
-        """After Ctrl-C the next call has its own reply."""
-        with cam6.local(support.program(), side_limit=128) as machine:
-            channel: Any = machine._transport
-            machine.set_row(0, 0, "f" * 32)
-            wait = channel._wait
-            for after in range(1, 5):
-                left = [after]
+@pytest.mark.parametrize(
+    ("said", "want"),
+    [
+        (["P"], [P_ENTRY]),
+        (["Q"], [{**P_ENTRY, "a": "-", "b": "Q"}]),
+        ([{}], [{**P_ENTRY, "a": "-"}]),
+        ([("P", "Q", "ODD", 3)], [{"a": "P", "b": "Q", "grid": "ODD", "phase": 3}]),
+        ([("P",), {"b": "Q", "phase": 1}], [P_ENTRY, {**P_ENTRY, "a": "-", "b": "Q", "phase": 1}]),
+        (["P"] * 16, [P_ENTRY] * 16),
+    ],
+)
+def test_entries_of_a_cycle(said: list[Any], want: list[Any], machine: Machine) -> None:
+    """They are names, mappings and tuples."""
+    machine.rule("P", PARITY, hood="N/VONN")
+    machine.rule("Q", ": Q NORTH >PLN2 ;", half="B")
+    machine.cycle(*said)
+    assert cycle_of(machine) == want
 
-                def interrupted(*args: Any) -> Any:
-                    left[0] -= 1
-                    if not left[0]:
-                        raise KeyboardInterrupt
-                    return wait(*args)
 
-                channel._wait = interrupted
-                try:
-                    machine._talk([compact(do="row", plane=0, row=n) for n in range(100)] * 100)
-                except KeyboardInterrupt:
-                    pass
-                channel._wait = wait
-                self.assertEqual(machine.count(), 128)
-                self.assertEqual(machine.rules(), [])
+def test_a_cycle_keeps_its_rules(machine: Machine) -> None:
+    machine.rule("P", PARITY, hood="N/VONN")
+    machine.cycle("P")
+    with pytest.raises(FAULTS[61]):
+        machine.drop("P")
+    machine.cycle({})
+    machine.drop("P")
+    with pytest.raises(FAULTS[60]):
+        machine.cycle("P")
 
-    def test_threads(self) -> None:
-        """Several threads have their own replies."""
-        with cam6.local(support.program(), side_limit=128) as machine:
-            for row in range(8):
-                machine.set_row(0, row, f"{row}" * 32)
-            wrong: list[Any] = []
 
-            def look(row: int) -> None:
-                for _ in range(100):
-                    if list(machine.row(0, row)) != bits_of(f"{row}" * 32):
-                        wrong.append(row)
+def test_frames_forward_and_back(local: Local) -> None:
+    """Frames are the planes that single calls show, and the way back ends at the first one."""
+    machine, one = local(side_limit=128), local(side_limit=128)
+    for each in (machine, one):
+        each.rule("B", BALLS, hood="N/MARG", minor="&/PHASES")
+        each.cycle(("B", "-", "EVEN"), ("B", "-", "ODD"))
+        each.random(0, 0.1, seed=4)
+    want = []
+    for _ in range(7):
+        want.append(value(one.plane(0)))
+        one.run(2)
+    assert [value(frame) for frame in machine.frames(7, 2, ahead=3)] == want
+    assert machine.save() == one.save()
+    back = [value(frame) for frame in machine.frames(7, 2, back=True)]
+    assert back[1:] == want[:0:-1]
+    assert value(machine.plane(0)) == want[0]
+    assert list(machine.frames(0)) == []
 
-            threads = [threading.Thread(target=look, args=(row,)) for row in range(8)]
-            for thread in threads:
-                thread.start()
-            for thread in threads:
-                thread.join()
-            self.assertEqual(wrong, [])
+
+def test_a_loop_over_frames_that_is_left(machine: Machine) -> None:
+    machine.cycle(*[{}] * 16)
+    for number, _ in enumerate(machine.frames(10)):
+        if number == 4:
+            break
+    assert machine.run(0) == 5
+
+
+def test_frames_without_a_cycle(local: Local) -> None:
+    with pytest.raises(FAULTS[63]):
+        list(local(side_limit=128).frames(3))
+
+
+@pytest.mark.parametrize("after", range(1, 5))
+def test_replies_of_an_interrupted_call_are_dropped(
+    after: int, machine: Machine, monkeypatch: pytest.MonkeyPatch
+) -> None:
+    """After Ctrl-C the next call has its own reply."""
+    channel: Any = machine._transport
+    machine.set_row(0, 0, "f" * 32)
+    left, wait = [after], channel._wait
+
+    def interrupted(*arguments: Any) -> Any:
+        left[0] -= 1
+        if not left[0]:
+            raise KeyboardInterrupt
+        return wait(*arguments)
+
+    with monkeypatch.context() as patch:
+        patch.setattr(channel, "_wait", interrupted)
+        with contextlib.suppress(KeyboardInterrupt):
+            machine._talk([compact(do="row", plane=0, row=n) for n in range(100)] * 100)
+    assert machine.count() == 128
+    assert machine.rules() == []
+
+
+def test_threads_have_their_own_replies(machine: Machine) -> None:
+    for row in range(8):
+        machine.set_row(0, row, f"{row}" * 32)
+
+    def is_right(row: int) -> bool:
+        return all(list(machine.row(0, row)) == bits_of(f"{row}" * 32) for _ in range(100))
+
+    with ThreadPoolExecutor(8) as pool:
+        assert [*pool.map(is_right, range(8))] == [True] * 8
 
 
 class Nobody:
     """A transport that nothing may be sent by."""
 
     def talk(self, sent: Sequence[bytes]) -> list[bytes]:
+        """Fails."""
         raise AssertionError(f"sent: {sent!r:.200}")
 
     def close(self) -> None:
-        pass
+        """Does nothing."""
 
 
 NOT_NUMBERS: list[Any] = [True, False, 1.0, "1", None, [1], b"1", 1j]
-NUMBERS: dict[str, Any] = {"plane": (3, [-1, 4, 2**70]), "row": (127, [-1, 128, 2**70]), "n": (5, [-1, 2**31, 2**70])}
-RULE: dict[str, Any] = {"name": "P", "text": PARITY, "half": "A", "hood": "N/VONN", "minor": "&/CENTERS"}
 NOT_TEXTS: list[Any] = [None, 1, b"P", ["P"], True]
-
-
-def number_cases() -> list[tuple[str, dict[str, Any], type]]:
-    """Calls with one number that is none, or is out of its range."""
-    calls: dict[str, dict[str, Any]] = {
-        "set_row": {"plane": 0, "row": 0, "bits": "0" * 32},
-        "clear": {"plane": 0},
-        "row": {"plane": 0, "row": 0},
-        "plane": {"plane": 0},
-        "run": {"n": 1},
-        "back": {"n": 1},
-        "colours": {"row": 0},
-        "put": {"plane": 0, "cells": [[1]]},
-        "random": {"plane": 0},
-    }
-    found = []
-    for name, arguments in calls.items():
-        for key in arguments.keys() & NUMBERS.keys():
-            found += [(name, {**arguments, key: value}, ValueError) for value in NUMBERS[key][1]]
-            found += [(name, {**arguments, key: value}, TypeError) for value in NOT_NUMBERS]
-    for value in (0, 1, 64, 127, 1024, 2**70):
-        found.append(("set_side", {"n": value}, ValueError))
-    found += [("set_side", {"n": value}, TypeError) for value in NOT_NUMBERS]
-    return found
-
-
-def rule_cases() -> list[tuple[str, dict[str, Any], type]]:
-    """Calls with texts that are none, or are no names or words."""
-    found: list[tuple[str, dict[str, Any], type]] = []
-    for key in RULE:
-        found += [("rule", {**RULE, key: value}, TypeError) for value in NOT_TEXTS]
-    for name in ("", "-", "x" * 25, 'a"b', "a\\b", "a b", "é", "\x7f", "a\n", "\ud800"):
-        found += [("rule", {**RULE, "name": name}, ValueError), ("drop", {"name": name}, ValueError)]
-    found += [("drop", {"name": value}, TypeError) for value in NOT_TEXTS]
-    for key, values in {"half": ["C", "a", "", "AB"], "hood": ["MOORE", ""], "minor": ["CENTERS", ""]}.items():
-        found += [("rule", {**RULE, key: value}, ValueError) for value in values]
-    found.append(("rule", {**RULE, "text": "\udc80"}, ValueError))
-    return found
-
-
-CASES: list[tuple[str, Any, type]] = [
-    ("colour_map", [range(15)], ValueError),
-    ("colour_map", [[0] * 15 + [16]], ValueError),
-    ("colour_map", [[0] * 15 + [-1]], ValueError),
-    ("colour_map", [[0] * 15 + [True]], TypeError),
-    ("colour_map", [[0] * 15 + [1.0]], TypeError),
-    ("colour_map", ["0" * 16], TypeError),
-    ("colour_map", [7], TypeError),
-    ("count", [-1], ValueError),
-    ("count", [65536], ValueError),
-    ("count", [[16]], ValueError),
-    ("count", [[True]], TypeError),
-    ("count", [True], TypeError),
-    ("count", ["2"], TypeError),
-    ("count", [None], TypeError),
-    ("load", [b""], ValueError),
-    ("load", [b'{"do":"save"}'], ValueError),
-    ("load", [b'{"machine":{},"ok":"save"}'], ValueError),
-    ("load", [b'{"do":"load","machine":{}}\n{"do":"rules"}'], ValueError),
-    ("load", [b'{"do":"load","machine":' + b" " * 2_097_152], ValueError),
-    ("load", ["{}"], TypeError),
-    ("load", [None], TypeError),
-    ("ask", ["a\nb"], ValueError),
-    ("ask", [b"\n"], ValueError),
-    ("ask", ["\ud800"], ValueError),
-    ("ask", [7], TypeError),
-    ("ask", [None], TypeError),
-    ("ask", [["do"]], TypeError),
-    ("ask", [{"do": object()}], TypeError),
-    ("ask", [{"do": float("nan")}], ValueError),
-    ("cycle", [], ValueError),
-    ("cycle", [{}] * 17, ValueError),
-    ("cycle", [{"grid": "even"}], ValueError),
-    ("cycle", [{"grid": 1}], TypeError),
-    ("cycle", [{"phase": 4}], ValueError),
-    ("cycle", [{"phase": True}], TypeError),
-    ("cycle", [{"c": "P"}], ValueError),
-    ("cycle", [{"a": ""}], ValueError),
-    ("cycle", [{"a": None}], TypeError),
-    ("cycle", [("P", "-", "EVEN", 0, 0)], ValueError),
-    ("cycle", [()], ValueError),
-    ("cycle", [7], TypeError),
-    ("cycle", [b"P"], TypeError),
-    ("set_row", [0, 0, "0" * 64], ValueError),
-    ("set_row", [0, 0, [0] * 127 + [2]], ValueError),
-    ("set_row", [0, 0, 5], TypeError),
-    ("set_row", [0, 0, None], TypeError),
-    ("put", [0, "ab"], TypeError),
-    ("put", [0, [[2]]], ValueError),
-    ("put", [0, [[1], [1, 1]]], ValueError),
-    ("put", [0, [[1] * 129]], ValueError),
-    ("put", [0, [[1] * 128], 0.5], TypeError),
-    ("random", [0, 1.1], ValueError),
-    ("random", [0, -0.1], ValueError),
-    ("random", [0, float("nan")], ValueError),
-    ("random", [0, "1"], TypeError),
-    ("random", [0, True], TypeError),
-    ("random", [0, 0.5, [1]], TypeError),
+# Calls with numbers, each with all numbers that are wrong in its place.
+NUMBERS: dict[str, list[int]] = {"plane": [-1, 4, 2**70], "row": [-1, 128, 2**70], "n": [-1, 2**31, 2**70]}
+CALLS: dict[str, dict[str, Any]] = {
+    "set_row": {"plane": 0, "row": 0, "bits": "0" * 32},
+    **{"clear": {"plane": 0}, "row": {"plane": 0, "row": 0}, "plane": {"plane": 0}, "random": {"plane": 0}},
+    **{"run": {"n": 1}, "back": {"n": 1}, "colours": {"row": 0}, "put": {"plane": 0, "cells": [[1]]}},
+}
+PLACES = [(name, said, key) for name, said in CALLS.items() for key in NUMBERS if key in said]
+RULE: dict[str, Any] = {"name": "P", "text": PARITY, "half": "A", "hood": "N/VONN", "minor": "&/CENTERS"}
+NO_WORDS = {"half": ["C", "a", "", "AB"], "hood": ["MOORE", ""], "minor": ["CENTERS", ""], "text": ["\udc80"]}
+NO_NAMES = ["", "-", "x" * 25, 'a"b', "a\\b", "a b", "é", "\x7f", "a\n", "\ud800"]
+# A call, what it raises, and arguments of which each raises that.
+Wrong = tuple[str, Kind, list[Any]]
+BAD: list[Wrong] = [
+    *((name, TypeError, [{**said, key: no} for no in NOT_NUMBERS]) for name, said, key in PLACES),
+    *((name, ValueError, [{**said, key: no} for no in NUMBERS[key]]) for name, said, key in PLACES),
+    ("set_side", ValueError, [[n] for n in (0, 1, 64, 127, 1024, 2**70)]),
+    ("set_side", TypeError, [[no] for no in NOT_NUMBERS]),
+    *(("rule", TypeError, [{**RULE, key: no} for no in NOT_TEXTS]) for key in RULE),
+    *(("rule", ValueError, [{**RULE, key: no} for no in wrong]) for key, wrong in NO_WORDS.items()),
+    ("rule", ValueError, [{**RULE, "name": no} for no in NO_NAMES]),
+    ("drop", ValueError, [[no] for no in NO_NAMES]),
+    ("drop", TypeError, [[no] for no in NOT_TEXTS]),
+    ("colour_map", ValueError, [[range(15)], [[0] * 15 + [16]], [[0] * 15 + [-1]]]),
+    ("colour_map", TypeError, [[[0] * 15 + [True]], [[0] * 15 + [1.0]], ["0" * 16], [7]]),
+    ("count", ValueError, [[-1], [65536], [[16]]]),
+    ("count", TypeError, [[[True]], [True], ["2"], [None]]),
+    ("load", ValueError, [[b""], [b'{"do":"save"}'], [b'{"machine":{},"ok":"save"}']]),
+    ("load", ValueError, [[b'{"do":"load","machine":{}}\n{"do":"rules"}']]),
+    ("load", ValueError, [[b'{"do":"load","machine":' + b" " * 2_097_152]]),
+    ("load", TypeError, [["{}"], [None]]),
+    ("ask", ValueError, [["a\nb"], [b"\n"], ["\ud800"], [{"do": float("nan")}]]),
+    ("ask", TypeError, [[7], [None], [["do"]], [{"do": ...}]]),
+    ("cycle", ValueError, [[], [{}] * 17, [{"grid": "even"}], [{"phase": 4}], [{"c": "P"}], [{"a": ""}]]),
+    ("cycle", ValueError, [[("P", "-", "EVEN", 0, 0)], [()]]),
+    ("cycle", TypeError, [[{"grid": 1}], [{"phase": True}], [{"a": None}], [7], [b"P"]]),
+    ("set_row", ValueError, [[0, 0, "0" * 64], [0, 0, [0] * 127 + [2]]]),
+    ("set_row", TypeError, [[0, 0, 5], [0, 0, None]]),
+    ("put", ValueError, [[0, [[2]]], [0, [[1], [1, 1]]], [0, [[1] * 129]]]),
+    ("put", TypeError, [[0, "ab"], [0, [[1] * 128], 0.5]]),
+    ("random", ValueError, [[0, 1.1], [0, -0.1], [0, float("nan")]]),
+    ("random", TypeError, [[0, "1"], [0, True], [0, 0.5, [1]]]),
 ]
-ONLY_MACHINES: list[tuple[str, Any, type]] = [
-    ("frames", [-1], ValueError),
-    ("frames", [1.0], TypeError),
-    ("frames", [1, -1], ValueError),
-    ("frames", [1, True], TypeError),
-    ("frames", [1, 1, 4], ValueError),
-    ("frames", [1, 1, 0, 1], TypeError),
-    ("film", [-1], ValueError),
-    ("film", [1, 1, 4], ValueError),
-    ("apng", [-1], ValueError),
-    ("apng", [None], TypeError),
+ONLY_MACHINES: list[Wrong] = [
+    ("frames", ValueError, [[-1], [1, -1], [1, 1, 4]]),
+    ("frames", TypeError, [[1.0], [1, True], [1, 1, 0, 1]]),
+    ("film", ValueError, [[-1], [1, 1, 4]]),
+    ("apng", ValueError, [[-1]]),
+    ("apng", TypeError, [[None]]),
 ]
 
 
-class TestBadInput(unittest.TestCase):
+def refused(target: Any, name: str, arguments: Any, kind: Kind) -> None:
+    """Fails unless a call raises an error of this kind, in one line."""
+    with pytest.raises(kind) as raised:
+        if isinstance(arguments, dict):
+            getattr(target, name)(**arguments)
+        else:
+            getattr(target, name)(*arguments)
+    assert "\n" not in str(raised.value)
+
+
+def each(wrong: list[Wrong]) -> list[Any]:
+    """Each call with its arguments, as parameters of a test."""
+    every = [(name, said, kind) for name, kind, many in wrong for said in many]
+    return [pytest.param(*one, id=f"{one[0]}-{one[1]!r:.40}-{one[2].__name__}") for one in every]
+
+
+@pytest.mark.parametrize(("name", "arguments", "kind"), each(BAD))
+def test_bad_input(name: str, arguments: Any, kind: Kind) -> None:
     """Each kind of bad input of each call raises TypeError or ValueError, and nothing is sent."""
-
-    def check(self, target: Any, name: str, arguments: Any, kind: type) -> None:
-        with self.subTest(name=name, arguments=f"{arguments!r:.120}"), self.assertRaises(kind) as raised:
-            if isinstance(arguments, dict):
-                getattr(target, name)(**arguments)
-            else:
-                getattr(target, name)(*arguments)
-            self.fail("it was taken")
-        self.assertNotIn("\n", str(raised.exception))
-
-    def test_all(self) -> None:
-        for name, arguments, kind in number_cases() + rule_cases() + CASES:
-            self.check(Machine(Nobody(), 128), name, arguments, kind)
-            pipeline = Pipeline(Machine(Nobody(), 128))
-            self.check(pipeline, name, arguments, kind)
-            self.assertEqual(len(pipeline), 0)
-        for name, arguments, kind in ONLY_MACHINES:
-            if name == "frames" or os.path.exists(os.path.join(support.SOURCE, "cam6", "pictures.py")):
-                self.check(Machine(Nobody(), 128), name, arguments, kind)
-
-    def test_each_call_is_tried(self) -> None:
-        tried = {name for name, _, _ in number_cases() + rule_cases() + CASES + ONLY_MACHINES}
-        free = {"close", "pipeline", "rules", "save", "cells", "picture", "png", "show", "side"}
-        calls = {name for name in vars(Machine) if not name.startswith("_")}
-        self.assertEqual(calls - free, tried)
-
-    def test_starts(self) -> None:
-        for keywords, kind in [
-            ({"side_limit": 64}, ValueError),
-            ({"side_limit": True}, TypeError),
-            ({"program": ""}, TypeError),
-            ({"program": 7}, TypeError),
-            ({"deadline": 0}, ValueError),
-            ({"deadline": True}, TypeError),
-        ]:
-            with self.subTest(keywords=keywords), self.assertRaises(kind):
-                cam6.local(**keywords)  # type: ignore[arg-type]
-        bad: list[tuple[Any, dict[str, Any], type]] = [
-            (7, {}, TypeError),
-            ([], {}, ValueError),
-            ("", {}, ValueError),
-            ("a b", {}, ValueError),
-            ("a:x", {}, ValueError),
-            ("a:99999", {}, ValueError),
-            ([("a",)], {}, TypeError),
-            ("h", {"port": 0}, ValueError),
-            ("h", {"port": 65536}, ValueError),
-            ("h", {"port": "6006"}, TypeError),
-            ("h", {"limit": 100}, ValueError),
-            ("h", {"limit": 256.0}, TypeError),
-            ("h", {"seats": 0}, ValueError),
-            ("h", {"seats": 33}, ValueError),
-            ("h", {"seat": 0}, ValueError),
-            ("h", {"seat": True}, TypeError),
-            ("h", {"tls": "yes"}, TypeError),
-            ("h", {"server_name": 7}, TypeError),
-            ("h", {"sync": "always"}, ValueError),
-            ("h", {"sync": 1}, TypeError),
-            ("h", {"every_seconds": -1}, ValueError),
-            ("h", {"every_seconds": "1"}, TypeError),
-            ("h", {"deadline": 0}, ValueError),
-            ("h", {"deadline": float("nan")}, ValueError),
-            ("h", {"deadline": True}, TypeError),
-            ("h", {"journal": 7}, TypeError),
-            ("h", {"journal": ""}, TypeError),
-        ]
-        for host, options, kind in bad:
-            with self.subTest(host=host, options=options), self.assertRaises(kind):
-                cam6.connect(host, **options)
-
-    @unittest.skipIf(cells.numpy() is None, "numpy is not installed")
-    def test_numbers_of_numpy(self) -> None:
-        """numpy's whole numbers are taken, and its truth values and floats are not."""
-        numpy = cells.numpy()
-        self.assertEqual(lines.clear(numpy.int64(2)).lines, [b'{"do":"clear","plane":2}'])
-        self.assertEqual(lines.count(numpy.uint16(65535)).lines, [b'{"do":"count","mask":65535}'])
-        self.assertEqual(lines.ask({"do": "run", "n": numpy.int8(3)}).lines, [b'{"do":"run","n":3}'])
-        for value in (numpy.bool_(True), numpy.float64(1), numpy.array([1, 2])):
-            with self.assertRaises(TypeError):
-                lines.clear(value)
+    refused(Machine(Nobody(), 128), name, arguments, kind)
+    pipeline = Pipeline(Machine(Nobody(), 128))
+    refused(pipeline, name, arguments, kind)
+    assert len(pipeline) == 0
 
 
-class TestDocs(unittest.TestCase):
-    def test_each_call_has_a_page(self) -> None:
-        """Each public call has a docstring, and a pipeline's calls have the arguments of the machine's."""
-        for kind in (Machine, Pipeline):
-            for name, value in vars(kind).items():
-                if not name.startswith("_"):
-                    self.assertTrue(inspect.getdoc(value), name)
-        own = {"execute", "reset", "side"}
-        for name, value in vars(Pipeline).items():
-            if not name.startswith("_") and name not in own:
-                there = inspect.signature(getattr(Machine, name)).parameters
-                self.assertEqual(list(inspect.signature(value).parameters.values()), list(there.values()), name)
-        commands = {name for name in vars(Machine) if not name.startswith("_")}
-        not_later = {"close", "pipeline", "side", "frames", "picture", "png", "film", "apng", "show"}
-        self.assertEqual(commands - not_later, {name for name in vars(Pipeline) if not name.startswith("_")} - own)
+@pytest.mark.parametrize(("name", "arguments", "kind"), each(ONLY_MACHINES))
+def test_bad_input_of_pictures(name: str, arguments: Any, kind: Kind) -> None:
+    refused(Machine(Nobody(), 128), name, arguments, kind)
 
 
-if __name__ == "__main__":
-    unittest.main()
+def public(kind: type) -> dict[str, Any]:
+    """The public names of a class."""
+    return {name: value for name, value in vars(kind).items() if not name.startswith("_")}
+
+
+def test_each_call_is_tried_with_bad_input() -> None:
+    free = {"close", "pipeline", "rules", "save", "cells", "picture", "png", "show", "side"}
+    assert set(public(Machine)) - free == {name for name, _, _ in BAD + ONLY_MACHINES}
+
+
+@pytest.mark.parametrize(
+    ("wrong", "kind"),
+    [
+        ([{"side_limit": 64}, {"deadline": 0}], ValueError),
+        ([{"side_limit": True}, {"program": ""}, {"program": 7}, {"deadline": True}], TypeError),
+    ],
+)
+def test_bad_input_of_local(wrong: list[dict[str, Any]], kind: Kind) -> None:
+    for options in wrong:
+        with pytest.raises(kind):
+            print(cam6.local(**options), "by", options)
+
+
+@pytest.mark.parametrize(
+    ("key", "kind", "wrong"),
+    [
+        ("host", ValueError, [[], "", "a b", "a:x", "a:99999"]),
+        ("host", TypeError, [7, [("a",)]]),
+        ("port", ValueError, [0, 65536]),
+        ("port", TypeError, ["6006"]),
+        ("limit", ValueError, [100]),
+        ("limit", TypeError, [256.0]),
+        ("seats", ValueError, [0, 33]),
+        ("seat", ValueError, [0]),
+        ("seat", TypeError, [True]),
+        ("tls", TypeError, ["yes"]),
+        ("server_name", TypeError, [7]),
+        ("sync", ValueError, ["always"]),
+        ("sync", TypeError, [1]),
+        ("every_seconds", ValueError, [-1]),
+        ("every_seconds", TypeError, ["1"]),
+        ("deadline", ValueError, [0, float("nan")]),
+        ("deadline", TypeError, [True]),
+        ("journal", TypeError, [7, ""]),
+    ],
+)
+def test_bad_input_of_connect(key: str, kind: Kind, wrong: list[Any]) -> None:
+    for one in wrong:
+        with pytest.raises(kind):
+            print(cam6.connect(**{"host": "h", key: one}), "by", one)
+
+
+@pytest.mark.parametrize(("kind", "name"), [(kind, name) for kind in (Machine, Pipeline) for name in public(kind)])
+def test_each_call_has_a_docstring(kind: type, name: str) -> None:
+    assert inspect.getdoc(getattr(kind, name))
+
+
+OWN = {"execute", "reset", "side"}
+
+
+@pytest.mark.parametrize("name", sorted(set(public(Pipeline)) - OWN))
+def test_a_call_of_a_pipeline_has_the_arguments_of_the_machines(name: str) -> None:
+    here, there = (inspect.signature(getattr(kind, name)).parameters for kind in (Pipeline, Machine))
+    assert list(here.values()) == list(there.values())
+
+
+def test_a_pipeline_has_all_calls() -> None:
+    not_later = {"close", "pipeline", "side", "frames", "picture", "png", "film", "apng", "show"}
+    assert set(public(Machine)) - not_later == set(public(Pipeline)) - OWN

@@ -5,109 +5,115 @@ from __future__ import annotations
 import os
 import subprocess
 import sys
-import tempfile
-import unittest
+from collections.abc import Callable
+from pathlib import Path
 
-import support
-from support import Breaking, Plain, compact
+import pytest
+from fakes import Breaking, Plain, compact
+from oracle.machine import answers
+from support.programs import TOP, free_port
 
-import cam6
+from cam6 import Machine
 
+SOURCE = str(TOP / "clients" / "python" / "src")
 LINES = [compact(do="side", side=128), compact(do="set", plane=0, row=3, bits="f" * 32), compact(do="count", mask=2)]
+Said = tuple[int, str, str]
+Main = Callable[..., Said]
 
 
-def has_pictures() -> bool:
-    return os.path.exists(os.path.join(support.SOURCE, "cam6", "pictures.py"))
+@pytest.fixture
+def main(cam6: str, tmp_path: Path) -> Main:
+    """Runs it with these words in the folder `tmp_path`. Returns its status, its output and its errors."""
 
-
-class TestMain(unittest.TestCase):
-    def setUp(self) -> None:
-        folder = tempfile.TemporaryDirectory()
-        self.addCleanup(folder.cleanup)
-        self.folder = folder.name
-
-    def run_main(self, *words: str) -> tuple[int, str, str]:
-        environment = {**os.environ, "PYTHONPATH": support.SOURCE + os.pathsep + os.environ.get("PYTHONPATH", "")}
-        environment["CAM6"] = support.program()
-        done = subprocess.run(
-            [sys.executable, "-m", "cam6", *words], capture_output=True, text=True, cwd=self.folder, env=environment
-        )
+    def run(*words: str) -> Said:
+        path = os.pathsep.join([SOURCE, os.environ.get("PYTHONPATH", "")])
+        environment = {**os.environ, "PYTHONPATH": path, "CAM6": cam6}
+        command = [sys.executable, "-m", "cam6", *words]
+        done = subprocess.run(command, capture_output=True, text=True, cwd=tmp_path, env=environment, check=False)
         return done.returncode, done.stdout, done.stderr
 
-    def written(self, name: str, data: bytes) -> str:
-        path = os.path.join(self.folder, name)
-        with open(path, "wb") as file:
-            file.write(data)
-        return path
-
-    def test_help(self) -> None:
-        for words in ((), ("play",), ("film",), ("seats",), ("keep",)):
-            status, out, err = self.run_main(*words, "--help")
-            self.assertEqual((status, err), (0, ""))
-            self.assertIn("usage: python -m cam6", out)
-
-    def test_refused(self) -> None:
-        for words in ((), ("fly",), ("play",), ("film", "x"), ("keep", "a"), ("play", "x", "--side-limit", "64")):
-            self.assertEqual(self.run_main(*words)[0], 2, words)
-
-    def test_play(self) -> None:
-        path = self.written("good.lines", b"\n".join(LINES))
-        want = b"\n".join(support.answers(LINES, 256)).decode() + "\n"
-        self.assertEqual(self.run_main("play", path), (0, want, ""))
-
-    def test_play_with_a_fault(self) -> None:
-        sent = [*LINES, b'{"do":"run","n":1}', LINES[-1]]
-        path = self.written("bad.lines", b"\n".join(sent) + b"\n")
-        status, out, err = self.run_main("play", path)
-        self.assertEqual((status, out.encode()), (1, b"\n".join(support.answers(sent, 256)) + b"\n"))
-        self.assertEqual(err, f"{path}, line 4: 63: There is no cycle to run or to undo. Set a cycle first.\n")
-
-    def test_what_is_not_there(self) -> None:
-        for words, sentence in [
-            (("play", "no.lines"), "No such file"),
-            (("film", "nothing", "-o", "x.png"), "there is no file nothing, nothing.lines or examples/nothing.lines"),
-            (("seats", f"127.0.0.1:{support.free_port()}"), "Nothing listens"),
-            (("keep", f"127.0.0.1:{support.free_port()}", "1", "x"), "Nothing listens"),
-            (("play", self.written("a", b""), "--program", "/no/cam6"), "There is no program"),
-        ]:
-            status, _, err = self.run_main(*words)
-            self.assertEqual(status, 1)
-            self.assertIn(sentence, err)
-            self.assertNotIn("Traceback", err)
-
-    def test_seats(self) -> None:
-        with Breaking(users=3) as host:
-            host.taken[1].acquire()
-            want = (0, "1 free\n2 taken\n3 free\n", "")
-            self.assertEqual(self.run_main("seats", f"127.0.0.1:{host.port}"), want)
-
-    def test_keep(self) -> None:
-        plain = Plain(128)
-        plain.answer(LINES[1])
-        with Breaking() as host:
-            host.machines[2].answer(LINES[1])
-            status, out, err = self.run_main("keep", f"127.0.0.1:{host.port}", "3", "kept")
-            self.assertEqual((status, err), (0, ""))
-            self.assertIn("seat 3, side 128", out)
-            with open(os.path.join(self.folder, "kept"), "rb") as file:
-                saved = file.read()
-            self.assertEqual(saved, support.load_line(plain) + b"\n")
-            self.assertEqual(self.run_main("keep", f"127.0.0.1:{host.port}", "9", "other")[0], 1)
-            self.assertFalse(os.path.exists(os.path.join(self.folder, "other")))
-        with cam6.local(support.program()) as machine:
-            machine.load(saved)
-            self.assertEqual(machine.count(), 128)
-
-    @unittest.skipUnless(has_pictures(), "there are no pictures")
-    def test_film(self) -> None:
-        self.written("life.lines", b"\n".join([*LINES, compact(do="cycle", entries=[dict(a="-", b="-", grid="ODD", phase=0)])]))
-        status, out, err = self.run_main("film", "life", "-o", "out.png", "--frames", "3")
-        self.assertEqual((status, err), (0, ""))
-        with open(os.path.join(self.folder, "out.png"), "rb") as file:
-            data = file.read()
-        self.assertTrue(data.startswith(b"\x89PNG\r\n\x1a\n"))
-        self.assertIn(b"acTL", data)
+    return run
 
 
-if __name__ == "__main__":
-    unittest.main()
+def written(folder: Path, name: str, lines: list[bytes]) -> str:
+    """The path of a file with these lines, of which the last one has no LF."""
+    (folder / name).write_bytes(b"\n".join(lines))
+    return str(folder / name)
+
+
+@pytest.mark.parametrize("words", [(), ("play",), ("film",), ("seats",), ("keep",)])
+def test_help(words: tuple[str, ...], main: Main) -> None:
+    status, out, err = main(*words, "--help")
+    assert (status, err) == (0, "")
+    assert "usage: python -m cam6" in out
+
+
+@pytest.mark.parametrize(
+    "words", [(), ("fly",), ("play",), ("film", "x"), ("keep", "a"), ("play", "x", "--side-limit", "64")]
+)
+def test_refused_arguments(words: tuple[str, ...], main: Main) -> None:
+    assert main(*words)[0] == 2
+
+
+def test_play(main: Main, tmp_path: Path) -> None:
+    want = b"\n".join(answers(LINES, 256)).decode() + "\n"
+    assert main("play", written(tmp_path, "good.lines", LINES)) == (0, want, "")
+
+
+def test_play_with_a_fault(main: Main, tmp_path: Path) -> None:
+    sent = [*LINES, b'{"do":"run","n":1}', LINES[-1]]
+    path = written(tmp_path, "bad.lines", [*sent, b""])
+    want = b"\n".join(answers(sent, 256)).decode() + "\n"
+    sentence = "63: There is no cycle to run or to undo. Set a cycle first."
+    assert main("play", path) == (1, want, f"{path}, line 4: {sentence}\n")
+
+
+@pytest.mark.parametrize(
+    ("words", "sentence"),
+    [
+        (("play", "no.lines"), "No such file"),
+        (("film", "nothing", "-o", "x.png"), "there is no file nothing, nothing.lines or examples/nothing.lines"),
+        (("seats", "127.0.0.1:PORT"), "Nothing listens"),
+        (("keep", "127.0.0.1:PORT", "1", "x"), "Nothing listens"),
+        (("play", os.devnull, "--program", "/no/cam6"), "There is no program"),
+    ],
+)
+def test_what_is_not_there(words: tuple[str, ...], sentence: str, main: Main) -> None:
+    port = str(free_port())
+    status, _, err = main(*(word.replace("PORT", port) for word in words))
+    assert status == 1
+    assert sentence in err and "Traceback" not in err
+
+
+def test_seats(main: Main, breaking: Callable[..., Breaking]) -> None:
+    host = breaking(users=3)
+    host.taken[1].acquire()
+    assert main("seats", f"127.0.0.1:{host.port}") == (0, "1 free\n2 taken\n3 free\n", "")
+
+
+def test_keep(main: Main, breaking: Callable[..., Breaking], local: Callable[..., Machine], tmp_path: Path) -> None:
+    plain, host = Plain(128), breaking()
+    plain.answer(LINES[1])
+    host.machines[2].answer(LINES[1])
+    status, out, err = main("keep", f"127.0.0.1:{host.port}", "3", "kept")
+    assert (status, err) == (0, "")
+    assert "seat 3, side 128" in out
+    saved = (tmp_path / "kept").read_bytes()
+    assert saved == plain.load_line() + b"\n"
+    machine = local()
+    machine.load(saved)
+    assert machine.count() == 128
+
+
+def test_keep_at_no_seat_writes_nothing(main: Main, breaking: Callable[..., Breaking], tmp_path: Path) -> None:
+    assert main("keep", f"127.0.0.1:{breaking().port}", "9", "other")[0] == 1
+    assert not (tmp_path / "other").exists()
+
+
+def test_film(main: Main, tmp_path: Path) -> None:
+    entry = {"a": "-", "b": "-", "grid": "ODD", "phase": 0}
+    written(tmp_path, "life.lines", [*LINES, compact(do="cycle", entries=[entry])])
+    status, _, err = main("film", "life", "-o", "out.png", "--frames", "3")
+    assert (status, err) == (0, "")
+    data = (tmp_path / "out.png").read_bytes()
+    assert data.startswith(b"\x89PNG\r\n\x1a\n") and b"acTL" in data

@@ -1,25 +1,29 @@
-"""Pipelines: many calls in one write, against the plain machine of checks/."""
+"""Pipelines: many calls in one write, against the oracle."""
 
 from __future__ import annotations
 
-import json
 import random
-import unittest
-from typing import Any
+from collections.abc import Callable
 
-import support
-from support import Breaking, Plain, compact
-from test_machine import MOST_CELLS, called, plain_value, wanted
+import pytest
+from calls import Batches
+from fakes import Breaking, compact
+from oracle.machine import answers
+from plain import value
+from support.programs import Host
+from support.stateful import play
 
 import cam6
-from cam6 import lines
-from cam6.errors import FAULTS, Fault
+from cam6 import Machine
+from cam6.errors import FAULTS
+
+Local = Callable[..., Machine]
 
 
 def looks(source: random.Random, count: int) -> list[bytes]:
     """Lines that a plain machine answers quickly, some of them with faults."""
     number = source.randrange
-    ways = [
+    ways: list[Callable[[], bytes]] = [
         lambda: compact(do="set", plane=number(4), row=number(128), bits=f"{source.getrandbits(128):032x}"),
         lambda: compact(do="row", plane=number(4), row=number(130)),
         lambda: compact(do="rules"),
@@ -29,173 +33,109 @@ def looks(source: random.Random, count: int) -> list[bytes]:
     return [source.choices(ways, [8, 6, 1, 1, 1])[0]() for _ in range(count)]
 
 
-def looked(sent: list[bytes]) -> list[bytes]:
-    """The replies to such lines at side 128: what a row was set to last, and the faults of the others."""
-    rows: dict[tuple[int, int], str] = {}
-    replies = []
-    for line in sent:
-        said = json.loads(line) if line.startswith(b"{") else {}
-        if said.get("do") == "set":
-            rows[said["plane"], said["row"]] = said["bits"]
-            replies.append(b'{"ok":"set"}')
-        elif said.get("do") == "row" and said["row"] < 128:
-            replies.append(b'{"bits":"%s","ok":"row"}' % rows.get((said["plane"], said["row"]), "0" * 32).encode())
-        else:
-            other = {"row": b'{"fault":65}', "rules": b'{"names":[],"ok":"rules"}', "run": b'{"fault":63}'}
-            replies.append(other.get(said.get("do", ""), b'{"fault":2}'))
-    return replies
+@pytest.mark.slow
+def test_calls_in_batches_return_what_they_return_one_by_one(cam6: str) -> None:
+    play(lambda: Batches(cam6, 512), examples=40, steps=30)
 
 
-class TestPipelines(unittest.TestCase):
-    def test_random_batches(self) -> None:
-        """Calls in batches of any size return what the same calls return one by one."""
-        for seed in range(2 if support.is_plain() else 6):
-            with self.subTest(seed=seed):
-                self.play(seed)
-
-    def play(self, seed: int) -> None:
-        source = random.Random(f"pipeline {seed}")
-        plain = Plain(512)
-        asker = support.script("asks").Asker(plain.alone.machine, source)
-        want: list[Any] = []
-        with cam6.local(support.program(), side_limit=512) as machine:
-            many = machine.pipeline()
-            for _ in range(100):
-                command = asker.command()
-                said = support.script("lines").plain(command)
-                if command.get("n", 0) > lines.MOST_STEPS:
-                    continue
-                reply = plain.alone.answer(said, MOST_CELLS)
-                if reply is None or command["do"] == "load" and b'"fault"' in reply:
-                    continue
-                try:
-                    called(many, command)
-                except (TypeError, ValueError):
-                    self.assertIn("fault", json.loads(reply))
-                    continue
-                want.append(wanted(command, reply))
-                if source.random() < 0.05:
-                    self.compare(many, want)
-            self.compare(many, want)
-            self.assertEqual(machine.save(), support.load_line(plain))
-
-    def compare(self, many: Any, want: list[Any]) -> None:
-        got = many.execute(raise_on_error=False)
-        self.assertTrue([result.reply if isinstance(result, Fault) else plain_value(result) for result in got] == want)
-        for index, result in enumerate(got):
-            self.assertEqual(result.index if isinstance(result, Fault) else index, index)
-        self.assertEqual(len(many), 0)
-        want.clear()
-
-    def test_a_hundred_thousand_lines(self) -> None:
-        """Both sides would wait for each other if they were all written first: they are 10 MB, and so are the replies."""
-        sent = looks(random.Random(1), 100_000)
-        want = looked(sent)
-        self.assertEqual(want[:500], support.answers(sent[:500], 128))
-        with cam6.local(support.program(), side_limit=128) as machine:
-            self.assertTrue(machine._talk(sent) == want)
-        with support.Host() as host:
-            with cam6.connect("127.0.0.1", host.port) as machine:
-                self.assertTrue(machine._talk(sent) == want)
-            with cam6.connect("127.0.0.1", host.port, limit=128, journal=":memory:") as machine:
-                self.assertTrue(machine._talk(sent) == want)
-                assert machine.session
-                self.assertEqual(machine.session.asked, 100_000)
-
-    def test_raised(self) -> None:
-        """The first fault is raised with its place, and what stands after it is done."""
-        with cam6.local(support.program(), side_limit=128) as machine:
-            many = machine.pipeline().set_row(0, 0, "f" * 32).run().drop("P").set_row(0, 1, "f" * 32).count()
-            self.assertEqual(len(many), 5)
-            with self.assertRaises(FAULTS[63]) as raised:
-                many.execute()
-            self.assertEqual(raised.exception.index, 1)
-            results = raised.exception.results
-            assert results
-            self.assertEqual((results[0], results[3], results[4]), (None, None, 256))
-            self.assertIsInstance(results[2], FAULTS[60])
-            self.assertEqual(many.execute(), [])
-
-    def test_block(self) -> None:
-        """A block executes at its end, but not if it raises."""
-        with cam6.local(support.program(), side_limit=128) as machine:
-            with machine.pipeline() as many:
-                many.set_row(0, 0, "f" * 32)
-                self.assertEqual(machine.count(), 0)
-            self.assertEqual(machine.count(), 128)
-            with self.assertRaises(KeyError):
-                with machine.pipeline() as many:
-                    many.clear(0)
-                    raise KeyError
-            self.assertEqual(machine.count(), 128)
-            self.assertEqual(len(many), 0)
-
-    def test_side_inside(self) -> None:
-        """A pipeline knows the side that its calls make."""
-        with cam6.local(support.program()) as machine:
-            saved = machine.save()
-            many = machine.pipeline().set_side(128).set_row(0, 127, "f" * 32)
-            self.assertEqual((many.side, machine.side), (128, 256))
-            with self.assertRaises(ValueError):
-                many.set_row(0, 128, "f" * 32)
-            many.count().load(saved).set_row(3, 255, "1" * 64).ask('{"do":"rules"}').count()
-            self.assertEqual(many.execute(), [None, None, 128, None, None, {"names": [], "ok": "rules"}, 64])
-            self.assertEqual(machine.side, 256)
-
-    def test_put_and_random(self) -> None:
-        with cam6.local(support.program(), side_limit=128) as one, cam6.local(support.program(), side_limit=128) as other:
-            bits = [[x % 3 == 0 for x in range(128)] for _ in range(5)]
-            one.put(1, bits, x=7, y=126)
-            one.random(2, 0.3, seed="a")
-            other.pipeline().put(1, bits, x=7, y=126).random(2, 0.3, seed="a").execute()
-            self.assertEqual(one.save(), other.save())
-            with self.assertRaisesRegex(ValueError, "128 cells"):
-                other.pipeline().put(1, [[1]])
-            [states] = other.pipeline().cells().execute()
-            self.assertEqual(plain_value(states), plain_value(one.cells()))
-
-    def test_lost(self) -> None:
-        """A host that goes away in the middle of a pipeline."""
-        with Breaking(lambda number, line: "after" if number == 50 else None) as host:
-            with cam6.connect("127.0.0.1", host.port) as machine:
-                many = machine.pipeline()
-                for _ in range(100):
-                    many.rules()
-                with self.assertRaises(cam6.Lost):
-                    many.execute()
+@pytest.mark.slow
+@pytest.mark.parametrize("where", ["local", "connection", "journal"])
+def test_a_hundred_thousand_lines(where: str, local: Local, host: Callable[..., Host]) -> None:
+    """Both sides would wait for each other if they were all written first: they are 10 MB, and so are the replies."""
+    # Once all rows are set, the same lines have the same replies each time.
+    some = looks(random.Random(1), 1000)
+    first = answers(some * 2, 128)
+    sent, want = some * 100, first[:1000] + first[1000:] * 99
+    if where == "local":
+        machine = local(side_limit=128)
+    else:
+        port = host("--users=4", "--side=128", "--boards=1").port
+        machine = cam6.connect("127.0.0.1", port, limit=128, journal=":memory:" if where == "journal" else None)
+    with machine:
+        assert machine._talk(sent) == want
+        assert machine.session is None or machine.session.asked == 100_000
 
 
-class TestOtherReplies(unittest.TestCase):
-    """Replies that no cam6 gives are told, and don't pass for values."""
-
-    def test_each(self) -> None:
-        calls: list[tuple[str, list[Any]]] = [
-            ("clear", [0]),
-            ("row", [0, 0]),
-            ("plane", [0]),
-            ("rules", []),
-            ("run", [1]),
-            ("colours", [0]),
-            ("count", [1]),
-            ("save", []),
-            ("cells", []),
-        ]
-        for reply in (b"", b"hello", b'{"ok":"other"}', b'{"fault":5}', b"[]"):
-            for name, arguments in calls:
-                with self.subTest(reply=reply, name=name):
-                    with Breaking(lambda number, line: reply if number > 1 else None) as host:
-                        with cam6.connect("127.0.0.1", host.port) as machine:
-                            with self.assertRaisesRegex(cam6.Cam6Error, "no reply of cam6"):
-                                getattr(machine, name)(*arguments)
-
-    def test_too_many(self) -> None:
-        """More replies than lines."""
-        with Breaking(lambda number, line: b'{"names":[],"ok":"rules"}\nmore\nmore' if number > 1 else None) as host:
-            with cam6.connect("127.0.0.1", host.port) as machine:
-                with self.assertRaisesRegex(cam6.Lost, "a line that was not sent"):
-                    machine.rules()
-                    machine.rules()
+def test_the_first_fault_is_raised_with_its_place(local: Local) -> None:
+    """What stands after it is done."""
+    many = local(side_limit=128).pipeline().set_row(0, 0, "f" * 32).run().drop("P").set_row(0, 1, "f" * 32).count()
+    assert len(many) == 5
+    with pytest.raises(FAULTS[63]) as raised:
+        many.execute()
+    assert raised.value.index == 1
+    results = raised.value.results
+    assert results and (results[0], results[3], results[4]) == (None, None, 256)
+    assert isinstance(results[2], FAULTS[60])
+    assert many.execute() == []
 
 
-if __name__ == "__main__":
-    unittest.main()
+def test_a_block_executes_at_its_end(machine: Machine) -> None:
+    with machine.pipeline() as many:
+        many.set_row(0, 0, "f" * 32)
+        assert machine.count() == 0
+    assert machine.count() == 128
+
+
+def test_a_block_that_raises_does_nothing(machine: Machine) -> None:
+    machine.set_row(0, 0, "f" * 32)
+    with pytest.raises(KeyError):
+        with machine.pipeline() as many:
+            many.clear(0)
+            raise KeyError
+    assert machine.count() == 128
+    assert len(many) == 0
+
+
+def test_a_pipeline_knows_the_side_that_its_calls_make(local: Local) -> None:
+    machine = local()
+    saved = machine.save()
+    many = machine.pipeline().set_side(128).set_row(0, 127, "f" * 32)
+    assert (many.side, machine.side) == (128, 256)
+    with pytest.raises(ValueError):
+        many.set_row(0, 128, "f" * 32)
+    many.count().load(saved).set_row(3, 255, "1" * 64).ask('{"do":"rules"}').count()
+    assert many.execute() == [None, None, 128, None, None, {"names": [], "ok": "rules"}, 64]
+    assert machine.side == 256
+
+
+def test_put_random_and_cells(local: Local) -> None:
+    one, other = local(side_limit=128), local(side_limit=128)
+    bits = [[x % 3 == 0 for x in range(128)] for _ in range(5)]
+    one.put(1, bits, x=7, y=126)
+    one.random(2, 0.3, seed="a")
+    other.pipeline().put(1, bits, x=7, y=126).random(2, 0.3, seed="a").execute()
+    assert one.save() == other.save()
+    with pytest.raises(ValueError, match="128 cells"):
+        other.pipeline().put(1, [[1]])
+    [states] = other.pipeline().cells().execute()
+    assert value(states) == value(one.cells())
+
+
+def test_a_host_that_goes_away_in_the_middle(breaking: Callable[..., Breaking]) -> None:
+    port = breaking(lambda number, line: "after" if number == 50 else None).port
+    with cam6.connect("127.0.0.1", port) as machine:
+        many = machine.pipeline()
+        for _ in range(100):
+            many.rules()
+        with pytest.raises(cam6.Lost):
+            many.execute()
+
+
+@pytest.mark.parametrize("reply", [b"", b"hello", b'{"ok":"other"}', b'{"fault":5}', b"[]"])
+def test_replies_that_no_cam6_gives_are_told(reply: bytes, breaking: Callable[..., Breaking]) -> None:
+    """They don't pass for values."""
+    calls: dict[str, list[int]] = {"clear": [0], "row": [0, 0], "plane": [0], "rules": [], "run": [1], "colours": [0]}
+    for name, arguments in (calls | {"count": [1], "save": [], "cells": []}).items():
+        host = breaking(lambda number, line: reply if number > 1 else None)
+        with cam6.connect("127.0.0.1", host.port) as machine:
+            with pytest.raises(cam6.Cam6Error, match="no reply of cam6"):
+                getattr(machine, name)(*arguments)
+
+
+def test_more_replies_than_lines(breaking: Callable[..., Breaking]) -> None:
+    reply = b'{"names":[],"ok":"rules"}\nmore\nmore'
+    host = breaking(lambda number, line: reply if number > 1 else None)
+    with cam6.connect("127.0.0.1", host.port) as machine:
+        with pytest.raises(cam6.Lost, match="a line that was not sent"):
+            machine.rules()
+            machine.rules()

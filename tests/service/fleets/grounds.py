@@ -18,52 +18,21 @@ CLONE_NEWNET = 0x40000000
 NODES = ("users", "gone", "front", "one", "two", "three")
 
 
-class Ground:
-    """All nodes are this machine, at free ports, and no cable can be pulled."""
-
-    has_cables = False
-
-    def address(self, _node: str) -> str:
-        """The address of a node, as other nodes see it."""
-        return "127.0.0.1"
-
-    def port(self, _usual: int) -> int:
-        """The port of a program. A machine of its own has all ports, so the usual one is free there."""
-        return free_port()
-
-    def words(self, _node: str) -> list[str]:
-        """What stands before a command that runs at a node."""
-        return []
-
-    def pull(self, node: str) -> None:
-        """Pulls a node's cable."""
-
-    def plug(self, node: str) -> None:
-        """Puts it back."""
-
-    @contextmanager
-    def within(self, _node: str) -> Iterator[None]:
-        """Sockets that this thread makes meanwhile are those of a node."""
-        yield
-
-    def close(self) -> None:
-        """Removes all nodes. Programs that still run there go on without a network."""
-
-
 def ip(*words: str) -> None:
     """Runs `ip`, which has to succeed."""
     subprocess.run(["ip", *words], check=True, stdin=subprocess.DEVNULL, capture_output=True)
 
 
-class Machines(Ground):
-    """A network namespace for each node, and one for the switch. It takes root, and `ip`."""
+class Ground:
+    """All nodes are this machine, at free ports, and no cable can be pulled. Or each node is a network namespace, and so
+    is the switch. That takes root, and `ip`."""
 
-    has_cables = True
-
-    def __init__(self) -> None:
-        self.names = {node: f"cam6-{os.getpid()}-{node}" for node in ("switch", *NODES)}
+    def __init__(self, *, has_cables: bool = False) -> None:
+        self.has_cables, nodes = has_cables, ("switch", *NODES) if has_cables else ()
+        self.names = {node: f"cam6-{os.getpid()}-{node}" for node in nodes}
         try:
-            self.lay()
+            if has_cables:
+                self.lay()
         except BaseException:
             self.close()
             raise
@@ -84,22 +53,36 @@ class Machines(Ground):
             ip("-n", own, "link", "set", "lo", "up")
 
     def address(self, node: str) -> str:
-        return f"10.77.0.{11 + NODES.index(node)}"
+        """The address of a node, as other nodes see it."""
+        return f"10.77.0.{11 + NODES.index(node)}" if self.has_cables else "127.0.0.1"
 
     def port(self, usual: int) -> int:
-        return usual
+        """The port of a program. A machine of its own has all ports, so the usual one is free there."""
+        return usual if self.has_cables else free_port()
 
     def words(self, node: str) -> list[str]:
-        return ["ip", "netns", "exec", self.names[node]]
+        """What stands before a command that runs at a node."""
+        return ["ip", "netns", "exec", self.names[node]] if self.has_cables else []
 
-    def pull(self, node: str) -> None:
-        ip("-n", self.names["switch"], "link", "set", node, "nomaster")
-
-    def plug(self, node: str) -> None:
-        ip("-n", self.names["switch"], "link", "set", node, "master", "bridge")
+    @contextmanager
+    def pulled(self, node: str) -> Iterator[None]:
+        """A node's cable is pulled meanwhile, if there is one."""
+        if not self.has_cables:
+            yield
+            return
+        link = ["-n", self.names["switch"], "link", "set", node]
+        ip(*link, "nomaster")
+        try:
+            yield
+        finally:
+            ip(*link, "master", "bridge")
 
     @contextmanager
     def within(self, node: str) -> Iterator[None]:
+        """Sockets that this thread makes meanwhile are those of a node."""
+        if not self.has_cables:
+            yield
+            return
         libc = ctypes.CDLL(None, use_errno=True)
         with open("/proc/thread-self/ns/net", "rb") as home, open(f"/run/netns/{self.names[node]}", "rb") as there:
             if libc.setns(there.fileno(), CLONE_NEWNET):
@@ -110,6 +93,7 @@ class Machines(Ground):
                 libc.setns(home.fileno(), CLONE_NEWNET)
 
     def close(self) -> None:
+        """Removes all nodes. Programs that still run there go on without a network."""
         for name in reversed(self.names.values()):
             with suppress(subprocess.CalledProcessError):
                 ip("netns", "del", name)
@@ -117,10 +101,9 @@ class Machines(Ground):
 
 def ground(is_plain: bool) -> Ground:
     """Machines if they can be made, and else ports. Says so."""
-    if not is_plain:
-        try:
-            return Machines()
-        except (OSError, subprocess.CalledProcessError) as cause:
-            told = getattr(cause, "stderr", b"") or str(cause).encode()
-            print(f"fleet: no network namespaces can be made ({told.decode(errors='replace').strip()})", flush=True)
-    return Ground()
+    try:
+        return Ground(has_cables=not is_plain)
+    except (OSError, subprocess.CalledProcessError) as cause:
+        told = getattr(cause, "stderr", b"") or str(cause).encode()
+        print(f"fleet: no network namespaces can be made ({told.decode(errors='replace').strip()})", flush=True)
+        return Ground()

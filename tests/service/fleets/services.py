@@ -1,4 +1,5 @@
-"""The programs of a fleet: hosts, their doors, and the front. They run by the files of deploy/, as these stand.
+"""The programs of a fleet: hosts, their doors, and the front; and connections to them. They run by the files of deploy/,
+as these stand.
 
 What the tests give other values than deploy/ does stands in `Fleet.all_values`, and nowhere else.
 """
@@ -10,10 +11,14 @@ import io
 import os
 import signal
 import socket
+import ssl
 import subprocess
+from contextlib import suppress
 from pathlib import Path
 from typing import TypeVar
 
+from service.users import SEAT, TAKEN
+from support import programs
 from support.programs import TOP, of_process, until
 
 from .grounds import Ground
@@ -23,7 +28,32 @@ DEPLOY = TOP / "deploy"
 HOSTS = ("one", "two", "three")
 NAME = "cam6.example"
 # Seconds in which a program has to be there.
-START = 20
+START = 60
+# What is raised by a connection that is over.
+OVER = (ConnectionError, ssl.SSLError)
+
+
+class Peer(programs.Peer):
+    """A connection that is there. If it is over, the answer is None."""
+
+    def __init__(self, stream: socket.socket) -> None:
+        self.socket = stream
+        stream.settimeout(15)
+        stream.setsockopt(socket.IPPROTO_TCP, socket.TCP_NODELAY, 1)
+        self.file = stream.makefile("rb")
+
+    def read(self) -> str | None:
+        with suppress(*OVER):
+            return super().read()
+        return None
+
+    def ask(self, line: str) -> str | None:
+        with suppress(*OVER):
+            return super().ask(line)
+        return None
+
+    def __enter__(self) -> Peer:
+        return self
 
 
 class Service:
@@ -33,25 +63,25 @@ class Service:
         self, ground: Ground, node: str, words: list[str], log: Path, env: dict[str, str] | None = None
     ) -> None:
         self.words, self.log, self.env = [*ground.words(node), *words], log, os.environ | (env or {})
-        self.process: subprocess.Popen[bytes] | None = None
+        # All processes so far. The last one is the program.
+        self.processes: list[subprocess.Popen[bytes]] = []
 
     def start(self, *more: str) -> None:
         """Starts the program."""
         with self.log.open("ab") as log:
             words = [*self.words, *more]
-            self.process = subprocess.Popen(words, stdin=subprocess.DEVNULL, stdout=log, stderr=log, env=self.env)
+            none = subprocess.DEVNULL
+            self.processes += [subprocess.Popen(words, stdin=none, stdout=log, stderr=log, env=self.env)]
 
     def kill(self) -> None:
         """Ends it by SIGKILL. It can't do anything about that."""
-        if self.process is not None:
-            self.process.kill()
-            self.process.wait()
-            self.process = None
+        for process in self.processes:
+            process.kill()
+            process.wait()
 
     def send(self, number: signal.Signals) -> None:
         """Sends a signal, if it is there. What is sent to it waits from SIGSTOP to SIGCONT."""
-        if self.process is not None:
-            self.process.send_signal(number)
+        self.processes[-1].send_signal(number)
 
     def __enter__(self: Self) -> Self:
         self.start()
@@ -62,18 +92,17 @@ class Service:
 
     def status(self) -> int | None:
         """The status that it ended with, or None."""
-        return self.process.poll() if self.process else None
+        return self.processes[-1].poll()
 
     def of_process(self, name: str) -> int:
         """A number that the system knows of the process."""
-        assert self.process is not None
-        return of_process(self.process.pid, name)
+        return of_process(self.processes[-1].pid, name)
 
     def seconds(self) -> float:
         """Its processor time so far."""
-        assert self.process is not None
-        fields = Path(f"/proc/{self.process.pid}/stat").read_text(encoding="utf-8").rpartition(")")[2].split()
-        return (int(fields[11]) + int(fields[12])) / os.sysconf("SC_CLK_TCK")
+        stat = Path(f"/proc/{self.processes[-1].pid}/stat").read_text(encoding="utf-8")
+        user, system = stat.rpartition(")")[2].split()[11:13]
+        return (int(user) + int(system)) / os.sysconf("SC_CLK_TCK")
 
 
 class Proxy(Service):
@@ -82,8 +111,6 @@ class Proxy(Service):
     def __init__(self, ground: Ground, node: str, file: str, admin: str, log: Path, values: dict[str, str]) -> None:
         super().__init__(ground, node, ["haproxy", "-db", "-f", str(DEPLOY / file)], log, values)
         self.admin = admin
-        # Processes of before a reload, whose users have not gone yet.
-        self.older: list[subprocess.Popen[bytes]] = []
 
     def start(self, *more: str) -> None:
         super().start(*more)
@@ -93,21 +120,13 @@ class Proxy(Service):
     def is_there(self) -> bool:
         """Whether this very process answers."""
         try:
-            return f"Pid: {self.process.pid}\n" in self.ask("show info") if self.process else False
+            return f"Pid: {self.processes[-1].pid}\n" in self.ask("show info")
         except OSError:
             return False
 
     def reload(self) -> None:
         """Starts a new process, which takes the listeners over. The old one ends when its users have gone."""
-        assert self.process is not None
-        self.older.append(self.process)
-        self.start("-x", self.admin, "-sf", str(self.process.pid))
-
-    def kill(self) -> None:
-        super().kill()
-        while self.older:
-            self.older[-1].kill()
-            self.older.pop().wait()
+        self.start("-x", self.admin, "-sf", str(self.processes[-1].pid))
 
     def ask(self, command: str) -> str:
         """The answer to a command."""
@@ -118,31 +137,35 @@ class Proxy(Service):
             with admin.makefile(encoding="utf-8") as file:
                 return file.read()
 
-    def stats(self, backend: str, server: str) -> dict[str, str]:
+    def stats(self, server: str, backend: str = "fleet") -> dict[str, str]:
         """What it counts of a server."""
         rows = csv.DictReader(io.StringIO(self.ask("show stat").lstrip("# ")))
         return next((row for row in rows if (row["pxname"], row["svname"]) == (backend, server)), {})
 
     def state(self, server: str, backend: str = "fleet") -> str:
         """Whether a server is UP, DOWN, in DRAIN or in MAINT."""
-        return self.stats(backend, server).get("status", "").partition(" ")[0]
+        return self.stats(server, backend).get("status", "").partition(" ")[0]
+
+    def is_up(self, server: str, backend: str = "fleet") -> bool:
+        """Whether it has found a server up. It takes each for one that is up before it has looked."""
+        return self.state(server, backend) == "UP" and "OK" in self.stats(server, backend)["check_status"]
 
 
 class Fleet:
     """Three hosts with their doors, and a front."""
 
     def __init__(self, ground: Ground, cam6: str, folder: Path, users: int, boards: int) -> None:
-        self.ground, self.cam6, self.folder, self.users = ground, cam6, folder, users
+        self.ground, self.folder, self.users = ground, folder, users
         self.ports = {name: ground.port(7001) for name in HOSTS}
         self.doors = {name: ground.port(7200) for name in HOSTS}
         self.plain, self.tls = ground.port(6006), ground.port(6443)
         self.certificates = folder / "certificates"
-        subprocess.run(
-            [DEPLOY / "certificates", self.certificates, NAME, *HOSTS], check=True, stdout=subprocess.DEVNULL
-        )
+        words = [str(DEPLOY / "certificates"), str(self.certificates), NAME, *HOSTS]
+        subprocess.run(words, check=True, stdout=subprocess.DEVNULL)
         self.authority = self.certificates / "ca.pem"
         self.values = self.all_values()
-        self.hosts = {name: self.host(name, boards) for name in HOSTS}
+        serve = [cam6, "serve", f"--users={users}", f"--boards={boards}", "--side=256"]
+        self.hosts = {name: self.service(name, name, [*serve, f"--port={port}"]) for name, port in self.ports.items()}
         self.edges = {name: self.edge(name, self.doors[name], f"127.0.0.1:{self.ports[name]}") for name in HOSTS}
         self.front = self.proxy("front", "haproxy.cfg", "CAM6_ADMIN")
 
@@ -170,20 +193,6 @@ class Fleet:
     def service(self, node: str, name: str, words: list[str], env: dict[str, str] | None = None) -> Service:
         """A program at a node, with a log of this name."""
         return Service(self.ground, node, words, self.folder / f"{name}.log", env)
-
-    def host(self, name: str, boards: int) -> Service:
-        """A host."""
-        options = [
-            "--port",
-            str(self.ports[name]),
-            "--users",
-            str(self.users),
-            "--boards",
-            str(boards),
-            "--side",
-            "256",
-        ]
-        return self.service(name, name, [self.cam6, "serve", *options])
 
     def edge(self, node: str, port: int, host: str) -> Proxy:
         """The door of a host."""
@@ -218,4 +227,43 @@ class Fleet:
 
     def is_ready(self, seconds: float) -> bool:
         """Whether all hosts are up, within so many seconds."""
-        return until(lambda: self.states() == ["UP"] * len(HOSTS), seconds)
+        return until(lambda: all(map(self.front.is_up, HOSTS)), seconds)
+
+    def stream_to(self, node: str, address: str, port: int, source: str = "") -> socket.socket:
+        """A connection from a node to an address."""
+        with self.ground.within(node):
+            return socket.create_connection((address, port), timeout=5, source_address=(source, 0) if source else None)
+
+    def by_tls(self, stream: socket.socket, name: str | None = NAME, certificate: str = "") -> Peer:
+        """A connection by TLS, with a certificate of the fleet, to a name that is looked at, if there is one."""
+        context = ssl.create_default_context(cafile=self.authority)
+        context.check_hostname = name == NAME
+        if certificate:
+            context.load_cert_chain(self.certificates / certificate)
+        return Peer(context.wrap_socket(stream, server_hostname=name))
+
+    def user(self, source: str = "") -> Peer:
+        """A connection to the front without TLS, from its own machine."""
+        return Peer(self.stream_to("front", "127.0.0.1", self.plain, source))
+
+    def tls_user(self, node: str = "users") -> Peer:
+        """A connection to the front by TLS."""
+        return self.by_tls(self.stream_to(node, self.ground.address("front"), self.tls))
+
+    def at_host(self, name: str) -> Peer:
+        """A connection to a host, from its own machine."""
+        return Peer(self.stream_to(name, "127.0.0.1", self.ports[name]))
+
+    def answer_of(self, line: str) -> str | None:
+        """What a line is answered at the front."""
+        with self.user() as one:
+            return one.ask(line)
+
+    def is_taken(self, name: str, seat: int) -> bool:
+        """Whether a seat of a host is taken. If not, it is for a moment, until the host has seen that this one is over."""
+        with self.at_host(name) as one:
+            return one.ask(SEAT % seat) == TAKEN
+
+    def hosts_with(self, seat: int) -> list[str]:
+        """The hosts at which a seat is taken."""
+        return [name for name in HOSTS if self.is_taken(name, seat)]

@@ -1,6 +1,14 @@
-"""A session of the Python client in a process of its own: random commands until it is over, and a last save.
+"""A session of the Python client in a process of its own: random commands until it is over, and a last save. If its
+process was killed it goes on with its journal. The journal says which of the last commands count.
 
-If its process was killed it goes on with its journal. The journal says which of the last commands count.
+What it sent and got is in its record, a file of a JSON object a line, which stays if the process is killed:
+
+    {"ask":[..]}                         these lines are about to be sent
+    {"got":[..],"seconds":s,             their replies, how long they took, how many new seats were taken meanwhile, and how many
+     "seats":n,"again":n}                commands were played again there
+    {"kept":n,"got":[..]}                the process was killed amid lines, of which the first n count; their replies, null where
+                                         nobody read one
+    {"end":true}                         the session has ended by itself
 """
 
 from __future__ import annotations
@@ -11,50 +19,118 @@ import re
 import ssl
 import sys
 import time
-from dataclasses import dataclass
+from collections.abc import Iterable, Iterator
+from contextlib import suppress
+from dataclasses import dataclass, field
 from pathlib import Path
 from typing import Any
 
 import cam6
 from cam6.sessions import Session
 
-from .commands import Commands
-from .records import Played, Record, digest, read
+from .commands import SAVE, Commands
 
-SAVE = b'{"do":"save"}'
+
+def texts(lines: Iterable[bytes]) -> list[str]:
+    """Lines as texts of JSON, which may have any bytes."""
+    return [line.decode("latin-1") for line in lines]
+
+
+def rows_of(path: Path) -> Iterator[dict[str, Any]]:
+    """The whole lines of a record, if it is there. The last one may be torn."""
+    with suppress(FileNotFoundError), path.open("rb") as file:
+        yield from (json.loads(row) for row in file if row.endswith(b"\n"))
+
+
+@dataclass
+class Played:
+    """A whole record: each line with its reply, which is None where nobody read it; the seconds of calls with a new seat;
+    how many new seats there were, and commands that were played again; whether the session ended by itself; and the lines
+    that were asked last without an answer."""
+
+    lines: list[tuple[bytes, str | None]] = field(default_factory=list)
+    waits: list[float] = field(default_factory=list)
+    seats: int = 0
+    again: int = 0
+    kills: int = 0
+    has_ended: bool = False
+    asked: list[bytes] = field(default_factory=list)
+
+
+def read(path: Path) -> Played:
+    """Reads a record."""
+    played = Played()
+    for row in rows_of(path):
+        if "ask" in row:
+            played.asked = [line.encode("latin-1") for line in row["ask"]]
+        elif "end" in row:
+            played.has_ended = True
+        else:
+            played.kills += "kept" in row
+            played.lines += zip(played.asked[: row.get("kept", len(played.asked))], row["got"])
+            played.asked = []
+            played.seats += row.get("seats", 0)
+            played.again += row.get("again", 0)
+            played.waits += [row["seconds"]] if row.get("seats") else []
+    return played
 
 
 @dataclass(frozen=True)
-class Asked:
-    """What a session is to do. Without a name there is no TLS."""
+class Player:
+    """What a session is to do: the arguments of `cam6.connect`, TLS by an authority, if any, and how it plays."""
 
-    host: str
-    port: int
-    name: str
+    how: dict[str, Any]
     authority: str
-    seats: int
     seed: int
     is_small: bool
-    sync: str
-    every_seconds: float
-    deadline: float
     pause: float
-    journal: str
     record: str
     over: str
 
+    def write(self, **row: Any) -> None:
+        """Adds a row to the record."""
+        with open(self.record, "ab", buffering=0) as file:
+            file.write(json.dumps(row).encode() + b"\n")
 
-def connected(asked: Asked) -> cam6.Machine:
-    """The machine of the session."""
-    tls = ssl.create_default_context(cafile=asked.authority) if asked.name else None
-    name, every = asked.name or None, asked.every_seconds
-    how: dict[str, Any] = {
-        "seats": asked.seats,
-        "journal": asked.journal,
-        "sync": asked.sync,
-        "deadline": asked.deadline,
-    }
-    return cam6.connect(asked.host, asked.port, tls=tls, server_name=name, every_seconds=every, **how)
+    def resume(self, session: Session, before: Played) -> list[bytes]:
+        """Notes what became of the lines amid which the process was killed. Returns those that don't count yet."""
+        kept, asked, resumed = session.asked - len(before.lines), before.asked, session.resumed
+        if not 0 <= kept <= len(asked):
+            what = f"the record {len(before.lines)} and {len(asked)} more"
+            raise RuntimeError(f"the journal has {session.asked} commands, {what}")
+        if not all(is_left_of(line, whole) for (line, _), whole in zip(resumed, asked[kept - len(resumed) : kept])):
+            raise RuntimeError("the journal has other commands without an answer than those that were asked for last")
+        known = texts(reply for _, reply in resumed)
+        self.write(kept=kept, got=[None] * (kept - len(known)) + known)
+        return asked[kept:]
+
+    def ask(self, machine: cam6.Machine, session: Session, sent: list[bytes]) -> list[bytes]:
+        """The replies to lines. Both are written down."""
+        self.write(ask=texts(sent))
+        seats, again, begun = session.recoveries, session.replayed, time.monotonic()
+        replies = machine._talk(sent)
+        seconds, seats, again = time.monotonic() - begun, session.recoveries - seats, session.replayed - again
+        self.write(got=texts(replies), seconds=seconds, seats=seats, again=again)
+        return replies
+
+    def play(self) -> None:
+        """Plays until there is a file that says that it is over, and then saves."""
+        is_new, before = not Path(self.record).exists(), read(Path(self.record))
+        seed = self.seed * 1000 + (0 if is_new else before.kills + 1)
+        commands, pauses = Commands(seed, self.is_small), random.Random(self.seed)
+        tls = ssl.create_default_context(cafile=self.authority) if self.authority else None
+        with cam6.connect(**self.how, tls=tls) as machine:
+            session = machine.session
+            assert session
+            left = [] if is_new else self.resume(session, before)
+            sent = left or (commands.some() if session.asked else commands.first())
+            while sent:
+                commands.heard(sent, self.ask(machine, session, sent))
+                commands.side = session.journal.side
+                time.sleep(pauses.uniform(0, 2 * self.pause))
+                sent = [] if Path(self.over).exists() else commands.some()
+            self.ask(machine, session, [SAVE])
+            self.write(end=True)
 
 
 def is_left_of(line: bytes, whole: bytes) -> bool:
@@ -63,47 +139,5 @@ def is_left_of(line: bytes, whole: bytes) -> bool:
     return line == whole or bool(left and of and left[1] == of[1] and int(left[2]) < int(of[2]))
 
 
-def resume(session: Session, record: Record, before: Played) -> list[bytes]:
-    """Notes what became of the lines amid which the process was killed. Returns those that don't count yet."""
-    kept, asked, resumed = session.asked - len(before.lines), before.asked, session.resumed
-    if not 0 <= kept <= len(asked):
-        raise RuntimeError(
-            f"the journal has {session.asked} commands, the record {len(before.lines)} and {len(asked)} more"
-        )
-    if not all(is_left_of(line, whole) for (line, _), whole in zip(resumed, asked[kept - len(resumed) : kept])):
-        raise RuntimeError("the journal has other commands without an answer than those that were asked for last")
-    known = [digest(reply) for _, reply in resumed]
-    record.write(kept=kept, got=[None] * (kept - len(known)) + known)
-    return asked[kept:]
-
-
-def ask(machine: cam6.Machine, session: Session, record: Record, sent: list[bytes]) -> list[bytes]:
-    """The replies to lines. Both are written down."""
-    record.ask(sent)
-    seats, again, begun = session.recoveries, session.replayed, time.monotonic()
-    replies = machine._talk(sent)
-    record.got(replies, time.monotonic() - begun, session.recoveries - seats, session.replayed - again)
-    return replies
-
-
-def play(asked: Asked) -> None:
-    """Plays until there is a file that says that it is over, and then saves."""
-    is_new, before = not Path(asked.record).exists(), read(Path(asked.record))
-    seed = asked.seed * 1000 + (0 if is_new else before.kills + 1)
-    commands, pauses, record = Commands(seed, asked.is_small), random.Random(asked.seed), Record(Path(asked.record))
-    with connected(asked) as machine:
-        session = machine.session
-        assert session
-        left = [] if is_new else resume(session, record, before)
-        sent = left or (commands.some() if session.asked else commands.first())
-        while sent:
-            commands.heard(sent, ask(machine, session, record, sent))
-            commands.side = session.journal.side
-            time.sleep(pauses.uniform(0, 2 * asked.pause))
-            sent = [] if Path(asked.over).exists() else commands.some()
-        ask(machine, session, record, [SAVE])
-        record.write(end=True)
-
-
 if __name__ == "__main__":
-    play(Asked(**json.loads(sys.argv[1])))
+    Player(**json.loads(sys.argv[1])).play()

@@ -2,6 +2,7 @@
 
 from __future__ import annotations
 
+import http.client
 import os
 import re
 import subprocess
@@ -11,15 +12,14 @@ from contextlib import ExitStack, suppress
 from pathlib import Path
 
 import pytest
-from service.answers import Answer, get
-from service.sockets import Socket, seat
-from support.programs import TOP, private, until
-from support.sessions import assert_replies
+from service.pages import Answer, Socket, get
+from service.users import BALLS, NO_JSON, NO_NAMES, NO_SEAT, PLANES, ROW, RULES, RUN, SAVE, SEAT, SEATED, answers
+from service.users import closed
+from support.programs import private, until
+from support.sessions import assert_replies, line_of
 
-from . import peers
 from .commands import LIFE
-from .peers import SEATED, Peer
-from .services import DEPLOY, HOSTS, NAME, Fleet
+from .services import DEPLOY, HOSTS, NAME, Fleet, Peer
 
 # How long the fleet waits for a first line (CAM6_WAIT), until it knows that a silent user's machine is gone (CAM6_SILENT and
 # three times CAM6_ASKED) or one that acknowledges nothing (CAM6_UNREAD), and what a busy machine adds.
@@ -27,14 +27,9 @@ WAIT, GONE, GRACE = 2, 5, 20
 PER_SOURCE = 100
 # The most that `systemd-analyze security` may find open, in tenths.
 EXPOSURE = 15
-NO_SEAT, NO_RULES = '{"fault":81}', '{"names":[],"ok":"rules"}'
-BITS = "5a" * 32
-SET, SET_OK = f'{{"do":"set","plane":0,"row":0,"bits":"{BITS}"}}', '{"ok":"set"}'
-ROW, SEEN = '{"do":"row","plane":0,"row":0}', f'{{"bits":"{BITS}","ok":"row"}}'
-RULE = f'{{"do":"rule","name":"L","half":"A","hood":"N/MOORE","minor":"&/CENTERS","text":"{LIFE}"}}'
-CYCLE = '{"do":"cycle","entries":[{"a":"L","b":"-","grid":"EVEN","phase":0}]}'
-RULES, SAVE, PLANE = '{"do":"rules"}', '{"do":"save"}', '{"do":"plane","plane":0}'
-BALLS = (TOP / "examples" / "billiard_balls.lines").read_text(encoding="utf-8").splitlines()
+SET, SET_OK = f'{{"do":"set","plane":0,"row":0,"bits":"{"5a" * 32}"}}', '{"ok":"set"}'
+RULE = line_of(do="rule", name="L", half="A", hood="N/MOORE", minor="&/CENTERS", text=LIFE)
+CYCLE = line_of(do="cycle", entries=[{"a": "L", "b": "-", "grid": "EVEN", "phase": 0}])
 
 
 @pytest.mark.parametrize("file", sorted(path.name for path in DEPLOY.glob("*.cfg")))
@@ -55,62 +50,65 @@ def test_systemd_accepts_each_unit(request: pytest.FixtureRequest, fleet: Fleet,
     assert subprocess.run(words, capture_output=True, check=False).returncode == 0, "the unit is exposed to much"
 
 
-def test_a_first_line_may_come_in_two_parts(fleet: Fleet) -> None:
-    with peers.user(fleet) as one:
-        one.send('{"se')
-        time.sleep(0.3)
-        one.send('at":31}\n{"do":"rul')
-        assert one.read() == SEATED
-        assert one.ask('es"}') == NO_RULES
+# What is sent in parts, and the answers.
+FIRST = {
+    "a seat, in two parts, and more": (['{"se', 'at":31}\n{"do":"rul', 'es"}\n'], [SEATED, NO_NAMES]),
+    "no line": (["no line\n"], [NO_JSON]),
+    "a seat that isn't there": (['{"seat":99}\n'], [NO_SEAT]),
+    "the seat 0": (['{"seat":0}\n'], [NO_SEAT]),
+}
 
 
-@pytest.mark.parametrize(
-    ("line", "answer"), [("no line", '{"fault":2}'), ('{"seat":99}', NO_SEAT), ('{"seat":0}', NO_SEAT)]
-)
-def test_a_first_line_that_takes_no_seat_is_answered(fleet: Fleet, line: str, answer: str) -> None:
-    assert peers.answer_of(fleet, line) == answer
+@pytest.mark.parametrize(("parts", "wanted"), FIRST.values(), ids=FIRST)
+def test_a_first_line_is_answered(fleet: Fleet, parts: list[str], wanted: list[str]) -> None:
+    with fleet.user() as one:
+        one.send(parts[0])
+        for part in parts[1:]:
+            time.sleep(0.3)
+            one.send(part)
+        assert [one.read() for _ in wanted] == wanted
 
 
 def test_a_first_line_that_is_too_long_is_not_waited_for(fleet: Fleet) -> None:
-    with peers.user(fleet) as one:
+    with fleet.user() as one:
         one.send("x" * 20000)
-        assert one.is_over(1)
+        assert closed([one], 1)
 
 
 def test_a_user_who_says_nothing_is_closed_after_a_time(fleet: Fleet) -> None:
     begun = time.monotonic()
-    with peers.user(fleet) as one:
-        assert one.is_over(WAIT + 2)
+    with fleet.user() as one:
+        assert closed([one], WAIT + 2)
     assert time.monotonic() - begun > WAIT - 0.5
 
 
-def at_door(fleet: Fleet, port: int, certificate: str) -> Peer:
-    """A connection from the front's machine to a door of the first host, with a certificate, or with none."""
-    stream = peers.stream_to(fleet, "front", fleet.ground.address("one"), port)
-    return peers.by_tls(fleet, stream, None, certificate)
+def at_door(fleet: Fleet, port: int, certificate: str | None) -> Peer:
+    """A connection from the front's machine to a door of the first host: with a certificate, none, or no TLS."""
+    stream = fleet.stream_to("front", fleet.ground.address("one"), port)
+    return Peer(stream) if certificate is None else fleet.by_tls(stream, None, certificate)
 
 
-@pytest.mark.parametrize(("certificate", "answer"), [("", None), ("users.pem", None), ("front.pem", NO_SEAT)])
-def test_a_door_lets_in_the_front_alone(fleet: Fleet, certificate: str, answer: str | None) -> None:
-    try:
-        with at_door(fleet, fleet.doors["one"], certificate) as one:
-            came = one.ask('{"seat":99}')
-    except OSError:
-        came = None
+DOOR = [(None, None), ("", None), ("users.pem", None), ("front.pem", NO_SEAT)]
+
+
+@pytest.mark.parametrize(("certificate", "answer"), DOOR)
+def test_a_door_lets_in_the_front_alone(fleet: Fleet, certificate: str | None, answer: str | None) -> None:
+    came = None
+    with suppress(OSError), at_door(fleet, fleet.doors["one"], certificate) as one:
+        came = one.ask(SEAT % 99)
     assert came == answer
 
 
-def test_a_door_answers_nothing_without_tls(fleet: Fleet) -> None:
-    with peers.connected(fleet, "front", fleet.ground.address("one"), fleet.doors["one"]) as one:
-        assert one.ask('{"seat":99}') is None
-
-
 def test_a_door_whose_host_has_ended_says_so_at_once(fleet: Fleet) -> None:
-    port = fleet.ground.port(7299)
-    with fleet.edge("one", port, "127.0.0.1:1"), at_door(fleet, port, "front.pem") as one:
-        begun = time.monotonic()
-        assert one.ask('{"seat":1}') is None
-        assert time.monotonic() - begun < 0.8
+    port, waits = fleet.ground.port(7299), []
+    with fleet.edge("one", port, "127.0.0.1:1"):
+        for _ in range(3):
+            with at_door(fleet, port, "front.pem") as one:
+                begun = time.monotonic()
+                assert one.ask(SEAT % 1) is None
+                waits.append(time.monotonic() - begun)
+    # A door that tried again would do so after a second, each time.
+    assert min(waits) < 0.8
 
 
 @pytest.fixture
@@ -124,15 +122,15 @@ def cables(fleet: Fleet) -> None:
 @pytest.mark.usefixtures("cables")
 def test_a_host_is_not_reached_from_another_machine(fleet: Fleet) -> None:
     with pytest.raises(ConnectionRefusedError):
-        peers.connected(fleet, "front", fleet.ground.address("one"), fleet.ports["one"])
+        fleet.stream_to("front", fleet.ground.address("one"), fleet.ports["one"])
 
 
-@pytest.mark.parametrize(("connect", "seat"), [(peers.tls_user, 1), (peers.user, 2)])
+@pytest.mark.parametrize(("connect", "seat"), [(Fleet.tls_user, 1), (Fleet.user, 2)])
 def test_a_user_who_thinks_for_long_keeps_the_seat(fleet: Fleet, connect: Callable[[Fleet], Peer], seat: int) -> None:
     with connect(fleet) as one:
-        assert [one.ask(f'{{"seat":{seat}}}'), one.ask(SET)] == [SEATED, SET_OK]
+        assert answers(one, [SEAT % seat, SET]) == [SEATED, SET_OK]
         time.sleep(3 * WAIT)
-        assert one.ask(ROW) == SEEN
+        assert one.ask(ROW % 0) == f'{{"bits":"{"5a" * 32}","ok":"row"}}'
 
 
 @pytest.mark.root
@@ -141,62 +139,52 @@ def test_a_user_who_thinks_for_long_keeps_the_seat(fleet: Fleet, connect: Callab
     ("seat", "is_asking"), [(21, False), (22, True)], ids=["who was silent", "who is owed a reply"]
 )
 def test_the_seat_is_free_of_a_user_whose_machine_is_gone(fleet: Fleet, seat: int, is_asking: bool) -> None:
-    with peers.tls_user(fleet, "gone") as one:
-        lines = [f'{{"seat":{seat}}}', RULE, CYCLE, '{"do":"run","n":100}']
-        assert [one.ask(line) for line in lines[:3]] == [SEATED, '{"ok":"rule"}', '{"ok":"cycle"}']
+    with fleet.tls_user("gone") as one:
+        assert answers(one, [SEAT % seat, RULE, CYCLE]) == [SEATED, '{"ok":"rule"}', '{"ok":"cycle"}']
         begun = time.monotonic()
-        one.ask(lines[3])
+        one.ask(RUN % 100)
         steps = 100 + int(200 / (time.monotonic() - begun))
-        (name,) = peers.hosts_with(fleet, seat)
+        (name,) = fleet.hosts_with(seat)
         # What the user has got so far is acknowledged.
         time.sleep(0.5)
         if is_asking:
             # The run takes longer than the cable is in place: some two seconds.
             before = fleet.hosts[name].seconds()
-            one.send(f'{{"do":"run","n":{min(steps, 65535)}}}\n')
+            one.send(f"{RUN % min(steps, 65535)}\n")
             assert until(lambda: fleet.hosts[name].seconds() > before, pause=0.002), "the host doesn't run"
-        fleet.ground.pull("gone")
-        try:
-            assert until(lambda: not peers.is_taken(fleet, name, seat), GONE + GRACE)
-        finally:
-            fleet.ground.plug("gone")
+        with fleet.ground.pulled("gone"):
+            assert until(lambda: not fleet.is_taken(name, seat), GONE + GRACE)
 
 
 def test_one_address_has_so_many_connections_and_no_more(fleet: Fleet) -> None:
-    many = []
-    for _ in range(PER_SOURCE + 20):
-        with suppress(ConnectionResetError):
-            many.append(peers.connected(fleet, "front", "127.0.0.1", fleet.plain, "127.0.0.9"))
-    until(lambda: sum(not one.is_over(0.001) for one in many) <= PER_SOURCE, WAIT / 2)
-    assert sum(not one.is_over(0.001) for one in many) == PER_SOURCE
-    assert peers.answer_of(fleet, '{"seat":99}') == NO_SEAT, "another address is served beside it"
-    for one in many:
-        one.close()
+    many: list[Peer] = []
+    with ExitStack() as stack:
+        for _ in range(PER_SOURCE + 20):
+            with suppress(ConnectionResetError):
+                many.append(stack.enter_context(fleet.user("127.0.0.9")))
+        until(lambda: len(many) - closed([*many], 0) <= PER_SOURCE, WAIT / 2)
+        assert len(many) - closed([*many], 0) == PER_SOURCE
+        assert fleet.answer_of(SEAT % 99) == NO_SEAT, "another address is served beside it"
 
 
 @pytest.fixture(scope="module")
 def seats(fleet: Fleet) -> Iterator[Callable[[str], Peer]]:
     """The front of numbered seats. Seats 33 to 64 are those of the second host, and so on. It is called for a connection."""
     with fleet.proxy("front", "haproxy-seats.cfg", "CAM6_SEATS_ADMIN") as proxy:
-        assert until(lambda: [proxy.state(name, name) for name in HOSTS] == ["UP"] * len(HOSTS), GRACE)
-        yield lambda value: peers.connected(fleet, "front", "127.0.0.1", fleet.port_of(value))
+        assert until(lambda: all(proxy.is_up(name, name) for name in HOSTS), GRACE)
+        yield lambda value: Peer(fleet.stream_to("front", "127.0.0.1", fleet.port_of(value)))
 
 
-@pytest.mark.parametrize(
-    ("value", "parts", "seat", "host"),
-    [
-        pytest.param("CAM6_SEATS", ['{"seat":41}\n' + SET + "\n"], 9, "two", id="its number, in one packet"),
-        pytest.param("CAM6_SEATS", ['{"se', 'at":64}\n', SET + "\n"], 32, "two", id="its number, in three packets"),
-        pytest.param(
-            "CAM6_SEATS",
-            ['{ "seat" : 75 }\n' + SET + f"\n{RULES}" * 5000 + "\n"],
-            11,
-            "three",
-            id="its number, before more",
-        ),
-        pytest.param("CAM6_SEATS_THREE", ['{"seat":13}\n' + SET + "\n"], 13, "three", id="the port of its host"),
-    ],
-)
+# The front that is asked, what is sent, and the seat that is taken of a host.
+BY = {
+    "its number, in one packet": ("CAM6_SEATS", [SEAT % 41 + f"\n{SET}\n"], 9, "two"),
+    "its number, in three packets": ("CAM6_SEATS", ['{"se', 'at":64}\n', f"{SET}\n"], 32, "two"),
+    "its number, before more": ("CAM6_SEATS", ['{ "seat" : 75 }\n' + SET + f"\n{RULES}" * 5000 + "\n"], 11, "three"),
+    "the port of its host": ("CAM6_SEATS_THREE", [SEAT % 13 + f"\n{SET}\n"], 13, "three"),
+}
+
+
+@pytest.mark.parametrize(("value", "parts", "seat", "host"), BY.values(), ids=BY)
 def test_a_seat_is_taken_by(
     fleet: Fleet, seats: Callable[[str], Peer], value: str, parts: list[str], seat: int, host: str
 ) -> None:
@@ -205,30 +193,33 @@ def test_a_seat_is_taken_by(
             one.send(part)
             time.sleep(0.1)
         assert [one.read(), one.read()] == [SEATED, SET_OK]
-        assert peers.hosts_with(fleet, seat) == [host]
-        assert {one.read() for _ in range(parts[-1].count(RULES))} <= {NO_RULES}, "what was sent with it is answered"
+        assert fleet.hosts_with(seat) == [host]
+        assert {one.read() for _ in range(parts[-1].count(RULES))} <= {NO_NAMES}, "what was sent with it is answered"
 
 
 @pytest.mark.usefixtures("seats")
 def test_a_seat_is_taken_by_the_name_of_its_host(fleet: Fleet) -> None:
-    stream = peers.stream_to(fleet, "users", fleet.ground.address("front"), fleet.port_of("CAM6_SEATS_TLS"))
-    with peers.by_tls(fleet, stream, "two.cam6.example") as one:
-        assert one.ask('{"seat":14}') == SEATED
-        assert peers.hosts_with(fleet, 14) == ["two"]
+    stream = fleet.stream_to("users", fleet.ground.address("front"), fleet.port_of("CAM6_SEATS_TLS"))
+    with fleet.by_tls(stream, "two.cam6.example") as one:
+        assert one.ask(SEAT % 14) == SEATED
+        assert fleet.hosts_with(14) == ["two"]
 
 
 @pytest.mark.parametrize("seat", [0, 97, 12345])
 def test_a_number_beyond_all_seats_is_none(seats: Callable[[str], Peer], seat: int) -> None:
     with seats("CAM6_SEATS") as one:
-        assert one.ask(f'{{"seat":{seat}}}') == NO_SEAT
+        assert one.ask(SEAT % seat) == NO_SEAT
 
 
 @pytest.mark.parametrize(("path", "status", "server"), [("/metrics", 200, 'server="two"'), ("/", 403, "")])
 def test_the_front_counts_for_prometheus_alone(fleet: Fleet, path: str, status: int, server: str) -> None:
-    port = fleet.port_of("CAM6_METRICS")
-    answer = get(port, path, tcp=peers.stream_to(fleet, "front", "127.0.0.1", port))
+    connection = http.client.HTTPConnection("127.0.0.1", fleet.port_of("CAM6_METRICS"), timeout=20)
+    with fleet.ground.within("front"):
+        connection.request("GET", path)
+    answer = connection.getresponse()
     assert answer.status == status
-    assert not server or f'haproxy_server_status{{proxy="fleet",{server},state="UP"}} 1' in answer.text
+    assert f'haproxy_server_status{{proxy="fleet",{server},state="UP"}} 1' in answer.read().decode() or not server
+    connection.close()
 
 
 class Pages:
@@ -244,28 +235,25 @@ class Pages:
         words = [cam6_web, "--name", NAME, "--host", f"127.0.0.1:{fleet.plain}", "--port"]
         self.programs = {name: fleet.service("front", f"page-{name}", [*words, str(at)]) for name, at in ports.items()}
 
-    def states(self) -> list[str]:
-        """How the front sees each program."""
-        return [self.front.state(name, "pages") for name in self.programs]
-
     def count(self, name: str) -> int:
         """How often the front has connected to a program."""
-        return int(self.front.stats("pages", name)["stot"])
+        return int(self.front.stats(name, "pages")["stot"])
 
     def get(self, path: str, cookie: str = "") -> Answer:
         """What a browser is answered."""
         fields = {"Host": NAME, "Connection": "close", **({"Cookie": cookie} if cookie else {})}
-        return get(self.plain, path, fields, peers.stream_to(self.fleet, "front", "127.0.0.1", self.plain))
+        with self.fleet.ground.within("front"):
+            return get(self.plain, path, fields)
 
     def seated(self, cookie: str) -> Socket:
         """A socket that has a seat, as the page looks for one: from the last one down, which others leave free."""
         fields = {"Host": NAME, "Origin": f"https://{NAME}", "Cookie": cookie}
         for number in range(30, 0, -1):
             with self.fleet.ground.within("front"):
-                one = Socket(self.plain, "/ws/1", fields)
-            if one.ask(seat(number)) == SEATED:
+                one = Socket(self.plain, number, "/ws/1", fields)
+            if one.said == SEATED:
                 return one
-            one.drop()
+            one.close()
         raise AssertionError("no seat is free")
 
 
@@ -276,7 +264,7 @@ def pages(fleet: Fleet, cam6_web: str) -> Iterator[Pages]:
     with ExitStack() as stack:
         for service in (*made.programs.values(), made.front):
             stack.enter_context(service)
-        assert until(lambda: made.states() == ["UP", "UP"], 10), made.states()
+        assert until(lambda: all(made.front.is_up(name, "pages") for name in made.programs), GRACE)
         yield made
 
 
@@ -297,14 +285,14 @@ def test_a_browser_stays_with_the_program_of_its_cookie(pages: Pages) -> None:
 
 def test_a_page_goes_on_at_the_other_program(pages: Pages, cam6: str) -> None:
     name, other = names_of(pages)
-    lines = [*BALLS, '{"do":"run","n":9}', SAVE]
+    lines = [*BALLS, RUN % 9, SAVE]
     with pages.seated(f"cam6={name}") as one:
-        came = [one.ask(line) for line in lines]
+        came = answers(one, lines)
         assert_replies(lines, came, private(cam6, lines, 256))
         pages.programs[name].kill()
-        assert one.text() is None
+        assert one.read() is None
     load = '{"do":"load","machine":' + str(came[-1]).removeprefix('{"machine":').removesuffix(',"ok":"save"}') + "}"
     with pages.seated(f"cam6={name}") as two:
         assert pages.count(other) > 0
-        again = [two.ask(line) for line in (load, '{"do":"run","n":5}', PLANE)]
-        assert again[-1] == private(cam6, [*BALLS, '{"do":"run","n":14}', PLANE], 256)[-1]
+        again = answers(two, [load, RUN % 5, PLANES[0]])
+        assert again[-1] == private(cam6, [*BALLS, RUN % 14, PLANES[0]], 256)[-1]

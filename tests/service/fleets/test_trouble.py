@@ -18,9 +18,8 @@ from pathlib import Path
 import pytest
 from support.programs import TOP, until
 
-from .records import read
 from .services import HOSTS, NAME, Fleet
-from .session import Asked
+from .session import Player, read
 from .troubles import Troubles
 from .verdicts import Judged, judged
 
@@ -40,23 +39,19 @@ class Client:
     def __init__(self, fleet: Fleet, number: int, seed: int, pause: float) -> None:
         is_by_tls, name = number % 2 == 0, f"session-{number:02}"
         self.number, self.record, self.is_small = number, fleet.folder / f"{name}.record", number % SMALL_OF == 0
-        asked = Asked(
-            host=fleet.ground.address("front") if is_by_tls else "127.0.0.1",
-            port=fleet.tls if is_by_tls else fleet.plain,
-            name=NAME if is_by_tls else "",
-            authority=str(fleet.authority),
-            seats=fleet.users,
-            seed=seed * 1000 + number,
-            is_small=self.is_small,
-            sync=SYNCS[number % 3],
-            every_seconds=EVERY[number // 3 % 3],
-            deadline=DEADLINE,
-            pause=pause,
-            journal=str(fleet.folder / f"{name}.journal"),
-            record=str(self.record),
-            over=str(fleet.folder / "over"),
-        )
-        words = [sys.executable, "-m", "service.fleets.session", json.dumps(asdict(asked))]
+        how = {
+            "host": fleet.ground.address("front") if is_by_tls else "127.0.0.1",
+            "port": fleet.tls if is_by_tls else fleet.plain,
+            "server_name": NAME if is_by_tls else None,
+            "seats": fleet.users,
+            "sync": SYNCS[number % 3],
+            "every_seconds": EVERY[number // 3 % 3],
+            "deadline": DEADLINE,
+            "journal": str(fleet.folder / f"{name}.journal"),
+        }
+        authority, over = str(fleet.authority) if is_by_tls else "", str(fleet.folder / "over")
+        player = Player(how, authority, seed * 1000 + number, self.is_small, pause, str(self.record), over)
+        words = [sys.executable, "-m", "service.fleets.session", json.dumps(asdict(player))]
         env = {"PYTHONPATH": os.pathsep.join(str(TOP / path) for path in ("tests", "clients/python/src"))}
         self.service = fleet.service("users" if is_by_tls else "front", name, words, env)
 

@@ -11,10 +11,10 @@ from collections.abc import Iterable, Iterator
 from pathlib import Path
 from typing import NamedTuple
 
-from support.plain_scripts import plain_script
+from oracle.machine import Alone
 from support.programs import ran
 
-from .records import Played, digest, read
+from .session import Played, read
 
 # Seconds that the plain machine may take for a session, and the program.
 PLAIN_SECONDS, PROGRAM_SECONDS = 300, 7200
@@ -37,7 +37,7 @@ def compared(played: Played, replies: Iterable[bytes]) -> Verdict:
     """Compares each reply with the one that is wanted."""
     same = unread = 0
     for (line, got), reply in zip(played.lines, replies):
-        wanted = digest(reply)
+        wanted = reply.decode("latin-1")
         if got not in (None, wanted):
             differs = f"line {same + unread} {line[:120]!r}: got {str(got)[:120]!r}, wanted {wanted[:120]!r}"
             return Verdict(same, unread, differs, False)
@@ -55,7 +55,7 @@ def by_program(cam6: str, played: Played) -> Verdict:
 
 def by_plain_machine(played: Played) -> Verdict:
     """Compares with a plain machine, for some seconds."""
-    alone, end = plain_script("machines").Alone(256), time.monotonic() + PLAIN_SECONDS
+    alone, end = Alone(256), time.monotonic() + PLAIN_SECONDS
 
     def replies() -> Iterator[bytes]:
         for line, _ in played.lines:

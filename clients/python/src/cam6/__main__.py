@@ -18,7 +18,7 @@ from typing import Optional
 
 from . import lines, local
 from .channels import connected
-from .errors import Cam6Error, Fault, fault_of
+from .errors import Cam6Error, fault_of
 from .machine import Machine, side_of
 from .sessions import SEATED, TAKEN
 from .starting import MOST_SEATS, checked_address
@@ -138,9 +138,7 @@ def film(asked: argparse.Namespace) -> int:
     with local(asked.program, asked.side_limit) as machine:
         if played(machine, lines_of(path), path, False):
             return 1
-        pictures = machine.film(
-            asked.frames, asked.every, asked.plane, asked.back, ms=asked.ms, scale=asked.scale
-        )
+        pictures = machine.film(asked.frames, asked.every, asked.plane, asked.back, ms=asked.ms, scale=asked.scale)
         data = pictures.apng()
     write_whole(asked.output, data)
     print(f"{asked.output}: {asked.frames} pictures, {len(data):,} bytes")

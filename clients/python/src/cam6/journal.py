@@ -4,13 +4,16 @@ Together they are the machine that counts. It can be built again at any seat of 
 
 A journal in a file has one JSON object a line:
 
-    {"journal":1,"limit":256,"number":12,"load":L}   begins each journal: the load line L, after 12 commands in all
-    {"ask":C}                                        the command C is about to be sent
-    {"part":C,"reply":R}                             some steps of the first command without an answer were done by C
-    {"reply":R}                                      the first command without an answer has the reply R
-    {"reply":null}                                   the same, of a command that changed nothing
-    {"drop":n}                                       the n commands without an answer were given up, and don't count
-    {"done":C,"reply":R}                             a command that changed the machine, of a file that was written anew
+    {"journal":1,"limit":256,"number":12,"load":L,"done":[[C,R],..],"ask":[C,..]}
+
+        begins each journal. It has all that was known when the file was written anew: the load line L, the commands that
+        changed the machine since then with their replies, and those without an answer, after 12 others in all
+
+    {"ask":C}                 the command C is about to be sent
+    {"part":C,"reply":R}      some steps of the first command without an answer were done by C
+    {"reply":R}               the first command without an answer has the reply R
+    {"reply":null}            the same, of a command that changed nothing
+    {"drop":n}                the n commands without an answer were given up, and don't count
 
 A command is written before it is sent. If the program or the computer stops, the last line may be torn. It is cut off
 when the file is opened. A checkpoint writes a new file beside the old one, and then takes its place.
@@ -76,6 +79,10 @@ class Journal:
             raise
         self._file.truncate(good)
         self._file.seek(good)
+        if self.sync == "each":
+            # The last program may have ended before its syncs. What it asked for is sent next.
+            os.fsync(self._file.fileno())
+            sync_folder(os.path.dirname(path) or ".")
         self.size = good
 
     def _read(self, data: bytes, path: str) -> int:
@@ -88,27 +95,32 @@ class Journal:
         for place, row in enumerate(rows, 1):
             try:
                 self._take(json.loads(row), place == 1)
-            except (ValueError, KeyError, TypeError, IndexError, AttributeError):
+            except (ValueError, LookupError, TypeError, AttributeError, OverflowError, RecursionError):
                 what = "is no journal" if place == 1 else "is damaged"
                 raise BadJournal(f"{path!r} {what}: line {place} is not one of a journal. It stays as it is.") from None
         if self.limit != limit:
-            raise BadJournal(f"{path!r} is the journal of a machine with the limit {self.limit}: say limit={self.limit}.")
+            raise BadJournal(
+                f"{path!r} is the journal of a machine with the limit {self.limit}: say limit={self.limit}."
+            )
         return whole
 
     def _take(self, said: dict[str, Any], is_first: bool) -> None:
         if is_first:
             if said["journal"] != 1 or said["limit"] not in (128, 256, 512):
                 raise ValueError
-            self.limit, self.number = int(said["limit"]), int(said["number"])
-            self.load = bytes_of(said["load"])
+            self.limit, self.load = int(said["limit"]), bytes_of(said["load"])
             if not self.load.startswith(lines.LOAD_HEAD):
                 raise ValueError
+            self.tail = [(bytes_of(command), bytes_of(reply)) for command, reply in said.get("done", [])]
+            self.pending.extend(bytes_of(command) for command in said.get("ask", []))
+            self.number = int(said["number"]) + len(self.pending)
         elif "ask" in said:
             self.pending.append(bytes_of(said["ask"]))
             self.number += 1
         elif "part" in said:
             self._part(bytes_of(said["part"]), bytes_of(said["reply"]))
         elif "done" in said:
+            # A command that changed the machine, of a file that an earlier version wrote anew.
             self.tail.append((bytes_of(said["done"]), bytes_of(said["reply"])))
         elif "drop" in said:
             self._drop(int(said["drop"]))
@@ -210,7 +222,7 @@ class Journal:
         try:
             lock(new, self.path)
             new.truncate(0)
-            data = b"".join(lines.compact(row) + b"\n" for row in self._rows())
+            data = lines.compact(self._first()) + b"\n"
             if new.write(data) != len(data):
                 raise OSError(f"the journal {self.path!r} can't be written whole: is the disk full?")
             if self.sync != "none":
@@ -224,12 +236,16 @@ class Journal:
         if self.sync != "none":
             sync_folder(os.path.dirname(self.path) or ".")
 
-    def _rows(self) -> list[dict[str, Any]]:
-        """All that is known, as the lines of a file."""
-        number = self.number - len(self.pending)
-        rows: list[dict[str, Any]] = [{"journal": 1, "limit": self.limit, "number": number, "load": text_of(self.load)}]
-        rows += [{"done": text_of(command), "reply": text_of(reply)} for command, reply in self.tail]
-        return rows + [{"ask": text_of(command)} for command in self.pending]
+    def _first(self) -> dict[str, Any]:
+        """All that is known, as the first line of a file. So a file that is cut has all of it, or is no journal."""
+        return {
+            "journal": 1,
+            "limit": self.limit,
+            "number": self.number - len(self.pending),
+            "load": text_of(self.load),
+            "done": [[text_of(command), text_of(reply)] for command, reply in self.tail],
+            "ask": [text_of(command) for command in self.pending],
+        }
 
 
 def is_change(line: bytes, reply: bytes) -> bool:

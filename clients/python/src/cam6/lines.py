@@ -346,7 +346,9 @@ def _line_of(line: Any) -> bytes:
         return bytes(line)
     if isinstance(line, Mapping):
         try:
-            text = json.dumps(dict(line), separators=(",", ":"), ensure_ascii=False, allow_nan=False, default=operator.index)
+            text = json.dumps(
+                dict(line), separators=(",", ":"), ensure_ascii=False, allow_nan=False, default=operator.index
+            )
         except (TypeError, ValueError) as cause:
             raise type(cause)(f"line is a command that JSON can say: {cause}") from None
         return text_of(text, "line").encode()

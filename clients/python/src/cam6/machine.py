@@ -144,7 +144,9 @@ class Machine:
             rows = placed.whole_rows()
         else:
             asked = [lines.row_line(placed.plane, row) for row in placed.row_numbers()]
-            old = Call(asked, b'{"bits":"', lambda replies: [lines.digits_of_reply(reply).decode() for reply in replies])
+            old = Call(
+                asked, b'{"bits":"', lambda replies: [lines.digits_of_reply(reply).decode() for reply in replies]
+            )
             rows = placed.over(self._now(old))
         self._now(lines.set_rows(placed.plane, rows))
 
@@ -289,9 +291,7 @@ class Machine:
 
     # Pictures
 
-    def frames(
-        self, n: int, every: int = 1, plane: int = 0, back: bool = False, *, ahead: int = 1
-    ) -> Iterator[Array]:
+    def frames(self, n: int, every: int = 1, plane: int = 0, back: bool = False, *, ahead: int = 1) -> Iterator[Array]:
         """Yields `n` pictures of a plane, an array each, and does `every` steps after each. `back` undoes them.
 
         `n` and `every` are 0 or more, and `plane` is 0 to 3. `frames(10)` and `frames(10)` again yield twenty different
@@ -315,9 +315,7 @@ class Machine:
                 yield picture
             n -= some
 
-    def picture(
-        self, scale: int = 1, palette: Any = None, crop: Optional[tuple[int, int, int, int]] = None
-    ) -> Picture:
+    def picture(self, scale: int = 1, palette: Any = None, crop: Optional[tuple[int, int, int, int]] = None) -> Picture:
         """A picture of all cells in their colours. See `cam6.pictures.picture`.
 
         A cell is `scale` pixels wide and high, 1 to 16. `palette` has the sixteen colours. `crop` is x, y, width and

@@ -1,0 +1,117 @@
+"""Random commands by calls of a machine, or of its pipeline, each beside the oracle."""
+
+from __future__ import annotations
+
+import json
+from typing import Any
+
+import plain
+from fakes import load_of
+from hypothesis.stateful import RuleBasedStateMachine, rule
+from oracle.lines import Unclear, is_command, read_line
+from oracle.lines import plain as line_of
+from oracle.machine import Alone
+from programs.test_random_sessions import MOST_CELLS, Sessions
+
+import cam6
+from cam6 import lines
+from cam6.errors import FAULTS
+
+KEYS = {"run": "position", "back": "position", "rules": "names", "colours": "colours", "count": "count"}
+
+
+def wanted(command: dict[str, Any] | None, reply: bytes) -> Any:
+    """What a call returns for a command, by a reply of the oracle; or the fields of its fault."""
+    said, word = json.loads(reply), command["do"] if command else ""
+    if "fault" in said:
+        return said
+    if word == "row":
+        return plain.bits_of(said["bits"])
+    if word == "plane":
+        return [plain.bits_of(row) for row in said["rows"]]
+    return load_of(reply) if word == "save" else said[KEYS[word]] if word in KEYS else None
+
+
+def called(machine: Any, command: dict[str, Any]) -> Any:
+    """Does a command by its own call."""
+    word, rest = command["do"], {key: value for key, value in command.items() if key != "do"}
+    if word == "cycle":
+        return machine.cycle(*rest["entries"])
+    if word == "load":
+        return machine.load(line_of(command))
+    if word == "side":
+        return machine.set_side(rest["side"])
+    return getattr(machine, {"set": "set_row", "map": "colour_map"}.get(word, word))(**rest)
+
+
+class Calls(Sessions):
+    """A session of calls."""
+
+    words: set[str] = set()
+
+    def __init__(self, program: str, limit: int) -> None:
+        RuleBasedStateMachine.__init__(self)
+        self.calls = cam6.local(program, side_limit=limit)
+        self.oracle = self.alone = Alone(limit)
+        self.machine, self.said = self.oracle.machine, [{"do": "rules"}]
+
+    def say(self, line: bytes) -> None:
+        """A line by its own call, unless it asks for too many steps. A call may ask for more steps than a line."""
+        try:
+            said = read_line(line, is_command)
+        except Unclear:
+            return
+        command = said if isinstance(said, dict) else None
+        is_long = command is not None and command.get("n", 0) > lines.MOST_STEPS
+        reply = None if is_long else self.oracle.short_answer(line, MOST_CELLS)
+        if reply is None:
+            return
+        try:
+            self.call(command, line, reply)
+        except (TypeError, ValueError):
+            # What is refused here would have been refused there, and nothing has changed.
+            assert b'"fault"' in reply
+
+    def call(self, command: dict[str, Any] | None, line: bytes, reply: bytes) -> None:
+        """A call. What comes of it has to be what the reply says."""
+        try:
+            got = plain.value(called(self.calls, command) if command else self.calls.ask(line))
+        except cam6.Fault as fault:
+            assert type(fault) is FAULTS[fault.number]
+            got = fault.reply
+        assert got == wanted(command, reply)
+        assert self.calls.side == self.oracle.machine.torus.side
+        self.words.add(command["do"] if command else "")
+
+    def teardown(self) -> None:
+        """In the end the whole machine is compared."""
+        with self.calls:
+            assert self.calls.save() == load_of(self.oracle.answer(lines.SAVE))
+
+
+class Batches(Calls):
+    """The same by a pipeline. A load that is refused is left out, since what follows it would be for another machine."""
+
+    def __init__(self, program: str, limit: int) -> None:
+        super().__init__(program, limit)
+        self.many, self.want = self.calls.pipeline(), list[Any]()
+
+    def call(self, command: dict[str, Any] | None, line: bytes, reply: bytes) -> None:
+        """A call that is done later."""
+        if command and not (command["do"] == "load" and b'"fault"' in reply):
+            called(self.many, command)
+            self.want.append(wanted(command, reply))
+
+    @rule()
+    def execute(self) -> None:
+        """Does the calls, and compares what they return."""
+        got = self.many.execute(raise_on_error=False)
+        assert [one.reply if isinstance(one, cam6.Fault) else plain.value(one) for one in got] == self.want
+        assert all(one.index == index for index, one in enumerate(got) if isinstance(one, cam6.Fault))
+        assert len(self.many) == 0
+        self.want.clear()
+
+    def teardown(self) -> None:
+        """The last calls are done."""
+        self.execute()
+        super().teardown()

@@ -1,0 +1,172 @@
+"""A disk on which the journal's files are, of a computer that can fail at each act and each byte.
+
+What stands for `open` and for the module `os` in `cam6.journal` keeps files in a folder, and what of them is on the disk.
+"""
+
+from __future__ import annotations
+
+import os
+from collections.abc import Iterator
+from contextlib import contextmanager
+from dataclasses import dataclass
+from pathlib import Path
+from typing import IO, Any, Optional
+from unittest import mock
+
+from cam6 import journal
+
+
+class Crash(BaseException):
+    """The program has ended in the middle of what it did."""
+
+
+@dataclass(frozen=True)
+class Failure:
+    """What fails, and when: the act `at`, counted from 0. Acts are writes, cuts, renames, and syncs of a file or a folder.
+
+    A write is done up to its byte `cut`, as Python cuts it. Nothing is done of another act.
+
+    - `"kill"` ends the program.
+    - `"power"` ends the computer. Of what was not synced, `kept` bytes are kept, and the last rename if `is_renamed`.
+    - `"error"` is an `OSError`, and the program goes on.
+    """
+
+    at: int
+    cut: int = 0
+    kind: str = "kill"
+    kept: int = 0
+    is_renamed: bool = False
+
+
+@dataclass
+class Content:
+    """How much of a file's content is on the disk."""
+
+    synced: int = 0
+
+
+class File:
+    """A file that is open."""
+
+    def __init__(self, disk: Disk, file: IO[bytes], content: Content) -> None:
+        self.disk, self.file, self.content = disk, file, content
+
+    def write(self, data: bytes) -> int:
+        """Writes data, or as much of it as comes before a failure."""
+        failure = self.disk.failing()
+        if failure:
+            self.file.write(data[: failure.cut])
+            raise self.disk.failed(failure)
+        return self.file.write(data)
+
+    def truncate(self, size: int) -> int:
+        """Cuts the file."""
+        self.disk.acts()
+        self.content.synced = min(self.content.synced, size)
+        return self.file.truncate(size)
+
+    def __getattr__(self, name: str) -> Any:
+        return getattr(self.file, name)
+
+
+class Disk:
+    """The files of the journal at a path. `failure` is the next failure, and `ended` the one that ended the program."""
+
+    def __init__(self, path: Path) -> None:
+        self.path = path
+        self.contents: dict[str, Content] = {}
+        self.files: list[File] = []
+        self.failure: Optional[Failure] = None
+        self.ended: Optional[Failure] = None
+        # What the journal's name led to before a rename that is not on the disk yet: its data, or None if there was none.
+        self.before: list[tuple[Optional[bytes], Content]] = []
+        self.count = 0
+
+    @contextmanager
+    def used(self) -> Iterator[None]:
+        """While it lasts `cam6.journal` uses this disk."""
+        with mock.patch.object(journal, "open", self.open, create=True):
+            with mock.patch.object(journal, "os", System(self)):
+                yield
+
+    def begin(self, failure: Optional[Failure]) -> None:
+        """A program begins. It is to fail so."""
+        self.failure, self.ended, self.count = failure, None, 0
+
+    def failing(self) -> Optional[Failure]:
+        """Counts an act. Returns how it fails, if it does."""
+        if self.ended:
+            raise Crash
+        self.count += 1
+        return self.failure if self.failure and self.count > self.failure.at else None
+
+    def failed(self, failure: Failure) -> BaseException:
+        """What is raised by a failure."""
+        self.failure = None
+        if failure.kind == "error":
+            return OSError(28, "No space left on device")
+        self.ended = failure
+        return Crash()
+
+    def acts(self) -> None:
+        """Counts an act that is done whole, or not at all."""
+        failure = self.failing()
+        if failure:
+            raise self.failed(failure)
+
+    def open(self, path: str, mode: str, buffering: int = -1) -> File:
+        """Opens a file."""
+        content = self.contents.setdefault(path, Content())
+        self.files.append(File(self, open(path, mode, buffering=buffering), content))
+        return self.files[-1]
+
+    def end(self) -> None:
+        """The program has ended, and the computer is there again."""
+        for file in self.files:
+            getattr(file.file, "raw", file.file).close()  # What is in a buffer is lost.
+        self.files.clear()
+        if self.ended and self.ended.kind == "power":
+            self.lose(self.ended)
+
+    def lose(self, failure: Failure) -> None:
+        """What is not on the disk is lost, but for some bytes of it."""
+        if self.before and not failure.is_renamed:
+            data, self.contents[str(self.path)] = self.before[0]
+            self.path.unlink()
+            if data is not None:
+                self.path.write_bytes(data)
+        self.before.clear()
+        if self.path.exists():
+            content, size = self.contents[str(self.path)], self.path.stat().st_size
+            content.synced = min(size, content.synced + failure.kept)
+            os.truncate(self.path, content.synced)
+
+
+class System:
+    """The module `os`, on a disk."""
+
+    def __init__(self, disk: Disk) -> None:
+        self.disk = disk
+
+    def fsync(self, number: int) -> None:
+        """Has the content of a file on the disk, or the names of the folder. After the end nothing happens."""
+        if self.disk.ended:
+            return
+        self.disk.acts()
+        synced = [file for file in self.disk.files if not file.file.closed and file.fileno() == number]
+        for file in synced:
+            file.content.synced = os.fstat(number).st_size
+        if not synced:
+            self.disk.before.clear()
+
+    def replace(self, new: str, path: str) -> None:
+        """Renames a file."""
+        disk = self.disk
+        disk.acts()
+        old = disk.path.read_bytes() if disk.path.exists() else None
+        disk.before.append((old, disk.contents.get(path, Content())))
+        os.replace(new, path)
+        disk.contents[path] = disk.contents.pop(new)
+
+    def __getattr__(self, name: str) -> Any:
+        return getattr(os, name)

@@ -1,0 +1,469 @@
+"""Journals under any list of crashes: of the program and of its computer at each byte that is written, and of hosts.
+
+A program has a list of commands. It asks for some at a time, and begins again whenever it has ended. What it hears is
+compared with one plain machine that never failed. Hosts are plain machines too, and a clock of their own says how long
+they take, so that each run of an example is the same.
+"""
+
+from __future__ import annotations
+
+import json
+import tempfile
+from collections.abc import Callable, Iterator, Sequence
+from contextlib import closing, contextmanager
+from dataclasses import dataclass, field, replace
+from enum import Enum
+from functools import partial
+from pathlib import Path
+from typing import Any, Optional
+from unittest import mock
+
+import pytest
+from disks import Crash, Disk, Failure
+from fakes import Plain, compact, north
+from hypothesis import assume, example, given, note, settings
+from hypothesis import strategies as st
+from hypothesis.stateful import RuleBasedStateMachine, initialize, precondition, rule
+from oracle.machine import answers
+
+from cam6 import BadJournal, Lost, lines, sessions
+from cam6.journal import Journal
+from cam6.sessions import Session
+
+LIMIT = 128
+# The steps of this cycle do nothing. Its position shows how many were done.
+CYCLE = compact(do="cycle", entries=[{"a": "-", "b": "-", "grid": "EVEN", "phase": 0}] * 16)
+SAVED = lines.blank(LIMIT).replace(b'"' + b"0" * 32, b'"' + b"f" * 32, 1)
+
+
+def named(word: str, **more: Any) -> st.SearchStrategy[bytes]:
+    """A command by strategies for its fields."""
+    return st.builds(lambda **said: compact(do=word, **said), **more)
+
+
+NAMES = st.sampled_from(["R", "S"])
+COMMANDS = st.one_of(
+    named("run", n=st.integers(0, 20)),
+    # More steps than are done at once, at first.
+    named("run", n=st.integers(21, 60)),
+    named("back", n=st.integers(1, 60)),
+    named("set", plane=st.integers(0, 4), row=st.integers(0, 3), bits=st.sampled_from(["1" * 32, "8" * 32])),
+    named("count", mask=st.just(2)),
+    named("drop", name=NAMES),
+    st.builds(north, NAMES),
+    named("map", colours=st.sampled_from([[*range(16)], [*range(15, -1, -1)]])),
+    named("clear", plane=st.integers(0, 1)),
+    named("side", side=st.sampled_from([128, 256])),
+    st.sampled_from([CYCLE, SAVED, lines.SAVE, b"no command", b"\xff\xc3\xa9"]),
+)
+
+
+FAILURES = st.builds(
+    Failure,
+    at=st.integers(0, 4) | st.integers(0, 40),
+    cut=st.integers(-80, 80) | st.sampled_from([20_000, 10_000]),
+    kind=st.sampled_from(["kill", "power"]),
+    kept=st.integers(0, 200),
+    is_renamed=st.booleans(),
+)
+
+
+@dataclass(frozen=True)
+class Story:
+    """The commands of a program, and how it asks for them. Hosts break at some lines, counted over all connections, and
+    hand on `at_once` replies at a time. `tick` is how many seconds pass between two looks at the clock."""
+
+    commands: list[bytes]
+    batch: int
+    sync: str
+    tick: float
+    at_once: int
+    breaks: dict[int, str]
+
+
+STORIES = st.builds(
+    Story,
+    commands=st.lists(COMMANDS, max_size=8),
+    batch=st.integers(1, 4),
+    sync=st.sampled_from(["each", "checkpoint"]),
+    tick=st.sampled_from([0.0, 0.001, 0.004]),
+    at_once=st.integers(1, 3),
+    breaks=st.dictionaries(st.integers(1, 40), st.sampled_from(["before", "after"]), max_size=3),
+)
+
+
+@dataclass
+class Clock:
+    """What stands for the module `time`."""
+
+    tick: float
+    now: float = 0.0
+
+    def monotonic(self) -> float:
+        """The seconds since the beginning."""
+        self.now += self.tick
+        return self.now
+
+    def sleep(self, seconds: float) -> None:
+        """Lets seconds pass."""
+        self.now += seconds
+
+
+@dataclass
+class Seat:
+    """A seat of a host, and the connections to it. It breaks at some lines, and hands on `at_once` replies at a time."""
+
+    breaks: dict[int, str]
+    at_once: int
+    machine: Plain = field(default_factory=lambda: Plain(LIMIT))
+    seat: Optional[int] = 1
+    address: tuple[str, int] = ("a.test", 6006)
+    count: int = 0
+
+    def tried(self, seconds: float) -> Seat:
+        """A connection that has the seat."""
+        return self
+
+    def exchange(self, sent: Sequence[bytes], heard: Callable[[list[bytes]], None], until: float = 0) -> None:
+        """Answers lines, or breaks at one of them."""
+        replies: list[bytes] = []
+        for line in sent:
+            self.count += 1
+            what = self.breaks.get(self.count)
+            if what != "before":
+                replies.append(self.machine.answer(line))
+            if what == "after":
+                replies.pop()
+            if replies and (what or len(replies) == self.at_once or line is sent[-1]):
+                heard(replies)
+                replies = []
+            if what:
+                raise Lost("The connection ended.")
+
+    def close(self) -> None:
+        """Leaves the machine as it is."""
+
+
+def are_steps(line: bytes) -> bool:
+    """Whether a line asks for steps. Of a long run the journal may have what is left of it."""
+    return line.startswith((b'{"do":"run"', b'{"do":"back"'))
+
+
+class Program:
+    """A program that asks for all commands of a story, in as many lives as it takes."""
+
+    def __init__(self, story: Story, path: Path) -> None:
+        self.story, self.path = story, path
+        self.sent = [CYCLE, *story.commands, lines.SAVE]
+        self.want = answers(self.sent, LIMIT)
+        # How many commands were asked for, how many of them are on the disk, and how many the next life has to know.
+        self.asked = self.synced = self.least = 0
+
+    def opened(self, seat: Any) -> Session:
+        """The session of a new life. It goes on where the last one was."""
+        session = Session(seat, Journal(str(self.path), self.story.sync, LIMIT), 0.01, None)
+        first = session.asked - len(session.resumed)
+        for place, (line, reply) in enumerate(session.resumed, first):
+            assert reply == self.want[place]
+            assert line == self.sent[place] or are_steps(line) and are_steps(self.sent[place])
+        return session
+
+    def live(self, seat: Any) -> None:
+        """Asks for all that is left."""
+        with closing(self.opened(seat)) as session:
+            assert self.least <= session.asked <= min(self.asked + self.story.batch, len(self.sent))
+            self.note(session, 0)
+            while session.asked < len(self.sent):
+                place, saves = session.asked, session.checkpoints
+                batch = self.sent[place : place + self.story.batch]
+                assert session.talk(batch) == self.want[place : place + self.story.batch]
+                assert session.asked == place + len(batch)
+                self.note(session, place if session.checkpoints > saves else 0)
+
+    def note(self, session: Session, saved: int) -> None:
+        """Notes how far it is, with so many commands in a machine that was saved."""
+        self.asked = session.asked
+        self.synced = max(self.synced, self.asked if self.story.sync == "each" else saved)
+
+    def end(self, kind: str) -> None:
+        """It has ended. Only if the computer did too, what is not on the disk may be lost."""
+        self.least = self.asked if kind == "kill" else self.synced
+
+
+@contextmanager
+def computer(story: Story) -> Iterator[tuple[Program, Disk, Seat]]:
+    """A program with a disk, a clock and a seat of its own."""
+    with tempfile.TemporaryDirectory() as folder:
+        program = Program(story, Path(folder) / "journal")
+        disk, seat = Disk(program.path), Seat(story.breaks, story.at_once)
+        with disk.used(), mock.patch.object(sessions, "time", Clock(story.tick)):
+            yield program, disk, seat
+
+
+@pytest.mark.slow
+@settings(deadline=None, max_examples=150)
+@given(story=STORIES, fails=st.lists(FAILURES, max_size=4))
+def test_replies_are_those_of_one_machine_that_never_failed(story: Story, fails: list[Failure]) -> None:
+    """Whatever ends the program, each reply is that of its place in the list, and no command is lost that may not be."""
+    with computer(story) as (program, disk, seat):
+        for failure in [*fails, None]:
+            disk.begin(failure)
+            try:
+                program.live(seat)
+                break
+            except Crash:
+                disk.end()
+                assert disk.ended
+                note(f"ended by {disk.ended}, with {program.asked} commands asked for")
+                program.end(disk.ended.kind)
+        disk.begin(None)
+        with closing(program.opened(seat)) as session:
+            assert session.asked == len(program.sent)
+            assert session.talk([lines.SAVE]) == program.want[-1:]
+
+
+@pytest.mark.slow
+@settings(deadline=None, max_examples=60)
+@given(story=STORIES, cuts=st.lists(st.integers(0, 2000), min_size=1, max_size=3))
+def test_a_file_that_is_cut_has_the_machine_of_the_commands_before(story: Story, cuts: list[int]) -> None:
+    """At any length after its first line. The program goes on from there."""
+    with computer(story) as (program, disk, seat):
+        program.live(seat)
+        for cut in cuts:
+            data = program.path.read_bytes()
+            program.path.write_bytes(data[: max(data.index(b"\n") + 1, len(data) - cut)])
+            program.live(seat)
+
+
+def is_json(row: bytes) -> bool:
+    """Whether a line is JSON."""
+    try:
+        json.loads(row)
+    except ValueError:
+        return False
+    return True
+
+
+@settings(deadline=None)
+@given(data=st.data(), asked=st.lists(st.binary(max_size=8), min_size=2, max_size=5), count=st.integers(0, 5))
+def test_a_damaged_middle_is_told(data: st.DataObject, asked: list[bytes], count: int) -> None:
+    """A line ends too early, or has other bytes, or goes on with the next one. It is named, and the file stays as it is."""
+    with tempfile.TemporaryDirectory() as folder:
+        path = Path(folder) / "journal"
+        with closing(Journal(str(path), "none", LIMIT)) as made:
+            made.asked(asked)
+            made.answered([b'{"fault":2}'] * min(count, len(asked)))
+        rows = path.read_bytes().splitlines(keepends=True)
+        place = data.draw(st.integers(1, len(rows) - 2), "place")
+        row = rows[place][: data.draw(st.integers(0, len(rows[place]) - 2), "kept")]
+        row += data.draw(st.binary(max_size=8), "put").replace(b"\n", b"") + data.draw(st.sampled_from([b"\n", b""]))
+        damaged = b"".join([*rows[:place], row, *rows[place + 1 :]])
+        assume(not is_json(damaged.split(b"\n")[place]))
+        path.write_bytes(damaged)
+        with pytest.raises(BadJournal, match=f"is damaged: line {place + 1} "):
+            Journal(str(path), "none", LIMIT)
+        assert path.read_bytes() == damaged
+
+
+KEYS = ["journal", "ask", "part", "reply", "drop", "done", "number", "x"]
+VALUES = st.recursive(
+    st.none() | st.booleans() | st.integers() | st.floats() | st.text(max_size=4),
+    lambda values: st.lists(values, max_size=2) | st.dictionaries(st.sampled_from(KEYS), values, max_size=2),
+    max_leaves=4,
+)
+
+
+@settings(deadline=None)
+@given(row=VALUES.map(json.dumps))
+@example(row='{"drop":1e999}')
+@example(row='{"reply":' + "[" * 9999 + "]" * 9999 + "}")
+def test_a_line_that_is_none_of_a_journal_is_told(row: str) -> None:
+    """Each JSON value is taken as a line of a journal, or told as none."""
+    with tempfile.TemporaryDirectory() as folder:
+        path = Path(folder) / "journal"
+        Journal(str(path), "none", LIMIT).close()
+        data = path.read_bytes() + f"{row}\n".encode()
+        path.write_bytes(data)
+        try:
+            Journal(str(path), "none", LIMIT).close()
+        except BadJournal as error:
+            assert "is damaged: line 2" in str(error)
+        assert path.read_bytes() == data
+
+
+# What a journal knows after each of its lines, as its page says it.
+
+
+@dataclass(frozen=True)
+class Known:
+    """A load line, the commands since then with their replies, those without an answer, and how many there were."""
+
+    load: bytes
+    tail: tuple[tuple[bytes, bytes], ...] = ()
+    pending: tuple[bytes, ...] = ()
+    number: int = 0
+
+    def asked(self, line: bytes) -> Known:
+        """After a line was asked for."""
+        return replace(self, pending=(*self.pending, line), number=self.number + 1)
+
+    def answered(self, reply: bytes) -> Known:
+        """After the first line without an answer has one."""
+        line, rest = self.pending[0], self.pending[1:]
+        if reply == b'{"ok":"load"}':
+            return replace(self, load=line, tail=(), pending=rest)
+        is_kept = reply.startswith(b'{"ok":') and line != COUNT
+        return replace(self, pending=rest, tail=(*self.tail, (line, reply)) if is_kept else self.tail)
+
+    def parted(self, steps: int) -> Known:
+        """After some steps of the first line without an answer."""
+        left = json.loads(self.pending[0])["n"] - steps
+        part = compact(do="run", n=steps), DONE
+        return replace(self, tail=(*self.tail, part), pending=(compact(do="run", n=left), *self.pending[1:]))
+
+    def dropped(self) -> Known:
+        """After the lines without an answer were given up."""
+        return replace(self, pending=(), number=self.number - len(self.pending))
+
+    def saved(self, load: bytes) -> Known:
+        """After a checkpoint."""
+        return replace(self, load=load, tail=())
+
+
+COUNT, LOAD, RUN = compact(do="count", mask=2), lines.LOAD_HEAD + b"{}}", compact(do="run", n=9)
+DONE = b'{"ok":"run","position":0}'
+REPLIES = {COUNT: b'{"count":0,"ok":"count"}', LOAD: b'{"ok":"load"}', b"\xff\xc3": b'{"fault":2}'}
+Act = Callable[[Known], Known]
+
+
+class Sync(Enum):
+    """Whether the lines of an act are on the disk after it, and whether the file is written anew."""
+
+    NEVER, SYNCED, ANEW = range(3)
+
+
+class Journals(RuleBasedStateMachine):
+    """A journal, and what its file may say if the program ends now, or the computer does."""
+
+    def __init__(self) -> None:
+        super().__init__()
+        self.folder = tempfile.TemporaryDirectory()
+        self.disk = Disk(Path(self.folder.name) / "journal")
+        self.used = self.disk.used()
+        self.used.__enter__()
+        self.sync = ""
+
+    def teardown(self) -> None:
+        """Removes the file."""
+        self.disk.end()
+        self.used.__exit__(None, None, None)
+        self.folder.cleanup()
+
+    def opened(self) -> Known:
+        """Opens the journal. Returns what it knows."""
+        self.disk.begin(None)
+        self.journal = Journal(str(self.disk.path), self.sync, LIMIT)
+        return self.known()
+
+    def known(self) -> Known:
+        """What the journal knows."""
+        made = self.journal
+        return Known(made.load, tuple(made.tail), tuple(made.pending), made.number)
+
+    @initialize(sync=st.sampled_from(["each", "checkpoint"]))
+    def begin(self, sync: str) -> None:
+        """Begins a journal."""
+        self.sync = sync
+        self.now = self.opened()
+        assert self.now == Known(lines.blank(LIMIT))
+        self.file, self.power, self.is_behind = [self.now], [self.now], False
+
+    @rule(failure=FAILURES, at=st.integers(0, 5), kind=st.sampled_from(["kill", "power", "error"]))
+    def fail_next(self, failure: Failure, at: int, kind: str) -> None:
+        """Something will fail soon."""
+        self.disk.begin(replace(failure, at=at, kind=kind))
+
+    def do(self, call: Callable[[], Any], acts: list[Act], sync: Sync = Sync.NEVER, is_known: bool = True) -> None:
+        """Does what leads to some lines of the file. It may fail after each of them."""
+        after = states_of(self.now, acts)[-1]
+        is_anew = self.is_behind or sync is Sync.ANEW
+        # The file may be written anew, before lines of what is not known yet, or with those of what is.
+        begins = [*self.file, self.now] if is_anew else self.file
+        states = [state for before in begins for state in states_of(before, acts)]
+        try:
+            call()
+        except OSError:
+            self.file, self.power = states, [*self.power, *states]
+            self.is_behind = self.is_behind or sync is not Sync.ANEW
+            self.now = after if is_known else self.now
+        except Crash:
+            self.end(states)
+        else:
+            self.file = [after] if is_anew else [states_of(before, acts)[-1] for before in self.file]
+            self.power = [*self.power, *states] if sync is Sync.NEVER else self.file
+            self.is_behind, self.now = False, after
+        assert self.known() == self.now
+
+    def end(self, states: list[Known]) -> None:
+        """The program has ended, with one of these states in the file. Another one begins."""
+        assert self.disk.ended
+        is_power = self.disk.ended.kind == "power"
+        self.disk.end()
+        self.now = self.opened()
+        assert self.now in (self.power + states if is_power else states)
+        self.file, self.is_behind = [self.now], False
+        self.power = [self.now] if is_power else [*self.power, *states]
+
+    @rule(sent=st.lists(st.sampled_from([RUN, LOAD, b"\xff\xc3", compact(do="clear", plane=0), COUNT]), max_size=3))
+    def ask(self, sent: list[bytes]) -> None:
+        """Commands are asked for."""
+        acts: list[Act] = [partial(Known.asked, line=line) for line in sent]
+        sync = Sync.SYNCED if self.sync == "each" else Sync.NEVER
+        self.do(lambda: self.journal.asked(sent), acts, sync, is_known=False)
+
+    @precondition(lambda self: bool(self.now.pending))
+    @rule(count=st.integers(1, 3))
+    def answer(self, count: int) -> None:
+        """The first ones have answers."""
+        replies = [REPLIES.get(line, DONE) for line in self.now.pending[:count]]
+        self.do(lambda: self.journal.answered(replies), [partial(Known.answered, reply=reply) for reply in replies])
+
+    @precondition(lambda self: b'"run"' in b"".join(self.now.pending[:1]))
+    @rule(steps=st.integers(0, 3))
+    def part(self, steps: int) -> None:
+        """Some steps of the first one are done."""
+        steps = min(steps, json.loads(self.now.pending[0])["n"])
+        part = compact(do="run", n=steps)
+        self.do(lambda: self.journal.part(part, DONE), [partial(Known.parted, steps=steps)])
+
+    @precondition(lambda self: bool(self.now.pending))
+    @rule()
+    def drop(self) -> None:
+        """Those without an answer are given up."""
+        self.do(self.journal.drop, [Known.dropped], Sync.SYNCED)
+
+    @rule(load=st.sampled_from([LOAD, SAVED]))
+    def save(self, load: bytes) -> None:
+        """The machine is saved."""
+        self.do(lambda: self.journal.checkpoint(load), [partial(Known.saved, load=load)], Sync.ANEW)
+
+    @rule()
+    def open_again(self) -> None:
+        """The program ends by itself, and another one begins."""
+        self.disk.begin(None)
+        self.journal.close()
+        self.now = self.opened()
+        assert self.now in self.file
+        self.file, self.power, self.is_behind = [self.now], [self.now], False
+
+
+def states_of(known: Known, acts: list[Act]) -> list[Known]:
+    """What is known before some acts, and after each of them."""
+    states = [known]
+    for act in acts:
+        states.append(act(states[-1]))
+    return states
+
+
+TestJournals = pytest.mark.slow(Journals.TestCase)
+TestJournals.settings = settings(deadline=None, max_examples=100, stateful_step_count=20)

@@ -1,0 +1,56 @@
+"""stdin and stdout of cam6_draw: a session's replies, and the pictures of them on a terminal, put together pixel by pixel."""
+
+from __future__ import annotations
+
+from collections.abc import Callable
+from typing import Any
+
+from examples.writing import Plain, compact
+from oracle.palette import PALETTE
+
+SIDE = 128
+# The cells of the first frame that are set.
+CELLS = {(0, 0), (127, 127), (127, 0), (0, 127), (1, 2), (120, 120), (7, 7), (8, 8), (119, 119)}
+# The columns and the rows that are drawn, which go round the corner of the torus.
+WINDOW = [place % SIDE for place in range(120, 136)]
+
+
+def in_plane(x: int, y: int) -> int:
+    """The colour of a cell of the first frame."""
+    return int((x, y) in CELLS)
+
+
+def in_colours(x: int, y: int) -> int:
+    """The colour of a cell of the second frame."""
+    return (3 * x + 5 * y + x * y // 64) % 16
+
+
+def replies() -> Plain:
+    """Replies of a machine: a plane, and then rows in colours."""
+    rows = [sum(in_plane(x, y) << SIDE - 1 - x for x in range(SIDE)) for y in range(SIDE)]
+    said: list[dict[str, Any]] = [{"ok": "rule"}, {"ok": "cycle"}]
+    said += [{"ok": "plane", "rows": [f"{row:0{SIDE // 4}x}" for row in rows]}]
+    said += [{"ok": "run", "position": 0}, {"fault": 61}, {"count": len(CELLS), "ok": "count"}]
+    said += [{"colours": "".join(f"{in_colours(x, y):x}" for x in range(SIDE)), "ok": "colours"} for y in range(SIDE)]
+    return Plain("".join(f"{compact(reply)}\n" for reply in [*said, {"ok": "run", "position": 0}]))
+
+
+def hue(colour: int) -> int:
+    """The terminal's number for a colour: the nearest one of its cube."""
+    lights = bytes.fromhex(PALETTE[colour])
+    red, green, blue = (0 if light < 48 else 1 if light < 115 else (light - 35) // 40 for light in lights)
+    return 16 + 36 * red + 6 * green + blue
+
+
+def terminal(colour: Callable[[int, int], int]) -> str:
+    """A frame on a terminal: two rows of cells are a line of characters."""
+    lines = ""
+    for upper, lower in zip(WINDOW[::2], WINDOW[1::2]):
+        hues = [(hue(colour(x, upper)), hue(colour(x, lower))) for x in WINDOW]
+        lines += "".join(f"\x1b[38;5;{above}m\x1b[48;5;{below}m\u2580" for above, below in hues) + "\x1b[0m\x1b[K\n"
+    return f"\x1b[H{lines}\x1b[J"
+
+
+def drawn() -> Plain:
+    """Both frames."""
+    return Plain(terminal(in_plane) + terminal(in_colours))

@@ -1,0 +1,239 @@
+"""A machine whose rules are plain functions over cells, and no texts. It answers the worked examples of rules that are known.
+
+A plane is its ground, 0 or 1, and the set of all cells that are otherwise. A rule of blocks knows what the ground becomes.
+"""
+
+from __future__ import annotations
+
+import json
+import re
+from collections import Counter, deque
+from collections.abc import Callable, Iterable, Sequence
+from functools import cache, lru_cache
+from itertools import product
+from typing import Any, NamedTuple
+
+from oracle.wirings import BESIDE, PLACES, TURNS, lines_of
+
+Cell = tuple[int, int]
+Cells = frozenset[Cell]
+FOUR = [(0, -1), (0, 1), (-1, 0), (1, 0)]
+EIGHT = FOUR + [(-1, -1), (1, -1), (-1, 1), (1, 1)]
+
+
+class Plane(NamedTuple):
+    """The ground, and the cells that are otherwise."""
+
+    ground: int = 0
+    cells: Cells = frozenset()
+
+    def has(self, cell: Cell) -> int:
+        """Whether a cell is set."""
+        return self.ground ^ (cell in self.cells)
+
+    def rows(self, side: int) -> list[int]:
+        """The number of each row. Its highest bit is column 0."""
+        rows = [self.ground * (2**side - 1)] * side
+        for x, y in self.cells:
+            rows[y] ^= 1 << side - 1 - x
+        return rows
+
+
+class Torus(NamedTuple):
+    """The planes before a step, and the grid and the phase of the step."""
+
+    side: int
+    planes: list[Plane]
+    is_odd: int = 0
+    phase: int = 0
+
+    def cells(self, plane: int) -> Cells:
+        """The set cells of a plane whose ground is 0."""
+        assert self.planes[plane].ground == 0
+        return self.planes[plane].cells
+
+    def moved(self, cells: Iterable[Cell], columns: int, rows: int) -> Cells:
+        """Cells, moved over the torus."""
+        return frozenset(((x + columns) % self.side, (y + rows) % self.side) for x, y in cells)
+
+    def beside(self, cell: Cell, ways: Iterable[Cell]) -> list[Cell]:
+        """The cells that lie these ways from one."""
+        return [((cell[0] + i) % self.side, (cell[1] + j) % self.side) for i, j in ways]
+
+    def counts(self, cells: Cells, ways: Iterable[Cell]) -> Counter[Cell]:
+        """How many of its neighbours are set, of each cell that has one."""
+        return Counter(one for cell in cells for one in self.beside(cell, ways))
+
+    def place(self, cell: Cell) -> int:
+        """The place of a cell in its block, clockwise from the upper left one."""
+        return PLACES.index(((cell[0] + self.is_odd) % 2, (cell[1] + self.is_odd) % 2))
+
+    def blocks(self, cells: Cells) -> list[list[Cell]]:
+        """The blocks that have one of these cells, each as its cells, clockwise from the upper left one."""
+        odd = self.is_odd
+        corners = {(x - (x + odd) % 2, y - (y + odd) % 2) for x, y in cells}
+        return [self.beside(corner, PLACES) for corner in {(x % self.side, y % self.side) for x, y in corners}]
+
+    def shown(self, name: str, own: int) -> Plane:
+        """What the cells see under a name, in the half whose first plane this is."""
+        upper, word = int(name.endswith("'")), name.strip("&'")
+        if word == "PHASE":
+            return Plane(self.phase >> upper & 1)
+        if word in ("HORZ", "VERT"):
+            return Plane(0, stripes(self.side, word == "VERT", self.is_odd))
+        cells = self.cells((own + upper + 2 * name.startswith("&")) % 4)
+        if word in BESIDE:
+            columns, rows = BESIDE[word]
+            return Plane(0, self.moved(cells, -columns, -rows))
+        seen = set[Cell]()
+        for cell in cells:
+            place = self.place(cell)
+            (i, j), (k, l) = PLACES[place], PLACES[(place - TURNS[word]) % 4]
+            seen.update(self.moved([cell], k - i, l - j))
+        return Plane(0, frozenset(seen))
+
+
+@cache
+def stripes(side: int, axis: int, is_odd: int) -> Cells:
+    """The cells of the right columns of all blocks, or of the lower rows."""
+    return frozenset(cell for cell in product(range(side), range(side)) if (cell[axis] + is_odd) % 2)
+
+
+def states_of(planes: Sequence[Plane], cells: Iterable[Cell]) -> Iterable[int]:
+    """The states of cells, from 0 to 15."""
+    states = dict.fromkeys(cells, 0)
+    for bit, (ground, others) in enumerate(planes):
+        for cell in states:
+            states[cell] |= (ground ^ (cell in others)) << bit
+    return states.values()
+
+
+@lru_cache(64)
+def states_counted(side: int, *planes: Plane) -> Counter[int]:
+    """How many cells have each state."""
+    others = frozenset[Cell]().union(*(plane.cells for plane in planes))
+    counted = Counter(states_of(planes, others))
+    counted[sum(plane.ground << bit for bit, plane in enumerate(planes))] += side**2 - len(others)
+    return counted
+
+
+# What a rule makes of planes: those that it writes.
+Rule = Callable[[Torus], dict[int, Plane]]
+# What the set places of a block become in a phase.
+Becomes = Callable[[frozenset[int], int], Iterable[int]]
+
+
+def of_cells(step: Callable[..., Iterable[Cell]], *seen: int) -> Rule:
+    """A rule that writes the first one of the planes that it sees."""
+    return lambda torus: {seen[0]: Plane(0, frozenset(step(torus, *map(torus.cells, seen))))}
+
+
+def of_blocks(becomes: Becomes) -> Rule:
+    """A rule of blocks in plane 0."""
+    new_places = cache(lambda places, phase: frozenset(becomes(places, phase)))
+
+    def step(torus: Torus) -> dict[int, Plane]:
+        old, phase, cells = torus.planes[0], torus.phase, set[Cell]()
+        ground = len(new_places(frozenset(range(4) if old.ground else ()), phase)) // 4
+        for block in torus.blocks(old.cells):
+            new = new_places(frozenset(place for place in range(4) if old.has(block[place])), phase)
+            cells.update(block[place] for place in range(4) if (place in new) != ground)
+        return {0: Plane(ground, frozenset(cells))}
+
+    return step
+
+
+def of_names(text: str) -> Rule:
+    """A rule that writes what names show, each to a plane."""
+    written = [(int(plane), name) for name, plane in re.findall(r"(\S+) >PLN([0-3])", text)]
+    assert text == f": R {' '.join(f'{name} >PLN{plane}' for plane, name in written)} ;"
+    return lambda torus: {plane: torus.shown(name, plane & 2) for plane, name in written}
+
+
+class PlainMachine:
+    """A blank machine, which can go back by so many steps. `known` has its rules by their names. Any other rule writes what
+    names show."""
+
+    def __init__(self, known: dict[str, Rule], backs: int = 0) -> None:
+        self.known, self.rules = known, dict[str, Rule]()
+        self.entries: list[dict[str, Any]] = []
+        self.position, self.colours = 0, list(range(16))
+        self.past: deque[list[Plane]] = deque(maxlen=backs)
+        self.side, self.planes = 256, [Plane()] * 4
+
+    def step(self) -> None:
+        """A step."""
+        entry = self.entries[self.position]
+        torus, planes = Torus(self.side, self.planes, entry["grid"] == "ODD", entry["phase"]), [*self.planes]
+        for name in {entry["a"], entry["b"]} - {"-"}:
+            for plane, written in self.rules[name](torus).items():
+                planes[plane] = written
+        self.past.append(self.planes)
+        self.planes = planes
+        self.position = (self.position + 1) % len(self.entries)
+
+    def answer(self, line: bytes) -> bytes:
+        """The reply to a line."""
+        command = json.loads(line)
+        word = command.pop("do")
+        reply = getattr(self, f"do_{word}")(**command)
+        return json.dumps(
+            reply if "fault" in reply else reply | {"ok": word}, separators=(",", ":"), sort_keys=True
+        ).encode()
+
+    def do_side(self, side: int) -> dict[str, Any]:
+        """A blank torus, from the first entry on."""
+        self.side, self.planes, self.position = side, [Plane()] * 4, 0
+        return {}
+
+    def do_rule(self, name: str, half: str, hood: str, minor: str, text: str) -> dict[str, Any]:
+        """A known rule, one that writes what names show, or one that stops if a name shows 1."""
+        if stops := re.fullmatch(r": R (\S+) IF DROP THEN ;", text):
+            return {"address": 1 << lines_of(hood, minor).index(stops[1]), "fault": 40}
+        self.rules[name] = self.known[name] if name in self.known else of_names(text)
+        return {}
+
+    def do_cycle(self, entries: list[dict[str, Any]]) -> dict[str, Any]:
+        """A cycle, from its first entry on."""
+        self.entries, self.position = entries, 0
+        return {}
+
+    def do_set(self, plane: int, row: int, bits: str) -> dict[str, Any]:
+        """A row."""
+        kept = frozenset(cell for cell in Torus(self.side, self.planes).cells(plane) if cell[1] != row)
+        cells = enumerate(f"{int(bits, 16):0{self.side}b}")
+        self.planes = [*self.planes]
+        self.planes[plane] = Plane(0, kept.union((x, row) for x, bit in cells if bit == "1"))
+        return {}
+
+    def do_run(self, n: int) -> dict[str, Any]:
+        """Steps."""
+        for _ in range(n):
+            self.step()
+        return {"position": self.position}
+
+    def do_back(self, n: int) -> dict[str, Any]:
+        """Back to what was there."""
+        for _ in range(n):
+            self.planes = self.past.pop()
+        self.position = (self.position - n) % len(self.entries)
+        return {"position": self.position}
+
+    def do_plane(self, plane: int) -> dict[str, Any]:
+        """All rows of a plane."""
+        return {"rows": [f"{row:0{self.side // 4}x}" for row in self.planes[plane].rows(self.side)]}
+
+    def do_map(self, colours: list[int]) -> dict[str, Any]:
+        """Colours of the states."""
+        self.colours = colours
+        return {}
+
+    def do_colours(self, row: int) -> dict[str, Any]:
+        """A row in colours."""
+        states = states_of(self.planes, ((x, row) for x in range(self.side)))
+        return {"colours": "".join(f"{self.colours[state]:x}" for state in states)}
+
+    def do_count(self, mask: int) -> dict[str, Any]:
+        """How many cells have one of the states of a mask."""
+        counted = states_counted(self.side, *self.planes)
+        return {"count": sum(number for state, number in counted.items() if mask >> state & 1)}

@@ -1,0 +1,273 @@
+"""Random commands for a machine, as rules of a state machine of hypothesis: rules of all kinds and broken ones, cycles, pictures,
+steps both ways, looks at all that can be shown, machines that are saved and loaded, what is refused, and lines that are broken.
+
+A session that fails shrinks, and is printed as lines that can be piped into the program.
+"""
+
+from __future__ import annotations
+
+from copy import deepcopy
+from random import Random
+from typing import Any
+
+from examples.named_rules import REVERSIBLE
+from examples.saving import blank_rows, first_version
+from examples.writing import Command, cycle_command, do, rule_command
+from hypothesis import strategies as st
+from hypothesis.stateful import Bundle, RuleBasedStateMachine, rule
+from oracle.host import Replay
+from oracle.lines import Unclear, lines_of, plain
+from oracle.machine import SIDES, Alone, Machine
+from oracle.wirings import FIRST_PLANE
+from programs.breaking import Breaker
+from programs.texts import rules
+from support.sessions import assert_replies
+from support.talk import Talk
+
+NAMES = st.sampled_from(["R", "S", "T", "~", "--", "!" * 24, "{}"])
+NO_NAMES = st.sampled_from(["", "-", "x" * 25, "a b", 'a"b', "a\\b", "é", "a\x7f", "\x00", "a\n"])
+NUMBERS = st.sampled_from([0, 1, 3, 4, 15, 16, 17, 127, 128, 255, 256, 511, 512, 65535, 65536, 2**63, 2**64 - 1])
+PLANES, GRIDS, PHASES = st.integers(0, 3), st.sampled_from(["EVEN", "ODD"]), st.integers(0, 3)
+FREE = cycle_command(("-", "-", "EVEN", 0))
+FEW, MANY = st.text("137f8F", max_size=4), st.text("0123456789abcdefABCDEF", min_size=128, max_size=128)
+
+
+def edited(draw: st.DrawFn, items: list[Any], new: Any) -> list[Any]:
+    """Items in another order, several times, fewer of them, or with a new one before another or in its place."""
+    at = draw(st.integers(0, len(items)))
+    first, last = items[:at], items[at:]
+    ways = [items[::-1], first, last, items * 2, (items * 17)[:40], [*first, new, *last], [*first, new, *last[1:]]]
+    return draw(st.sampled_from(ways))
+
+
+def entries(names: st.SearchStrategy[str], phases: st.SearchStrategy[int]) -> st.SearchStrategy[Command]:
+    """An entry of a cycle with these names and phases."""
+    return st.fixed_dictionaries({"a": names, "b": names, "grid": GRIDS, "phase": phases})
+
+
+def change(draw: st.DrawFn, machine: Command) -> None:
+    """One thing of a saved machine is otherwise."""
+    key, number = draw(st.sampled_from(sorted(machine))), draw(NUMBERS)
+    items, rows = machine[key], blank_rows(draw(st.sampled_from(SIDES)))
+    if key in ("position", "side", "version"):
+        machine[key] = draw(st.sampled_from([number, *SIDES, 0, 1, 2, len(machine["cycle"])]))
+    elif key == "colours":
+        machine[key] = edited(draw, items, number)
+    elif key == "planes":
+        plane = draw(PLANES) % max(1, len(items))
+        row = "8".rjust(draw(st.sampled_from([32, 64, 128])), "0")
+        some = [*items[:plane], edited(draw, items[plane], row), *items[plane + 1 :]] if items else []
+        machine[key] = draw(st.sampled_from([some, edited(draw, items, rows), [rows] * 4, [[]] * 4]))
+    else:
+        names = [*(kept["name"] for kept in machine["rules"]), "-", draw(NAMES | NO_NAMES)]
+        new = draw(entries(st.sampled_from(names), PHASES | NUMBERS))
+        new = {"name": draw(st.sampled_from(names))} | draw(rules()) if key == "rules" else new
+        word = draw(st.sampled_from(sorted(new)))
+        machine[key] = edited(draw, items, draw(st.sampled_from([new, *({**it, word: new[word]} for it in items)])))
+
+
+@st.composite
+def changed(draw: st.DrawFn, machine: Command) -> Command:
+    """A saved machine with a few things otherwise, which may not be one that was saved; or as the first version saves it."""
+    machine = first_version(machine) if draw(st.integers(0, 4)) == 0 else deepcopy(machine)
+    for _ in range(draw(st.integers(0, 3))):
+        change(draw, machine)
+    return machine
+
+
+class Asking(RuleBasedStateMachine):
+    """A program, beside the oracle. Commands are for the machine of `machine_at`."""
+
+    saved: Bundle[Command] = Bundle("saved")
+
+    def __init__(self, command: list[str], oracle: Alone | Replay) -> None:
+        super().__init__()
+        self.command, self.oracle, self.talk = command, oracle, Talk(command)
+        self.lines: list[bytes] = []
+        self.came: list[bytes] = []
+        self.wanted: list[bytes] = []
+        # What was said so far, as it may be broken.
+        self.said: list[Command] = [do("rules")]
+
+    def machine_at(self) -> Machine:
+        """The machine of the oracle that is asked next."""
+        raise NotImplementedError
+
+    def do(self, command: Command) -> None:
+        """Has a command done."""
+        raise NotImplementedError
+
+    def answer(self, line: bytes) -> bytes | None:
+        """What has to come back for a line, or None if it isn't sent."""
+        return self.oracle.answer(line)
+
+    def say(self, line: bytes) -> None:
+        """A line, whose answer has to be that of the oracle. One that takes exact arithmetic isn't sent."""
+        try:
+            wanted = self.answer(line)
+        except Unclear:
+            return
+        if wanted is not None:
+            self.lines.append(line)
+            self.wanted.append(wanted)
+            self.came.append(self.talk.reply(line))
+            self.compare()
+
+    def tell(self, value: Command) -> None:
+        """A command or an event in its plainest spelling."""
+        self.said.append(value)
+        self.say(plain(value))
+
+    def compare(self) -> None:
+        """Fails if what came back differs from what is wanted."""
+        assert_replies(self.lines, self.came, self.wanted, f"./cam6 {' '.join(self.command[1:])}")
+
+    def end(self, last: bytes) -> None:
+        """Sends a last line without its LF. The program has to end well."""
+        if last:
+            self.lines.append(last)
+            self.wanted.append(self.oracle.answer(last))
+        self.came += lines_of(self.talk.rest(last))
+        self.compare()
+
+    def row(self, data: st.DataObject) -> int:
+        """A row, often at a seam."""
+        side = self.machine_at().torus.side
+        return data.draw(st.sampled_from([0, 1, 15, 16, side - 17, side - 1]) | st.integers(0, side - 1))
+
+    def digits(self, data: st.DataObject) -> str:
+        """A row's digits, most of them zeros, or any."""
+        count = self.machine_at().torus.side // 4
+        few = data.draw(FEW).rjust(data.draw(st.integers(0, count)), "0").ljust(count, "0")[:count]
+        return few if data.draw(st.integers(0, 3)) else data.draw(MANY)[:count]
+
+    @rule(name=NAMES, of=rules())
+    def keep_a_rule(self, name: str, of: dict[str, str]) -> None:
+        """A rule, which may be none."""
+        self.do(do("rule", name=name, **of))
+        self.do(do("rules"))
+
+    @rule(of=rules(("rule", "block", "block")), data=st.data(), way=st.sampled_from(["run", "back"]))
+    def keep_a_rule_and_use_it(self, of: dict[str, str], data: st.DataObject, way: str) -> None:
+        """A rule that may be one, a cycle of it, two rows, of which one is at the seam of the torus, a step, and both planes."""
+        first, side = FIRST_PLANE[of["half"]], self.machine_at().torus.side
+        entry = data.draw(entries(st.just("-"), PHASES)) | {of["half"].lower(): "R"}
+        cycle = do("cycle", entries=[entry] * data.draw(st.sampled_from([1, 2, 16])))
+        for command in (FREE, do("rule", name="R", **of), cycle):
+            self.do(command)
+        for row in (data.draw(st.sampled_from([0, side - 1])), self.row(data)):
+            self.do(do("set", plane=first + data.draw(st.integers(0, 1)), row=row, bits=self.digits(data)))
+        for command in (do(way, n=1), do("plane", plane=first), do("plane", plane=first + 1)):
+            self.do(command)
+
+    @rule(data=st.data(), count=st.sampled_from([1, 2, 3, 16]))
+    def cycle(self, data: st.DataObject, count: int) -> None:
+        """A cycle of rules that are there."""
+        kept = self.machine_at().rules.items()
+        names = {half: ["-", *(name for name, rule in kept if rule.key.half == half)] for half in "AB"}
+        a, b = (st.sampled_from(names[half]) for half in "AB")
+        entry = st.fixed_dictionaries({"a": a, "b": b, "grid": GRIDS, "phase": PHASES})
+        self.do(do("cycle", entries=data.draw(st.lists(entry, min_size=count, max_size=count))))
+
+    @rule(data=st.data(), wrong=st.sampled_from(["half", "half", "name", "phase", "count"]))
+    def refused_cycle(self, data: st.DataObject, wrong: str) -> None:
+        """A cycle with rules of the other half, with names or phases of all kinds, or with any number of entries."""
+        names = ["-", *self.machine_at().rules, *(["X", data.draw(NO_NAMES)] if wrong == "name" else [])]
+        entry = entries(st.sampled_from(names), NUMBERS if wrong == "phase" else PHASES)
+        count = data.draw(st.sampled_from([0, 1, 2, 16, 17, 40] if wrong == "count" else [1, 2]))
+        self.do(do("cycle", entries=data.draw(st.lists(entry, min_size=count, max_size=count))))
+
+    @rule(data=st.data())
+    def picture(self, data: st.DataObject) -> None:
+        """A row that is set."""
+        self.do(do("set", plane=data.draw(PLANES), row=self.row(data), bits=self.digits(data)))
+
+    @rule(way=st.sampled_from(["run", "back"]), n=st.integers(0, 4) | st.sampled_from([1000, 65535, 65536]))
+    def steps(self, way: str, n: int) -> None:
+        """Steps."""
+        self.do(do(way, n=n))
+
+    @rule(plane=PLANES, data=st.data(), mask=st.sampled_from([1, 2, 65534, 65535]) | st.integers(0, 65535))
+    def look(self, plane: int, data: st.DataObject, mask: int) -> None:
+        """A row, its colours, and how many cells are of some states."""
+        row = self.row(data)
+        for command in (do("row", plane=plane, row=row), do("colours", row=row), do("count", mask=mask)):
+            self.do(command)
+
+    @rule(word=st.sampled_from(["plane", "plane", "clear"]), plane=PLANES)
+    def plane(self, word: str, plane: int) -> None:
+        """A plane, which is shown or cleared."""
+        self.do(do(word, plane=plane))
+
+    @rule(side=st.sampled_from(SIDES))
+    def side(self, side: int) -> None:
+        """A blank torus."""
+        self.do(do("side", side=side))
+
+    @rule(colours=st.lists(st.integers(0, 15), min_size=16, max_size=16))
+    def colours(self, colours: list[int]) -> None:
+        """Other colours."""
+        self.do(do("map", colours=colours))
+
+    @rule(name=NAMES | NO_NAMES)
+    def drop(self, name: str) -> None:
+        """A rule that is dropped, and those that are left."""
+        self.do(do("drop", name=name))
+        self.do(do("rules"))
+
+    @rule(target=saved)
+    def save(self) -> Command:
+        """The machine, saved."""
+        self.do(do("save"))
+        machine: Command = self.machine_at().do(do("save"))["machine"]
+        return machine
+
+    @rule(target=saved, of=rules(("block",)), side=st.sampled_from(SIDES[:2]))
+    def save_of_another_user(self, of: dict[str, str], side: int) -> Command:
+        """A machine that another user saved."""
+        other, picture = Machine(side), do("set", plane=1, row=3, bits="8" * (side // 4))
+        *_, reply = map(other.reply, (do("rule", name="O", **of), picture, do("save")))
+        machine: Command = reply["machine"]
+        return machine
+
+    @rule(machine=saved)
+    def load(self, machine: Command) -> None:
+        """A machine that was saved."""
+        self.do(do("load", machine=machine))
+
+    @rule(machine=saved, data=st.data())
+    def load_another(self, machine: Command, data: st.DataObject) -> None:
+        """A machine with a few things otherwise."""
+        self.do(do("load", machine=data.draw(changed(machine))))
+
+    @rule(number=NUMBERS | st.integers(0, 2**64 - 1), data=st.data())
+    def refused(self, number: int, data: st.DataObject) -> None:
+        """A command with a number or a name of any kind, which is refused or not."""
+        digits, other = self.digits(data), "0" * data.draw(st.sampled_from([32, 64, 128]))
+        numbered = [("clear", "plane"), ("plane", "plane"), ("run", "n"), ("back", "n"), ("count", "mask")]
+        commands = [do(word, **{key: number}) for word, key in [*numbered, ("colours", "row"), ("side", "side")]]
+        places = [{"plane": number, "row": 0}, {"plane": 0, "row": number}]
+        commands += [do("row", **place) for place in places] + [do("set", bits=digits, **place) for place in places]
+        commands += [do("set", plane=0, row=0, bits=other), do("map", colours=[number, *range(15)])]
+        commands.append(do("rule", name=data.draw(NO_NAMES)) | data.draw(rules(("block",))))
+        self.do(data.draw(st.sampled_from(commands)))
+
+    @rule(word=st.sampled_from(list(REVERSIBLE)), count=st.sampled_from([15, 16, 17]))
+    def many_rules(self, word: str, count: int) -> None:
+        """As many rules as there can be, or one more, and then fewer."""
+        for number in range(count):
+            self.do(rule_command(f"n{number}", *REVERSIBLE[word]))
+        self.do(do("rules"))
+        for number in range(2, count):
+            self.do(do("drop", name=f"n{number}"))
+
+    @rule(line=st.sampled_from([b"", b" ", b"{", b"{}", b"\xff", b'{"do":"fly"}', b'{"do":"run","n":-1}', b"[" * 200]))
+    def no_command(self, line: bytes) -> None:
+        """A line that is no command."""
+        self.say(line)
+
+    @rule(random=st.randoms(use_true_random=False), data=st.data())
+    def broken(self, random: Random, data: st.DataObject) -> None:
+        """A line like one that was said, but broken."""
+        for line in Breaker(random).line(data.draw(st.sampled_from(self.said))).split(b"\n"):
+            self.say(line)

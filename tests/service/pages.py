@@ -1,0 +1,253 @@
+"""Clients of the page's program, and hosts that it connects to: requests over HTTP, and WebSockets, frame by frame. Requests
+and frames may be right or wrong. `websockets` has the protocol.
+
+The rows of `data` say what is sent, and what has to come back. A text of a row is a text, or a list of its parts. A part
+may say how many times its text comes. `PORT` is the port.
+"""
+
+from __future__ import annotations
+
+import gzip
+import http.client
+import io
+import json
+import socket
+import threading
+from collections import deque
+from collections.abc import Mapping
+from contextlib import suppress
+from email.message import Message
+from pathlib import Path
+from socketserver import StreamRequestHandler, ThreadingTCPServer
+from typing import Any, NamedTuple, Optional, cast
+
+import pytest
+from _pytest.mark import ParameterSet
+from support.programs import Peer
+from websockets.client import ClientConnection
+from websockets.connection import State
+from websockets.exceptions import InvalidStatus
+from websockets.frames import Frame, Opcode
+from websockets.uri import parse_uri
+
+from .users import SEAT
+
+Row = dict[str, Any]
+# Fields of a handshake. One that is None is left out.
+Fields = Mapping[str, Optional[str]]
+
+
+def rows_of(name: str) -> list[Row]:
+    """The rows of a file of `data`."""
+    rows: list[Row] = json.loads((Path(__file__).parent / "data" / f"{name}.json").read_text(encoding="utf-8"))
+    return rows
+
+
+def each_row(name: str) -> list[ParameterSet]:
+    """The rows of a file, for `parametrize`. The words of a row are the name of its test."""
+    return [pytest.param(row, id=row["what"]) for row in rows_of(name)]
+
+
+def text_of(parts: Any) -> str:
+    """The text of a row."""
+    if isinstance(parts, str):
+        return parts
+    return "".join(part if isinstance(part, str) else part["text"] * part["times"] for part in parts)
+
+
+def among(wanted: Any) -> list[Any]:
+    """What is wanted, if one of several may come."""
+    return wanted if isinstance(wanted, list) else [wanted]
+
+
+class Answer(NamedTuple):
+    """An answer to a request. The status 0 is none: the server ended without a word."""
+
+    status: int
+    fields: Message
+    body: bytes
+
+    @property
+    def text(self) -> str:
+        """The body as a text. It may be compressed."""
+        is_packed = self.fields["content-encoding"] == "gzip" and self.body
+        return (gzip.decompress(self.body) if is_packed else self.body).decode(errors="replace")
+
+
+def answer_of(whole: bytes) -> Answer:
+    """Takes apart all that a server sent."""
+    file = io.BytesIO(whole)
+    words = file.readline().split()
+    return Answer(int(words[1]) if len(words) > 1 else 0, http.client.parse_headers(file), file.read())
+
+
+def answer_to(port: int, *lines: str, ends: bool = False) -> Answer:
+    """What is answered to the lines of a request and an empty one, until the server ends. If `ends`, the client shuts its
+    side after the lines."""
+    whole, request = b"", "\r\n".join(lines if ends else (*lines, "", "")).replace("PORT", str(port))
+    with socket.create_connection(("127.0.0.1", port), timeout=20) as tcp:
+        with suppress(BrokenPipeError, ConnectionResetError):
+            tcp.sendall(request.encode("latin-1"))
+            if ends:
+                tcp.shutdown(socket.SHUT_WR)
+        with suppress(ConnectionResetError):
+            while part := tcp.recv(65536):
+                whole += part
+    return answer_of(whole)
+
+
+def get(port: int, path: str, fields: Mapping[str, str] | None = None) -> Answer:
+    """What a well-behaved GET is answered, with these fields."""
+    all_fields = {"Host": "127.0.0.1:PORT"} | dict(fields or {})
+    return answer_to(port, f"GET {path} HTTP/1.1", *(f"{name}: {value}" for name, value in all_fields.items()))
+
+
+class AnyFrame(Frame):
+    """A frame that may break any rule."""
+
+    def check(self) -> None:
+        """Finds nothing wrong."""
+
+
+def frame_of(
+    opcode: int, payload: bytes = b"", *, last: bool = True, masked: bool = True, reserved: int = 0, **row: Any
+) -> bytes:
+    """The bytes of a frame as a client sends it, right or wrong. `reserved` has its three reserved bits. A row may have
+    its payload in digits, or as a text that comes some times."""
+    payload = payload or bytes.fromhex(row.get("hex", "")) or row.get("text", "").encode() * row.get("times", 1)
+    bits = (bool(reserved & bit) for bit in (4, 2, 1))
+    return AnyFrame(cast(Opcode, opcode), payload, last, *bits).serialize(mask=masked)
+
+
+class Socket(Peer):
+    """A WebSocket to a port of this machine. Its messages are lines. Raises InvalidStatus if the server refuses it."""
+
+    def __init__(
+        self, port: int, seat: int | None = None, path: str = "/ws", fields: Fields | None = None, patience: float = 20
+    ) -> None:
+        """Shakes hands, with these fields in place of the usual ones, and asks for a seat."""
+        super().__init__(port, None, patience)
+        self.frames: deque[Frame] = deque()
+        self.protocol = ClientConnection(parse_uri(f"ws://127.0.0.1:{port}{path}"), max_size=None)
+        request = self.protocol.connect()
+        wanted: dict[str, str | None] = {"Host": request.headers["Host"], **(fields or {})}
+        wanted.setdefault("Origin", f"http://{wanted['Host']}")
+        for name, value in wanted.items():
+            request.headers.pop(name, None)
+            if value is not None:
+                request.headers[name] = value
+        self.protocol.send_request(request)
+        self.flush()
+        while self.protocol.state is State.CONNECTING:
+            self.receive()
+            if self.protocol.handshake_exc:
+                self.close()
+                raise self.protocol.handshake_exc
+        self.said = None if seat is None else self.ask(SEAT % seat)
+
+    def flush(self) -> None:
+        """Sends what the protocol has to say: the handshake, and answers to pings and closes."""
+        self.socket.sendall(b"".join(self.protocol.data_to_send()))
+
+    def receive(self) -> bool:
+        """Takes what comes next. Returns false if the server has ended. A reset is an end."""
+        data = b""
+        with suppress(ConnectionResetError):
+            data = self.socket.recv(65536)
+        if data:
+            self.protocol.receive_data(data)
+        else:
+            self.protocol.receive_eof()
+        self.frames += (event for event in self.protocol.events_received() if isinstance(event, Frame))
+        with suppress(OSError):
+            self.flush()
+        if self.protocol.parser_exc and not isinstance(self.protocol.parser_exc, EOFError):
+            raise self.protocol.parser_exc
+        return bool(data)
+
+    def frame(self) -> Frame | None:
+        """The next frame, or None if the server has ended. Each message of the server is a frame. A ping is answered."""
+        while not self.frames:
+            if self.protocol.state is State.CLOSED or not self.receive():
+                return None
+        assert self.frames[0].fin, f"the server sends a part of a message: {self.frames[0]}"
+        return self.frames.popleft()
+
+    def read(self) -> str | None:
+        """The next text, or None if the server closes."""
+        while (got := self.frame()) and got.opcode in (Opcode.PING, Opcode.PONG):
+            pass
+        return got.data.decode() if got and got.opcode is Opcode.TEXT else None
+
+    def send(self, data: bytes | str) -> None:
+        """Sends a text, or bytes as they are."""
+        super().send(frame_of(Opcode.TEXT, data.encode()) if isinstance(data, str) else data)
+
+    def try_to_send(self, data: bytes) -> None:
+        """Sends as much as is taken."""
+        with suppress(OSError):
+            self.send(data)
+
+    def ask(self, line: str) -> str | None:
+        self.send(line)
+        return self.read()
+
+    def closed(self) -> tuple[int, str] | None:
+        """The code and the reason with which the server closes, or None if it ends without. Texts are passed over."""
+        while (got := self.frame()) and got.opcode is not Opcode.CLOSE:
+            pass
+        close = self.protocol.close_rcvd
+        return (close.code, close.reason) if got and close else None
+
+    def leave(self, reason: str = "") -> int | None:
+        """Closes as a page does. Returns the server's code."""
+        self.protocol.send_close(1000, reason)
+        self.flush()
+        with self:
+            end = self.closed()
+        return end and end[0]
+
+    def __enter__(self) -> Socket:
+        return self
+
+
+def status_of(port: int, path: str = "/ws", fields: Fields | None = None) -> int:
+    """The status of the answer to a handshake."""
+    try:
+        Socket(port, path=path, fields=fields).close()
+    except InvalidStatus as refused:
+        return refused.response.status_code
+    return 101
+
+
+class Told(StreamRequestHandler):
+    """A connection: what it told the host, and whether it has ended. The line `L` is answered by `[L]`. After `end` the
+    host ends the connection, and `bytes` is answered by a line that isn't UTF-8."""
+
+    def handle(self) -> None:
+        """Answers lines, until the connection ends."""
+        self.data, self.has_ended = b"", threading.Event()
+        cast(Recorder, self.server).told.append(self)
+        with suppress(OSError):
+            for line in self.rfile:
+                self.data += line
+                if line == b"end\n":
+                    break
+                self.wfile.write(b"\xff\n" if line == b"bytes\n" else b"[%s]\n" % line.removesuffix(b"\n"))
+        self.has_ended.set()
+
+
+class Recorder(ThreadingTCPServer):
+    """A host that writes down each byte that it is told. `told` has the connections in the order in which they came."""
+
+    daemon_threads, block_on_close, request_queue_size = True, False, 512
+
+    def __init__(self) -> None:
+        super().__init__(("127.0.0.1", 0), Told)
+        self.port: int = self.server_address[1]
+        self.told: list[Told] = []
+        threading.Thread(target=self.serve_forever, args=(0.05,), daemon=True).start()
+
+    def server_close(self) -> None:
+        self.shutdown()
+        super().server_close()

@@ -1,0 +1,131 @@
+"""Users of a host or of a page: what they send, how they take seats, and one who goes on beside what a test does."""
+
+from __future__ import annotations
+
+import socket
+import time
+from collections.abc import Callable, Iterator
+from concurrent.futures import ThreadPoolExecutor
+from contextlib import ExitStack, contextmanager, suppress
+from functools import cache
+from selectors import EVENT_READ, DefaultSelector
+from threading import Event
+from typing import NamedTuple, TypeVar
+
+from support.programs import PATIENCE, TOP, Host, Page, Peer, private
+from support.sessions import assert_replies, line_of
+
+Hosts = Callable[..., Host]
+Pages = Callable[..., Page]
+P = TypeVar("P", bound=Peer)
+# Answers to a first line: the seat, that somebody has it, and that there is no such seat. A line may also be too long.
+SEATED, TAKEN, NO_SEAT, TOO_LONG = '{"ok":"seat"}', '{"fault":80}', '{"fault":81}', '{"fault":1}'
+NO_JSON, NO_COMMAND = '{"fault":2}', '{"fault":3}'
+NO_NAMES, ONE_NAME = '{"names":[],"ok":"rules"}', '{"names":["P"],"ok":"rules"}'
+RULES, BACK, SAVE = line_of(do="rules"), line_of(do="back", n=1), line_of(do="save")
+PLANES = [line_of(do="plane", plane=plane) for plane in range(4)]
+BALLS = (TOP / "examples" / "billiard_balls.lines").read_text(encoding="utf-8").splitlines()
+COUNT, BLANK = line_of(do="count", mask=65534), '{"count":0,"ok":"count"}'
+# A seat, steps, a row, and the first cell of a row, by a number: `RUN % 1`.
+SEAT, RUN, ROW = '{"seat":%d}', '{"do":"run","n":%d}', '{"do":"row","plane":0,"row":%d}'
+CELL = '{"do":"set","plane":0,"row":%d,"bits":"' + "8".ljust(64, "0") + '"}'
+TEXT = ": P CENTER NORTH XOR SOUTH XOR WEST XOR EAST XOR >PLN0 ;"
+PARITY = line_of(do="rule", name="P", half="A", hood="N/VONN", minor="&/CENTERS", text=TEXT)
+
+
+def cycle(*names: str) -> str:
+    """A cycle of these rules of half A."""
+    return line_of(do="cycle", entries=[{"a": name, "b": "-", "grid": "EVEN", "phase": 0} for name in names])
+
+
+# A rule that is done, and a cell that it changes.
+START = [PARITY, cycle("P"), CELL % 7]
+# What makes a machine blank again, if it had no other commands than these or than those of README.
+AFRESH = [cycle("-"), line_of(do="drop", name="P"), line_of(do="side", side=256)]
+ROUND = [(CELL % y, RUN % (1 + y % 3), ROW % y, ROW % (255 - y), line_of(do="count", mask=2), "{}") for y in range(40)]
+LINES = [*START[:2], *(line for lines in ROUND for line in lines)]
+
+
+class Session(NamedTuple):
+    """Lines, and the replies of a private machine."""
+
+    lines: list[str]
+    replies: list[str]
+
+
+@cache
+def usual(cam6: str) -> Session:
+    """The session of a user who goes on at a host."""
+    return Session(LINES, private(cam6, LINES))
+
+
+def answers(peer: Peer, lines: list[str]) -> list[str | None]:
+    """The answers to lines. Each waits for the answer to the one before."""
+    return [peer.ask(line) for line in lines]
+
+
+def seated(kind: Callable[[int, int], P], port: int, user: int, patience: float = PATIENCE) -> P:
+    """A connection of a kind at a user's seat, once nobody has it. Fails if somebody has it for so many seconds."""
+    end = time.monotonic() + patience
+    while (peer := kind(port, user)).said == TAKEN and time.monotonic() < end:
+        peer.close()
+        time.sleep(0.02)
+    assert peer.said == SEATED, f"user {user}: {peer.said}"
+    return peer
+
+
+def is_over(stream: socket.socket) -> bool:
+    """Whether a connection has ended. What comes over it is thrown away."""
+    with suppress(ConnectionError):
+        return stream.recv(65536) == b""
+    return True
+
+
+def closed(peers: list[Peer], within: float) -> int:
+    """How many of these connections the server closes within so many seconds, or has closed."""
+    left, end = {peer.socket.fileno(): peer.socket for peer in peers}, time.monotonic() + within
+    with DefaultSelector() as selector:
+        for stream in left.values():
+            selector.register(stream, EVENT_READ)
+        while left and (ready := selector.select(max(0.0, end - time.monotonic()))):
+            for key, _ in ready:
+                if is_over(left[key.fd]):
+                    selector.unregister(left.pop(key.fd))
+    return len(peers) - len(left)
+
+
+@contextmanager
+def connected(port: int, count: int) -> Iterator[list[Peer]]:
+    """So many connections that have said nothing, and are closed in the end."""
+    with ExitStack() as stack:
+        yield [stack.enter_context(Peer(port)) for _ in range(count)]
+
+
+@contextmanager
+def steady(peer: Peer, session: Session, pause: float = 0) -> Iterator[Callable[[], int]]:
+    """A user goes on meanwhile, one line after another. They have sent the whole session before, and send it once more
+    afterwards. It fails in the end if one of their replies was not that of a private machine. Yields a function that
+    tells how often they have sent it."""
+    begun, enough, rounds = Event(), Event(), 0
+
+    def go_on() -> None:
+        nonlocal rounds
+        is_last = False
+        while not is_last:
+            is_last = enough.wait(pause)
+            answers(peer, AFRESH)
+            assert_replies(
+                session.lines, answers(peer, session.lines), session.replies, "the seat of a user who goes on"
+            )
+            rounds += 1
+            begun.set()
+
+    with peer, ThreadPoolExecutor(1) as pool:
+        going = pool.submit(go_on)
+        going.add_done_callback(lambda _: begun.set())
+        begun.wait()
+        try:
+            yield lambda: rounds
+        finally:
+            enough.set()
+            going.result()

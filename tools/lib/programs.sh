@@ -1,0 +1,133 @@
+# shellcheck shell=bash
+# How ./look and ./live find their programs: those that ./build proved, or else those that are compiled without a proof and
+# kept in unproved/. A script sources it after head.sh.
+KEPT=unproved
+declare -A CRATE_OF=([cam6]=cam6_host [cam6_draw]=cam6_draw [cam6_web]=cam6_web)
+# What is told while a program is compiled that isn't kept.
+declare -A MINUTES_OF=([cam6]="two to four minutes" [cam6_draw]="two to four minutes" [cam6_web]="two to five minutes")
+
+# A sum of the sources of all crates.
+sum_of_sources() {
+  find crates -path '*/src/*' -name '*.rt' -print0 | LC_ALL=C sort -z | xargs -0 sha256sum crates.txt | sha256sum
+}
+
+# What a program reads as it is compiled and run by `rt try`, which stops it after a minute: enough for a few seconds.
+feed() {
+  case $1 in
+    cam6)
+      cat crates/cam6_host/stdin
+      for _ in {1..5}; do echo '{"do":"run","n":60}'; done
+      ;;
+    cam6_draw) cat crates/cam6_draw/stdin ;;
+  esac
+}
+
+# Leaves in `options` the arguments by which `rt try` runs a program, and in `knocked` the port to knock at, or nothing.
+options_of() {
+  options=() knocked=
+  case $1 in
+    cam6_draw) options=(--text --frames 4) ;;
+    cam6_web)
+      knocked=$(python3 -c 'import socket; s = socket.socket(); s.bind(("127.0.0.1", 0)); print(s.getsockname()[1])' 2> /dev/null)
+      options=(--port "$knocked" --requests 1)
+      ;;
+  esac
+}
+
+# Asks the page's program for something, after which it ends.
+knock() {
+  { printf 'GET /hosts HTTP/1.1\r\nHost: 127.0.0.1:%d\r\n\r\n' "$1" > "/dev/tcp/127.0.0.1/$1"; } 2> /dev/null || true
+}
+
+# Compiles a program without a proof, and keeps it with the sum of the sources. `rt try` drops what it compiles once it has run
+# it, so the program gets a second name while it runs.
+compile() {
+  local program=$1 crate=${CRATE_OF[$1]} room=${top:?}/$KEPT/room.$1.$$ options knocked toolchain
+  mkdir -p "$room"
+  feed "$program" > "$room/feed"
+  options_of "$program"
+  # In a group of its own, since a toolchain that is stopped ends all of its group.
+  (cd "crates/$crate" && TMPDIR=$room exec setsid rt try -- "${options[@]}" < "$room/feed") > "$room/written" 2> "$room/told" &
+  toolchain=$!
+  echo "$toolchain" > "$room/group"
+  while kill -0 "$toolchain" 2> /dev/null; do
+    if [[ ! -x $room/kept ]]; then
+      find "$room" -name program -type f -perm -u+x -exec ln {} "$room/kept" \; -quit 2> /dev/null || true
+    elif [[ -n $knocked ]]; then
+      knock "$knocked"
+    fi
+    sleep 0.05
+  done
+  if ! wait "$toolchain" || [[ ! -x $room/kept ]]; then
+    echo "${script:?}: no program $program came of 'rt try' in crates/$crate, which said:" >&2
+    tail -n 5 "$room/told" >&2
+    rm -rf "$room"
+    return 1
+  fi
+  mv "$room/kept" "$KEPT/$program"
+  echo "$sum" > "$KEPT/$program.sum"
+  rm -rf "$room"
+}
+
+# Whether a program of these sources is kept.
+is_kept() {
+  [[ -x $KEPT/$1 && -f $KEPT/$1.sum && $(< "$KEPT/$1.sum") == "$sum" ]]
+}
+
+# Ends what is being compiled, and removes what there is of it.
+stop_compiling() {
+  local group
+  for group in "$top/$KEPT"/room.*."$$"/group; do
+    [[ ! -f $group ]] || kill -- "-$(< "$group")" 2> /dev/null || true
+  done
+  kill "$@" 2> /dev/null || true
+  sleep 0.5
+  rm -rf "$top/$KEPT"/room.*.$$
+}
+
+# Compiles those of these programs that aren't kept, side by side.
+compile_all() {
+  local sum name began=$SECONDS missing=() jobs=()
+  sum=$(sum_of_sources)
+  for name in "$@"; do
+    is_kept "$name" || missing+=("$name")
+  done
+  [[ ${#missing[@]} -gt 0 ]] || return 0
+  if ! command -v rt > /dev/null; then
+    echo "$script: there is no rt on the PATH; docs/INSTALL.md says how the Rattle kit is installed" >&2
+    return 1
+  fi
+  name=${missing[*]}
+  echo "$script: compiling ${name// / and } without a proof, once; it takes ${MINUTES_OF[${!#}]}" >&2
+  mkdir -p "$KEPT"
+  trap 'stop_compiling "${jobs[@]}"; exit 130' INT TERM HUP
+  for name in "${missing[@]}"; do
+    compile "$name" &
+    jobs+=($!)
+  done
+  for name in "${jobs[@]}"; do
+    if ! wait "$name"; then
+      stop_compiling "${jobs[@]}"
+      return 1
+    fi
+  done
+  trap - INT TERM HUP
+  echo "$script: compiled in $((SECONDS - began)) seconds; $KEPT/ has the programs" >&2
+}
+
+# Leaves in the array `programs` the paths of these programs: of those that are proved, or else of those that are compiled
+# without a proof.
+find_programs() {
+  local place name path
+  for place in . crates; do
+    programs=()
+    for name in "$@"; do
+      path=./$name
+      [[ $place == . ]] || path=crates/${CRATE_OF[$name]}/out/${CRATE_OF[$name]}
+      [[ ! -x $path ]] || programs+=("$path")
+    done
+    [[ ${#programs[@]} -lt $# ]] || return 0
+  done
+  compile_all "$@" || return 1
+  programs=("${@/#/$KEPT/}")
+}
