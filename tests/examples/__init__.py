@@ -1,1 +1,1 @@
-"""Scripts that write worked examples, and the test that they write those that are there."""
+"""Worked examples: scripts that write them, and plain functions and formulas that answer them."""

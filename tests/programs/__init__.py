@@ -1,1 +1,1 @@
-"""Tests of cam6, cam6_draw and cam6_rle by their arguments and standard streams."""
+"""Tests of cam6, cam6_draw, cam6_rle, ./look and ./live by their arguments and streams, and of what must not compile."""

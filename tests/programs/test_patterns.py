@@ -167,7 +167,7 @@ def pytest_generate_tests(metafunc: pytest.Metafunc) -> None:
     if "elsewhere" in metafunc.fixturenames:
         folder = Path(metafunc.config.getoption("patterns"))
         paths: list[Any] = sorted(path for path in folder.rglob("*.rle") if has_room(path))
-        missing = pytest.param(folder, marks=pytest.mark.skip(reason=f"{folder} has no patterns"))
+        missing = pytest.param(folder, marks=pytest.mark.skip(reason=f"LEFT OUT: {folder} has no patterns"))
         metafunc.parametrize("elsewhere", paths or [missing], ids=[path.name for path in paths] or ["none"])
 
 

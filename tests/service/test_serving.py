@@ -88,7 +88,7 @@ def test_options_set_the_seats_and_the_largest_side(host: Hosts, options: str, u
 def test_the_usual_port_is_6006(cam6: str) -> None:
     with socket.socket() as usual:
         if usual.connect_ex(("127.0.0.1", 6006)) == 0:
-            pytest.skip("somebody listens at port 6006")
+            pytest.skip("LEFT OUT: somebody listens at port 6006")
     with Listener(lambda _: [cam6, "serve"], 6006, None) as one:
         assert one.said == ["listening on 127.0.0.1:6006"]
 

@@ -60,32 +60,6 @@ lack_of() {
   esac
 }
 
-# Ends a check if one of these packages is missing, with a line that names it.
-needs() {
-  local package part sign purpose
-  for package in "$@"; do
-    if ! read -r _ part sign purpose < <(package_lines | grep "^$package "); then
-      echo "$script: packages.txt has no package $package" >&2
-      exit 2
-    fi
-    if ! is_there "$sign" "$part"; then
-      echo "$script: $(lack_of "$sign" "$part"): install the package $package of packages.txt ($purpose)"
-      echo "0 passed, 1 failed"
-      exit 1
-    fi
-  done
-}
-
-# Compiles a library of tests/support, with these options, into the folder `work`. Ends a check if it can't.
-compile_library() {
-  [[ -n ${CC-} ]] || needs gcc
-  if ! "${CC:-cc}" -shared -fPIC -O2 -o "${work:?}/$1.so" "tests/support/$1.c" "${@:2}"; then
-    echo "$script: tests/support/$1.c can't be compiled, which takes the packages gcc and libc6-dev of packages.txt"
-    echo "0 passed, 1 failed"
-    exit 1
-  fi
-}
-
 # Leaves out parts: their names, with commas.
 leave_out() {
   local part names
