@@ -122,7 +122,8 @@ def test_a_part_whose_program_dies_is_tried_again(cam6: str, shared: list[str], 
 def test_a_part_whose_program_dies_may_not_be_tried_again(shared: list[str], shell_program: Made) -> None:
     done = ensembles.run(shell_program("dying", DYING), "--retries=0", *shared, *SOME)
     assert (done.returncode, done.stdout) == (1, "")
-    assert re.search(r"^ensemble.py: [a-z-]+\.seed-\d\..*status -9 \(signal 9\)", done.stderr)
+    told = r"^ensemble.py: [a-z-]+\.seed-\d\..*status -9 \(signal 9\)"
+    assert re.search(told, done.stderr, re.M), done.stderr
 
 
 def test_a_program_does_not_answer(shared: list[str], shell_program: Made) -> None:
