@@ -6,6 +6,7 @@ import os
 import subprocess
 from collections.abc import Callable, Iterator
 from contextlib import ExitStack
+from functools import cache
 from pathlib import Path
 
 import hypothesis
@@ -13,19 +14,21 @@ import pytest
 from support.programs import CRATES, PLAYERS, Host, Page, built
 
 SUPPORT = Path(__file__).parent / "tests" / "support"
-# Programs take their time, and more of it on a busy computer. `--hypothesis-profile long` tries far more.
-for profile, examples in (("programs", 100), ("long", 5_000)):
-    hypothesis.settings.register_profile(
-        profile,
-        deadline=None,
-        print_blob=True,
-        max_examples=examples,
-        stateful_step_count=30,
-        suppress_health_check=list(hypothesis.HealthCheck),
-    )
+# Programs take their time, and more of it on a busy computer.
+PATIENT = hypothesis.settings(
+    deadline=None, print_blob=True, stateful_step_count=30, suppress_health_check=list(hypothesis.HealthCheck)
+)
+hypothesis.settings.register_profile("programs", PATIENT, max_examples=100)
+# `--hypothesis-profile long` tries far more.
+hypothesis.settings.register_profile("long", PATIENT, max_examples=5_000)
 hypothesis.settings.load_profile("programs")
 # Where Debian's golly has its patterns.
 PATTERNS = "/usr/share/golly/Patterns"
+
+
+def pytest_collection_modifyitems(items: list[pytest.Item]) -> None:
+    """Slow tests come first, so that in the end no worker is left alone with one."""
+    items.sort(key=lambda item: item.get_closest_marker("slow") is None)
 
 
 def pytest_addoption(parser: pytest.Parser) -> None:
@@ -36,26 +39,30 @@ def pytest_addoption(parser: pytest.Parser) -> None:
     fleet = parser.getgroup("fleet", "a fleet behind HAProxy")
     fleet.addoption("--fleet-seconds", type=int, default=10, metavar="N", help="how long there is trouble")
     fleet.addoption("--fleet-seed", type=int, default=1, metavar="N", help="which trouble there is")
-    fleet.addoption(
-        "--fleet-sessions", type=int, default=8, metavar="N", help="how many sessions go on meanwhile, 1 to 64"
-    )
+    fleet.addoption("--fleet-sessions", type=int, default=8, metavar="N", help="how many sessions go on, 1 to 64")
     fleet.addoption("--fleet-ports", action="store_true", help="no network namespaces, and so no cables")
     parser.addoption("--patterns", metavar="FOLDER", default=PATTERNS, help="patterns of another program (%(default)s)")
 
 
-def program(request: pytest.FixtureRequest, name: str) -> str:
-    """The path of a program: the one that an option names, or the one that `./build` left."""
-    path = built(name, request.config.getoption(name))
-    if path is None:
-        builder = f"rt run in crates/{PLAYERS[name]}" if name in PLAYERS else "./build"
-        pytest.fail(f"there is no program {name}: {builder} builds it", pytrace=False)
-    return str(path)
+def program(name: str) -> Callable[..., str]:
+    """The fixture of a program."""
+
+    @pytest.fixture(scope="session", name=name)
+    def path_of(request: pytest.FixtureRequest) -> str:
+        """The path of a program: the one that an option names, or the one that `./build` left."""
+        named = request.config.getoption(name)
+        path = built(name, named)
+        if path is None and named:
+            pytest.fail(f"there is no program {named}", pytrace=False)
+        if path is None:
+            builder = f"rt run in crates/{PLAYERS[name]}" if name in PLAYERS else "./build"
+            pytest.fail(f"there is no program {name}: {builder} builds it", pytrace=False)
+        return str(path)
+
+    return path_of
 
 
-@pytest.fixture(scope="session")
-def cam6(request: pytest.FixtureRequest) -> str:
-    """The path of the program cam6."""
-    return program(request, "cam6")
+cam6, cam6_draw, cam6_rle, cam6_web, cam6_try_rules = map(program, CRATES | PLAYERS)
 
 
 @pytest.fixture(scope="session", params=["", ".by-rattle"], ids=["llvm", "rattle"])
@@ -65,30 +72,6 @@ def either_cam6(request: pytest.FixtureRequest, cam6: str) -> str:
     if request.config.getoption("cam6") and not os.path.exists(path):
         pytest.skip(f"--cam6 names a program that has no {path} beside it")
     return path
-
-
-@pytest.fixture(scope="session")
-def cam6_draw(request: pytest.FixtureRequest) -> str:
-    """The path of the program cam6_draw."""
-    return program(request, "cam6_draw")
-
-
-@pytest.fixture(scope="session")
-def cam6_rle(request: pytest.FixtureRequest) -> str:
-    """The path of the program cam6_rle."""
-    return program(request, "cam6_rle")
-
-
-@pytest.fixture(scope="session")
-def cam6_web(request: pytest.FixtureRequest) -> str:
-    """The path of the program cam6_web."""
-    return program(request, "cam6_web")
-
-
-@pytest.fixture(scope="session")
-def cam6_try_rules(request: pytest.FixtureRequest) -> str:
-    """The path of the player of rules."""
-    return program(request, "cam6_try_rules")
 
 
 @pytest.fixture
@@ -110,13 +93,11 @@ def library(tmp_path_factory: pytest.TempPathFactory) -> Callable[[str], str]:
     """Compiles a library of tests/support that is loaded into a program: `library("short_reads")` is its path."""
     folder = tmp_path_factory.mktemp("libraries")
 
+    @cache
     def compiled(name: str) -> str:
-        path = folder / f"{name}.so"
-        if not path.exists():
-            source = SUPPORT / f"{name}.c"
-            subprocess.run(
-                [os.environ.get("CC", "cc"), "-shared", "-fPIC", "-O2", "-o", path, source, "-ldl"], check=True
-            )
-        return str(path)
+        path, source = str(folder / f"{name}.so"), str(SUPPORT / f"{name}.c")
+        command = [os.environ.get("CC", "cc"), "-shared", "-fPIC", "-O2", "-o", path, source, "-ldl"]
+        subprocess.run(command, check=True)
+        return path
 
     return compiled

@@ -1,31 +1,67 @@
-"""The browsers that selenium drives, without a window: Chromium by chromedriver, and Firefox by the bridge of firefox.py."""
+"""The browsers that selenium drives, without a window: Chromium by chromedriver, and Firefox by its Marionette, since Debian
+doesn't have geckodriver."""
 
 from __future__ import annotations
 
+import json
 import os
+import re
 import shutil
+import signal
+import subprocess
+import tempfile
 from collections.abc import Iterator
-from contextlib import contextmanager
+from contextlib import contextmanager, suppress
 from dataclasses import dataclass
 from pathlib import Path
+from subprocess import DEVNULL
+from typing import Any, TextIO
 
 import pytest
 from selenium import webdriver
+from selenium.common.exceptions import WebDriverException
 from selenium.webdriver.chrome.service import Service
+from selenium.webdriver.remote.command import Command
 from selenium.webdriver.remote.file_detector import UselessFileDetector
 from selenium.webdriver.remote.webdriver import WebDriver
-
-from browser.firefox import Firefox, Preferences
+from support.programs import Peer, until
 
 # The width and the height that a page has of a window.
 WINDOW = (1280, 800)
-OPTIONS = ("--headless=new", "--disable-gpu", "--no-first-run", "--hide-scrollbars")
-# The program of each package. Other systems have some of them under another name.
-PROGRAMS = {
-    "chromium": ("chromium", "chromium-browser", "google-chrome"),
-    "chromium-driver": ("chromedriver",),
-    "firefox-esr": ("firefox-esr", "firefox"),
+CHROMIUM = ("--headless=new", "--disable-gpu", "--no-first-run", "--hide-scrollbars")
+FIREFOX = ("--headless", "--no-remote", "--marionette", "--remote-allow-system-access")
+# Any free port, what pages write to their consoles on the browser's output, and a folder of one's own for files.
+PREFERENCES = {"marionette.port": 0, "devtools.console.stdout.content": True, "browser.download.folderList": 2}
+# Seconds in which Firefox has to listen, to do a command, and to end.
+START, PATIENCE, END = 120, 300, 20
+# The commands that the tests use, by their names for selenium and for Marionette.
+NAMES = {
+    Command.NEW_SESSION: "WebDriver:NewSession",
+    Command.GET: "WebDriver:Navigate",
+    Command.REFRESH: "WebDriver:Refresh",
+    Command.W3C_GET_CURRENT_WINDOW_HANDLE: "WebDriver:GetWindowHandle",
+    Command.W3C_GET_WINDOW_HANDLES: "WebDriver:GetWindowHandles",
+    Command.SWITCH_TO_WINDOW: "WebDriver:SwitchToWindow",
+    Command.NEW_WINDOW: "WebDriver:NewWindow",
+    Command.CLOSE: "WebDriver:CloseWindow",
+    Command.SET_WINDOW_RECT: "WebDriver:SetWindowRect",
+    Command.CLICK_ELEMENT: "WebDriver:ElementClick",
+    Command.CLEAR_ELEMENT: "WebDriver:ElementClear",
+    Command.SEND_KEYS_TO_ELEMENT: "WebDriver:ElementSendKeys",
+    Command.W3C_EXECUTE_SCRIPT: "WebDriver:ExecuteScript",
+    Command.W3C_ACTIONS: "WebDriver:PerformActions",
+    Command.SCREENSHOT: "WebDriver:TakeScreenshot",
 }
+# What Firefox's console got from pages as errors since it was asked last: exceptions, and failures of the network and of the
+# policy. Errors of the browser's own parts are left out.
+CONSOLE = """
+const told = Services.console.getMessageArray().filter(one => one instanceof Ci.nsIScriptError);
+Services.console.reset();
+return told.filter(one => !(one.flags & Ci.nsIScriptError.warningFlag) && !one.isFromChromeContext)
+  .map(one => ({ level: 'SEVERE', source: one.category, message: `${one.errorMessage} ${one.sourceName}`, timestamp: 0 }));
+"""
+# How Firefox's output has what pages write to their consoles. The browser's own parts begin with a name and a colon.
+CALLS = re.compile(r"^console\.(error|assert|warn): (?!\w+: )(.*)", re.M)
 
 
 @dataclass(frozen=True)
@@ -40,9 +76,8 @@ class Browser:
         return f"{self.name} {self.driver.capabilities['browserVersion']}"
 
 
-def path_of(package: str) -> str:
-    """The path of a package's program. Fails if it isn't there."""
-    names = PROGRAMS[package]
+def path_of(package: str, *names: str) -> str:
+    """The path of a package's program, which other systems have under other names. Fails if it isn't there."""
     for name in names:
         if path := shutil.which(name):
             return path
@@ -53,31 +88,97 @@ def path_of(package: str) -> str:
 def chromium(downloads: Path) -> Iterator[Browser]:
     """Chromium, until the end of the context."""
     options = webdriver.ChromeOptions()
-    options.binary_location = path_of("chromium")
+    options.binary_location = path_of("chromium", "chromium", "chromium-browser", "google-chrome")
     # Chromium refuses to sandbox its processes if it runs as root.
-    for option in OPTIONS + (("--no-sandbox",) if os.geteuid() == 0 else ()):
+    for option in CHROMIUM + (("--no-sandbox",) if os.geteuid() == 0 else ()):
         options.add_argument(option)
     options.add_experimental_option("prefs", {"download.default_directory": str(downloads)})
     options.set_capability("goog:loggingPrefs", {"browser": "ALL"})
-    driver = webdriver.Chrome(service=Service(path_of("chromium-driver")), options=options)
-    try:
+    with webdriver.Chrome(service=Service(path_of("chromium-driver", "chromedriver")), options=options) as driver:
         yield Browser("chromium", driver, downloads)
-    finally:
-        driver.quit()
+
+
+class Marionette(Peer):
+    """A connection to a Firefox that listens at this port and writes its output to this file. It does the commands of
+    selenium, which are those of WebDriver (https://www.w3.org/TR/webdriver2/).
+
+    A packet is `LENGTH:[0,NUMBER,NAME,PARAMETERS]`, and its answer is `LENGTH:[1,NUMBER,ERROR,RESULT]`.
+    """
+
+    def __init__(self, port: int, output: TextIO) -> None:
+        super().__init__(port, patience=PATIENCE)
+        self.output = output
+        # Marionette says first who it is.
+        self.packet()
+
+    def packet(self) -> Any:
+        """The next packet of Marionette's."""
+        size = b""
+        while (digit := self.file.read(1)) != b":":
+            if not digit:
+                raise OSError("the browser has ended")
+            size += digit
+        return json.loads(self.file.read(int(size)))
+
+    def result(self, name: str, **parameters: object) -> Any:
+        """The result of a command. One is under way at a time, so that all have one number."""
+        packet = json.dumps([0, 0, name, parameters])
+        self.send(f"{len(packet)}:{packet}")
+        _, _, error, result = self.packet()
+        if error:
+            raise WebDriverException(f"{error['error']}: {error['message']}")
+        return result["value"] if isinstance(result, dict) and result.keys() == {"value"} else result
+
+    def console(self) -> list[dict[str, object]]:
+        """What pages wrote to their consoles as errors and warnings since the last call, as chromedriver lists it."""
+        self.result("Marionette:SetContext", value="chrome")
+        told: list[dict[str, object]] = self.result("WebDriver:ExecuteScript", script=CONSOLE, args=[])
+        self.result("Marionette:SetContext", value="content")
+        for kind, message in CALLS.findall(self.output.read()):
+            level = "WARNING" if kind == "warn" else "SEVERE"
+            told.append({"level": level, "source": "console-api", "message": message, "timestamp": 0})
+        return told
+
+    def execute(self, command: str, parameters: dict[str, Any]) -> dict[str, object]:
+        """Does a command for selenium, and gives its value."""
+        if command == Command.GET_LOG:
+            return {"value": self.console()}
+        # A screenshot is of the window, and not of all of the page.
+        more = {"full": False} if command == Command.SCREENSHOT else {}
+        return {"value": self.result(NAMES[command], **parameters, **more)}
 
 
 @contextmanager
 def firefox(downloads: Path) -> Iterator[Browser]:
-    """Firefox, until the end of the context."""
-    keeps: Preferences = {"browser.download.folderList": 2, "browser.download.dir": str(downloads)}
-    bridge = Firefox(path_of("firefox-esr"), keeps)
-    try:
-        driver = webdriver.Remote(command_executor=bridge.address, options=webdriver.FirefoxOptions())
-        # A file that is typed into a field is at hand, since the browser runs here.
-        driver.file_detector = UselessFileDetector()
-        yield Browser("firefox", driver, downloads)
-    finally:
-        bridge.end()
+    """Firefox with a profile of its own, until the end of the context."""
+    with tempfile.TemporaryDirectory(prefix="firefox-", ignore_cleanup_errors=True) as profile:
+        port, output = Path(profile, "MarionetteActivePort"), Path(profile, "output")
+        preferences = PREFERENCES | {"browser.download.dir": str(downloads)}
+        lines = (f"user_pref({json.dumps(name)}, {json.dumps(one)});\n" for name, one in preferences.items())
+        Path(profile, "user.js").write_text("".join(lines))
+        command = [path_of("firefox-esr", "firefox-esr", "firefox"), *FIREFOX, "--profile", profile, "about:blank"]
+        with output.open("wb") as file:
+            # In a group of its own, so that all of its processes can be ended.
+            process = subprocess.Popen(command, stdin=DEVNULL, stdout=file, stderr=file, start_new_session=True)
+        try:
+            until(lambda: port.exists() and port.read_text() or process.poll() is not None, START)
+            with output.open(errors="replace") as told:
+                if not port.exists():
+                    raise OSError(f"Firefox doesn't listen: {told.read()}")
+                with Marionette(int(port.read_text()), told) as marionette:
+                    # A file that is typed into a field is at hand, since the browser runs here.
+                    how: dict[str, Any] = {
+                        "options": webdriver.FirefoxOptions(),
+                        "file_detector": UselessFileDetector(),
+                    }
+                    yield Browser("firefox", webdriver.Remote(marionette, **how), downloads)
+        finally:
+            process.terminate()
+            with suppress(subprocess.TimeoutExpired):
+                process.wait(END)
+            with suppress(ProcessLookupError):
+                os.killpg(process.pid, signal.SIGKILL)
+            process.wait()
 
 
 BROWSERS = {"chromium": chromium, "firefox": firefox}

@@ -32,18 +32,17 @@ def browser(request: pytest.FixtureRequest, tmp_path_factory: pytest.TempPathFac
 def teacher(browser: Browser, cam6: str, host: Callable[..., Host], page: Callable[..., Page]) -> Iterator[Teacher]:
     """A teacher at an empty window. When they are done, no page may have told an error to the console, and the programs still
     run, so that none has lost its connection."""
-    one = Teacher(browser, cam6)
+    one, driver = Teacher(browser, cam6), browser.driver
     one.size(*WINDOW)
-    first = browser.driver.current_window_handle
+    first = driver.current_window_handle
     one.errors()
     yield one
     errors = one.errors()
-    for other in browser.driver.window_handles:
-        if other != first:
-            browser.driver.switch_to.window(other)
-            browser.driver.close()
-    browser.driver.switch_to.window(first)
-    browser.driver.get("about:blank")
+    for other in {*driver.window_handles} - {first}:
+        driver.switch_to.window(other)
+        driver.close()
+    driver.switch_to.window(first)
+    driver.get("about:blank")
     assert errors == []
 
 

@@ -5,8 +5,8 @@ from __future__ import annotations
 import base64
 import re
 import time
-from collections.abc import Callable, Iterator
-from contextlib import contextmanager, suppress
+from collections.abc import Iterator
+from contextlib import contextmanager
 from io import BytesIO
 from pathlib import Path
 from typing import Any
@@ -14,10 +14,9 @@ from typing import Any
 from PIL import Image
 from selenium.webdriver.common.action_chains import ActionChains
 from selenium.webdriver.common.actions.action_builder import ActionBuilder
-from selenium.webdriver.common.by import By
 from selenium.webdriver.remote.webelement import WebElement
 from selenium.webdriver.support.wait import WebDriverWait
-from support.programs import PATIENCE, until
+from support.programs import PATIENCE, TOP, until
 from support.sessions import line_of
 
 from browser import cells
@@ -56,20 +55,14 @@ class Teacher:
         """The value of an expression."""
         return self.script(f"return {expression}", *values)
 
-    def until(self, condition: str, seconds: float = PATIENCE) -> Any:
+    def until(self, condition: str, *values: object) -> Any:
         """Waits until an expression has a value that counts, and returns it."""
-        waits = WebDriverWait(self.driver, seconds, POLL)
-        return waits.until(lambda _: self.value(condition), f"it never came to be so: {condition}")
+        waits = WebDriverWait(self.driver, PATIENCE, POLL)
+        return waits.until(lambda _: self.value(condition, *values), f"it never came to be so: {condition} {values}")
 
     def torus(self, name: str) -> str:
         """What the page tells of the torus under a name, as `count` or `state`."""
-        told: str = self.value(f"{TORUS}.{name}")
-        return told
-
-    def text(self, name: str) -> str:
-        """The text of the element with this id."""
-        told: str = self.value("document.getElementById(arguments[0]).textContent.trim()", name)
-        return told
+        return str(self.value(f"{TORUS}.{name}"))
 
     def canvas(self) -> Image.Image:
         """The picture on the canvas that has a pixel for each cell."""
@@ -117,12 +110,10 @@ class Teacher:
 
     def assert_shows(self, lines: list[str]) -> None:
         """Fails if the canvas doesn't come to show what a private machine has after these lines."""
-        wanted = cells.picture_of(cells.machine_after(self.cam6, lines))
-        if not until(lambda: self.canvas().tobytes() == wanted.tobytes()):
-            session = "\n".join(lines)
-            raise AssertionError(
-                f"{cells.difference(self.canvas(), wanted)}; wanted is what ./cam6 has after\n{session}"
-            )
+        wanted = cells.picture_after(self.cam6, lines)
+        until(lambda: self.canvas().tobytes() == wanted.tobytes())
+        difference = cells.difference(self.canvas(), wanted)
+        assert not difference, "\n".join([f"{difference}; wanted is what ./cam6 has after", *lines])
 
     # What a hand does.
 
@@ -151,10 +142,9 @@ class Teacher:
 
     def element(self, selector: str) -> WebElement:
         """An element that is not disabled, as soon as it is there."""
-        script = "(found => found && !found.disabled)(document.querySelector(arguments[0]))"
-        waits = WebDriverWait(self.driver, PATIENCE, POLL)
-        waits.until(lambda _: self.value(script, selector), f"there is no {selector}, or it stays disabled")
-        return self.driver.find_element(By.CSS_SELECTOR, selector)
+        script = "(found => found && !found.disabled && found)(document.querySelector(arguments[0]))"
+        element: WebElement = self.until(script, selector)
+        return element
 
     def click(self, selector: str, times: int = 1) -> None:
         """Clicks an element so many times."""
@@ -169,18 +159,13 @@ class Teacher:
 
     def choose(self, selector: str, value: str) -> None:
         """Chooses an option of a menu."""
-        option: WebElement = self.value(
-            "[...arguments[0].options].find(one => one.value === arguments[1])", self.element(selector), value
-        )
-        option.click()
+        option = "[...arguments[0].options].find(one => one.value === arguments[1])"
+        self.value(option, self.element(selector), value).click()
 
     def slide(self, selector: str, value: float) -> None:
         """Moves a slider, by a script, since mouse and keys don't reach each value."""
-        script = """
-          arguments[0].value = arguments[1];
-          ['input', 'change'].forEach(name => arguments[0].dispatchEvent(new Event(name, { bubbles: true })));
-        """
-        self.script(script, self.element(selector), value)
+        tells = "['input', 'change'].forEach(name => arguments[0].dispatchEvent(new Event(name, { bubbles: true })))"
+        self.script(f"arguments[0].value = arguments[1]; {tells}", self.element(selector), value)
 
     def key(self, key: str, times: int = 1) -> None:
         """Presses a key so many times."""
@@ -210,7 +195,7 @@ class Teacher:
         """Chooses an entry of the gallery, and sees that it is set up. Returns the lines of the entry."""
         self.click("#gallery")
         self.click(f"[data-entry={entry}]")
-        lines = cells.lines_of(entry)
+        lines = (TOP / "examples" / f"{entry}.lines").read_text(encoding="utf-8").splitlines()
         self.assert_shows(lines)
         return lines
 
@@ -230,28 +215,24 @@ class Teacher:
         self.click("#define")
 
     def pause(self) -> int:
-        """Pauses, if time runs. Returns the count at which it stays."""
-        if self.value("document.getElementById('run').getAttribute('aria-pressed') === 'true'"):
-            self.click("#run")
+        """Pauses while time runs. Returns the count at which it stays."""
+        self.click("#run[aria-pressed=true]")
         return self.settled()
 
-    def kept(self, press: Callable[[], object]) -> Path:
-        """The file that the page gives to keep after something is pressed."""
-        folder = self.browser.downloads
-        before = {*folder.iterdir()}
+    def kept(self, selector: str) -> Path:
+        """The file that the page gives to keep after an element is clicked."""
+        before = {*self.browser.downloads.iterdir()}
+        self.click(selector)
 
-        def new() -> list[Path]:
-            # A file may get another name while it is looked at.
-            with suppress(FileNotFoundError):
-                names = {*folder.iterdir()} - before
-                if all(not UNFINISHED.search(path.name) and path.stat().st_size > 0 for path in names):
-                    return [*names]
-            return []
+        def new(_: object) -> list[Path]:
+            paths = [*{*self.browser.downloads.iterdir()} - before]
+            return paths if all(not UNFINISHED.search(one.name) and one.stat().st_size > 0 for one in paths) else []
 
-        press()
-        assert until(new), "no file was kept"
-        (path,) = new()
-        return path
+        # A file may get another name while it is looked at.
+        waits = WebDriverWait(self.driver, PATIENCE, POLL, [FileNotFoundError])
+        paths: list[Path] = waits.until(new, "no file was kept")
+        assert len(paths) == 1
+        return paths[0]
 
     def size(self, width: int, height: int) -> None:
         """Gives the window another size. The page has so much of it."""

@@ -4,7 +4,7 @@ from __future__ import annotations
 
 import threading
 import time
-from collections.abc import Callable, Iterator
+from collections.abc import Callable
 from functools import partial
 from http.server import SimpleHTTPRequestHandler, ThreadingHTTPServer
 from pathlib import Path
@@ -77,9 +77,7 @@ def test_time_runs_on_after_a_host_was_killed_twice(teacher: Teacher, host: Host
         run_on(teacher, 30)
 
 
-def test_each_step_is_done_once_though_a_host_went_while_nobody_asked(
-    teacher: Teacher, host: Hosts, page: Pages
-) -> None:
+def test_each_step_is_done_once_if_a_host_went_while_nobody_asked(teacher: Teacher, host: Hosts, page: Pages) -> None:
     one = host(*FOUR)
     lines = at_host(teacher, page(one.port).address)
     count = teacher.pause()
@@ -161,23 +159,19 @@ def test_a_page_takes_the_seat_in_its_address(teacher: Teacher, classroom: str) 
     assert teacher.until(SEAT) == "2"
 
 
-@pytest.fixture
-def elsewhere(tmp_path: Path) -> Iterator[str]:
-    """The address of a page of another server, which is empty and has no policy."""
+def test_a_page_of_another_server_gets_no_socket(teacher: Teacher, page: Pages, tmp_path: Path) -> None:
+    site = page()
+    socket = f"ws://127.0.0.1:{site.port}/ws"
+    # The other page is empty, and has no policy. An empty tab would show nothing: Chromium opens no socket to this computer
+    # for it, whatever the server says.
     (tmp_path / "index.html").touch()
     handler = partial(SimpleHTTPRequestHandler, directory=str(tmp_path))
     with ThreadingHTTPServer(("127.0.0.1", 0), handler) as server:
         threading.Thread(target=server.serve_forever, daemon=True).start()
-        yield f"http://127.0.0.1:{server.server_port}/"
+        teacher.driver.get(f"http://127.0.0.1:{server.server_port}/")
+        became = teacher.value(OPEN, socket)
         server.shutdown()
-
-
-def test_a_page_of_another_server_gets_no_socket(teacher: Teacher, page: Pages, elsewhere: str) -> None:
-    site = page()
-    socket = f"ws://127.0.0.1:{site.port}/ws"
-    # An empty tab would show nothing: Chromium opens no socket to this computer for it, whatever the server says.
-    teacher.driver.get(elsewhere)
-    assert teacher.value(OPEN, socket) == "closed 1006"
+    assert became == "closed 1006"
     teacher.errors()
     # The server's own page gets one.
     teacher.open(site.address)

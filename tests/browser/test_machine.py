@@ -3,14 +3,14 @@
 from __future__ import annotations
 
 import json
+import re
 from collections.abc import Callable
-from typing import NamedTuple
 
 import pytest
 from PIL import Image, ImageChops
+from pages.texts import sessions_of
 from selenium.webdriver.common.keys import Keys
 from support.programs import TOP, private, until
-from support.readme import session_of_readme
 from support.sessions import line_of
 
 from browser import cells
@@ -24,12 +24,11 @@ GLIDER = "x = 3, y = 3, rule = B3/S23\nbo$2bo$3o!"
 GLIDER_CELLS = {(1, 0), (2, 1), (0, 2), (1, 2), (2, 2)}
 
 
-def test_the_page_is_ready(own: Teacher) -> None:
-    assert own.torus("state") == "ready"
-
-
 def test_the_session_of_readme_is_clicked_and_typed(own: Teacher) -> None:
-    session = session_of_readme()
+    assert own.torus("state") == "ready"
+    typed = next(sessions_of("README.md"))[1]
+    # Those that only look at the cells are left out.
+    session = [line for line in typed if not re.search('"do":"(plane|count)"', line)]
     own.begin_anew()
     own.write_rule(json.loads(session[0]))
     own.until("document.getElementById('cycle').children.length === 1")
@@ -67,37 +66,30 @@ def test_the_window_shows_the_cells(own: Teacher) -> None:
     own.key(Keys.ARROW_RIGHT, FEW)
     own.assert_shows([*lines, moved(FEW)])
     # The middle of the window is the corner of the torus: letters lie over both seams.
-    shown = cells.picture_of(cells.machine_after(own.cam6, [*lines, moved(FEW)]))
+    shown = cells.picture_after(own.cam6, [*lines, moved(FEW)])
     middle = ImageChops.offset(shown, 50, 50).crop((0, 0, 100, 100))
     assert len(cells.drawn(middle)) > 50
     until(lambda: own.seen(-50, -50, 100).tobytes() == middle.tobytes())
     assert cells.difference(own.seen(-50, -50, 100), middle) == ""
 
 
-class Way(NamedTuple):
-    """A way to run and to pause, where the dial stands, and for how many steps; below 0 they are undone."""
-
-    press: Callable[[Teacher], None]
-    dial: float
-    steps: int
-
-
+# Ways to run and to pause: what is pressed, where the dial stands, and for how many steps; below 0 they are undone.
 WAYS = {
-    "button": Way(lambda own: own.click("#run"), 0.5, 40),
-    "space": Way(lambda own: own.key(" "), 0.5, 20),
-    "b": Way(lambda own: own.key("b"), 0.5, -30),
-    "dial": Way(lambda own: own.click("#run"), -1, -30),
+    "button": (lambda own: own.click("#run"), 0.5, 40),
+    "space": (lambda own: own.key(" "), 0.5, 20),
+    "b": (lambda own: own.key("b"), 0.5, -30),
+    "dial": (lambda own: own.click("#run"), -1, -30),
 }
 
 
-@pytest.mark.parametrize("way", WAYS.values(), ids=WAYS)
-def test_time_runs_and_pauses(own: Teacher, way: Way) -> None:
+@pytest.mark.parametrize(("press", "dial", "steps"), WAYS.values(), ids=WAYS)
+def test_time_runs_and_pauses(own: Teacher, press: Callable[[Teacher], None], dial: float, steps: int) -> None:
     lines = own.set_up(LETTERS)
-    own.slide("#dial", way.dial)
+    own.slide("#dial", dial)
     own.script("document.activeElement.blur()")
-    way.press(own)
-    assert until(lambda: own.count() / way.steps > 1)
-    way.press(own)
+    press(own)
+    assert until(lambda: own.count() / steps > 1)
+    press(own)
     own.assert_shows([*lines, moved(own.settled())])
 
 
@@ -132,7 +124,7 @@ def test_a_fault_is_told_at_its_token(own: Teacher, text: str) -> None:
     token = reply.get("token", "")
     told = own.value("({ ...document.getElementById('rule-fault').dataset })")
     assert told == {"fault": str(reply["fault"]), "token": str(token)}
-    assert title.lower() in own.text("rule-fault").lower()
+    assert title.lower() in own.value("document.getElementById('rule-fault').textContent").lower()
     # A fault at the end of the text has the number of the token that is missing.
     tokens = [*text.split(), ""]
     marks = "[...document.querySelectorAll('#rule-marks mark')].map(one => [one.dataset.token, one.textContent])"
@@ -154,18 +146,19 @@ def test_a_box_is_drawn_in_two_planes_and_cleared(own: Teacher) -> None:
     own.pick("box", 6)
     own.drag((40, 60), (42, 62), (43, 63))
     rows = {60: "f", 61: "9", 62: "9", 63: "f"}
-    cells_of_rows = {row: f"{0:010x}{digit}{0:053x}" for row, digit in rows.items()}
-    own.assert_shows(
-        [line_of(do="set", plane=p, row=row, bits=bits) for p in (1, 2) for row, bits in cells_of_rows.items()]
-    )
+    bits = {row: f"{0:010x}{digit}{0:053x}" for row, digit in rows.items()}
+    own.assert_shows([line_of(do="set", plane=plane, row=row, bits=bits[row]) for plane in (1, 2) for row in rows])
     own.key(Keys.ESCAPE)
     own.click("#clear")
     own.assert_shows([])
 
 
-def test_a_pattern_is_pasted(own: Teacher) -> None:
+def test_a_pattern_is_pasted_and_a_text_that_is_none_is_named_with_its_line(own: Teacher) -> None:
     own.begin_anew()
     own.click("#pattern")
+    own.fill("#paste-text", "x = 3, y = 3\nbo$2b?$3o!")
+    own.click("#paste")
+    assert "2" in own.until("(place => !place.hidden && place.textContent)(document.getElementById('paste-fault'))")
     own.fill("#paste-text", GLIDER)
     own.click("#paste")
     own.until("document.getElementById('torus').dataset.piece && !document.querySelector('dialog[open]')")
@@ -177,13 +170,6 @@ def test_a_pattern_is_pasted(own: Teacher) -> None:
     # It is in the machine too, which the page brings along.
     own.reload()
     assert until(lambda: cells.drawn(own.canvas()) == found)
-
-
-def test_a_text_that_is_no_pattern_is_named_with_its_line(own: Teacher) -> None:
-    own.click("#pattern")
-    own.fill("#paste-text", "x = 3, y = 3\nbo$2b?$3o!")
-    own.click("#paste")
-    assert "2" in own.until("(place => !place.hidden && place.textContent)(document.getElementById('paste-fault'))")
 
 
 def test_a_page_that_is_loaded_again_goes_on(own: Teacher) -> None:
@@ -201,7 +187,7 @@ def test_a_machine_is_kept_as_a_file_and_loaded(own: Teacher) -> None:
     lines = [*own.set_up(LETTERS), moved(3)]
     own.click("#step", 3)
     own.assert_shows(lines)
-    path = own.kept(lambda: own.click("#save-file"))
+    path = own.kept("#save-file")
     line = path.read_text(encoding="utf-8").strip()
     machine = json.loads(line)
     assert machine.get("machine", machine) == cells.machine_after(own.cam6, lines)
@@ -211,25 +197,19 @@ def test_a_machine_is_kept_as_a_file_and_loaded(own: Teacher) -> None:
     own.assert_shows(lines)
 
 
-def test_a_picture_has_a_pixel_for_each_cell(own: Teacher) -> None:
+def test_a_picture_has_a_pixel_for_each_cell_and_a_film_the_states_one_after_another(own: Teacher) -> None:
     lines = own.set_up(LETTERS)
     own.click("#keep-picture")
     own.choose("#picture-scale", "1")
-    with Image.open(own.kept(lambda: own.click("#picture"))) as picture:
-        wanted = cells.picture_of(cells.machine_after(own.cam6, lines))
-        assert cells.difference(picture.convert("RGBA"), wanted) == ""
-
-
-def test_a_film_has_the_states_one_after_another(own: Teacher) -> None:
-    lines = own.set_up(LETTERS)
+    with Image.open(own.kept("#picture")) as picture:
+        assert cells.difference(picture.convert("RGBA"), cells.picture_after(own.cam6, lines)) == ""
     own.click("#keep-picture")
-    own.choose("#picture-scale", "1")
     own.fill("#film-frames", "5")
-    with Image.open(own.kept(lambda: own.click("#film"))) as film:
+    with Image.open(own.kept("#film")) as film:
         assert film.n_frames == 5
         for step in range(film.n_frames):
             film.seek(step)
-            wanted = cells.picture_of(cells.machine_after(own.cam6, [*lines, *[moved(1)] * step]))
+            wanted = cells.picture_after(own.cam6, [*lines, *[moved(1)] * step])
             assert cells.difference(film.convert("RGBA"), wanted) == "", f"frame {step}"
 
 

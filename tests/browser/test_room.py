@@ -24,20 +24,11 @@ CUT = """arguments[0].filter(selector => {
 })"""
 
 
-@pytest.fixture
-def small(own: Teacher) -> Teacher:
-    """A teacher at a small window."""
+def test_a_small_window_is_wide_enough_and_has_the_controls_in_sight(own: Teacher) -> None:
     own.size(*SMALL)
-    return own
-
-
-def test_a_small_window_is_wide_enough(small: Teacher) -> None:
-    small.until(f"document.documentElement.scrollWidth <= {SMALL[0]}")
-
-
-def test_controls_are_in_sight_in_a_small_window(small: Teacher) -> None:
-    small.until(f"document.getElementById('torus').getBoundingClientRect().right <= {SMALL[0]}")
-    assert small.value(CUT, IN_SIGHT) == []
+    own.until(f"document.documentElement.scrollWidth <= {SMALL[0]}")
+    own.until(f"document.getElementById('torus').getBoundingClientRect().right <= {SMALL[0]}")
+    assert own.value(CUT, IN_SIGHT) == []
 
 
 def test_each_control_has_a_name(own: Teacher) -> None:

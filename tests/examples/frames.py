@@ -5,7 +5,7 @@ from __future__ import annotations
 from collections.abc import Callable
 from typing import Any
 
-from examples.writing import Plain, compact
+from oracle.lines import plain
 from oracle.palette import PALETTE
 
 SIDE = 128
@@ -25,14 +25,14 @@ def in_colours(x: int, y: int) -> int:
     return (3 * x + 5 * y + x * y // 64) % 16
 
 
-def replies() -> Plain:
+def replies() -> str:
     """Replies of a machine: a plane, and then rows in colours."""
     rows = [sum(in_plane(x, y) << SIDE - 1 - x for x in range(SIDE)) for y in range(SIDE)]
     said: list[dict[str, Any]] = [{"ok": "rule"}, {"ok": "cycle"}]
     said += [{"ok": "plane", "rows": [f"{row:0{SIDE // 4}x}" for row in rows]}]
     said += [{"ok": "run", "position": 0}, {"fault": 61}, {"count": len(CELLS), "ok": "count"}]
     said += [{"colours": "".join(f"{in_colours(x, y):x}" for x in range(SIDE)), "ok": "colours"} for y in range(SIDE)]
-    return Plain("".join(f"{compact(reply)}\n" for reply in [*said, {"ok": "run", "position": 0}]))
+    return "".join(f"{plain(reply).decode()}\n" for reply in [*said, {"ok": "run", "position": 0}])
 
 
 def hue(colour: int) -> int:
@@ -51,6 +51,10 @@ def terminal(colour: Callable[[int, int], int]) -> str:
     return f"\x1b[H{lines}\x1b[J"
 
 
-def drawn() -> Plain:
+def drawn() -> str:
     """Both frames."""
-    return Plain(terminal(in_plane) + terminal(in_colours))
+    return terminal(in_plane) + terminal(in_colours)
+
+
+# The functions that make the texts of files.
+FILES = {"crates/cam6_draw/stdin": replies, "crates/cam6_draw/stdout": drawn}

@@ -1,6 +1,6 @@
 #!/usr/bin/env python3
-"""Writes worked examples anew: all that a script of this folder makes, or those whose names have one of the words. With
---answers the words are files of examples, in which the replies of the oracle take the place of those that are otherwise."""
+"""Writes files of examples anew: the replies of a worked example, by the oracle, and what a script of this folder makes. A line of
+an example that has no reply yet needs one to be written over: `> LINE => {}`, or `< plane` below it."""
 
 from __future__ import annotations
 
@@ -11,29 +11,28 @@ from pathlib import Path
 TOP = Path(__file__).parents[2]
 
 
-def main() -> int:
+def main() -> None:
     """Writes the files that differ, and prints their names."""
     parser = argparse.ArgumentParser(description=__doc__)
-    parser.add_argument("words", metavar="WORD", nargs="*")
-    parser.add_argument("--answers", action="store_true", help="the words are files, whose replies are written anew")
+    parser.add_argument("files", metavar="FILE", nargs="+", type=Path)
     given = parser.parse_args()
     sys.path.insert(0, str(TOP / "tests"))
-    from examples.answering import answered
-    from examples.files import FILES
+    from examples.frames import FILES
+    from examples.writing import answered
 
-    if given.answers:
-        texts = {Path(word): answered(Path(word)) for word in given.words}
-    else:
-        chosen = [path for path in FILES if not given.words or any(word in path for word in given.words)]
-        texts = {TOP / path: FILES[path]().text() for path in chosen}
-    if not texts:
-        parser.error(f"no file has one of these words in its name: {' '.join(given.words)}")
-    for file, text in texts.items():
-        if not file.exists() or file.read_text(encoding="utf-8") != text:
+    makers = {TOP / path: make for path, make in FILES.items()}
+    for file in given.files:
+        make = makers.get(file.resolve())
+        if file.name.startswith("wrong_"):
+            parser.error(f"{file} has an answer that is wrong on purpose: write its replies by hand")
+        try:
+            text = make() if make else answered(file)
+        except (AssertionError, OSError, ValueError) as why:
+            parser.error(str(why))
+        if file.read_text(encoding="utf-8") != text:
             file.write_text(text, encoding="utf-8")
-            print(f"written: {file.relative_to(TOP) if file.is_relative_to(TOP) else file}")
-    return 0
+            print(f"written: {file}")
 
 
 if __name__ == "__main__":
-    sys.exit(main())
+    main()

@@ -12,7 +12,14 @@ from support.playing import assert_answers, examples
 FOLDERS = ("crates/cam6_host/sessions", "crates/cam6_host/events", "crates/cam6_try_rules/data")
 
 
-@pytest.mark.parametrize("path", [one for one in examples(*FOLDERS) if is_known(one.values[0])])
+# They take more than ten seconds.
+SLOW = ("gases_undone", "halves_undone", "tables_with_programs", "wirings")
+KNOWN = [one for one in examples(*FOLDERS) if is_known(one.values[0])]
+
+
+@pytest.mark.parametrize(
+    "path", [pytest.param(*one.values, id=one.id, marks=[pytest.mark.slow] * (one.id in SLOW)) for one in KNOWN]
+)
 def test_the_oracle_says_what_the_file_says(path: Path) -> None:
     example = Example(path)
     assert_answers(example, (b"".join(answer + b"\n" for answer in part_answers(part)) for part in example.parts))

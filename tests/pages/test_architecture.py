@@ -6,11 +6,9 @@ import re
 import shutil
 
 import pytest
-from pages.sources import CRATES
-from pages.texts import crates_listed, named, rows, sources_of, text_of
+from pages.texts import CRATES, LISTED, named, rows, sources_of, text_of
 from support.programs import ran
 
-LISTED = crates_listed()
 ARCHITECTURE = text_of("docs/ARCHITECTURE.md")
 # The steps of the hand-off table that change a word: the call of a desk or a seat, the step's function and its exchange.
 STEPS = [
@@ -20,24 +18,23 @@ STEPS = [
     ("put_done", "done", "swap::<GivingDone>"),
     ("try_collect", "collect", "compare_exchange::<Collecting>"),
 ]
+CODE = "".join(re.sub(r"//.*", "", text_of(path)) for path in sources_of("cam6_handoff"))
+# The functions of cam6_handoff, each with its indentation, its name and its body, without comments.
+HANDOFF = re.findall(r"^( *)(?:pub(?:\(\w+\))? )?fn (\w+)(.*?)^\1}", CODE, re.M | re.S)
 COUNTS = (
     "The {programs} programs stand on {code} crates with code, in layers. "
     "{laws} crates have definitions and laws alone, and {tests} read"
 )
 # What `--version` prints after a program's name: the version, and the logic of the kit that proves the program.
 VERSION = r"(\S+) \(Rattle logic (\w+)\)"
-
-
-def handoff_functions() -> list[tuple[str, str]]:
-    """The functions of cam6_handoff, each with its name and its body, without comments."""
-    code = "".join(re.sub(r"//.*", "", text_of(path)) for path in sources_of("crates/cam6_handoff/src", ".rt"))
-    found = re.findall(r"^( *)(?:pub(?:\(\w+\))? )?fn (\w+)(.*?)^\1}", code, re.M | re.S)
-    return [(name, body) for _, name, body in found]
+# The version that stands first in CHANGELOG, and the logic of the kit that README names.
+NEWEST = re.findall(r"^## Version (\S+)$", text_of("CHANGELOG.md"), re.M)[0]
+KIT = re.findall(r"`rattle-kit-\w+ logic (\w+)`", text_of("README.md"))[0]
 
 
 def test_the_handoff_has_one_exchange_for_each_kind_of_step() -> None:
     """There is no other exchange."""
-    bodies = "".join(body for _, body in handoff_functions())
+    bodies = "".join(body for _, _, body in HANDOFF)
     exchanges = re.findall(r"\.((?:swap|compare_exchange|fetch_\w+)\S*?>)\(", bodies)
     assert sorted(exchanges) == sorted(exchange for _, _, exchange in STEPS)
 
@@ -45,9 +42,8 @@ def test_the_handoff_has_one_exchange_for_each_kind_of_step() -> None:
 @pytest.mark.parametrize(("call", "step", "exchange"), STEPS)
 def test_a_step_of_the_handoff_is_one_exchange(call: str, step: str, exchange: str) -> None:
     """No proof counts exchanges. A step is one, in one function that tries none again, and one call makes it, once."""
-    functions = handoff_functions()
-    makers = [(name, body) for name, body in functions if f".{exchange}(" in body]
-    callers = [(name, body) for name, body in functions if f"steps::{step}(" in body]
+    makers = [(name, body) for _, name, body in HANDOFF if f".{exchange}(" in body]
+    callers = [(name, body) for _, name, body in HANDOFF if f"steps::{step}(" in body]
     assert ([name for name, _ in makers], [name for name, _ in callers]) == ([step], [call])
     assert callers[0][1].count(f"steps::{step}(") == 1
     assert not any(re.search(r"\b(?:for|while|loop)\b", body) for _, body in makers + callers)
@@ -116,35 +112,20 @@ def test_the_decisions_are_indexed() -> None:
     assert sorted(int(number) for part in lists for number in re.findall(r"\d+", part.partition("**: ")[2])) == numbers
 
 
-def kit() -> str:
-    """The logic of the kit that README names."""
-    found = re.search(r"`rattle-kit-\w+ logic (\w+)`", text_of("README.md"))
-    assert found
-    return found[1]
-
-
 def test_the_kit_has_the_logic_of_the_one_that_readme_names() -> None:
     """Kits of one logic prove the same."""
     rt = shutil.which("rt")
     assert rt, "there is no rt on the PATH"
-    assert ran([rt, "version"]).output.decode().split()[-1] == kit()
-
-
-def newest_version() -> str:
-    """The version that stands first in CHANGELOG."""
-    heading = re.search(r"^## Version (\S+)$", text_of("CHANGELOG.md"), re.M)
-    assert heading
-    return heading[1]
+    assert ran([rt, "version"]).output.decode().split()[-1] == KIT
 
 
 def test_the_sources_have_one_version() -> None:
     """It is the one that stands first in CHANGELOG, with the logic of README's kit."""
-    texts = [text_of(path) for crate in LISTED for path in sources_of(f"crates/{crate}/src", ".rt")]
-    versions = [found for text in texts for found in re.findall(rf'const VERSION: &str = "{VERSION}";', text)]
-    assert set(versions) == {(newest_version(), kit())}
+    text = "".join(text_of(path) for crate in LISTED for path in sources_of(crate))
+    assert set(re.findall(rf'const VERSION: &str = "{VERSION}";', text)) == {(NEWEST, KIT)}
 
 
 def test_the_program_tells_its_version(cam6: str) -> None:
     """It is the one that stands first in CHANGELOG."""
     told = re.fullmatch(rf"cam6 {VERSION}\n", ran([cam6, "--version"]).output.decode())
-    assert told and told[1] == newest_version()
+    assert told and told[1] == NEWEST

@@ -5,24 +5,59 @@ from __future__ import annotations
 import os
 import re
 from collections.abc import Iterator
+from functools import cache
 from operator import itemgetter
+from pathlib import Path
 
 import pytest
-from pages.sources import CRATES, example_files, functions_of, is_defined, is_file_of, is_function_or_module
-from pages.texts import EXAMPLES, PAGES, blocks, crates_listed, named, rows, text_of
+from pages.texts import CRATES, EXAMPLES, LISTED, PAGES, blocks, named, rows, sources_of, text_of
 from support.programs import TOP
 
-LISTED = crates_listed()
 # README's line of each crate: the crates that it names, how they are described, and what is proved of them.
 LINES = [row for row in rows(text_of("README.md")) if len(row) == 3]
-# The sections of CLAIMS.
-CLAIMS = re.split(r"^##+ ", text_of("docs/CLAIMS.md"), flags=re.M)[1:]
 # The most words of such a line.
 LINE_WORDS = 20
+CLAIMS = re.split(r"^##+ ", text_of("docs/CLAIMS.md"), flags=re.M)[1:]
 # The pages that list the worked examples.
 LISTS = ["docs/GALLERY.md", "docs/EXAMPLES.md"]
 # The folder of an edit, by its mark in docs/WRONG-BODIES.md.
 EDITS = {"gate": "must-fail", "test": "tested-edits", "": "more-edits"}
+
+
+@cache
+def functions_of(crate: str) -> dict[str, set[str]]:
+    """The public functions of a crate by name, and by type and name, each with the labels of its clauses.
+
+    Those of a public trait and of its impls are among them. If the crate is a program, all of its functions are.
+    """
+    functions: dict[str, set[str]] = {}
+    is_program = (CRATES / crate / "src/main.rt").is_file()
+    for path in sources_of(crate):
+        owner, is_of_trait, labels = "", False, set[str]()
+        for line in text_of(path).splitlines():
+            if head := re.match(r"(?:impl(?:<.*?>)? (.* for )?|pub (trait) )(\w+)", line):
+                owner, is_of_trait = f"{head[3]}::", bool(head[1] or head[2])
+            elif line == "}":
+                owner, is_of_trait = "", False
+            if function := re.match(r"\s*(pub )?(?:const )?fn (\w+)", line):
+                is_named = bool(function[1]) or is_of_trait or is_program
+                labels = functions.setdefault(owner + function[2], set()) if is_named else set()
+            # A clause without a label has the empty one.
+            if clause := re.match(r"\s*ensures\*? (?:(\w+) )?\{", line):
+                labels.add(clause[1] or "")
+    for name in [name for name in functions if "::" in name]:
+        functions.setdefault(name.split("::")[1], set()).update(functions[name])
+    return functions
+
+
+def is_function_or_module(crate: str, name: str) -> bool:
+    """Whether a crate has a public function or a module of this name."""
+    return name in functions_of(crate) or (CRATES / crate / f"src/{name}.rt").is_file()
+
+
+def example_files() -> list[Path]:
+    """All worked examples."""
+    return [path for part in EXAMPLES for path in sorted(CRATES.glob(f"*/{part}/*.example"))]
 
 
 def test_readme_has_a_line_for_each_crate() -> None:
@@ -37,21 +72,13 @@ def test_a_line_of_readme_names_what_is_there(line: list[str]) -> None:
     assert 0 < len(re.sub(r"`[^`]+`", "code", says).split()) <= LINE_WORDS
     crate = named(crates)[0]
     functions = functions_of(crate)
-    for part in proved.split(";") if proved else []:
+    for part in proved.split(";"):
         called, colon, labels = part.partition(": ")
         owners = named(called) if colon else []
         assert set(owners) <= set(functions)
-        of_owners = set[str]().union(*(functions[name] for name in owners))
-        of_all = set[str]().union(*functions.values())
+        clauses = set[str]().union(*(functions[name] for name in owners or functions))
         for name in named(labels if colon else part):
-            assert name in of_owners if owners else name in of_all or is_function_or_module(crate, name), name
-
-
-def entries_of(section: str) -> Iterator[str]:
-    """The entries of a section's list, each on one line."""
-    for paragraph in re.split(r"\n\s*\n|\n(?=- )", section):
-        if paragraph.startswith("- "):
-            yield " ".join(line.strip() for line in paragraph.splitlines())
+            assert name in clauses or not owners and is_function_or_module(crate, name), name
 
 
 def test_claims_has_a_section_for_each_crate() -> None:
@@ -67,10 +94,10 @@ def test_a_claim_names_what_is_there(section: str) -> None:
     It has no labels if each function has one clause without a label.
     """
     crates = named(section.partition("\n")[0])
-    for entry in entries_of(section) if crates else []:
-        if "**" not in entry:
+    for entry in re.split(r"\n\s*\n|\n(?=- )", section) if crates else []:
+        if "**" not in entry or not entry.startswith("- "):
             continue
-        claim = re.match(r"- \*\*(`.+?`)\*\*(?: \((`[^()]+`)\))?: \S", entry)
+        claim = re.match(r"- \*\*(`.+?`)\*\*(?: \((`[^()]+`)\))?: \S", re.sub(r"\s*\n\s*", " ", entry))
         assert claim, entry
         names, labels = named(claim[1]), named(claim[2] or "")
         functions = functions_of(crates[0])
@@ -80,6 +107,15 @@ def test_a_claim_names_what_is_there(section: str) -> None:
             assert labels or not functions.get(name) or "" in functions[name], f"{name} has clauses with labels"
         here = set[str]().union(*(functions.get(name, set()) for name in names))
         assert set(labels) <= here
+
+
+def is_defined(name: str, path: Path) -> bool:
+    """Whether a definition, a record or a type of this name stands in a file, in a module with parameters too."""
+    if path.suffix == ".rt":
+        pattern = rf"^\s*pub (?:struct|enum|trait|type|fn|const) {re.escape(name)}\b"
+    else:
+        pattern = rf"^ *(?:(?:pub|abbrev|unfoldable|data|record|opaque) )+{re.escape(name)} "
+    return re.search(pattern, text_of(path), re.M) is not None
 
 
 SECTIONS = [
@@ -93,11 +129,8 @@ SECTIONS = [
 def test_a_definition_of_the_model_is_there(crate: str, section: str) -> None:
     """Each definition of a table stands in a file that its row names, of the crate of the heading."""
     for row in rows(section):
-        places = [
-            CRATES / crate / (name if name.startswith("src/") else f"specs/{name}")
-            for name in named(row[1])
-            if name.endswith((".antt", ".rt", "/"))
-        ]
+        names = [name for name in named(row[1]) if name.endswith((".antt", ".rt", "/"))]
+        places = [CRATES / crate / (name if name.startswith("src/") else f"specs/{name}") for name in names]
         assert all(place.exists() for place in places), row
         files = [file for place in places for file in (place.rglob("*.antt") if place.is_dir() else [place])]
         for name in named(row[0]) if places else []:
@@ -109,11 +142,8 @@ def test_code_that_the_model_quotes_is_there() -> None:
     count = 0
     for before, block in blocks(text_of("docs/MODEL.md")):
         if paths := re.findall(r"`(cam6_\w+/(?:specs|src)/[\w/]+\.\w+)`", before):
-            quoted, source = (
-                "\n".join(line.strip() for line in lines)
-                for lines in (block, text_of(f"crates/{paths[-1]}").splitlines())
-            )
-            assert quoted in source, paths[-1]
+            source = [line.strip() for line in text_of(f"crates/{paths[-1]}").splitlines()]
+            assert "\n".join(line.strip() for line in block) in "\n".join(source), paths[-1]
             count += 1
     assert count > 0
 
@@ -147,7 +177,7 @@ def test_each_example_is_played() -> None:
     folders = sorted(CRATES.glob("*/data"))
     assert folders
     for folder in folders:
-        assert is_file_of(folder.parent.name, "src/main.rt"), folder
+        assert (folder.parent / "src/main.rt").is_file(), folder
         assert sorted(path.name for path in folder.iterdir()) == sorted(text_of(folder.parent / "args").split()), folder
     assert {path for part in EXAMPLES for path in CRATES.glob(f"*/{part}/*")} == set(example_files())
 
@@ -170,13 +200,9 @@ def is_test(name: str) -> bool:
 
 def wrong_bodies() -> Iterator[tuple[str, list[str]]]:
     """The rows of docs/WRONG-BODIES.md with wrong bodies, each with the crate of its heading."""
-    crate = ""
-    for line in text_of("docs/WRONG-BODIES.md").splitlines():
-        if heading := re.match(r"## (?:`(\w+)`)?", line):
-            crate = heading[1] or ""
-        row = [column.strip() for column in line.split("|")[1:-1]]
-        if line.startswith("| ") and len(row) == 3 and row[0] != "Wrong body":
-            yield crate, row
+    for section in re.split(r"^## ", text_of("docs/WRONG-BODIES.md"), flags=re.M):
+        heading = re.match(r"`(\w+)`", section)
+        yield from ((heading[1] if heading else "", row) for row in rows(section) if len(row) == 3)
 
 
 @pytest.mark.parametrize(("crate", "row"), wrong_bodies())
@@ -186,6 +212,6 @@ def test_a_wrong_body_has_its_edit_and_its_test(crate: str, row: list[str]) -> N
     assert edits != "-" or tests != "-", body
     for path, mark in re.findall(r"`([\w/]+)`(?: \((gate|test)\))?", edits):
         of, _, name = path.rpartition("/")
-        assert is_file_of(of or crate, f"{EDITS[mark]}/{name}.edit"), path
+        assert (CRATES / (of or crate) / EDITS[mark] / f"{name}.edit").is_file(), path
     for name in named(tests):
         assert is_test(name), name

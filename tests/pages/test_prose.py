@@ -9,8 +9,7 @@ import os.path
 import re
 from collections import Counter
 from collections.abc import Iterable
-from dataclasses import dataclass, field
-from functools import lru_cache
+from functools import cache
 
 import pytest
 from markdown_it import MarkdownIt
@@ -37,41 +36,24 @@ LINK = re.compile(r"!?\[([^\[\]]*)\]\(<?([^()<>\s]+)>?(?:\s+\"[^\"]*\")?\)")
 SENTENCE_END = re.compile(r"(?<=[.!?])[\"')*_]*\s+(?=[\"'(\[*_]*[A-Z0-9])")
 
 
-@dataclass
-class Page:
-    """The parts of a page that are measured or followed."""
-
-    lines: list[str] = field(default_factory=list)
-    paragraphs: list[str] = field(default_factory=list)
-    cells: list[str] = field(default_factory=list)
-    headings: list[str] = field(default_factory=list)
-    targets: list[str] = field(default_factory=list)
-
-
 def plain(inline: Token) -> str:
     """A text as it is read: with one word in place of code, and without images and the targets of links."""
     spelled = {"code_inline": "Code", "softbreak": " ", "hardbreak": " ", "image": ""}
     return "".join(spelled.get(part.type, part.content) for part in inline.children or [])
 
 
-@lru_cache(maxsize=None)
-def read(path: str) -> Page:
-    """Takes a page apart."""
-    page, text = Page(), text_of(path)
-    tokens = MarkdownIt("commonmark").enable("table").parse(text)
-    for opening, inline in zip(tokens, tokens[1:]):
-        if inline.type != "inline":
-            continue
-        attributes = (part.attrs.get(name) for part in inline.children or [] for name in ("href", "src"))
-        page.targets += [str(target) for target in attributes if target]
-        if opening.type == "heading_open":
-            page.headings.append(inline.content)
-        elif opening.type == "paragraph_open" and inline.map:
-            page.paragraphs.append(plain(inline))
-            page.lines += [LINK.sub(r"[\1]", line) for line in text.splitlines()[slice(*inline.map)]]
-        else:
-            page.cells.append(plain(inline))
-    return page
+@cache
+def texts(name: str, *kinds: str) -> list[Token]:
+    """The texts of a page of these kinds: `heading`, `paragraph`, and the cells of tables, `th` and `td`."""
+    tokens = MarkdownIt("commonmark").enable("table").parse(text_of(name))
+    pairs = zip(tokens, tokens[1:])
+    return [text for before, text in pairs if text.type == "inline" and before.type.removesuffix("_open") in kinds]
+
+
+def targets(name: str) -> list[str]:
+    """Where the links and the images of a page lead."""
+    parts = (part for text in texts(name, "heading", "paragraph", "th", "td") for part in text.children or [])
+    return [str(target) for part in parts for key in ("href", "src") if (target := part.attrs.get(key))]
 
 
 def words(text: str) -> int:
@@ -87,34 +69,34 @@ def longer(texts: Iterable[str], most: int) -> list[str]:
 @pytest.mark.parametrize("name", sorted({*PROSE} - FREE_PROSE))
 def test_prose_is_within_its_bounds(name: str) -> None:
     """Sentences, paragraphs and lines are short, and there are few semicolons."""
-    page = read(name)
-    parts = [part for paragraph in page.paragraphs for part in SENTENCE_END.split(paragraph)]
+    source, inlines = text_of(name).splitlines(), texts(name, "paragraph")
+    paragraphs = [plain(inline) for inline in inlines]
+    parts = [part for paragraph in paragraphs for part in SENTENCE_END.split(paragraph)]
     counts = [words(part) for part in parts if words(part)]
     assert sum(counts) <= MEAN_WORDS * len(counts), f"{sum(counts) / len(counts):.1f} words a sentence"
     long_ones = longer(parts, LONG_SENTENCE)
     assert 100 * len(long_ones) <= LONG_PERCENT * len(counts), long_ones
     assert longer(parts, SENTENCE_WORDS) == []
-    assert longer(page.paragraphs, PARAGRAPH_WORDS) == []
-    assert [line for line in page.lines if len(line) > LINE_CHARACTERS] == []
-    assert sum(paragraph.count(";") for paragraph in page.paragraphs) <= SEMICOLONS
+    assert longer(paragraphs, PARAGRAPH_WORDS) == []
+    lines = [LINK.sub(r"[\1]", line) for inline in inlines if inline.map for line in source[slice(*inline.map)]]
+    assert [line for line in lines if len(line) > LINE_CHARACTERS] == []
+    assert sum(paragraph.count(";") for paragraph in paragraphs) <= SEMICOLONS
 
 
 @pytest.mark.parametrize("name", sorted({*PROSE} - FREE_TABLES))
 def test_cells_of_tables_are_short(name: str) -> None:
-    """A cell of a table is no paragraph."""
-    assert longer(read(name).cells, CELL_WORDS) == []
+    assert longer(map(plain, texts(name, "th", "td")), CELL_WORDS) == []
 
 
 def test_readme_is_short() -> None:
-    """It is read before all else."""
     assert text_of(README).count("\n") <= README_LINES
 
 
-def anchors(page: Page) -> set[str]:
+def anchors(name: str) -> set[str]:
     """The anchors of a page's headings, as GitHub makes them."""
     found, counts = set(), Counter[str]()
-    for heading in page.headings:
-        text = re.sub(r"[`*]", "", LINK.sub(r"\1", heading)).lower()
+    for heading in texts(name, "heading"):
+        text = re.sub(r"[`*]", "", LINK.sub(r"\1", heading.content)).lower()
         anchor = re.sub(r"[^\w -]", "", text).replace(" ", "-")
         found.add(f"{anchor}-{counts[anchor]}" if counts[anchor] else anchor)
         counts[anchor] += 1
@@ -133,13 +115,12 @@ def test_links_lead_somewhere(name: str) -> None:
 
     An address of a network isn't followed.
     """
-    for target in read(name).targets:
+    for target in targets(name):
         if not re.match(r"[a-z][a-z0-9+.-]*:", target):
             path, anchor = path_of(name, target), target.partition("#")[2]
             assert not path.startswith("..") and (TOP / path).exists(), target
-            assert not anchor or (path.endswith(".md") and anchor in anchors(read(path))), target
+            assert not anchor or (path.endswith(".md") and anchor in anchors(path)), target
 
 
 def test_readme_links_to_each_page() -> None:
-    """Nobody has to look for a page."""
-    assert {*PROSE} - {README} <= {path_of(README, target) for target in read(README).targets}
+    assert {*PROSE} - {README} <= {path_of(README, target) for target in targets(README)}

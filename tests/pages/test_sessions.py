@@ -2,36 +2,31 @@
 
 from __future__ import annotations
 
-from collections.abc import Callable
+from collections.abc import Callable, Iterable
 from contextlib import ExitStack
 
 import pytest
+from _pytest.mark import ParameterSet
 from oracle.examples import Example
 from pages.texts import PAGES, Served, served_sessions_of, sessions_of
 from support.programs import TOP, Host, Peer, ran
 from support.sessions import assert_replies
 
-SESSIONS = [
-    pytest.param(*session, id=f"{page}-{number}")
-    for page in PAGES
-    for number, session in enumerate(sessions_of(page), 1)
-]
-SERVED = [
-    pytest.param(*session, id=f"{page}-{number}")
-    for page in PAGES
-    for number, session in enumerate(served_sessions_of(page), 1)
-]
+
+def of_pages(sessions_of: Callable[[str], Iterable[Iterable[object]]]) -> list[ParameterSet]:
+    """The sessions of all pages, as parameters of a test."""
+    found = ((f"{page}-{number}", session) for page in PAGES for number, session in enumerate(sessions_of(page), 1))
+    return [pytest.param(*session, id=name) for name, session in found]
 
 
 def assert_answers(sent: list[str], came: list[str], told: list[str]) -> None:
     """Fails if the answers aren't those that a page tells."""
-    wholes = [
-        answer if begun.endswith("..") and answer.startswith(begun[:-2]) else begun for answer, begun in zip(came, told)
-    ]
+    pairs = zip(came, told)
+    wholes = [one if begun.endswith("..") and one.startswith(begun[:-2]) else begun for one, begun in pairs]
     assert_replies(sent, came, wholes + told[len(came) :])
 
 
-@pytest.mark.parametrize(("words", "typed", "answered"), SESSIONS)
+@pytest.mark.parametrize(("words", "typed", "answered"), of_pages(sessions_of))
 def test_a_session_comes_back(cam6: str, words: list[str], typed: list[str], answered: list[str]) -> None:
     """A blank machine answers a page's session as the page says."""
     done = ran([cam6, *words], "".join(f"{line}\n" for line in typed).encode())
@@ -39,7 +34,7 @@ def test_a_session_comes_back(cam6: str, words: list[str], typed: list[str], ans
     assert_answers(typed, done.output.decode().splitlines(), answered)
 
 
-@pytest.mark.parametrize(("words", "lines"), SERVED)
+@pytest.mark.parametrize(("words", "lines"), of_pages(served_sessions_of))
 def test_a_session_over_connections_comes_back(host: Callable[..., Host], words: list[str], lines: Served) -> None:
     """A host answers each connection of a page's session as the page says."""
     served = host(*words[1:])

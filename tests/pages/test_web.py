@@ -11,6 +11,7 @@ import pytest
 from support.programs import TOP, ran
 
 WEB = TOP / "web"
+FILES = sorted(path for path in WEB.iterdir() if path.suffix in (".html", ".css", ".js"))
 # An address of another machine where a file is loaded: in an attribute, an import, a `url(..)` or a call of `fetch`.
 ELSEWHERE = re.compile(
     r"""(src|href|action|poster)=["']?([a-z]+:)?//"""
@@ -26,9 +27,7 @@ def test_the_program_has_the_files_as_they_stand() -> None:
     assert done.status == 0, done.output.decode() + done.errors.decode()
 
 
-@pytest.mark.parametrize(
-    "path", sorted(path for kind in ("html", "css", "js") for path in WEB.glob(f"*.{kind}")), ids=attrgetter("name")
-)
+@pytest.mark.parametrize("path", FILES, ids=attrgetter("name"))
 def test_a_file_loads_nothing_from_elsewhere(path: Path) -> None:
     """No file names another machine, and no page has a script or a style within itself."""
     text = path.read_text(encoding="utf-8")
@@ -38,7 +37,6 @@ def test_a_file_loads_nothing_from_elsewhere(path: Path) -> None:
 
 @pytest.mark.parametrize("script", sorted(WEB.glob("*.js")), ids=attrgetter("name"))
 def test_a_script_is_a_module(script: Path, tmp_path: Path) -> None:
-    """Node reads it as a module."""
     copy = shutil.copy(script, tmp_path / "module.mjs")
     done = ran(["node", "--check", str(copy)])
     assert done.status == 0, done.errors.decode()
@@ -46,6 +44,5 @@ def test_a_script_is_a_module(script: Path, tmp_path: Path) -> None:
 
 @pytest.mark.parametrize("test", sorted(WEB.glob("tests/*.test.mjs")), ids=attrgetter("name"))
 def test_modules_do_what_their_tests_say(test: Path) -> None:
-    """Node passes the tests of the page's modules."""
     done = ran(["node", "--test", str(test)])
     assert done.status == 0, done.output.decode()

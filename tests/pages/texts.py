@@ -11,6 +11,7 @@ from support.programs import TOP
 # The pages whose prose is measured.
 PROSE = ["README.md", "CONTRIBUTING.md", "CHANGELOG.md", *sorted(f"docs/{page.name}" for page in TOP.glob("docs/*.md"))]
 PAGES = [*PROSE, "tools/bench/README.md"]
+CRATES = TOP / "crates"
 # Where a crate has worked examples: those that its program plays, and those that tests play at it.
 EXAMPLES = ["data", "sessions", "events", "connections"]
 # The lines of a session over connections: the number of the connection, which way the line goes, and the line.
@@ -22,9 +23,9 @@ def text_of(path: str | Path) -> str:
     return (TOP / path).read_text(encoding="utf-8")
 
 
-def sources_of(folder: str, ending: str) -> list[Path]:
-    """All files with this ending in a folder and in those within it."""
-    return sorted((TOP / folder).rglob(f"*{ending}"))
+def sources_of(crate: str) -> list[Path]:
+    """All sources of a crate."""
+    return sorted((CRATES / crate / "src").rglob("*.rt"))
 
 
 def named(text: str) -> list[str]:
@@ -32,10 +33,9 @@ def named(text: str) -> list[str]:
     return re.findall(r"`([^`]+)`", text)
 
 
-def crates_listed() -> dict[str, list[str]]:
-    """The crates of crates.txt in order, each with the crates and libraries that it stands on."""
-    lines = [line.partition("#")[0].partition(":") for line in text_of("crates.txt").splitlines()]
-    return {name.split()[0]: uses.split() for name, colon, uses in lines if colon}
+LINES = [line.partition("#")[0].partition(":") for line in text_of("crates.txt").splitlines()]
+# The crates of crates.txt in order, each with the crates and libraries that it stands on.
+LISTED = {name.split()[0]: uses.split() for name, colon, uses in LINES if colon}
 
 
 def rows(text: str) -> Iterator[list[str]]:

@@ -12,7 +12,6 @@ from typing import Any
 
 from examples.named_rules import REVERSIBLE
 from examples.saving import blank_rows, first_version
-from examples.writing import Command, cycle_command, do, rule_command
 from hypothesis import strategies as st
 from hypothesis.stateful import Bundle, RuleBasedStateMachine, rule
 from oracle.host import Replay
@@ -21,6 +20,7 @@ from oracle.machine import SIDES, Alone, Machine
 from oracle.wirings import FIRST_PLANE
 from programs.breaking import Breaker
 from programs.texts import rules
+from support.commands import Command, cycle_command, do, rule_command
 from support.sessions import assert_replies
 from support.talk import Talk
 
@@ -215,9 +215,10 @@ class Asking(RuleBasedStateMachine):
         self.do(do("drop", name=name))
         self.do(do("rules"))
 
-    @rule(target=saved)
-    def save(self) -> Command:
-        """The machine, saved."""
+    @rule(target=saved, way=st.sampled_from(["run", "back"]), n=st.integers(0, 3))
+    def save(self, way: str, n: int) -> Command:
+        """The machine after some steps, saved."""
+        self.do(do(way, n=n))
         self.do(do("save"))
         machine: Command = self.machine_at().do(do("save"))["machine"]
         return machine

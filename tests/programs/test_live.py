@@ -11,6 +11,7 @@ import re
 import select
 import signal
 import socket
+import subprocess
 import time
 import urllib.request
 from collections.abc import Callable, Iterator
@@ -25,7 +26,7 @@ pytestmark = pytest.mark.xdist_group("live")
 LIVE = str(TOP / "live")
 # Seconds in which it has to start, and to end.
 START, END = 30, 10
-CTRL_C = b"\x03"
+ADDRESS = re.compile(rb"open (http://\S+/) in")
 
 
 class Live:
@@ -33,51 +34,41 @@ class Live:
 
     def __init__(self, *words: str) -> None:
         self.said = b""
-        self.process, self.terminal = pty.fork()
-        if self.process == 0:
+        ours, theirs = pty.openpty()
+
+        def begin() -> None:
             # A shell in the background has its programs ignore the one, and nohup the other, and what they start does too.
             signal.signal(signal.SIGINT, signal.SIG_DFL)
             signal.signal(signal.SIGHUP, signal.SIG_DFL)
-            os.execv(LIVE, [LIVE, *words])
+            os.login_tty(theirs)
 
-    def is_begun(self) -> bool:
-        """Whether the process is another program than this one. It is a copy of this one at first."""
-        return Path(f"/proc/{self.process}/comm").read_text() != Path("/proc/self/comm").read_text()
+        self.process = subprocess.Popen([LIVE, *words], preexec_fn=begin)
+        os.close(theirs)
+        self.terminal = open(ours, "r+b", buffering=0)
 
-    def press(self, key: bytes) -> None:
-        """Types a key."""
-        os.write(self.terminal, key)
+    def press_ctrl_c(self) -> None:
+        """Types Ctrl-C."""
+        self.terminal.write(b"\x03")
 
-    def read(self, seconds: float) -> bool:
-        """Takes what is said. Returns False at its end."""
-        if not select.select([self.terminal], [], [], seconds)[0]:
-            return True
+    def read(self) -> bool:
+        """Takes what was said by now. Returns whether more may come."""
         with suppress(OSError):
-            part = os.read(self.terminal, 4096)
-            self.said += part
-            return part != b""
+            while select.select([self.terminal], [], [], 0)[0] and (part := self.terminal.read(4096)):
+                self.said += part
+            return True
         return False
 
     def address(self) -> str:
         """The address that it prints, or nothing."""
-        end = time.monotonic() + START
-        while time.monotonic() < end and not (found := re.search(rb"open (http://\S+/) in", self.said)):
-            if not self.read(0.2):
-                break
+        until(lambda: not self.read() or ADDRESS.search(self.said), START)
+        found = ADDRESS.search(self.said)
         return found[1].decode() if found else ""
 
-    def status(self) -> int | str:
-        """The status with which it ends."""
-        end = time.monotonic() + END
-        while time.monotonic() < end:
-            process, status = os.waitpid(self.process, os.WNOHANG)
-            if process:
-                while self.read(0.1) and select.select([self.terminal], [], [], 0)[0]:
-                    pass
-                return os.WEXITSTATUS(status) if os.WIFEXITED(status) else f"signal {os.WTERMSIG(status)}"
-            if self.terminal >= 0:
-                self.read(0.05)
-        return "it doesn't end"
+    def status(self) -> int:
+        """The status with which it ends, or less than 0 if a signal ends it."""
+        status = self.process.wait(END)
+        self.read()
+        return status
 
     def left(self) -> list[int]:
         """The processes of its session that still run."""
@@ -85,21 +76,17 @@ class Live:
         for path in Path("/proc").glob("[0-9]*/stat"):
             with suppress(OSError):
                 state, _, _, session, *_ = path.read_text(errors="replace").rpartition(")")[2].split()
-                if int(session) == self.process and state != "Z":
+                if int(session) == self.process.pid and state != "Z":
                     found.append(int(path.parent.name))
         return found
 
-    def close_terminal(self) -> None:
-        """Closes the terminal."""
-        if self.terminal >= 0:
-            os.close(self.terminal)
-            self.terminal = -1
-
     def close(self) -> None:
         """Closes the terminal, and ends what is left."""
-        self.close_terminal()
+        self.terminal.close()
         for process in self.left():
-            os.kill(process, signal.SIGKILL)
+            with suppress(ProcessLookupError):
+                os.kill(process, signal.SIGKILL)
+        self.process.wait()
 
 
 Starts = Callable[..., Live]
@@ -117,27 +104,20 @@ def live(cam6: str, cam6_web: str, monkeypatch: pytest.MonkeyPatch) -> Iterator[
 def hosts_at(address: str) -> str:
     """How many hosts a page's program has, or nothing if it isn't there."""
     with suppress(OSError, ValueError), urllib.request.urlopen(f"{address}hosts", timeout=5) as answer:
-        said: bytes = answer.read()
-        return said.decode().strip()
+        return str(answer.read(), "utf-8").strip()
     return ""
 
 
 # How it is ended: by Ctrl-C, or by a signal to it alone.
 ENDS: dict[str, Callable[[Live], object]] = {
-    "ctrl_c": lambda it: it.press(CTRL_C),
-    "sigterm": lambda it: os.kill(it.process, signal.SIGTERM),
-    "sigint": lambda it: os.kill(it.process, signal.SIGINT),
+    "ctrl_c": Live.press_ctrl_c,
+    "sigterm": lambda it: it.process.terminate(),
+    "sigint": lambda it: it.process.send_signal(signal.SIGINT),
 }
+WAYS = [*(("", "1", end) for end in ENDS), ("--alone", "0", "ctrl_c"), ("--users 2 --port 6117", "1", "ctrl_c")]
 
 
-@pytest.mark.parametrize(
-    ("words", "hosts", "end"),
-    [
-        *(("", "1", end) for end in ENDS),
-        ("--alone", "0", "ctrl_c"),
-        ("--users 2 --port 6117", "1", "ctrl_c"),
-    ],
-)
+@pytest.mark.parametrize(("words", "hosts", "end"), WAYS)
 def test_both_programs_end(words: str, hosts: str, end: str, live: Starts) -> None:
     it = live(*words.split())
     address = it.address()
@@ -152,84 +132,58 @@ def test_both_programs_end_with_their_terminal(live: Starts) -> None:
     it = live()
     address = it.address()
     assert address
-    it.close_terminal()
-
-    def is_gone() -> bool:
-        with suppress(ChildProcessError):
-            os.waitpid(it.process, os.WNOHANG)
-        return not it.left()
-
-    assert until(is_gone, END), it.left()
+    it.terminal.close()
+    assert until(lambda: not it.left(), END), it.left()
     assert hosts_at(address) == "", "nobody listens"
 
 
 @pytest.mark.parametrize("pause", [0.05, 0.1, 0.2, 0.3, 0.5])
 def test_ctrl_c_while_it_starts_leaves_nothing(pause: float, live: Starts) -> None:
     it = live()
-    assert until(it.is_begun, START)
     time.sleep(pause)
-    it.press(CTRL_C)
-    assert it.status() in (0, "signal 2")
+    it.press_ctrl_c()
+    assert it.status() in (0, -signal.SIGINT)
     assert it.left() == []
-
-
-def process_of(it: Live, word: bytes) -> int:
-    """The process of a program that was called with this word."""
-    words = {process: Path(f"/proc/{process}/cmdline").read_bytes().split(b"\0") for process in it.left()}
-    return next(process for process, said in words.items() if word in said and b"bash" not in said[0])
 
 
 @pytest.mark.parametrize(("what", "word"), [("the host", b"serve"), ("the page's program", b"--host")])
 def test_it_ends_with_each_of_its_programs(what: str, word: bytes, live: Starts) -> None:
     it = live()
     assert it.address()
-    os.kill(process_of(it, word), signal.SIGKILL)
+    words = {process: Path(f"/proc/{process}/cmdline").read_bytes().split(b"\0") for process in it.left()}
+    process = next(process for process, said in words.items() if word in said and b"bash" not in said[0])
+    os.kill(process, signal.SIGKILL)
     assert (it.status(), it.left()) == (1, [])
     assert f"{what} ended".encode() in it.said
 
 
-def take(port: int) -> socket.socket:
-    """Listens at a port, if no other program does."""
-    try:
-        return socket.create_server(("127.0.0.1", port))
-    except OSError:
-        return socket.socket()
+def test_it_takes_no_ports_that_are_taken(live: Starts) -> None:
+    with ExitStack() as stack:
+        for port in (6006, 6007):
+            with suppress(OSError):
+                stack.enter_context(socket.create_server(("127.0.0.1", port)))
+        it, named = live(), live("--port", "6007")
+        assert (named.status(), named.left()) == (3, [])
+        assert b"no port is free" in named.said
+        address = it.address()
+        assert address not in ("", "http://127.0.0.1:6007/")
+        assert hosts_at(address) == "1", "the page is there"
+        it.press_ctrl_c()
+        assert it.status() == 0
 
 
-@pytest.fixture
-def taken() -> Iterator[None]:
-    """Has other programs listen at the ports of the host and of the page."""
-    with take(6006), take(6007):
-        yield
+ARGUMENTS = [
+    ("--help", 0, b"usage: ./live"),
+    ("--fast", 2, b"there is no option --fast"),
+    ("life", 2, b"it takes no arguments"),
+    ("--users", 2, b"--users takes a number"),
+    ("--users 0", 2, b"0 is no whole number"),
+    ("--users 33", 2, b"33"),
+    ("--port 65536", 2, b"65536 is no port"),
+]
 
 
-def test_it_takes_other_ports_than_those_that_are_taken(taken: None, live: Starts) -> None:
-    it = live()
-    address = it.address()
-    assert address not in ("", "http://127.0.0.1:6007/")
-    assert hosts_at(address) == "1", "the page is there"
-    it.press(CTRL_C)
-    assert it.status() == 0
-
-
-def test_a_port_that_is_named_has_to_be_free(taken: None, live: Starts) -> None:
-    it = live("--port", "6007")
-    assert (it.status(), it.left()) == (3, [])
-    assert b"no port is free" in it.said
-
-
-@pytest.mark.parametrize(
-    ("words", "status", "said"),
-    [
-        ("--help", 0, b"usage: ./live"),
-        ("--fast", 2, b"there is no option --fast"),
-        ("life", 2, b"it takes no arguments"),
-        ("--users", 2, b"--users takes a number"),
-        ("--users 0", 2, b"0 is no whole number"),
-        ("--users 33", 2, b"33"),
-        ("--port 65536", 2, b"65536 is no port"),
-    ],
-)
+@pytest.mark.parametrize(("words", "status", "said"), ARGUMENTS)
 def test_arguments_end_it(words: str, status: int, said: bytes, live: Starts) -> None:
     it = live(*words.split())
     assert it.status() == status

@@ -6,15 +6,14 @@ and is never empty. Nothing flashes more than three times a second, and the way 
 
 from __future__ import annotations
 
-import fcntl
 import json
 import os
 import pty
 import re
-import struct
 import subprocess
 import termios
-from collections.abc import Iterator
+from collections.abc import Callable
+from contextlib import suppress
 from pathlib import Path
 from typing import NamedTuple
 
@@ -22,14 +21,14 @@ import pytest
 from oracle.palette import PALETTE, default_palette
 from support.programs import TOP, Ran, private, ran
 
-LOOK = str(TOP / "look")
-FOLDER, SHOWN, GALLERY = TOP / "examples", TOP / "examples" / "shown.txt", TOP / "docs" / "GALLERY.md"
+LOOK, FOLDER, GALLERY = str(TOP / "look"), TOP / "examples", TOP / "docs" / "GALLERY.md"
 SIDE, COLUMNS, ROWS = 128, 80, 24
 # A flash is a pair of changes, up and down, by a tenth of full light. Viewers should not see more than three a second.
 CHANGE, FLASHES = 0.1, 3
 # What begins a picture on a terminal.
 HOME = b"\x1b[H"
 
+Look = Callable[..., Ran]
 # The colours of all cells, row by row, as a machine shows them.
 Picture = list[str]
 
@@ -52,51 +51,30 @@ class Film(NamedTuple):
     rate: int
     steps: int
     way: str
+    # The lines of the example.
+    lines: list[str]
 
-    @property
-    def pictures(self) -> int:
-        """How many pictures come after the first one, forward."""
-        return -(-self.steps // self.each)
-
-    @property
-    def lines(self) -> list[str]:
-        """The lines of the example."""
-        return lines_of(FOLDER / f"{self.name}.lines")
-
-    def window(self, cells: Picture) -> Picture:
-        """The colours in the window, row by row."""
-        columns = [(self.x + i) % SIDE for i in range(self.w)]
-        return ["".join(cells[(self.y + j) % SIDE][column] for column in columns) for j in range(self.h)]
-
-    def areas(self) -> Iterator[tuple[int, int, int, int]]:
-        """The window, its quarters and its middle: column, row, width and height."""
-        w, h = self.w // 2, self.h // 2
-        yield 0, 0, self.w, self.h
-        yield from ((column, row, w, h) for column in (0, w) for row in (0, h))
-        yield w // 2, h // 2, w, h
+    def pictures(self, steps: int) -> int:
+        """How many pictures so many steps have: the first one, those forward, and those back if there is a way."""
+        return 1 + -(-steps // self.each) * (1 if self.way == "none" else 2)
 
 
 def film_of(line: str) -> Film:
     """The film of a line of examples/shown.txt."""
     name, x, y, w, h, light, each, rate, steps, way, _ = line.split(maxsplit=10)
-    return Film(name, int(x), int(y), int(w), int(h), light, int(each), int(rate), int(steps), way)
+    lines = lines_of(FOLDER / f"{name}.lines")
+    return Film(name, int(x), int(y), int(w), int(h), light, int(each), int(rate), int(steps), way, lines)
 
 
-FILMS = [film_of(line) for line in lines_of(SHOWN) if not line.startswith("#")]
+FILMS = [film_of(line) for line in lines_of(FOLDER / "shown.txt") if not line.startswith("#")]
 NAMES = [film.name for film in FILMS]
 each_film = pytest.mark.parametrize("film", FILMS, ids=NAMES)
-
-
-# What stands in the files.
 
 
 def test_the_gallery_has_twenty_entries_and_the_letters() -> None:
     entries = re.findall(r"^    \./look (\w+)$", GALLERY.read_text(encoding="utf-8"), re.M)
     assert len(entries) == 21
     assert sorted(entries) == sorted(NAMES) == sorted(path.stem for path in FOLDER.glob("*.lines"))
-
-
-def test_an_example_has_lines_that_turn_it_round_if_shown_says_so() -> None:
     assert {path.stem for path in FOLDER.glob("*.turn")} == {film.name for film in FILMS if film.way == "turn"}
 
 
@@ -111,12 +89,9 @@ def test_an_example_only_sets_a_machine_up(film: Film, cam6: str) -> None:
     assert film.light in ("-", PALETTE[colours[1]])
 
 
-# Films.
-
-
 def brightness_of(light: tuple[int, int, int]) -> float:
     """The relative luminance of a light, 0 to 1."""
-    parts = [part / 255 for part in light]
+    parts = (level / 255 for level in light)
     red, green, blue = (part / 12.92 if part <= 0.04045 else ((part + 0.055) / 1.055) ** 2.4 for part in parts)
     return float(0.2126 * red + 0.7152 * green + 0.0722 * blue)
 
@@ -144,9 +119,8 @@ def test_flashes_are_counted() -> None:
 
 def played(film: Film, cam6: str) -> list[Picture]:
     """All cells of each picture, on and back, as a private machine plays the film. Nothing may be refused."""
-    picture = [f'{{"do":"colours","row":{row}}}' for row in range(SIDE)]
-    on = film.pictures * [f'{{"do":"run","n":{film.each}}}', *picture]
-    back = film.pictures * [f'{{"do":"back","n":{film.each}}}', *picture]
+    picture, times = [f'{{"do":"colours","row":{row}}}' for row in range(SIDE)], -(-film.steps // film.each)
+    on, back = (times * [f'{{"do":"{word}","n":{film.each}}}', *picture] for word in ("run", "back"))
     if film.way == "turn":
         back = [*lines_of(FOLDER / f"{film.name}.turn"), *on]
     lines = [*film.lines, *picture, *on, *(back if film.way != "none" else [])]
@@ -156,22 +130,21 @@ def played(film: Film, cam6: str) -> list[Picture]:
     return [rows[at : at + SIDE] for at in range(0, len(rows), SIDE)]
 
 
-def lit(cells: Picture) -> Picture:
-    """Which cells are lit, in whatever colour."""
-    return [re.sub("[^0]", "#", row) for row in cells]
-
-
 @each_film
 def test_a_film(film: Film, cam6: str) -> None:
     """It fits a terminal, is never empty, shows plane 0 alone, doesn't flash, and ends with its first picture."""
     pictures = played(film, cam6)
-    assert len(pictures) == 1 + film.pictures * (1 if film.way == "none" else 2)
+    assert len(pictures) == film.pictures(film.steps)
     assert film.w <= COLUMNS and (film.h + 1) // 2 + 2 <= ROWS
-    windows = [*map(film.window, pictures)]
+    columns, rows = [(film.x + i) % SIDE for i in range(film.w)], [(film.y + j) % SIDE for j in range(film.h)]
+    windows = [["".join(cells[row][column] for column in columns) for row in rows] for cells in pictures]
     assert all(set("".join(window)) != {"0"} for window in windows)
     seen = {cell for cells in pictures for row in cells for cell in row}
     assert film.light == "-" or seen <= {"0", f"{PALETTE.index(film.light):x}"}
-    for column, row, w, h in film.areas():
+    # The window, its quarters and its middle: column, row, width and height.
+    w, h = film.w // 2, film.h // 2
+    quarters = [(column, row, w, h) for column in (0, w) for row in (0, h)]
+    for column, row, w, h in [(0, 0, film.w, film.h), *quarters, (w // 2, h // 2, w, h)]:
         parts = ["".join(line[column : column + w] for line in window[row : row + h]) for window in windows]
         lights = [sum(map(BRIGHTNESS.__getitem__, part)) / len(part) for part in parts]
         assert flashes(lights, film.rate) <= FLASHES, (column, row)
@@ -180,48 +153,31 @@ def test_a_film(film: Film, cam6: str) -> None:
         return
     undone = private(cam6, [*film.lines, '{"do":"back","n":0}'], 256)[-1]
     assert json.loads(undone).get("fault") == 64, "it can't be undone"
-    assert film.way != "turn" or lit(pictures[-1]) == lit(pictures[0])
+    first, last = ([re.sub("[^0]", "#", row) for row in pictures[at]] for at in (0, -1))
+    assert film.way != "turn" or last == first, "the same cells are lit, in whatever colour"
 
 
-# The script that shows them.
-
-
-class Look:
-    """Runs `./look` with the programs under test."""
-
-    def __init__(self, cam6: str, cam6_draw: str) -> None:
-        self.env = {"CAM6": cam6, "CAM6_DRAW": cam6_draw}
-
-    def __call__(self, *words: str) -> Ran:
-        """What it writes into a pipe."""
-        return ran([LOOK, *words], env=self.env)
-
-    def on_terminal(self, columns: int, rows: int, *words: str) -> Ran:
-        """What it writes on a terminal of this size."""
-        ours, theirs = pty.openpty()
-        fcntl.ioctl(theirs, termios.TIOCSWINSZ, struct.pack("HHHH", rows, columns, 0, 0))
-        it = subprocess.Popen([LOOK, *words], env=os.environ | self.env, stdout=theirs, stderr=subprocess.PIPE)
+def on_terminal(size: tuple[int, int], command: list[str]) -> Ran:
+    """What a program writes on a terminal of so many rows and columns."""
+    ours, theirs = pty.openpty()
+    termios.tcsetwinsize(theirs, size)
+    with subprocess.Popen(command, stdout=theirs, stderr=subprocess.PIPE) as it, open(ours, "rb", 0) as terminal:
         os.close(theirs)
         written = b""
-        while part := read_part(ours):
-            written += part
-        os.close(ours)
+        # The terminal can't be read once its other end is closed.
+        with suppress(OSError):
+            while part := terminal.read(65536):
+                written += part
         told = it.communicate()[1]
-        return Ran(it.returncode, written, told)
-
-
-def read_part(terminal: int) -> bytes:
-    """What has come on a terminal, or nothing if its other end is closed."""
-    try:
-        return os.read(terminal, 65536)
-    except OSError:
-        return b""
+    return Ran(it.returncode, written, told)
 
 
 @pytest.fixture
-def look(cam6: str, cam6_draw: str) -> Look:
-    """`./look`, with the programs under test."""
-    return Look(cam6, cam6_draw)
+def look(cam6: str, cam6_draw: str, monkeypatch: pytest.MonkeyPatch) -> Look:
+    """Runs `./look` with the programs under test. It writes into a pipe, or on a terminal of so many rows and columns."""
+    monkeypatch.setenv("CAM6", cam6)
+    monkeypatch.setenv("CAM6_DRAW", cam6_draw)
+    return lambda *words, size=None: on_terminal(size, [LOOK, *words]) if size else ran([LOOK, *words])
 
 
 @each_film
@@ -229,16 +185,13 @@ def test_three_steps_are_shown(film: Film, look: Look) -> None:
     done = look(film.name, "3")
     frames = done.output.split(HOME)[1:]
     assert (done.status, done.errors) == (0, b"")
-    assert len(frames) == 1 + -(-3 // film.each) * (1 if film.way == "none" else 2)
+    assert len(frames) == film.pictures(3)
     assert {frame.count(b"\n") for frame in frames} == {(film.h + 1) // 2}
     assert film.way != "back" or frames[-1] == frames[0]
 
 
-def test_the_letters_are_shown_without_a_name(look: Look) -> None:
+def test_the_letters_need_no_name_the_names_are_listed_and_help_is_printed(look: Look) -> None:
     assert look("4") == look("letters", "4")
-
-
-def test_the_names_are_listed_and_help_is_printed(look: Look) -> None:
     done = look("--list")
     assert done.status == 0
     assert [line.split()[0] for line in done.output.decode().splitlines()] == NAMES
@@ -250,13 +203,10 @@ def test_arguments_are_refused(words: str, look: Look) -> None:
     assert look(*words.split()).status == 2
 
 
-def test_a_terminal_may_be_too_small(look: Look) -> None:
+def test_a_terminal_holds_the_first_picture_or_is_too_small(look: Look) -> None:
     wanted = b"look: life needs 62 columns and 23 rows; this terminal has 40 and 12\n"
-    assert look.on_terminal(40, 12, "life", "2") == Ran(1, b"", wanted)
-
-
-def test_a_terminal_holds_the_first_picture(look: Look) -> None:
-    done = look.on_terminal(80, 24, "life", "2", "20")
+    assert look("life", "2", size=(12, 40)) == Ran(1, b"", wanted)
+    done = look("life", "2", "20", size=(24, 80))
     assert (done.status, done.output.count(HOME)) == (0, 3 + 19)
 
 
@@ -268,13 +218,11 @@ def test_a_file_is_shown(look: Look, tmp_path: Path) -> None:
     assert (done.status, done.errors, done.output.count(HOME)) == (0, b"", 5)
 
 
-@pytest.mark.parametrize(
-    ("line", "told"),
-    [
-        ('{"do":"fly"}', 'line 1 of {path} is answered {{"fault":3}}'),
-        ('{"do":"side","side":512}', "{path} sets no cycle, so nothing can run"),
-    ],
-)
+FLY = '{"do":"fly"}', 'line 1 of {path} is answered {{"fault":3}}'
+NO_CYCLE = '{"do":"side","side":512}', "{path} sets no cycle, so nothing can run"
+
+
+@pytest.mark.parametrize(("line", "told"), [FLY, NO_CYCLE])
 def test_a_file_that_cannot_be_shown_is_refused(line: str, told: str, look: Look, tmp_path: Path) -> None:
     path = tmp_path / "mine.lines"
     path.write_text(line, encoding="utf-8")

@@ -16,8 +16,8 @@ from support.programs import TOP
 
 pytestmark = pytest.mark.slow
 
-FOLDER, ENDING = Path(__file__).parent / "refused", ".rt.txt"
-NAMES = sorted(path.name.removesuffix(ENDING) for path in FOLDER.glob(f"*{ENDING}"))
+FILES = sorted((Path(__file__).parent / "refused").glob("*.rt.txt"))
+WANTED = {path: path.read_text(encoding="utf-8").split("\n")[1].removeprefix("//! ") for path in FILES}
 # The crate that a program is compiled in, and the crates that it stands on.
 LINE = "cam6_tried: cam6_planes cam6_wiring cam6_entries cam6_table cam6_band\n"
 
@@ -33,30 +33,22 @@ def copy(tmp_path_factory: pytest.TempPathFactory) -> Path:
     return top / "crates" / "cam6_tried"
 
 
-def compiled(crate: Path, name: str, text: str) -> str:
-    """What the compiler makes of a program, as a module of the crate: `accepted`, or its errors."""
-    rt = shutil.which("rt")
+@pytest.mark.parametrize("path", FILES, ids=[path.name.partition(".")[0] for path in FILES])
+def test_the_compiler_names_the_reason(path: Path, copy: Path) -> None:
+    rt, name, text = shutil.which("rt"), path.name.partition(".")[0], path.read_text(encoding="utf-8")
     assert rt, "there is no rt on the PATH; docs/INSTALL.md says how the Rattle kit is installed"
-    for path in (crate / "src").iterdir():
-        path.unlink()
+    for module in (copy / "src").iterdir():
+        module.unlink()
     library = f"#![tactic(auto)]\nmod {name};\n#[test]\nfn is_compiled() {{}}\n"
-    (crate / "src" / "lib.rt").write_text(library, encoding="utf-8")
-    (crate / "src" / f"{name}.rt").write_text(re.sub(r"^#!\[tactic.*\n", "", text, flags=re.M), encoding="utf-8")
-    done = subprocess.run([rt, "try", "--test"], cwd=crate, capture_output=True, text=True, check=False)
-    if done.returncode == 0:
-        return "accepted"
-    errors = re.findall(rf"(?<![a-z_]){name}\.rt:[0-9].*error\[([a-z0-9-]+)\]", done.stdout + done.stderr)
-    return f"refused: {' '.join(sorted(set(errors))) or done.stdout + done.stderr}"
-
-
-@pytest.mark.parametrize("name", NAMES)
-def test_the_compiler_names_the_reason(name: str, copy: Path) -> None:
-    text = (FOLDER / f"{name}{ENDING}").read_text(encoding="utf-8")
-    wanted = text.split("\n")[1].removeprefix("//! ")
-    assert compiled(copy, name, text) == wanted
+    (copy / "src" / "lib.rt").write_text(library, encoding="utf-8")
+    (copy / "src" / f"{name}.rt").write_text(re.sub(r"^#!\[tactic.*\n", "", text, flags=re.M), encoding="utf-8")
+    done = subprocess.run([rt, "try", "--test"], cwd=copy, capture_output=True, text=True, check=False)
+    told = done.stdout + done.stderr
+    errors = re.findall(rf"(?<![a-z_]){name}\.rt:[0-9].*error\[([a-z0-9-]+)\]", told)
+    came = f"refused: {' '.join(sorted(set(errors))) or told}" if done.returncode else "accepted"
+    assert came == WANTED[path]
 
 
 def test_one_program_compiles() -> None:
     """Otherwise all could be refused for a reason of their crate."""
-    wanted = [(FOLDER / f"{name}{ENDING}").read_text(encoding="utf-8").split("\n")[1] for name in NAMES]
-    assert wanted.count("//! accepted") == 1
+    assert [*WANTED.values()].count("accepted") == 1

@@ -10,33 +10,31 @@ import json
 import time
 from collections import Counter
 from collections.abc import Callable
-from functools import cache
+from contextlib import suppress
+from functools import cache, partial
 from pathlib import Path
 from typing import NamedTuple
 
 import pytest
 from examples.named_rules import RULES as TEXTS
 from examples.saving import SAVE, load
-from examples.writing import Command, cycle_command, do, rule_command
 from oracle.host import Replay
 from oracle.lines import lines_of, plain
 from oracle.machine import Machine, answers
+from oracle.schedules import on
+from support.commands import Command, cycle_command, do, rule_command
 from support.programs import PATIENCE, Host, NotListening, Peer, Ran, ran
 
 pytestmark = [pytest.mark.slow, pytest.mark.timeout(1800)]
 
 Lines = list[bytes]
-NO_MEMORY, AT_A_THREAD = Ran(5, b"", b"cam6: no memory\n"), "at the thread of a board"
+NO_MEMORY, NO_THREAD = Ran(5, b"", b"cam6: no memory\n"), Ran(8, b"", b"cam6: no thread\n")
 # How a host ends before it is there.
-NO_HOST = {NO_MEMORY: "before the host was there", Ran(8, b"", b"cam6: no thread\n"): AT_A_THREAD}
-UNSEEN, NOT_KEPT, AT_AN_ASK = "unseen", "at a table, not kept", "at an ask"
-AFTER_ANSWERS, BEFORE_ANSWERS = "after answers", "before the first answer"
-AT_A_REPLY = "at a reply, its command done"
-REFUSED, NONE_KEPT = b'{"refused":0}', b'{"refused":109}'
-
+NO_HOST: dict[Ran | None, str] = {NO_MEMORY: "before the host was there", NO_THREAD: "at the thread of a board"}
+UNSEEN, AT_A_REPLY, AT_AN_ASK = "unseen", "at a reply, its command done", "at an ask"
+REFUSED, NONE_KEPT, SEATED, TAKEN = b'{"refused":0}', b'{"refused":109}', '{"ok":"seat"}', '{"fault":80}'
 
 # What is sent.
-
 PARITY, TURN = rule_command("P", *TEXTS["PARITY"]), rule_command("T", *TEXTS["TURN"])
 RUN, ROW, RULES, PLANE = do("run", n=1), do("row", plane=0, row=1), do("rules"), do("plane", plane=0)
 CLEAR, COUNT, SMALL, BACK = do("clear", plane=0), do("count", mask=2), do("side", side=128), do("back", n=1)
@@ -65,23 +63,16 @@ EACH += lines(TURN, RULES, cycle_of("T"), BACK, ROW, do("drop", name="P"), RULES
 EACH += lines(CLEAR, ROW, PARITY, cycle_of("P"), cell_at(2), do("run", n=2), ROW, SMALL, RULES, do("fly"))
 # A line for which the buffer grows, and one after it.
 LONG = lines(load({"x": "x" * 20000}), RULES)
-
-
-@cache
-def saved() -> Lines:
-    """A machine that is saved; then another one, and the first one again."""
-    machine, begin = Machine(256), [SMALL, TURN, cycle_of("T"), cell_at(5, 128), RUN, SAVE]
-    loads = load([machine.reply(command) for command in begin][-1]["machine"])
-    return lines(*begin, cycle_of("T"), CLEAR, loads, RUN, SAVE, load({}), RULES)
+# A machine that is saved; then another one, and the first one again.
+SAVED = [SMALL, TURN, cycle_of("T"), cell_at(5, 128), RUN, SAVE]
+AGAIN = load([*map(Machine(256).reply, SAVED)][-1]["machine"])
+SAVED_AND_LOADED = lines(*SAVED, cycle_of("T"), CLEAR, AGAIN, RUN, SAVE, load({}), RULES)
 
 
 def asked(user: int, *commands: Command) -> list[Command]:
     """For each command an ask, and a collect of its reply."""
-    return [
-        event
-        for command in commands
-        for event in ({"event": "ask", "user": user, "command": command}, {"event": "collect", "user": user})
-    ]
+    collect = on("collect", user=user)
+    return [event for command in commands for event in on("ask", user=user, command=command) + collect]
 
 
 def two_texts() -> Lines:
@@ -89,20 +80,17 @@ def two_texts() -> Lines:
     events = []
     for user, word in ((1, "NORTH"), (2, "SOUTH")):
         events += asked(user, rule_command("R", *TEXTS[word]), cycle_of("R"), cell_at(5), cell_at(200))
-    evict, band, preempt = {"event": "evict"}, {"event": "band", "board": 0}, {"event": "preempt", "board": 0}
     (ask, collect), (other_ask, other_collect) = asked(1, RUN), asked(2, RUN)
-    lease, other_lease = ({"event": "lease", "user": user, "board": 0} for user in (1, 2))
-    events += [ask, other_ask, evict, lease, evict, evict, *[band] * 8, preempt]
-    events += [other_lease, *[band] * 16, lease, *[band] * 8, collect, other_collect]
+    lease, other_lease = (on("lease", user=user, board=0) for user in (1, 2))
+    band, preempt = on("band", board=0), on("preempt", board=0)
+    events += [ask, other_ask, *on("evict"), *lease, *on("evict") * 2, *band * 8, *preempt]
+    events += [*other_lease, *band * 16, *lease, *band * 8, collect, other_collect]
     for user in (1, 2):
         events += asked(user, *(do("row", plane=0, row=row) for row in (4, 6, 199, 201)))
     return lines(*events)
 
 
-TWO_TEXTS = two_texts()
-
-
-# What has to come back.
+TWO_TEXTS, [EVICT] = two_texts(), lines(*on("evict"))
 
 
 @cache
@@ -118,73 +106,52 @@ def outcomes_of(without: int | None, *sent: bytes) -> Lines:
     return [REFUSED if number == without else replay.answer(event) for number, event in enumerate(sent)]
 
 
-# How a run went: how the refusal was seen, or None if something else than what may be came back.
-How = str | None
-
-
-def whole_lines(text: bytes) -> Lines | None:
-    """The lines of a text, if its last one is whole."""
-    return None if text and not text.endswith(b"\n") else lines_of(text)
-
-
-def lines_written(done: Ran) -> Lines | None:
-    """The lines of a run of cam6 that ended well, or that reported that memory ran out."""
-    return whole_lines(done.output) if done._replace(output=b"") in (Ran(0, b""), NO_MEMORY) else None
-
-
-def how_alone(done: Ran, sent: Lines) -> How:
+# These say how a refusal was seen. They fail if something else came back than may come.
+def how_alone(got: Lines, sent: Lines, is_all: bool) -> str:
     """How a run of cam6 went that has to write these replies, or a prefix of them if memory runs out."""
-    got, wanted = lines_written(done), replies_to(*sent)
-    if got is None or got != wanted[: len(got)]:
-        return None
-    if done.status == 0:
-        return UNSEEN if got == wanted else None
-    return AFTER_ANSWERS if got else BEFORE_ANSWERS
+    assert got == replies_to(*sent)[: None if is_all else len(got)]
+    return UNSEEN
 
 
-def how_session(got: Lines, sent: Lines) -> How:
-    """How a session went that is taken up again after memory ran out: `again` stands before a reply, and `done` in place of
-    one."""
-    wanted, marks = replies_to(*sent), [line for line in got if line in (b"again", b"done")]
-    if marks == [b"done"]:
+# How a session went, by what stands before a reply, or in place of one.
+MARKS = {(): UNSEEN, (b"again",): "at a command, which is not done", (b"done",): AT_A_REPLY}
+
+
+def how_session(got: Lines, sent: Lines) -> str:
+    """How a session went that is taken up again: `again` stands before a reply, and `done` in place of one."""
+    wanted, marks = replies_to(*sent), tuple(line for line in got if line in (b"again", b"done"))
+    if b"done" in got:
         at = got.index(b"done")
-        return AT_A_REPLY if got[:at] + wanted[at : at + 1] + got[at + 1 :] == wanted else None
-    if len(marks) > 1 or [line for line in got if line != b"again"] != wanted:
-        return None
-    return "at a command, which is not done" if marks else UNSEEN
+        got = got[:at] + wanted[at : at + 1] + got[at + 1 :]
+    assert [line for line in got if line != b"again"] == wanted
+    return MARKS[marks]
 
 
-def refused_ask(got: Lines, sent: Lines) -> tuple[int | None, bool]:
-    """The place of an outcome that reports that memory ran out, if there is one. Then whether the outcomes are right: no
-    other event than an ask ran out of memory, and only an evict may find that a table wasn't kept."""
+def how_events(got: Lines, sent: Lines) -> str:
+    """How events went: no other one than an ask runs out of memory, and only an evict may find that a table wasn't kept."""
     place = got.index(REFUSED) if REFUSED in got else None
-    wanted = outcomes_of(place, *sent)
-    evicted = {event: NONE_KEPT for event in lines({"event": "evict"})}
-    is_so = all(line in (other, evicted.get(event)) for line, other, event in zip(got, wanted, sent))
-    return place, is_so and len(got) <= len(sent) and (place is None or json.loads(sent[place])["event"] == "ask")
+    outcomes = outcomes_of(place, *sent)[: len(got)]
+    assert place is None or json.loads(sent[place])["event"] == "ask"
+    assert len(got) == len(outcomes)
+    for event, outcome, wanted in zip(sent, got, outcomes):
+        assert outcome == wanted or (event, outcome) == (EVICT, NONE_KEPT)
+    return AT_AN_ASK if place is not None else UNSEEN if got == outcomes else "at a table, not kept"
 
 
-def how_list(got: Lines, sent: Lines) -> How:
+def how_list(got: Lines, sent: Lines) -> str:
     """How a list of events went: it wasn't read, it was refused, or an ask was."""
     marks = [line for line in got if line in (b"unread", b"refused")]
     got = [line for line in got if line not in marks]
-    place, is_well = refused_ask(got, sent)
-    if len(marks) > 1 or len(got) != len(sent) or not is_well:
-        return None
-    if place is None and got == outcomes_of(None, *sent):
-        return {b"unread": "at reading", b"refused": "at the list"}[marks[0]] if marks else UNSEEN
-    return None if marks else NOT_KEPT if place is None else AT_AN_ASK
+    how = how_events(got, sent)
+    assert len(got) == len(sent) and (not marks or len(marks) == 1 and how == UNSEEN)
+    return {b"unread": "at reading", b"refused": "at the list"}[marks[0]] if marks else how
 
 
-def how_replay(done: Ran, sent: Lines) -> How:
+def how_replay(got: Lines, sent: Lines, is_all: bool) -> str:
     """How a replay went: it ended after whole outcomes, or an ask was refused."""
-    got = lines_written(done)
-    place, is_well = refused_ask(got or [], sent)
-    if got is None or not is_well or done.status == 0 and len(got) < len(sent):
-        return None
-    if done.status:
-        return BEFORE_ANSWERS if not got else AFTER_ANSWERS if place is None else None
-    return AT_AN_ASK if place is not None else UNSEEN if got == outcomes_of(None, *sent) else NOT_KEPT
+    how = how_events(got, sent)
+    assert len(got) == len(sent) if is_all else how != AT_AN_ASK
+    return how
 
 
 # Two rules: their entries are the two lowest bits of the address, or the second of these alone.
@@ -199,17 +166,14 @@ HITS = {
 }
 
 
-def how_loads(got: Lines, _: Lines) -> How:
+def how_loads(got: Lines, _: Lines) -> str:
     """How the loads went. The table comes after each, 64 entries a line."""
     ends, tables = range(0, len(got), 65), []
     for _rule, mask in LOADS:
         entries = "".join(str(address & mask) for address in range(4096)).encode()
         tables.append([entries[first : first + 64] for first in range(0, 4096, 64)])
-    is_well = [got[at + 1 : at + 65] for at in ends] == tables
-    return HITS.get(b" ".join(got[at] for at in ends).decode()) if is_well else None
-
-
-# What is run.
+    assert [got[at + 1 : at + 65] for at in ends] == tables
+    return HITS[b" ".join(got[at] for at in ends).decode()]
 
 
 class Bench(NamedTuple):
@@ -233,166 +197,123 @@ class Bench(NamedTuple):
         return ran(command, b"".join(line + b"\n" for line in sent), self.env(number), PATIENCE)
 
 
-# Runs something with the request of a number refused. Returns how it went, and what came back.
-Once = Callable[[Bench, int], tuple[How, object]]
+def of_cam6(words: str, sent: Lines, how: Callable[[Lines, Lines, bool], str], bench: Bench, number: int) -> str:
+    """Runs cam6 on lines. It ends well, or reports that memory ran out."""
+    done = bench.ran([bench.cam6, *words.split()], sent, number)
+    assert done._replace(output=b"") in (Ran(0, b""), NO_MEMORY) and done.output[-1:] in (b"", b"\n"), done
+    got = lines_of(done.output)
+    told = how(got, sent, done.status == 0)
+    return told if done.status == 0 else "after answers" if got else "before the first answer"
 
 
-def of_cam6(words: list[str], sent: Lines, how_of: Callable[[Ran, Lines], How]) -> Once:
-    """Runs cam6 on lines."""
-
-    def once(bench: Bench, number: int) -> tuple[How, object]:
-        done = bench.ran([bench.cam6, *words], sent, number)
-        return how_of(done, sent), done
-
-    return once
+def of_words(words: list[str], status: int, bench: Bench, number: int) -> str:
+    """Runs cam6 on arguments by which it prints something and ends, the same if a request is refused."""
+    ample, done = (bench.ran([bench.cam6, *words], [], at) for at in (0, number))
+    assert ample.status == status and ample.output + ample.errors
+    assert done in (ample, NO_MEMORY)
+    return UNSEEN if done == ample else "as no memory"
 
 
-def of_words(words: list[str], status: int) -> Once:
-    """Runs cam6 on arguments by which it prints something and ends. The text is the same whether or not a request is
-    refused."""
-
-    def once(bench: Bench, number: int) -> tuple[How, object]:
-        ample, done = (bench.ran([bench.cam6, *words], [], at) for at in (0, number))
-        assert ample.status == status and ample.output + ample.errors
-        return "as no memory" if done == NO_MEMORY else UNSEEN if done == ample else None, done
-
-    return once
-
-
-def of_player(word: str, of: Callable[[], Lines], how_of: Callable[[Lines, Lines], How] = how_session) -> Once:
+def of_player(words: str, sent: Lines, how: Callable[[Lines, Lines], str], bench: Bench, number: int) -> str:
     """Runs the player on lines. It does again what ran out of memory."""
-
-    def once(bench: Bench, number: int) -> tuple[How, object]:
-        done = bench.ran([bench.player, "scarce", word], of(), number)
-        got = whole_lines(done.output)
-        if done.status == 0:
-            return None if got is None else how_of(got, of()), done
-        is_early = not done.output and bench.is_refused(number)
-        return "before the first line" if is_early else None, done
-
-    return once
+    done = bench.ran([bench.player, "scarce", words], sent, number)
+    if done.status == 0:
+        assert done.output[-1:] in (b"", b"\n"), done
+        return how(lines_of(done.output), sent)
+    assert not done.output and bench.is_refused(number), done
+    return "before the first line"
 
 
-class Seat:
-    """A user of a host, who sits down again if the connection ends before a reply, and goes on with that line."""
-
-    def __init__(self, host: Host) -> None:
-        self.host, self.ends = host, 0
-        self.peer: Peer | None = None
-
-    def sits_down(self) -> bool:
-        """Whether the user gets a connection. If not, the host is gone."""
-        end = time.monotonic() + PATIENCE
-        while time.monotonic() < end:
-            try:
-                self.peer = Peer(self.host.port, 1)
-                said = self.peer.said
-            except OSError:
-                said = None
-            if said == '{"ok":"seat"}':
-                return True
-            self.ends += said is None
-            if not self.host.is_running() or said not in (None, '{"fault":80}') or self.ends > 3:
-                return False
-            time.sleep(0.01)
-        return False
-
-    def answer(self, line: bytes) -> str | None:
-        """The answer to a line, or None if the connection has ended."""
-        try:
-            return self.peer.ask(line.decode()) if self.peer else None
-        except OSError:
-            return None
-
-    def answers(self, sent: Lines) -> tuple[Lines, int | None]:
-        """All replies, and the place of a line that was sent again."""
-        got: Lines = []
-        again = None
-        for number, line in enumerate(sent):
-            reply = self.answer(line)
-            if reply is None:
-                self.ends, again = self.ends + 1, number
-                reply = self.answer(line) if self.sits_down() else None
-            if reply is None:
-                break
-            got.append(reply.encode())
-        return got, again
+def served(host: Host, sent: Lines, peers: list[Peer]) -> tuple[Lines, list[int], int]:
+    """The replies to a user, who sits down again if the connection ends before a reply, and goes on with that line; the places
+    of these lines; and how many connections ended before the user had the seat. `peers` keeps the connections open."""
+    got: Lines = []
+    again: list[int] = []
+    closed, end = 0, time.monotonic() + PATIENCE
+    while len(got) < len(sent) and closed + len(again) <= 3 and host.is_running() and time.monotonic() < end:
+        said = None
+        with suppress(OSError):
+            peers.append(Peer(host.port, 1))
+            said = peers[-1].said
+            while said == SEATED and len(got) < len(sent) and (reply := peers[-1].ask(sent[len(got)].decode())):
+                got.append(reply.encode())
+        assert said in (SEATED, TAKEN, None)
+        if said == SEATED and len(got) < len(sent):
+            assert len(got) not in again
+            again.append(len(got))
+            end = time.monotonic() + PATIENCE
+        closed += said is None
+        time.sleep(0.01)
+    return got, again, closed
 
 
-def how_served(got: Lines, again: int | None, sent: Lines) -> How:
+def how_served(got: Lines, again: list[int], sent: Lines) -> str:
     """How a session at a host went: a line that is sent again was done the first time, or it wasn't."""
     if got == replies_to(*sent):
-        return UNSEEN if again is None else "at a line, which is sent again"
-    if again is None:
-        return None
-    twice = replies_to(*sent[: again + 1], *sent[again:])
-    return AT_A_REPLY if got == twice[:again] + twice[again + 1 :] else None
+        return "at a line, which is sent again" if again else UNSEEN
+    assert again, got[-1:]
+    twice = replies_to(*sent[: again[-1] + 1], *sent[again[-1] :])
+    assert got == twice[: again[-1]] + twice[again[-1] + 1 :]
+    return AT_A_REPLY
 
 
-def of_host(of: Callable[[], Lines]) -> Once:
+def of_host(sent: Lines, bench: Bench, number: int) -> str:
     """Starts a host, and sends it the lines of a user."""
-
-    def once(bench: Bench, number: int) -> tuple[How, object]:
-        try:
-            host = Host(bench.cam6, "--users=1", "--boards=1", "--cache=1", env=bench.env(number))
-        except NotListening as why:
-            return NO_HOST.get(why.done), why.done
-        with host:
-            seat = Seat(host)
-            if not seat.sits_down():
-                done = host.ended()
-                return NO_HOST.get(done) if done else None, done
-            before = seat.ends
-            got, again = seat.answers(of())
-            how = how_served(got, again, of()) if host.is_running() and len(host.said) == 1 else None
-            how = "at a connection, which is closed" if how == UNSEEN and before else how
-            return how, (host.said, got[-1:])
-
-    return once
+    peers: list[Peer] = []
+    try:
+        with Host(bench.cam6, "--users=1", "--boards=1", "--cache=1", env=bench.env(number)) as host:
+            got, again, closed = served(host, sent, peers)
+            if not got and not again:
+                return NO_HOST[host.ended()]
+            how = how_served(got, again, sent)
+            assert host.is_running() and len(host.said) == 1, host.said
+            return "at a connection, which is closed" if how == UNSEEN and closed else how
+    except NotListening as why:
+        return NO_HOST[why.done]
 
 
-REPLAY = ["replay", "--users", "2", "--boards", "1", "--cache", "1"]
 LOADED = [line for text, _ in LOADS for line in (b"load A N/VONN &/CENTERS " + text, b"table")]
 # What is run, by name.
-PARTS: dict[str, Once] = {
-    "two_tables_and_a_cache": of_player("cache 2", lambda: LOADED, how_loads),
-    "words_for_help": of_words(["--help"], 0),
-    "words_that_are_refused": of_words([str(i) for i in range(40)], 2),
-    "alone_the_first_session": of_cam6(["alone"], FIRST, how_alone),
-    "the_first_session_taken_up_again": of_player("session", lambda: FIRST),
-    "each_command_taken_up_again": of_player("session", lambda: EACH),
-    "replay_no_events": of_cam6(["replay"], [], how_alone),
-    "replay_one_name_with_two_texts": of_cam6(REPLAY, TWO_TEXTS, how_replay),
-    "a_list_of_events_one_name_with_two_texts": of_player("list 2 1 1", lambda: TWO_TEXTS, how_list),
-    "serve_each_command": of_host(lambda: EACH),
-    "alone_a_long_line_that_loads_nothing": of_cam6(["alone"], LONG, how_alone),
-    "a_long_line_that_loads_nothing_taken_up_again": of_player("session", lambda: LONG),
-    "a_machine_saved_and_loaded_taken_up_again": of_player("session", saved),
-    "serve_a_machine_saved_and_loaded": of_host(saved),
+PARTS: dict[str, Callable[[Bench, int], str]] = {
+    "two_tables_and_a_cache": partial(of_player, "cache 2", LOADED, how_loads),
+    "words_for_help": partial(of_words, ["--help"], 0),
+    "words_that_are_refused": partial(of_words, [str(i) for i in range(40)], 2),
+    "alone_the_first_session": partial(of_cam6, "alone", FIRST, how_alone),
+    "the_first_session_taken_up_again": partial(of_player, "session", FIRST, how_session),
+    "each_command_taken_up_again": partial(of_player, "session", EACH, how_session),
+    "replay_no_events": partial(of_cam6, "replay", [], how_alone),
+    "replay_one_name_with_two_texts": partial(of_cam6, "replay --users 2 --boards 1 --cache 1", TWO_TEXTS, how_replay),
+    "a_list_of_events_one_name_with_two_texts": partial(of_player, "list 2 1 1", TWO_TEXTS, how_list),
+    "serve_each_command": partial(of_host, EACH),
+    "alone_a_long_line_that_loads_nothing": partial(of_cam6, "alone", LONG, how_alone),
+    "a_long_line_that_loads_nothing_taken_up_again": partial(of_player, "session", LONG, how_session),
+    "a_machine_saved_and_loaded_taken_up_again": partial(of_player, "session", SAVED_AND_LOADED, how_session),
+    "serve_a_machine_saved_and_loaded": partial(of_host, SAVED_AND_LOADED),
 }
 # A machine's text takes some thousands of requests. One of so many is refused.
 STEPS = {"a_machine_saved_and_loaded_taken_up_again": 17, "serve_a_machine_saved_and_loaded": 41}
-# How many requests are refused at least. A library that isn't loaded refuses none.
-LEAST = 40
 
 
 @pytest.mark.parametrize("name", PARTS)
 def test_nothing_is_lost_when_memory_runs_out(
     name: str, cam6: str, cam6_try_rules: str, library: Callable[[str], str], tmp_path: Path
 ) -> None:
-    bench, once = Bench(cam6, cam6_try_rules, library("refusing"), tmp_path), PARTS[name]
-    seen: Counter[How] = Counter()
+    bench = Bench(cam6, cam6_try_rules, library("refusing"), tmp_path)
+    seen: Counter[str] = Counter()
     wrong, number = [], 1
-    how, told = once(bench, number)
-    while bench.is_refused(number):
+    while True:
+        try:
+            how = PARTS[name](bench, number)
+        except (AssertionError, KeyError) as why:
+            how = "wrongly"
+            wrong.append(f"request {number}: {why}")
+        if not bench.is_refused(number):
+            break
         seen[how] += 1
-        if how is None:
-            wrong.append(f"request {number}: {told}")
         number += STEPS.get(name, 1)
-        how, told = once(bench, number)
-    print(f"{name}: {sum(seen.values())} refused:", ", ".join(f"{times} {how}" for how, times in seen.items()))
+    print(f"{name}: {seen.total()} refused:", ", ".join(f"{times} {how}" for how, times in seen.items()))
     assert not wrong, f"{len(wrong)} runs went wrong:\n" + "\n".join(wrong[:5])
-    assert how == UNSEEN, f"without a refusal: {told}"
-    assert sum(seen.values()) >= LEAST
+    assert how == UNSEEN, "without a refusal"
+    assert seen.total() >= 40, "a library that isn't loaded refuses none"
     # A host of one board starts one thread for it, for which memory is asked once.
-    assert name != "serve_each_command" or seen[AT_A_THREAD] == 1
+    assert name != "serve_each_command" or seen[NO_HOST[NO_THREAD]] == 1

@@ -1,22 +1,19 @@
-"""`cam6_rle` makes lines of patterns that are written as run-length text, and such texts of replies.
-
-The oracle reads such texts too, and says which cells a pattern has. With `--patterns FOLDER` other patterns are read than those
-of Debian's golly.
-"""
+"""`cam6_rle` makes lines of patterns that are written as run-length text, and such texts of replies. The oracle says which cells
+a pattern has. With `--patterns FOLDER` other patterns are read than those of Debian's golly."""
 
 from __future__ import annotations
 
 import re
-from functools import partial
 from pathlib import Path
-from typing import Any, NamedTuple
+from typing import NamedTuple
 
 import pytest
 from examples.rules import ADD_EIGHT
-from examples.writing import compact, cycle_command, do, rule_command
 from oracle.machine import SIDES
 from oracle.patterns import Cells, Pattern, random_cells, read_pattern, replies_of
+from support.commands import cycle_command, rule_command
 from support.programs import Ran, assert_refused, ran
+from support.sessions import line_of
 
 GLIDER = "#C A glider that goes down and to the right.\nx = 3, y = 3, rule = B3/S23\nbo$2bo$3o!\n"
 BLINKER = "#CXRLE Pos=-1,254\nx = 3, y = 1\n3o!\n"
@@ -34,8 +31,8 @@ class Place(NamedTuple):
 
     def words(self) -> list[str]:
         """The arguments of cam6_rle."""
-        words = ["--side", str(self.side), "--column", str(self.column), "--row", str(self.row)]
-        return [*words, "--planes", "".join(map(str, self.planes))]
+        words = f"--side {self.side} --column {self.column} --row {self.row} --planes {''.join(map(str, self.planes))}"
+        return words.split()
 
 
 def read(cam6_rle: str, words: list[str], text: str) -> Ran:
@@ -61,51 +58,42 @@ def test_a_pattern_is_set(text: str, place: Place, cam6_rle: str) -> None:
     assert_is_set(cam6_rle, text, place)
 
 
-# Texts that are no patterns: the text, the arguments, and the line, the column and the cause.
-MALFORMED: list[tuple[str, list[str], tuple[int, int, str]]] = [
-    ("", [], (0, 1, "a header")),
-    ("#C only a remark\n", [], (1, 1, "a header")),
-    ("bo$2bo$3o!\n", [], (1, 1, "a header")),
-    ("x = 3, y = \n3o!\n", [], (1, 1, "a header")),
-    ("x = 3; y = 3\n3o!\n", [], (1, 1, "a header")),
-    ("x = 3, y = 3 rule = B3/S23\n3o!\n", [], (1, 1, "a header")),
-    ("x = 3, y = 3\nbo$2bo$3o\n", [], (2, 1, "end")),
-    ("x = 3, y = 3\n4o!\n", [], (2, 2, "wide")),
-    ("x = 3, y = 3\n3ob!\n", [], (2, 3, "wide")),
-    ("x = 3, y = 2\n3o$3o$o!\n", [], (2, 7, "high")),
-    ("x = 3, y = 2\n3o2$$!\n", [], (2, 5, "high")),
-    ("x = 3, y = 1\nbzo!\n", [], (2, 2, "byte")),
-    ("x = 3, y = 1\n2 o!\n", [], (2, 2, "byte")),
-    ("x = 3, y = 1\n2\no!\n", [], (2, 2, "byte")),
-    ("x = 3, y = 1\n3!\n", [], (2, 2, "byte")),
-    ("x = 3, y = 1\n513o!\n", [], (2, 3, "number")),
-    ("x = 3, y = 1\n\n.AB!\n", [], (3, 3, "states")),
-    ("x = 3, y = 1\n.DA!\n", ["--planes", "01"], (2, 2, "states")),
-    ("x = 3, y = 1\npA!\n", ["--planes", "0123"], (2, 1, "byte")),
-    ("x = 129, y = 1\n!\n", ["--side", "128"], (1, 1, "wide")),
-    ("x = 1, y = 257\n!\n", [], (1, 1, "high")),
-    ("x = 99999999999999999999999999, y = 1\n!\n", [], (1, 1, "wide")),
+NO_HEADERS = ["#C only a remark\n", "bo$2bo$3o!\n", "x = 3, y = \n3o!\n", "x = 3; y = 3\n3o!\n"]
+NO_HEADERS += ["x = 3, y = 3 rule = B3/S23\n3o!\n"]
+# Texts that are no patterns: the text, the arguments, the place and the cause.
+MALFORMED = [
+    ("", "", "line 0, column 1", "a header"),
+    *((text, "", "line 1, column 1", "a header") for text in NO_HEADERS),
+    ("x = 3, y = 3\nbo$2bo$3o\n", "", "line 2, column 1", "end"),
+    ("x = 3, y = 3\n4o!\n", "", "line 2, column 2", "wide"),
+    ("x = 3, y = 3\n3ob!\n", "", "line 2, column 3", "wide"),
+    ("x = 3, y = 2\n3o$3o$o!\n", "", "line 2, column 7", "high"),
+    ("x = 3, y = 2\n3o2$$!\n", "", "line 2, column 5", "high"),
+    *((f"x = 3, y = 1\n{cells}!\n", "", "line 2, column 2", "byte") for cells in ("bzo", "2 o", "2\no", "3")),
+    ("x = 3, y = 1\n513o!\n", "", "line 2, column 3", "number"),
+    ("x = 3, y = 1\n\n.AB!\n", "", "line 3, column 3", "states"),
+    ("x = 3, y = 1\n.DA!\n", "--planes 01", "line 2, column 2", "states"),
+    ("x = 3, y = 1\npA!\n", "--planes 0123", "line 2, column 1", "byte"),
+    ("x = 129, y = 1\n!\n", "--side 128", "line 1, column 1", "wide"),
+    ("x = 1, y = 257\n!\n", "", "line 1, column 1", "high"),
+    ("x = 99999999999999999999999999, y = 1\n!\n", "", "line 1, column 1", "wide"),
 ]
 
 
-@pytest.mark.parametrize(("text", "words", "place"), MALFORMED)
-def test_a_malformed_text_is_refused_at_its_place(
-    text: str, words: list[str], place: tuple[int, int, str], cam6_rle: str
-) -> None:
-    line, column, cause = place
-    done = read(cam6_rle, words, text)
+@pytest.mark.parametrize(("text", "words", "place", "cause"), MALFORMED)
+def test_a_malformed_text_is_refused_at_its_place(text: str, words: str, place: str, cause: str, cam6_rle: str) -> None:
+    done = read(cam6_rle, words.split(), text)
     assert_refused(done, 3, cause)
-    assert done.errors.decode().startswith(f"cam6_rle: line {line}, column {column}: ")
+    assert done.errors.decode().startswith(f"cam6_rle: {place}: ")
 
 
 # Arguments that are refused, and replies that show no frames: the status, and what stands on standard error.
 ROW = '{"colours":"' + 128 * "0" + '","ok":"colours"}\n'
+PLANES, RULE = "--planes wants one to four of the digits 0 to 3", "--rule wants one line,\nand goes with --replies\n"
 FAULTS: list[tuple[list[str], str, int, str]] = [
-    (["--planes", ""], "", 2, "cam6_rle: --planes wants one to four of the digits 0 to 3"),
-    (["--planes", "4"], "", 2, "cam6_rle: --planes wants one to four of the digits 0 to 3"),
-    (["--planes", "010"], "", 2, "cam6_rle: --planes wants one to four of the digits 0 to 3"),
-    (["--rule", "B3/S23"], "", 2, "--rule wants one line,\nand goes with --replies\n"),
-    (["--replies", "--rule", "a\nb"], "", 2, "--rule wants one line,\nand goes with --replies\n"),
+    *((["--planes", planes], "", 2, f"cam6_rle: {PLANES}") for planes in ("", "4", "010")),
+    (["--rule", "B3/S23"], "", 2, RULE),
+    (["--replies", "--rule", "a\nb"], "", 2, RULE),
     (["--side", "100"], "", 2, "--side"),
     (["--column", "512"], "", 2, "--column"),
     (["--replies"], "x\n", 3, "cam6_rle: line 1 is no reply\n"),
@@ -118,19 +106,18 @@ def test_arguments_and_replies_are_refused(words: list[str], text: str, status: 
     assert_refused(read(cam6_rle, words, text), status, told)
 
 
-# Cells that are written as a text: how they are made, the side, and the rule that the text names.
-WRITTEN = {
-    "no_cells": (dict, 128, ""),
-    "one_cell": (partial(dict, [((255, 255), 1)]), 256, ""),
-    "cells_of_one_plane": (partial(random_cells, 1, 256, 1, 0.3), 256, "B3/S23"),
-    "few_cells_of_one_plane": (partial(random_cells, 2, 512, 1, 0.001), 512, ""),
-    "cells_of_four_planes": (partial(random_cells, 3, 128, 15, 0.5), 128, "CAM6"),
+# Cells that are written as a text, the side, and the rule that the text names.
+WRITTEN: dict[str, tuple[Cells, int, str]] = {
+    "no_cells": ({}, 128, ""),
+    "one_cell": ({(255, 255): 1}, 256, ""),
+    "cells_of_one_plane": (random_cells(1, 256, 1, 0.3), 256, "B3/S23"),
+    "few_cells_of_one_plane": (random_cells(2, 512, 1, 0.001), 512, ""),
+    "cells_of_four_planes": (random_cells(3, 128, 15, 0.5), 128, "CAM6"),
 }
 
 
-@pytest.mark.parametrize(("cells_of", "side", "rule"), WRITTEN.values(), ids=WRITTEN)
-def test_cells_are_written_and_read_back(cells_of: partial[Cells], side: int, rule: str, cam6_rle: str) -> None:
-    cells = cells_of()
+@pytest.mark.parametrize(("cells", "side", "rule"), WRITTEN.values(), ids=WRITTEN)
+def test_cells_are_written_and_read_back(cells: Cells, side: int, rule: str, cam6_rle: str) -> None:
     done = read(cam6_rle, ["--replies", *(["--rule", rule] if rule else [])], replies_of(cells, side))
     text = done.output.decode("latin-1")
     assert (done.status, done.errors) == (0, b"")
@@ -143,8 +130,9 @@ def test_cells_are_written_and_read_back(cells_of: partial[Cells], side: int, ru
 def test_a_glider_goes_in_moves_by_a_cell_each_way_and_comes_out(cam6: str, cam6_rle: str) -> None:
     set_lines = read(cam6_rle, Place(column=255, row=254).words(), GLIDER).output.decode()
     life = f": L {ADD_EIGHT} {{ 0 0 CENTER 1 0 0 0 0 0 }} >PLN0 ;"
-    begin = map(compact, [rule_command("L", "A", "N/MOORE", "&/CENTERS", life), cycle_command(("L", "-", "EVEN", 0))])
-    session = "\n".join([*begin, set_lines + compact(do("run", n=4)), compact(do("plane", plane=0)), ""])
+    rule, cycle = rule_command("L", "A", "N/MOORE", "&/CENTERS", life), cycle_command(("L", "-", "EVEN", 0))
+    steps = set_lines + line_of(do="run", n=4)
+    session = "\n".join([line_of(**rule), line_of(**cycle), steps, line_of(do="plane", plane=0), ""])
     done = ran([cam6], session.encode(), patience=60)
     assert (done.status, done.errors) == (0, b"")
     came = read_pattern(read(cam6_rle, ["--replies"], done.output.decode()).output.decode())
@@ -166,9 +154,9 @@ def pytest_generate_tests(metafunc: pytest.Metafunc) -> None:
     """Has each pattern of the folder of `--patterns` be set."""
     if "elsewhere" in metafunc.fixturenames:
         folder = Path(metafunc.config.getoption("patterns"))
-        paths: list[Any] = sorted(path for path in folder.rglob("*.rle") if has_room(path))
-        missing = pytest.param(folder, marks=pytest.mark.skip(reason=f"LEFT OUT: {folder} has no patterns"))
-        metafunc.parametrize("elsewhere", paths or [missing], ids=[path.name for path in paths] or ["none"])
+        paths = [pytest.param(path, id=path.name) for path in sorted(folder.rglob("*.rle")) if has_room(path)]
+        skip = pytest.mark.skip(reason=f"LEFT OUT: {folder} has no patterns")
+        metafunc.parametrize("elsewhere", paths or [pytest.param(folder, id="none", marks=skip)])
 
 
 def test_a_pattern_of_another_program_is_set(elsewhere: Path, cam6_rle: str) -> None:

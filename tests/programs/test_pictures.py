@@ -7,57 +7,43 @@ from __future__ import annotations
 
 import json
 import re
-import runpy
+import sys
 from argparse import ArgumentParser
 from collections.abc import Iterable
 from io import BytesIO
 from pathlib import Path
-from types import SimpleNamespace
 
 import pytest
-from oracle.pictures import drawn
 from PIL import Image, ImageSequence
+from oracle.pictures import drawn
 from support.programs import TOP, assert_refused, ran
+from support.tools import tool
 
-FILM = str(TOP / "tools" / "film")
+FILM = [sys.executable, str(TOP / "tools" / "film")]
 FOLDER, GALLERY = TOP / "docs" / "pictures", TOP / "docs" / "GALLERY.md"
 LARGEST, LARGEST_FILM = 20_000, 100_000
 
-gallery = SimpleNamespace(**runpy.run_path(str(TOP / "tools" / "gallery-pictures")))
+gallery = tool("tools/gallery-pictures")
 PICTURES: list[str] = gallery.names_of(".lines")
 FILMS: list[str] = gallery.names_of(".frames")
 FILES: list[str] = gallery.names_of(".png")
 
 
-def entries_of_gallery() -> dict[str, list[str]]:
-    """The pictures that are shown in each entry of the gallery. An entry has the name of the line that shows it."""
-    entries = {}
+def test_the_gallery_shows_each_picture_once_and_an_entry_its_own() -> None:
+    shown = []
     for part in re.split(r"^### ", GALLERY.read_text(encoding="utf-8"), flags=re.M)[1:]:
+        # An entry has the name of the line that shows it.
         if entry := re.search(r"^    \./look (\w+)$", part, re.M):
-            entries[entry[1]] = re.findall(r"!\[[^]]+\]\(pictures/(\w+)\.png\)", part)
-    return entries
+            pictures = re.findall(r"!\[[^]]+\]\(pictures/(\w+)\.png\)", part)
+            assert entry[1] in pictures
+            shown += pictures
+    assert sorted(shown) == PICTURES
 
 
-ENTRIES = entries_of_gallery()
-SHOWN = [name for names in ENTRIES.values() for name in names]
-
-
-@pytest.mark.parametrize("entry", ENTRIES)
-def test_an_entry_shows_its_picture(entry: str) -> None:
-    assert entry in ENTRIES[entry]
-
-
-def test_the_gallery_shows_each_picture_once() -> None:
-    assert sorted(SHOWN) == PICTURES
-
-
-def test_each_picture_and_each_film_has_a_file() -> None:
+def test_each_picture_and_each_film_has_a_small_file() -> None:
     assert FILES == sorted(PICTURES + FILMS)
-
-
-@pytest.mark.parametrize("name", FILES)
-def test_a_file_is_small(name: str) -> None:
-    assert (FOLDER / f"{name}.png").stat().st_size < (LARGEST_FILM if name in FILMS else LARGEST)
+    sizes = {name: (FOLDER / f"{name}.png").stat().st_size for name in FILES}
+    assert [name for name in FILES if sizes[name] >= (LARGEST_FILM if name in FILMS else LARGEST)] == []
 
 
 # The size of a picture, and its pixels.
@@ -86,14 +72,11 @@ def files_in(data: bytes) -> list[Picture]:
     return pictures
 
 
-def drawn_plainly(replies: bytes, options: list[str]) -> list[Image.Image]:
-    """The pictures that the oracle draws of replies, with these options of cam6_draw."""
-    parser = ArgumentParser()
-    parser.add_argument("--scale", type=int, default=1)
-    parser.add_argument("--crop", type=int, nargs=4)
-    parser.add_argument("--palette", type=lambda lights: [tuple(bytes.fromhex(light)) for light in lights.split(",")])
-    asked = parser.parse_args(options)
-    return drawn(replies.decode(), asked.scale, asked.crop, asked.palette)
+# The options of cam6_draw that the oracle knows.
+OPTIONS = ArgumentParser()
+OPTIONS.add_argument("--scale", type=int, default=1)
+OPTIONS.add_argument("--crop", type=int, nargs=4)
+OPTIONS.add_argument("--palette", type=lambda lights: [tuple(bytes.fromhex(light)) for light in lights.split(",")])
 
 
 def beside(images: list[Image.Image], gap: int) -> Image.Image:
@@ -112,7 +95,8 @@ def test_the_programs_and_the_oracle_draw_it(name: str, cam6: str, cam6_draw: st
     told = [json.loads(reply) for reply in done.output.splitlines()]
     assert (done.status, len(told)) == (0, len(drawing.lines))
     assert not [reply for reply in told if "fault" in reply]
-    ours, theirs = drawn_plainly(done.output, drawing.draw), ran([cam6_draw, "--ppm", *drawing.draw], done.output)
+    asked, theirs = OPTIONS.parse_args(drawing.draw), ran([cam6_draw, "--ppm", *drawing.draw], done.output)
+    ours = drawn(done.output.decode(), asked.scale, asked.crop, asked.palette)
     assert theirs.status == 0
     if not drawing.is_film:
         assert pixels_of(ours[-1:]) == wanted
@@ -120,63 +104,64 @@ def test_the_programs_and_the_oracle_draw_it(name: str, cam6: str, cam6_draw: st
         return
     gap = int(drawing.film[drawing.film.index("--gap") + 1]) if "--strip" in drawing.film else None
     assert pixels_of(ours if gap is None else [beside(ours, gap)]) == wanted
-    packed = ran([FILM, *drawing.film], theirs.output)
+    packed = ran([*FILM, *drawing.film], theirs.output)
     assert packed.status == 0
     assert pictures_in(BytesIO(packed.output)) == wanted
 
 
-# Arguments that are refused, and lines that show no pictures: the status, and what stands on standard error.
-ROW = '{"colours":"' + 128 * "0" + '","ok":"colours"}\n'
-FAULTS = [
-    ("", "", 2, "one of --ppm and --text is wanted, and not both\n"),
-    ("--ppm --text", "", 2, "one of --ppm and --text is wanted, and not both\n"),
-    ("--ppm --frames 5", "", 2, "--frames goes with --text alone\n"),
-    ("--text --frames 0", "", 2, "--frames takes a whole number from 1 to 1000\n"),
-    ("--text --frames 1001", "", 2, "--frames takes a whole number from 1 to 1000\n"),
-    ("--ppm --scale 17", "", 2, "--scale takes a whole number from 1 to 16\n"),
-    ("--ppm --crop 512 0 1 1", "", 2, "--crop takes a column and a row from 0 to 511"),
-    ("--ppm --crop 0 0 1 0", "", 2, "--crop takes a column and a row from 0 to 511"),
-    ("--ppm --crop 1 2 3", "", 2, "--crop <X> <Y> <W> <H>"),
-    ("--ppm --palette 000000", "", 2, "--palette takes sixteen groups"),
-    ("--pmp", "", 2, "--pmp"),
-    ("--ppm", "x\n", 3, "cam6_draw: line 1 is no reply\n"),
-    ("--text", '{"ok":"run","position":0}\n[]\n', 3, "cam6_draw: line 2 is no reply\n"),
-    ("--ppm", ROW, 3, "cam6_draw: line 1 breaks off a frame\n"),
-    ("--ppm", ROW + ROW + '{"ok":"run","position":0}\n', 3, "cam6_draw: line 3 breaks off a frame\n"),
-    ("--ppm", 127 * ROW, 3, "cam6_draw: line 127 breaks off a frame\n"),
+@pytest.mark.parametrize("options", [[], ["--pause", "65535"], ["--strip"]])
+def test_a_film_keeps_each_colour_and_pictures_that_are_equal(options: list[str]) -> None:
+    pixels = bytes(light for level in range(255) for light in (level, 7, 255))
+    packed = ran([*FILM, *options], 3 * (b"P6\n255 1\n255\n" + pixels))
+    with Image.open(BytesIO(packed.output)) as film:
+        pauses = [image.info.get("duration") for image in ImageSequence.Iterator(film)]
+    strip = ((781, 1), (8 * b"\xff\xff\xff").join([pixels] * 3))
+    wanted = [strip] if options == ["--strip"] else [((255, 1), pixels)] * 3
+    assert pauses == ([None] if options == ["--strip"] else 3 * [float(options[1]) if options else 80.0])
+    assert pictures_in(BytesIO(packed.output)) == wanted
+
+
+# What is refused: the program, its arguments and input, the status, and what stands on standard error.
+ROW, RUN = b'{"colours":"' + 128 * b"0" + b'","ok":"colours"}\n', b'{"ok":"run","position":0}\n'
+DOT, TALL = b"P6\n1 1\n255\n\1\2\3", b"P6\n1 2\n255\n" + bytes(6)
+MANY_COLOURS = b"P6\n257 1\n255\n" + bytes(b for n in range(257) for b in (n % 256, n // 256, 0))
+ONE_OF = "one of --ppm and --text is wanted, and not both\n"
+REFUSED = [
+    ("cam6_draw", b"", 2, ONE_OF),
+    ("cam6_draw --ppm --text", b"", 2, ONE_OF),
+    ("cam6_draw --ppm --frames 5", b"", 2, "--frames goes with --text alone\n"),
+    *((f"cam6_draw --text --frames {n}", b"", 2, "--frames takes a whole number from 1 to 1000\n") for n in (0, 1001)),
+    ("cam6_draw --ppm --scale 17", b"", 2, "--scale takes a whole number from 1 to 16\n"),
+    ("cam6_draw --ppm --crop 512 0 1 1", b"", 2, "--crop takes a column and a row from 0 to 511"),
+    ("cam6_draw --ppm --crop 0 0 1 0", b"", 2, "--crop takes a column and a row from 0 to 511"),
+    ("cam6_draw --ppm --crop 1 2 3", b"", 2, "--crop <X> <Y> <W> <H>"),
+    ("cam6_draw --ppm --palette 000000", b"", 2, "--palette takes sixteen groups"),
+    ("cam6_draw --pmp", b"", 2, "--pmp"),
+    ("cam6_draw --ppm", b"x\n", 3, "cam6_draw: line 1 is no reply\n"),
+    ("cam6_draw --text", RUN + b"[]\n", 3, "cam6_draw: line 2 is no reply\n"),
+    ("cam6_draw --ppm", ROW, 3, "cam6_draw: line 1 breaks off a frame\n"),
+    ("cam6_draw --ppm", ROW + ROW + RUN, 3, "cam6_draw: line 3 breaks off a frame\n"),
+    ("cam6_draw --ppm", 127 * ROW, 3, "cam6_draw: line 127 breaks off a frame\n"),
+    ("film", b"", 3, "film: there is no picture on standard input\n"),
+    ("film", b"P5\n1 1\n255\n\1", 3, "film: picture 1 is no P6 file of 255 levels\n"),
+    ("film", DOT + DOT[:-1], 3, "film: picture 2 breaks off\n"),
+    ("film", DOT + TALL, 3, "film: the pictures have different sizes\n"),
+    ("film --strip", DOT + TALL, 3, "film: the pictures have different heights\n"),
+    ("film", b"P6\n1 0\n255\n", 3, "film: picture 1 is no P6 file of 255 levels\n"),
+    ("film", MANY_COLOURS, 3, "257 colours"),
+    *((f"film --pause {n}", DOT, 2, f"{n} is no whole number from 1 to 65535") for n in (0, 65536)),
+    ("film --reel", DOT, 2, "--reel"),
 ]
 
 
-@pytest.mark.parametrize(
-    ("words", "text", "status", "told"), FAULTS, ids=[f"{fault[0]}: {fault[3]}" for fault in FAULTS]
-)
-def test_nothing_is_drawn_of_a_fault(words: str, text: str, status: int, told: str, cam6_draw: str) -> None:
-    assert_refused(ran([cam6_draw, *words.split()], text.encode()), status, told)
+@pytest.mark.parametrize(("words", "data", "status", "told"), REFUSED, ids=[f"{it[0]}: {it[3]}" for it in REFUSED])
+def test_nothing_is_drawn_or_packed(words: str, data: bytes, status: int, told: str, cam6_draw: str) -> None:
+    name, *options = words.split()
+    command = FILM if name == "film" else [cam6_draw]
+    assert_refused(ran([*command, *options], data), status, told)
 
 
 @pytest.mark.parametrize(("word", "front"), [("--version", b"cam6_draw 1 ("), ("--help", b"Draws the cells")])
 def test_the_program_tells_of_itself(word: str, front: bytes, cam6_draw: str) -> None:
     done = ran([cam6_draw, word])
     assert (done.status, done.output[: len(front)]) == (0, front)
-
-
-# What `tools/film` refuses: its options, standard input, the status, and what stands on standard error.
-DOT = b"P6\n1 1\n255\n\1\2\3"
-FILM_FAULTS = [
-    ("", b"", 3, "film: there is no picture on standard input\n"),
-    ("", b"P5\n1 1\n255\n\1", 3, "film: picture 1 is no P6 file of 255 levels\n"),
-    ("", DOT + DOT[:-1], 3, "film: picture 2 breaks off\n"),
-    ("", DOT + b"P6\n1 2\n255\n" + bytes(6), 3, "film: the pictures have different sizes\n"),
-    ("--strip", DOT + b"P6\n1 2\n255\n" + bytes(6), 3, "film: the pictures have different heights\n"),
-    ("", b"P6\n257 1\n255\n" + bytes(b for n in range(257) for b in (n % 256, n // 256, 0)), 3, "257 colours"),
-    ("--pause 0", DOT, 2, "0 is no whole number from 1 to 65535"),
-    ("--pause 65536", DOT, 2, "65536 is no whole number from 1 to 65535"),
-    ("--reel", DOT, 2, "--reel"),
-]
-
-
-@pytest.mark.parametrize(
-    ("words", "data", "status", "told"), FILM_FAULTS, ids=[fault[3].strip() for fault in FILM_FAULTS]
-)
-def test_a_film_is_refused(words: str, data: bytes, status: int, told: str) -> None:
-    assert_refused(ran([FILM, *words.split()], data), status, told)

@@ -11,13 +11,13 @@ from typing import Any
 
 import hypothesis
 import pytest
-from examples.writing import Command, do
 from hypothesis import strategies as st
 from hypothesis.stateful import precondition, rule
 from oracle.host import DEAD, IDLE, REFUSALS, Replay
 from oracle.machine import Machine
 from oracle.schedules import LARGEST, Scheduler, on
 from programs.asking import Asking
+from support.commands import Command, do
 from support.stateful import play
 
 # Many more examples are tried by `--hypothesis-profile long`.

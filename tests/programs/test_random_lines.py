@@ -11,13 +11,13 @@ import hypothesis
 import pytest
 from examples.named_rules import REVERSIBLE
 from examples.saving import SAVE, load
-from examples.writing import Command, cycle_command, do, rule_command
 from hypothesis import strategies as st
 from oracle.host import Replay
 from oracle.lines import Unclear, lines_of, plain
 from oracle.machine import Alone, Machine
 from oracle.schedules import on
 from programs.breaking import Breaker
+from support.commands import Command, cycle_command, do, rule_command
 from support.programs import ran
 from support.sessions import assert_replies
 

@@ -4,12 +4,12 @@ from __future__ import annotations
 
 import hypothesis
 import pytest
-from examples.writing import Command, do
 from hypothesis import strategies as st
 from hypothesis.stateful import initialize
 from oracle.lines import plain
 from oracle.machine import SIDES, Alone, Machine
 from programs.asking import Asking
+from support.commands import Command, do
 from support.stateful import play
 
 # Many more examples are tried by `--hypothesis-profile long`.

@@ -13,7 +13,6 @@ from random import Random
 from typing import Any
 
 import pytest
-from examples.schedules import RuleAsker
 from oracle.examples import Example, Part, limit_of
 from oracle.host import BAND, Replay
 from oracle.lines import LINE_LIMIT, LOAD_HEAD, is_event, lines_of, plain, read_line
@@ -21,6 +20,7 @@ from oracle.machine import Machine
 from oracle.schedules import Scheduler
 from programs.test_examples import SESSIONS
 from support.playing import examples
+from support.commands import Asker
 from support.programs import ran
 from support.sessions import assert_replies
 
@@ -66,10 +66,10 @@ class Play:
         self.one, other = self.replay.host.users[self.user], self.replay.host.users[3 - self.user]
         # After a command that no ask can hold the replies are others than in the session.
         done = [line for line, reply in self.left if b'"ok":' in reply]
-        is_whole = all(ask_of(1, line) and not line.startswith(LOAD_HEAD) for line in done)
-        self.recorded = Recorded(limit) if is_whole else None
-        self.one.machine = self.recorded or self.one.machine
-        self.asker = RuleAsker(other.machine, limit, random)
+        self.recorded = Recorded(limit)
+        if all(ask_of(1, line) and not line.startswith(LOAD_HEAD) for line in done):
+            self.one.machine = self.recorded
+        self.asker = Asker(random, random.choice([128, limit]), lambda: other.machine.torus.side)
         self.sent: list[bytes] = []
         self.wanted: list[bytes] = []
 
@@ -90,11 +90,9 @@ class Play:
         """The session's lines, up to one that isn't finished at once. A line that no ask can hold stands by itself."""
         while self.left and self.one.status == "resting":
             line, reply = self.left.popleft()
-            if self.recorded:
-                self.recorded.wanted = reply
+            self.recorded.wanted = reply
             self.send(ask_of(self.user, line) or line)
-            if self.recorded:
-                self.recorded.wanted = b""
+            self.recorded.wanted = b""
             if self.one.status == "finished" and self.random.random() < 0.9:
                 self.send(b'{"event":"collect","user":%d}' % self.user)
 

@@ -2,24 +2,45 @@
 
 from __future__ import annotations
 
+import os
 import re
+import shutil
+import signal
 from collections.abc import Iterator
 from contextlib import ExitStack
 
 import pytest
 from support.programs import TOP, Host, Page, Peer, private
 
-from .users import Hosts, Session, seated, steady, usual
+from .fleets.services import Fleet, Ground
+from .users import LINES, Hosts, Session, seated, steady
+
+# The package of each program that a fleet takes.
+PACKAGES = {"haproxy": "haproxy", "openssl": "openssl", "systemd-analyze": "systemd", "ip": "iproute2"}
+
+
+def pytest_collection_modifyitems(config: pytest.Config, items: list[pytest.Item]) -> None:
+    """Tests of a fleet may take as long as they are told to, and longer to compare what came."""
+    for item in items:
+        if item.path.parent.name == "fleets":
+            item.add_marker("fleet")
+            item.add_marker(pytest.mark.timeout(600 + 4 * config.getoption("--fleet-seconds")))
+
+
+@pytest.fixture(scope="session")
+def usual(cam6: str) -> Session:
+    """The session of a user who goes on at a host, with the replies of a private machine."""
+    return Session(LINES, private(cam6, LINES))
 
 
 @pytest.fixture
-def beside(cam6: str, host: Hosts) -> Iterator[Hosts]:
+def beside(host: Hosts, usual: Session) -> Iterator[Hosts]:
     """Starts a host at which a user goes on until the test has ended: `beside(2, "--users=5")` is one with user 2."""
     with ExitStack() as stack:
 
         def begin(user: int, *options: str) -> Host:
             one = host(*options)
-            stack.enter_context(steady(seated(Peer, one.port, user), usual(cam6)))
+            stack.enter_context(steady(seated(Peer, one.port, user), usual))
             return one
 
         yield begin
@@ -38,3 +59,26 @@ def bare(cam6_web: str) -> Iterator[Page]:
     """A page without a host."""
     with Page(cam6_web) as page:
         yield page
+
+
+@pytest.fixture(scope="module")
+def fleet(request: pytest.FixtureRequest, cam6: str, tmp_path_factory: pytest.TempPathFactory) -> Iterator[Fleet]:
+    """Three hosts behind HAProxy: in network namespaces, or at ports if none can be made."""
+    is_plain = request.config.getoption("--fleet-ports")
+    with pytest.MonkeyPatch.context() as patch, ExitStack() as stack:
+        # Debian keeps some programs there, which not everybody has on the PATH.
+        patch.setenv("PATH", f"{os.environ['PATH']}:/usr/sbin:/sbin")
+        for program, package in PACKAGES.items():
+            if not shutil.which(program) and not (program == "ip" and is_plain):
+                pytest.fail(f"there is no {program}: install the package {package} of packages.txt", pytrace=False)
+        # Whoever ends the tests has programs and namespaces removed too.
+        before = signal.signal(signal.SIGTERM, lambda *_: pytest.exit("ended by SIGTERM"))
+        stack.callback(signal.signal, signal.SIGTERM, before)
+        ground = Ground()
+        if not is_plain:
+            stack.callback(ground.close)
+            ground.lay()
+        made = Fleet(ground, cam6, tmp_path_factory.mktemp("fleet"), users=32, boards=2)
+        stack.callback(made.kill)
+        made.start()
+        yield made

@@ -2,7 +2,7 @@
 and frames may be right or wrong. `websockets` has the protocol.
 
 The rows of `data` say what is sent, and what has to come back. A text of a row is a text, or a list of its parts. A part
-may say how many times its text comes. `PORT` is the port.
+may say how many times its text comes. `PORT` is the port. `or` has what may come in place of a status or of a close code.
 """
 
 from __future__ import annotations
@@ -13,19 +13,16 @@ import io
 import json
 import socket
 import threading
-from collections import deque
-from collections.abc import Mapping
+from collections.abc import Iterator, Mapping
 from contextlib import suppress
-from email.message import Message
 from pathlib import Path
 from socketserver import StreamRequestHandler, ThreadingTCPServer
-from typing import Any, NamedTuple, Optional, cast
+from typing import Any, Optional, cast
 
 import pytest
-from _pytest.mark import ParameterSet
 from support.programs import Peer
 from websockets.client import ClientConnection
-from websockets.connection import State
+from websockets.connection import Event
 from websockets.exceptions import InvalidStatus
 from websockets.frames import Frame, Opcode
 from websockets.uri import parse_uri
@@ -43,7 +40,7 @@ def rows_of(name: str) -> list[Row]:
     return rows
 
 
-def each_row(name: str) -> list[ParameterSet]:
+def each_row(name: str) -> list[Any]:
     """The rows of a file, for `parametrize`. The words of a row are the name of its test."""
     return [pytest.param(row, id=row["what"]) for row in rows_of(name)]
 
@@ -55,30 +52,20 @@ def text_of(parts: Any) -> str:
     return "".join(part if isinstance(part, str) else part["text"] * part["times"] for part in parts)
 
 
-def among(wanted: Any) -> list[Any]:
-    """What is wanted, if one of several may come."""
-    return wanted if isinstance(wanted, list) else [wanted]
+class Answer:
+    """An answer to a request: all that a server sent. The status 0 is none: the server ended without a word."""
 
-
-class Answer(NamedTuple):
-    """An answer to a request. The status 0 is none: the server ended without a word."""
-
-    status: int
-    fields: Message
-    body: bytes
+    def __init__(self, whole: bytes) -> None:
+        file = io.BytesIO(whole)
+        words = file.readline().split()
+        self.status = int(words[1]) if len(words) > 1 else 0
+        self.fields, self.body = http.client.parse_headers(file), file.read()
 
     @property
     def text(self) -> str:
         """The body as a text. It may be compressed."""
         is_packed = self.fields["content-encoding"] == "gzip" and self.body
         return (gzip.decompress(self.body) if is_packed else self.body).decode(errors="replace")
-
-
-def answer_of(whole: bytes) -> Answer:
-    """Takes apart all that a server sent."""
-    file = io.BytesIO(whole)
-    words = file.readline().split()
-    return Answer(int(words[1]) if len(words) > 1 else 0, http.client.parse_headers(file), file.read())
 
 
 def answer_to(port: int, *lines: str, ends: bool = False) -> Answer:
@@ -93,7 +80,7 @@ def answer_to(port: int, *lines: str, ends: bool = False) -> Answer:
         with suppress(ConnectionResetError):
             while part := tcp.recv(65536):
                 whole += part
-    return answer_of(whole)
+    return Answer(whole)
 
 
 def get(port: int, path: str, fields: Mapping[str, str] | None = None) -> Answer:
@@ -109,13 +96,11 @@ class AnyFrame(Frame):
         """Finds nothing wrong."""
 
 
-def frame_of(
-    opcode: int, payload: bytes = b"", *, last: bool = True, masked: bool = True, reserved: int = 0, **row: Any
-) -> bytes:
-    """The bytes of a frame as a client sends it, right or wrong. `reserved` has its three reserved bits. A row may have
-    its payload in digits, or as a text that comes some times."""
+def frame_of(opcode: int, payload: bytes = b"", *, last: bool = True, masked: bool = True, **row: Any) -> bytes:
+    """The bytes of a frame as a client sends it, right or wrong. A row may have its payload in digits, or as a text that comes
+    some times, and the three reserved bits of the frame."""
     payload = payload or bytes.fromhex(row.get("hex", "")) or row.get("text", "").encode() * row.get("times", 1)
-    bits = (bool(reserved & bit) for bit in (4, 2, 1))
+    bits = (bool(row.get("reserved", 0) & bit) for bit in (4, 2, 1))
     return AnyFrame(cast(Opcode, opcode), payload, last, *bits).serialize(mask=masked)
 
 
@@ -127,7 +112,6 @@ class Socket(Peer):
     ) -> None:
         """Shakes hands, with these fields in place of the usual ones, and asks for a seat."""
         super().__init__(port, None, patience)
-        self.frames: deque[Frame] = deque()
         self.protocol = ClientConnection(parse_uri(f"ws://127.0.0.1:{port}{path}"), max_size=None)
         request = self.protocol.connect()
         wanted: dict[str, str | None] = {"Host": request.headers["Host"], **(fields or {})}
@@ -138,40 +122,39 @@ class Socket(Peer):
                 request.headers[name] = value
         self.protocol.send_request(request)
         self.flush()
-        while self.protocol.state is State.CONNECTING:
-            self.receive()
-            if self.protocol.handshake_exc:
-                self.close()
-                raise self.protocol.handshake_exc
+        self.events = self.received()
+        next(self.events, None)
+        if self.protocol.handshake_exc:
+            self.close()
+            raise self.protocol.handshake_exc
         self.said = None if seat is None else self.ask(SEAT % seat)
 
     def flush(self) -> None:
         """Sends what the protocol has to say: the handshake, and answers to pings and closes."""
         self.socket.sendall(b"".join(self.protocol.data_to_send()))
 
-    def receive(self) -> bool:
-        """Takes what comes next. Returns false if the server has ended. A reset is an end."""
-        data = b""
-        with suppress(ConnectionResetError):
-            data = self.socket.recv(65536)
-        if data:
-            self.protocol.receive_data(data)
-        else:
-            self.protocol.receive_eof()
-        self.frames += (event for event in self.protocol.events_received() if isinstance(event, Frame))
-        with suppress(OSError):
-            self.flush()
-        if self.protocol.parser_exc and not isinstance(self.protocol.parser_exc, EOFError):
-            raise self.protocol.parser_exc
-        return bool(data)
+    def received(self) -> Iterator[Event]:
+        """What comes: the answer to the handshake, and frames, until the server has ended. A reset is an end."""
+        data = b"any"
+        while data:
+            data = b""
+            with suppress(ConnectionResetError):
+                data = self.socket.recv(65536)
+            if data:
+                self.protocol.receive_data(data)
+            else:
+                self.protocol.receive_eof()
+            with suppress(OSError):
+                self.flush()
+            if self.protocol.parser_exc and not isinstance(self.protocol.parser_exc, EOFError):
+                raise self.protocol.parser_exc
+            yield from self.protocol.events_received()
 
     def frame(self) -> Frame | None:
         """The next frame, or None if the server has ended. Each message of the server is a frame. A ping is answered."""
-        while not self.frames:
-            if self.protocol.state is State.CLOSED or not self.receive():
-                return None
-        assert self.frames[0].fin, f"the server sends a part of a message: {self.frames[0]}"
-        return self.frames.popleft()
+        got = next(self.events, None)
+        assert got is None or isinstance(got, Frame) and got.fin, f"the server sends a part of a message: {got}"
+        return got
 
     def read(self) -> str | None:
         """The next text, or None if the server closes."""
@@ -207,9 +190,6 @@ class Socket(Peer):
             end = self.closed()
         return end and end[0]
 
-    def __enter__(self) -> Socket:
-        return self
-
 
 def status_of(port: int, path: str = "/ws", fields: Fields | None = None) -> int:
     """The status of the answer to a handshake."""
@@ -225,7 +205,6 @@ class Told(StreamRequestHandler):
     host ends the connection, and `bytes` is answered by a line that isn't UTF-8."""
 
     def handle(self) -> None:
-        """Answers lines, until the connection ends."""
         self.data, self.has_ended = b"", threading.Event()
         cast(Recorder, self.server).told.append(self)
         with suppress(OSError):

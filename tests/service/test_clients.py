@@ -8,14 +8,13 @@ import socket
 import time
 from collections.abc import Callable
 from concurrent.futures import ThreadPoolExecutor
-from contextlib import suppress
 
 import pytest
 from support.programs import Host, Peer, private, until
 from support.sessions import assert_replies
 
 from .users import CELL, NO_JSON, NO_NAMES, NO_SEAT, ONE_NAME, PARITY, PLANES, ROW, RULES, RUN, SEAT, SEATED, START
-from .users import TAKEN, Hosts, answers, connected, seated
+from .users import TAKEN, Hosts, answers, connected, fill, seated
 
 Way = Callable[[Peer], None]
 by_each_way = pytest.mark.parametrize("go", [Peer.close, Peer.reset], ids=["close", "reset"])
@@ -84,11 +83,7 @@ def test_who_asks_for_341_runs_and_goes_leaves_the_seat(there: Host) -> None:
 
 def test_who_never_reads_keeps_the_seat_and_leaves_it_by_going(there: Host) -> None:
     peer = Peer(there.port, 3)
-    peer.socket.settimeout(0.5)
-    with suppress(OSError):
-        for _ in range(2000):
-            peer.send(f"{PLANES[0]}\n")
-            time.sleep(0.0005)
+    fill(peer)
     with Peer(there.port, 3) as other:
         assert (peer.said, other.said) == (SEATED, TAKEN)
     time.sleep(1)
@@ -103,12 +98,6 @@ def test_who_sends_two_bytes_a_second_is_served(there: Host) -> None:
             peer.send(byte)
             time.sleep(0.5)
         assert [peer.read(), peer.read()] == [SEATED, NO_NAMES]
-
-
-def test_a_connection_without_a_line_gets_no_answer(there: Host) -> None:
-    with Peer(there.port) as peer:
-        peer.socket.shutdown(socket.SHUT_WR)
-        assert peer.read() is None
 
 
 def test_lines_that_come_at_once_are_answered_one_after_another(cam6: str, there: Host) -> None:
@@ -140,7 +129,7 @@ def stacks(host: Host) -> int:
 
 def test_the_memory_of_60_connections_comes_back_when_they_close(host: Hosts) -> None:
     one = host("--users=4")
-    with connected(one.port, 60):
+    with connected(Peer, one.port, 60):
         assert until(lambda: stacks(one) > 60)
     # Nobody connects after them. Two are of boards, and the C library keeps 40 MB of stacks for threads to come.
     assert until(lambda: stacks(one) < 12, 1 + GRACE), stacks(one)
@@ -156,11 +145,11 @@ def limit(host: Host, kind: int, most: int) -> int:
 def test_connections_without_a_thread_are_closed_and_others_are_served(there: Host) -> None:
     # There is room for what a session takes and for the stacks of threads that have ended, and for no other.
     threads, said = there.of_process("Threads"), set()
-    with connected(there.port, 3):
+    with connected(Peer, there.port, 3):
         assert until(lambda: there.of_process("Threads") == threads + 3)
     assert until(lambda: there.of_process("Threads") == threads)
     before = limit(there, resource.RLIMIT_AS, there.of_process("VmSize") * 1024 + 4_000_000)
-    with connected(there.port, 30) as peers:
+    with connected(Peer, there.port, 30) as peers:
         for peer in peers:
             try:
                 said.add(peer.ask(SEAT % 9))
@@ -180,7 +169,7 @@ def test_who_finds_no_file_left_is_answered_once_others_have_gone(there: Host) -
     # The host may open only a few more files than it has. A client that isn't accepted yet waits for its answer.
     most = max(files(there)) + 5
     before = limit(there, resource.RLIMIT_NOFILE, most)
-    with connected(there.port, 20):
+    with connected(Peer, there.port, 20):
         assert until(lambda: len(there.said) > 1)
         waits = Peer(there.port)
         waits.send(f"{SEAT % 9}\n")

@@ -7,13 +7,15 @@ import re
 import socket
 import time
 from concurrent.futures import ThreadPoolExecutor
-from contextlib import ExitStack, closing, suppress
+from contextlib import ExitStack, suppress
 from pathlib import Path
 
 import pytest
 from oracle.examples import Example, Part, Unplayable, limit_of
 from support.playing import assert_answers, examples
 from support.programs import Host, Peer
+
+from .users import connected
 
 # Seconds in which a whole session has to be answered.
 SESSION_PATIENCE = 600
@@ -39,96 +41,59 @@ class Stream(Peer):
             line = b""
         return line[:-1] if line.endswith(b"\n") else b"end"
 
-    def shut(self) -> None:
+    def shut(self) -> bytes:
         """Says that nothing more is sent."""
         with suppress(OSError):
             self.socket.shutdown(socket.SHUT_WR)
+        return b"shut"
 
     def do(self, rest: bytes) -> bytes:
         """What comes of something that is done at the connection."""
-        word, blank, text = rest.partition(b" ")
-        if rest == b"shut":
-            self.shut()
-            return b"shut"
-        if blank and word in (b"send", b"part"):
-            self.send(text + (b"\n" if word == b"send" else b""))
+        word, _, text = rest.partition(b" ")
+        if word in (b"send", b"part"):
+            self.send(text + b"\n" if word == b"send" else text)
             return b"sent"
-        if blank and word == b"slowly":
-            for byte in text:
+        if rest == b"shut":
+            return self.shut()
+        if word == b"slowly":
+            for byte in text + b"\n":
                 self.send(bytes([byte]))
                 time.sleep(0.001)
-            self.send(b"\n")
         elif rest != b"read":
             self.send(rest + b"\n")
         return self.line()
 
 
-def is_number(text: bytes) -> bool:
-    """Whether a text is the number of a connection or of a seat."""
-    return text.isdigit() and int(text) < 256
-
-
-class Connections:
-    """What is done at connections to a host, line by line. All are closed in the end."""
-
-    def __init__(self, host: Host, stack: ExitStack) -> None:
-        self.host, self.stack, self.streams = host, stack, dict[int, Stream]()
-        self.is_told = False
-
-    def ended(self) -> bytes:
-        """How the host ends, once."""
-        if self.is_told:
-            return b"told before"
-        self.is_told = True
-        return how_it_ends(self.host)
-
-    def stream(self) -> Stream:
-        """A new connection."""
-        one = Stream(self.host.port)
-        self.stack.callback(one.close)
-        return one
-
-    def answer(self, line: bytes) -> bytes:
-        """What comes back for a line."""
-        number, _, rest = line.partition(b" ")
-        if line == b"ended":
-            return self.ended()
-        if number == b"many":
-            numbers = rest.split(b" ")
-            is_well = len(numbers) == 2 and all(map(is_number, numbers))
-            return self.crowd(*map(int, numbers)) if is_well else b"unread"
-        if not is_number(number) or rest != b"open" and int(number) not in self.streams:
-            return b"unread"
-        if rest in (b"open", b"close"):
-            # A connection that has the number is closed before another one is opened.
-            if int(number) in self.streams:
-                self.streams.pop(int(number)).close()
-            return self.open(int(number)) if rest == b"open" else b"closed"
-        return self.streams[int(number)].do(rest)
-
-    def open(self, number: int) -> bytes:
-        """Connects."""
-        try:
-            self.streams[number] = self.stream()
-        except OSError:
-            return b"refused"
-        return b"open"
-
-    def crowd(self, count: int, users: int) -> bytes:
-        """So many connect, and then ask for the seats of so many users in turn: how many are seated, and how many hear that
-        somebody has the seat, and are closed. Whoever hears another answer is the last that counts."""
-        streams = [self.stream() for _ in range(count)]
+def crowd(port: int, count: int, users: int) -> bytes:
+    """So many connect, and then ask for the seats of so many users in turn: how many are seated, and how many hear that
+    somebody has the seat, and are closed."""
+    with connected(Stream, port, count) as streams:
         for number, stream in enumerate(streams):
             stream.send(SEAT % (number % users + 1))
-        heard = []
-        for stream in streams:
-            heard.append(stream.line())
-            if heard[-1] != SEATED and (heard[-1] != TAKEN or stream.line() != b"end"):
-                heard.pop()
-                break
-        for stream in streams:
-            stream.close()
-        return b"%d seated, %d taken" % (heard.count(SEATED), heard.count(TAKEN))
+        heard = [stream.line() for stream in streams]
+        ends = [stream.line() for stream, line in zip(streams, heard) if line == TAKEN]
+    return b"%d seated, %d taken" % (heard.count(SEATED), ends.count(b"end"))
+
+
+def answer_to(line: bytes, host: Host, streams: dict[bytes, Stream], stack: ExitStack) -> bytes:
+    """What comes back for a line, which is for a host, or for one of the streams to it. The stack closes them in the end."""
+    number, _, rest = line.partition(b" ")
+    if line == b"ended":
+        return how_it_ends(host)
+    if number == b"many":
+        return crowd(host.port, *map(int, rest.split()))
+    if rest != b"open" and number not in streams:
+        return b"nothing"
+    if rest == b"close":
+        streams.pop(number).close()
+        return b"closed"
+    if rest != b"open":
+        return streams[number].do(rest)
+    try:
+        streams[number] = stack.enter_context(Stream(host.port))
+    except OSError:
+        return b"refused"
+    return b"open"
 
 
 def how_it_ends(host: Host) -> bytes:
@@ -142,21 +107,16 @@ def how_it_ends(host: Host) -> bytes:
 
 
 def host_answers(cam6: str, part: Part) -> bytes:
-    """What comes back for lines for a host, up to the first one for which nothing comes."""
+    """What comes back for lines for a host, up to the first one for which nothing comes. Its end comes in the end."""
     sizes = re.fullmatch(r"host (\d+) (\d+)(?: within (\d+))? connections (\d+)", part.way)
     if not sizes:
         raise Unplayable(f"no host: {part.way}")
-    users, boards, limit, connections = sizes.groups()
-    options = (f"--users={users}", f"--boards={boards}", f"--side={limit or 256}", f"--connections={connections}")
-    answers = []
-    with Host(cam6, *options) as host, ExitStack() as stack:
-        there = Connections(host, stack)
-        for line, _ in part.sent:
-            answers.append(there.answer(line))
-            if answers[-1] == b"nothing":
-                break
-        else:
-            answers += [] if there.is_told else [there.ended()]
+    values = zip(("users", "boards", "side", "connections"), sizes.groups("256"))
+    lines, answers, streams = [line for line, _ in part.sent], list[bytes](), dict[bytes, Stream]()
+    lines += [] if b"ended" in lines else [b"ended"]
+    with Host(cam6, *(f"--{name}={value}" for name, value in values)) as host, ExitStack() as stack:
+        while lines and b"nothing" not in answers:
+            answers.append(answer_to(lines.pop(0), host, streams, stack))
     return b"".join(answer + b"\n" for answer in answers)
 
 
@@ -166,7 +126,7 @@ def session_answers(cam6: str, part: Part) -> bytes:
     options = ("--users=1", "--boards=1", f"--side={limit_of(part.way)}", "--connections=1")
     heard = bytearray()
     with Host(cam6, *options) as host:
-        with closing(Stream(host.port, patience=SESSION_PATIENCE)) as stream, ThreadPoolExecutor(1) as pool:
+        with Stream(host.port, patience=SESSION_PATIENCE) as stream, ThreadPoolExecutor(1) as pool:
             pool.submit(stream.send, SEAT % 1 + part.bytes_sent()).add_done_callback(lambda _: stream.shut())
             with suppress(OSError):
                 while more := stream.socket.recv(1 << 20):

@@ -14,8 +14,8 @@ import pytest
 from support.programs import Peer, Ran, private, until
 from support.sessions import line_of
 
-from .users import BACK, NO_JSON, NO_NAMES, NO_SEAT, ONE_NAME, PARITY, PLANES, ROW, RULES, RUN, SEAT, SEATED, START
-from .users import TAKEN, TOO_LONG, Hosts, answers, closed, connected, cycle, seated
+from .users import BACK, NO_JSON, NO_NAMES, NO_SEAT, ONE_NAME, PARITY, ROW, RULES, RUN, SEAT, SEATED, START, TAKEN
+from .users import TOO_LONG, Hosts, answers, closed, connected, cycle, fill, seated
 
 # How many may wait for a seat, beside one for each user; how many of them with a long line.
 MORE, LONG = 64, 8
@@ -33,7 +33,7 @@ def first_answer(port: int, line: str) -> str | None:
 
 def test_of_300_silent_clients_68_may_wait_for_a_seat(beside: Hosts) -> None:
     one, begun = beside(1, "--users=4"), time.monotonic()
-    with connected(one.port, 300) as peers:
+    with connected(Peer, one.port, 300) as peers:
         assert until(lambda: closed(peers, 0.1) >= 300 - (4 + MORE), WAIT - 2)
         assert closed(peers, 0.5) == 300 - (4 + MORE)
         assert time.monotonic() - begun < WAIT
@@ -44,7 +44,7 @@ def test_of_300_silent_clients_68_may_wait_for_a_seat(beside: Hosts) -> None:
 @pytest.mark.slow
 def test_silent_clients_are_closed_after_ten_seconds(beside: Hosts) -> None:
     one, begun = beside(1, "--users=4"), time.monotonic()
-    with connected(one.port, 300) as peers:
+    with connected(Peer, one.port, 300) as peers:
         assert closed(peers, WAIT + GRACE) == 300
         assert time.monotonic() - begun > WAIT - 1
         seated(Peer, one.port, 2).close()
@@ -90,7 +90,7 @@ def test_a_first_line_is_text_and_has_a_greatest_length(beside: Hosts, line: byt
 def test_of_60_clients_that_send_a_load_first_eight_are_heard(beside: Hosts) -> None:
     one = beside(1, "--users=4")
     before = one.of_process("VmRSS")
-    with connected(one.port, 60) as peers:
+    with connected(Peer, one.port, 60) as peers:
         for peer in peers:
             with suppress(ConnectionError):
                 peer.send(LOAD + "0" * 2_000_000)
@@ -99,20 +99,12 @@ def test_of_60_clients_that_send_a_load_first_eight_are_heard(beside: Hosts) -> 
         assert one.of_process("VmRSS") - before < 30_000
 
 
-def fill(peer: Peer) -> None:
-    """Asks for answers without reading any, until no more can be sent."""
-    peer.socket.settimeout(1)
-    with suppress(OSError):
-        while True:
-            peer.send(f"{PLANES[0]}\n" * 40)
-
-
 @pytest.mark.slow
 def test_who_reads_nothing_loses_the_seat_after_a_minute(beside: Hosts) -> None:
     one = beside(3, "--users=3")
     with Peer(one.port, 1) as deaf, Peer(one.port, 2) as shut:
-        for peer in (deaf, shut):
-            fill(peer)
+        fill(deaf)
+        fill(shut)
         shut.socket.shutdown(socket.SHUT_WR)
         end = time.monotonic() + SEND + 3 * GRACE
         time.sleep(SEND / 2)

@@ -11,40 +11,33 @@ import pytest
 from support.programs import PATIENCE, Listener, Peer, Ran, free_port, private, ran
 from support.sessions import line_of
 
-from .users import CELL, NO_NAMES, NO_SEAT, ONE_NAME, PARITY, PLANES, ROW, RULES, RUN, SEAT, SEATED, START, TAKEN
+from .users import CELL, NO_NAMES, NO_SEAT, PARITY, PLANES, ROW, RULES, RUN, SEAT, SEATED, START, TAKEN
 from .users import Hosts, connected, seated
 
 # There are runs between the other commands, so that the answers to all of them go in several sends.
 CHANGES = [*START[:2], *(line for y in range(5) for line in (CELL % (40 * y), ROW % (40 * y), RUN % 1))]
-# Sends CHANGES at once. Returns what comes back, and what the plane is then.
-AtOnce = Callable[[str, int, int], tuple[list[str], str | None]]
+Library = Callable[[str], str]
 NOT_TAKEN = "alone, --port 0, --users 33, --boards 9, --cache 65, --side 100, --connections -1, --idle -1".split(", ")
 NOT_TAKEN += ["--port 65536", f"--connections {2**64}", f"--idle {2**32}"]
 
 
-def test_it_serves_two_users_and_ends_after_its_connections(host: Hosts) -> None:
-    one = host("--connections=2")
-    assert one.said == [f"listening on 127.0.0.1:{one.port}"]
-    with Peer(one.port, 1) as first, Peer(one.port, 2) as second:
-        # Each has a machine of their own.
-        assert [first.ask(PARITY), second.ask(RULES), first.ask(RULES)] == ['{"ok":"rule"}', NO_NAMES, ONE_NAME]
-        assert one.is_running()
-    assert one.ended() == Ran(0, b"", b"")
-
-
 def test_of_64_clients_at_once_four_have_the_seats_of_four_users(host: Hosts) -> None:
     one = host("--connections=64")
-    with connected(one.port, 64) as peers:
+    assert one.said == [f"listening on 127.0.0.1:{one.port}"]
+    with connected(Peer, one.port, 64) as peers:
         for number, peer in enumerate(peers):
             peer.send(f"{SEAT % (1 + number % 4)}\n")
         said = [peer.read() for peer in peers]
         assert sorted(1 + number % 4 for number, line in enumerate(said) if line == SEATED) == [1, 2, 3, 4]
         assert said.count(TAKEN) == 60
         guests = [peer for peer, line in zip(peers, said) if line == SEATED]
+        # Each has a machine of their own.
         for number, guest in enumerate(guests):
+            assert guest.ask(RULES) == NO_NAMES
             guest.ask(PARITY.replace('"P"', f'"P{number}"').replace(": P ", f": P{number} "))
         names = [f'{{"names":["P{number}"],"ok":"rules"}}' for number in range(4)]
         assert [guest.ask(RULES) for guest in guests] == names
+        assert one.is_running()
     assert one.ended() == Ran(0, b"", b"")
 
 
@@ -93,22 +86,18 @@ def test_the_usual_port_is_6006(cam6: str) -> None:
         assert one.said == ["listening on 127.0.0.1:6006"]
 
 
-@pytest.fixture
-def at_once(host: Hosts, library: Callable[[str], str]) -> AtOnce:
-    """Sends CHANGES at once to a host whose call of this name and number fails by this error."""
-
-    def play(call: str, number: int, error: int) -> tuple[list[str], str | None]:
-        failing = {"FAILED": call, "FAILED_AT": str(number), "FAILED_BY": str(error), "LD_PRELOAD": library("failing")}
-        one = host("--users=1", "--boards=1", env=failing)
-        with Peer(one.port, 1) as peer:
-            if peer.said == SEATED:
-                peer.send("".join(f"{line}\n" for line in CHANGES))
-                peer.socket.shutdown(socket.SHUT_WR)
-            said = list(iter(peer.read, None))
-        with seated(Peer, one.port, 1) as peer:
-            return said, peer.ask(PLANES[0])
-
-    return play
+def at_once(host: Hosts, failing: str, call: str, number: int, error: int) -> tuple[list[str], str | None]:
+    """Sends CHANGES at once to a host whose call of this name and number fails by this error, by the library `failing`.
+    Returns what comes back, and what the plane is then."""
+    env = {"FAILED": call, "FAILED_AT": str(number), "FAILED_BY": str(error), "LD_PRELOAD": failing}
+    one = host("--users=1", "--boards=1", env=env)
+    with Peer(one.port, 1) as peer:
+        if peer.said == SEATED:
+            peer.send("".join(f"{line}\n" for line in CHANGES))
+            peer.socket.shutdown(socket.SHUT_WR)
+        said = list(iter(peer.read, None))
+    with seated(Peer, one.port, 1) as peer:
+        return said, peer.ask(PLANES[0])
 
 
 @cache
@@ -117,11 +106,11 @@ def planes(cam6: str) -> list[str]:
     return [private(cam6, [*CHANGES[:done], PLANES[0]])[-1] for done in range(len(CHANGES) + 1)]
 
 
-def test_answers_break_off_where_a_send_fails_and_none_is_lost_before(cam6: str, at_once: AtOnce) -> None:
+def test_answers_break_off_where_a_send_fails_and_none_is_lost_before(cam6: str, host: Hosts, library: Library) -> None:
     # The answer to the first line is one send, those up to each run are another one, and the last ones too.
     places = set()
     for number in range(1, 8):
-        said, plane = at_once("send", number, errno.ENOBUFS)
+        said, plane = at_once(host, library("failing"), "send", number, errno.ENOBUFS)
         assert said == private(cam6, CHANGES)[: len(said)], number
         # All that was answered is done. What was done unanswered is what one packet's answers and a run may be.
         assert plane in planes(cam6)[len(said) :], number
@@ -131,5 +120,6 @@ def test_answers_break_off_where_a_send_fails_and_none_is_lost_before(cam6: str,
 
 @pytest.mark.parametrize("number", range(1, 6))
 @pytest.mark.parametrize("call", ["send", "recv"])
-def test_a_call_that_is_interrupted_is_made_again(cam6: str, at_once: AtOnce, call: str, number: int) -> None:
-    assert at_once(call, number, errno.EINTR) == (private(cam6, CHANGES), planes(cam6)[-1])
+def test_an_interrupted_call_is_made_again(cam6: str, host: Hosts, library: Library, call: str, number: int) -> None:
+    wanted = private(cam6, CHANGES), planes(cam6)[-1]
+    assert at_once(host, library("failing"), call, number, errno.EINTR) == wanted

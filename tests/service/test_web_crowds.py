@@ -4,19 +4,18 @@ from __future__ import annotations
 
 import resource
 import socket
-import threading
 import time
 from collections.abc import Callable, Iterator
-from concurrent.futures import ThreadPoolExecutor
-from contextlib import AbstractContextManager, ExitStack, suppress
+from concurrent.futures import ThreadPoolExecutor, wait
+from contextlib import AbstractContextManager, suppress
 from functools import partial
 
 import pytest
-from support.programs import Page, until
+from support.programs import Page, Peer, until
 from websockets.exceptions import InvalidStatus
 from websockets.frames import Opcode
 
-from .pages import Socket, answer_of, answer_to, frame_of, get, status_of
+from .pages import Answer, Socket, frame_of, get, status_of
 from .users import NO_COMMAND, PLANES, Pages, Session, closed, connected, steady
 
 # Seconds in which a request has to be whole, and that a busy machine may add.
@@ -25,26 +24,11 @@ REQUEST, GRACE = 10, 8
 CROWD, SOCKETS, MORE_THREADS = 1000, 64, 80
 # Kilobytes that may be held for a crowd, and for sockets that never read.
 HELD, HELD_FOR_DEAF = 32 * 1024, 64 * 1024
-Ended = tuple[float, int]
 
 
-def slow_requests(port: int) -> dict[str, list[bytes]]:
-    """Requests that never become whole. Of each the first piece is sent at once, and then a piece a second."""
-    head = b"GET / HTTP/1.1\r\nHost: 127.0.0.1:%d\r\n" % port
-    shake = head.replace(b"/ ", b"/ws ", 1)
-    shake += b"Upgrade: websocket\r\nConnection: Upgrade\r\nSec-WebSocket-Version: 13\r\n"
-    return {
-        "a client that says nothing": [b""],
-        "half a request": [b"GET / HT"],
-        "half a handshake": [shake],
-        "a byte a second": [b"", *(bytes([byte]) for byte in head)],
-        "a field a second": [head] + [b"X: x\r\n"] * 30,
-        "a field a second in a handshake": [shake] + [b"X: x\r\n"] * 30,
-    }
-
-
-def ended_after(port: int, pieces: list[bytes]) -> Ended:
-    """Sends pieces. Returns after how many seconds the server ends the connection, and with which status; 0 if with none."""
+def ended_after(port: int, pieces: list[bytes]) -> tuple[float, int]:
+    """Sends the first piece at once, and then a piece a second. Returns after how many seconds the server ends the connection,
+    and with which status; 0 if with none."""
     whole, begun = b"", time.monotonic()
     with socket.create_connection(("127.0.0.1", port), timeout=1) as tcp, suppress(ConnectionError):
         for piece in [*pieces, *[b""] * 2 * (REQUEST + GRACE)]:
@@ -53,7 +37,7 @@ def ended_after(port: int, pieces: list[bytes]) -> Ended:
                 while part := tcp.recv(65536):
                     whole += part
                 break
-    return time.monotonic() - begun, answer_of(whole).status
+    return time.monotonic() - begun, Answer(whole).status
 
 
 def goes_on(page: Page, session: Session) -> AbstractContextManager[Callable[[], int]]:
@@ -61,26 +45,24 @@ def goes_on(page: Page, session: Session) -> AbstractContextManager[Callable[[],
     return steady(Socket(page.port, patience=60), session, 0.2)
 
 
-@pytest.fixture(scope="module")
-def slow(bare: Page, readme: Session) -> dict[str, Ended]:
-    """After how many seconds each slow request is ended, and with which status. All of them come at once."""
-    requests = slow_requests(bare.port)
+@pytest.mark.slow
+def test_a_request_that_never_becomes_whole_is_given_up_after_ten_seconds(bare: Page, readme: Session) -> None:
+    head = b"GET / HTTP/1.1\r\nHost: 127.0.0.1:%d\r\n" % bare.port
+    shake = head.replace(b"/ ", b"/ws ", 1)
+    shake += b"Upgrade: websocket\r\nConnection: Upgrade\r\nSec-WebSocket-Version: 13\r\n"
+    requests = {
+        "a client that says nothing": [b""],
+        "half a request": [b"GET / HT"],
+        "half a handshake": [shake],
+        "a byte a second": [b"", *(bytes([byte]) for byte in head)],
+        "a field a second": [head] + [b"X: x\r\n"] * 30,
+        "a field a second in a handshake": [shake] + [b"X: x\r\n"] * 30,
+    }
     with goes_on(bare, readme), ThreadPoolExecutor(len(requests)) as pool:
         ended = dict(zip(requests, pool.map(partial(ended_after, bare.port), requests.values())))
         assert get(bare.port, "/").status == 200
-        return ended
-
-
-@pytest.mark.slow
-@pytest.mark.parametrize("what", slow_requests(0))
-def test_a_request_is_given_up_after_ten_seconds(slow: dict[str, Ended], what: str) -> None:
-    seconds, status = slow[what]
-    assert REQUEST - 1 < seconds < REQUEST + GRACE
-    assert status in (0, 400, 408)
-
-
-def test_half_a_request_that_ends_is_refused(bare: Page) -> None:
-    assert answer_to(bare.port, "GET / HT", ends=True).status in (0, 400)
+    for what, (seconds, status) in ended.items():
+        assert REQUEST - 1 < seconds < REQUEST + GRACE and status in (0, 400, 408), (what, ended)
 
 
 @pytest.fixture
@@ -99,7 +81,7 @@ def test_a_crowd_that_says_nothing_is_bounded(page: Pages, readme: Session) -> N
     before = crowded.of_process("VmRSS")
     with goes_on(crowded, readme):
         begun = time.monotonic()
-        with connected(crowded.port, CROWD) as many:
+        with connected(Peer, crowded.port, CROWD) as many:
             threads = crowded.of_process("Threads")
             at_once = closed(many, begun + REQUEST - 1 - time.monotonic())
             assert at_once >= CROWD - SOCKETS - MORE_THREADS, "the rest is closed before those that are taken"
@@ -123,8 +105,7 @@ def refusal(port: int) -> object:
 @pytest.mark.parametrize(("options", "most"), [(("--connections", "2"), 2), ((), SOCKETS)])
 def test_so_many_sockets_are_open_and_no_more(page: Pages, options: tuple[str, ...], most: int) -> None:
     port = page(options=options).port
-    with ExitStack() as stack:
-        many = [stack.enter_context(Socket(port)) for _ in range(most)]
+    with connected(Socket, port, most) as many:
         assert {refusal(port) for _ in range(3)} <= {503, 1013}
         assert get(port, "/").status == 200, "the page is shown beside them"
         assert status_of(port, fields={"Origin": "http://x"}) == 403, "another origin is told before that"
@@ -144,7 +125,8 @@ ASKS = {
 
 @pytest.mark.slow
 def test_sockets_that_never_read_are_held_back(page: Pages, readme: Session) -> None:
-    most, sent, asked = 2000, dict.fromkeys(ASKS, 0), page()
+    most, sent, asked, kind = 2000, dict.fromkeys(ASKS, 0), page(), partial(Socket, patience=3)
+    before = asked.of_process("VmRSS")
 
     def send(what: str, deaf: Socket) -> None:
         with suppress(OSError):
@@ -152,40 +134,28 @@ def test_sockets_that_never_read_are_held_back(page: Pages, readme: Session) -> 
                 deaf.send(ASKS[what])
                 sent[what] += 1
 
-    with ExitStack() as stack, goes_on(asked, readme):
-        before = asked.of_process("VmRSS")
-        deaf = [stack.enter_context(Socket(asked.port, patience=3)) for _ in ASKS]
-        threads = [threading.Thread(target=send, args=pair, daemon=True) for pair in zip(ASKS, deaf)]
-        for thread in threads:
-            thread.start()
-        for thread in threads:
-            thread.join(12)
-        assert until(lambda: not threads[-1].is_alive(), 30), f"pings are neither all taken nor held back: {sent}"
+    with ThreadPoolExecutor() as pool, connected(kind, asked.port, len(ASKS)) as deaf, goes_on(asked, readme):
+        sending = [pool.submit(send, *pair) for pair in zip(ASKS, deaf)]
+        wait(sending, 36)
+        assert until(sending[-1].done, 30), f"pings are neither all taken nor held back: {sent}"
         assert sent["planes"] < most or sent["pings"] < most
         assert asked.of_process("VmRSS") - before < HELD_FOR_DEAF, "kilobytes are held for sockets that never read"
 
 
 def test_pings_by_the_thousand_are_answered_in_order(bare: Page, readme: Session) -> None:
-    count = 20_000
-    with goes_on(bare, readme) as rounds, Socket(bare.port) as one:
-
-        def send() -> None:
-            for first in range(0, count, 100):
-                one.send(b"".join(frame_of(Opcode.PING, b"%d" % number) for number in range(first, first + 100)))
-                if first % 2000 == 0:
-                    one.send("{}")
-
-        threading.Thread(target=send, daemon=True).start()
-        numbers, texts = [-1], []
-        while numbers[-1] != count - 1:
+    pings = [frame_of(Opcode.PING, b"%d" % number) for number in range(20_000)]
+    line = frame_of(Opcode.TEXT, b"{}")
+    pieces = [b"".join(pings[at : at + 100]) + (b"" if at % 2000 else line) for at in range(0, 20_000, 100)]
+    came: dict[Opcode, list[bytes]] = {Opcode.PONG: [], Opcode.TEXT: []}
+    with goes_on(bare, readme) as rounds, ThreadPoolExecutor(1) as pool, Socket(bare.port) as one:
+        pool.submit(lambda: list(map(one.send, pieces)))
+        while came[Opcode.PONG][-1:] != [b"19999"]:
             got = one.frame()
-            assert got and got.opcode in (Opcode.PONG, Opcode.TEXT), f"{got} after the pong {numbers[-1]}"
-            if got.opcode is Opcode.PONG:
-                numbers.append(int(got.data))
-            else:
-                texts.append(got.data.decode())
+            assert got and got.opcode in came, f"{got} after the pong {came[Opcode.PONG][-1:]}"
+            came[got.opcode].append(got.data)
+        numbers = [*map(int, came[Opcode.PONG])]
         assert numbers == sorted(set(numbers))
-        assert texts == [NO_COMMAND] * (count // 2000), "lines among pings are answered too"
+        assert came[Opcode.TEXT] == [NO_COMMAND.encode()] * 10, "lines among pings are answered too"
         # All of them may be answered before the page plays once more, so further ones follow until it has.
         last = time.monotonic() + 20
         while rounds() < 2 and time.monotonic() < last:

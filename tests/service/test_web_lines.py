@@ -1,16 +1,18 @@
-"""Lines and their answers are carried as they stand, between a page and its machine or its host."""
+"""Lines and their answers are carried as they stand, between a page and its host, or its own machine if it has no host. A host
+is told each message with an LF, in order, and nothing else."""
 
 from __future__ import annotations
 
 import threading
 from collections.abc import Iterator
+from concurrent.futures import ThreadPoolExecutor
 
 import pytest
 from support.programs import Page, private, until
 from support.sessions import assert_replies, line_of
 from websockets.frames import Opcode
 
-from .pages import Recorder, Row, Socket, among, each_row, frame_of, rows_of, text_of
+from .pages import Recorder, Row, Socket, each_row, frame_of, rows_of, text_of
 from .users import BACK, BALLS, BLANK, COUNT, PLANES, RUN, Session, answers
 
 LINES = ["a", "", "é☃😀", "a\r", "\0", *(f"n{number}" for number in range(200)), "x" * 2097152, "last"]
@@ -36,29 +38,18 @@ PIECES: dict[str, tuple[list[bytes], list[bytes], list[str]]] = {
 
 def answers_at_once(one: Socket, lines: list[str]) -> list[str | None]:
     """The answers to lines that don't wait for them."""
-
-    def send() -> None:
-        for line in lines:
-            one.send(line)
-
-    threading.Thread(target=send, daemon=True).start()
-    return [one.read() for _ in lines]
-
-
-# A page without a host has a machine of its own.
-
-
-@pytest.fixture(scope="module")
-def odd(cam6: str, bare: Page) -> dict[str, tuple[str | None, str]]:
-    """The answer to each row of lines.json, one after another, and the reply of a private machine."""
-    lines = {row["what"]: text_of(row["line"]) for row in rows_of("lines")}
-    with Socket(bare.port, patience=60) as one:
-        return dict(zip(lines, zip(answers(one, [*lines.values()]), private(cam6, lines.values()))))
+    with ThreadPoolExecutor(1) as pool:
+        pool.submit(lambda: list(map(one.send, lines)))
+        return [one.read() for _ in lines]
 
 
 def test_the_session_of_readme_has_the_replies_of_a_private_machine(bare: Page, readme: Session) -> None:
-    with Socket(bare.port, patience=60) as one:
+    with Socket(bare.port, patience=60) as one, Socket(bare.port) as other:
         assert_replies(readme.lines, answers(one, readme.lines), readme.replies)
+        assert one.ask(COUNT) != other.ask(COUNT) == BLANK, "each page has a machine of its own"
+        assert one.leave("bye") == 1000
+    with Socket(bare.port) as other:
+        assert other.ask(COUNT) == BLANK, "a new page has a new machine"
 
 
 def test_balls_run_and_are_taken_back(cam6: str, bare: Page) -> None:
@@ -69,15 +60,6 @@ def test_balls_run_and_are_taken_back(cam6: str, bare: Page) -> None:
     assert came[-4:] == came[len(BALLS) : len(BALLS) + 4]
 
 
-def test_each_page_has_a_machine_of_its_own(bare: Page, readme: Session) -> None:
-    with Socket(bare.port) as one, Socket(bare.port) as other:
-        assert answers(one, readme.lines) == readme.replies
-        assert one.ask(COUNT) != other.ask(COUNT) == BLANK
-        assert one.leave("bye") == 1000
-    with Socket(bare.port) as other:
-        assert other.ask(COUNT) == BLANK, "a new page has a new machine"
-
-
 def test_lines_need_not_wait_for_their_answers(cam6: str, bare: Page) -> None:
     lines = [line_of(do="set", plane=2, row=y, bits="8" + "0" * 63) for y in range(256)]
     lines += [line for y in range(256) for line in (line_of(do="row", plane=2, row=y), line_of(do="drop", name=str(y)))]
@@ -85,13 +67,10 @@ def test_lines_need_not_wait_for_their_answers(cam6: str, bare: Page) -> None:
         assert_replies(lines, answers_at_once(one, lines), private(cam6, lines))
 
 
-@pytest.mark.parametrize("row", each_row("lines"))
-def test_an_odd_line_has_the_reply_of_a_private_machine(odd: dict[str, tuple[str | None, str]], row: Row) -> None:
-    came, wanted = odd[row["what"]]
-    assert came == wanted
-
-
-# A host is told each message with an LF, in order, and nothing else.
+def test_odd_lines_have_the_replies_of_a_private_machine(cam6: str, bare: Page) -> None:
+    lines = [text_of(row["line"]) for row in rows_of("lines")]
+    with Socket(bare.port, patience=60) as one:
+        assert_replies(lines, answers(one, lines), private(cam6, lines))
 
 
 @pytest.fixture(scope="module")
@@ -102,23 +81,17 @@ def host() -> Iterator[Recorder]:
 
 
 @pytest.fixture(scope="module")
-def carrying(cam6_web: str, host: Recorder) -> Iterator[Page]:
-    """A page of this host."""
-    with Page(cam6_web, host.port) as page:
-        yield page
-
-
-@pytest.fixture
-def one(carrying: Page) -> Iterator[Socket]:
-    """A socket that leads to this host."""
-    with Socket(carrying.port, patience=60) as socket:
+def steady(cam6_web: str, host: Recorder) -> Iterator[Socket]:
+    """A socket that leads to this host, and goes on beside the bad ones."""
+    with Page(cam6_web, host.port) as page, Socket(page.port) as socket:
+        assert socket.ask("on") == "[on]"
         yield socket
 
 
-@pytest.fixture(scope="module")
-def steady(carrying: Page) -> Iterator[Socket]:
-    """A socket that goes on beside the bad ones."""
-    with Socket(carrying.port) as socket:
+@pytest.fixture
+def one(steady: Socket) -> Iterator[Socket]:
+    """Another socket of the same page."""
+    with Socket(steady.socket.getpeername()[1], patience=60) as socket:
         yield socket
 
 
@@ -128,10 +101,9 @@ def test_a_host_is_told_each_message_as_its_line(host: Recorder, one: Socket) ->
     assert one.leave("bye") == 1000
 
 
-@pytest.mark.parametrize(("pieces", "pongs", "lines"), PIECES.values(), ids=PIECES)
-def test_frames_may_come_in_any_pieces(
-    host: Recorder, one: Socket, pieces: list[bytes], pongs: list[bytes], lines: list[str]
-) -> None:
+@pytest.mark.parametrize("what", PIECES)
+def test_frames_may_come_in_any_pieces(host: Recorder, one: Socket, what: str) -> None:
+    pieces, pongs, lines = PIECES[what]
     for piece in pieces:
         one.send(piece)
     came = [one.frame() for _ in [*pongs, *lines]]
@@ -148,7 +120,7 @@ def test_a_message_that_is_no_line_closes_the_socket(host: Recorder, one: Socket
     data = bytes.fromhex(row.get("raw", "")) or b"".join([*frames, frame_of(Opcode.TEXT, b"behind")])
     threading.Thread(target=one.try_to_send, args=(data,), daemon=True).start()
     (code, reason), end = row["close"], one.closed()
-    assert end and end[0] in among(code) and reason in (None, end[1])
+    assert end and end[0] in (code, *row.get("or", [])) and reason in (None, end[1])
     assert until(told.has_ended.is_set), "the connection to the host is still open"
     assert told.data == b"first\n"
     assert steady.ask("on") == "[on]"

@@ -37,35 +37,22 @@ def left_by(data: bytes, is_wrong: bool, one: Socket) -> None:
         assert not is_wrong or one.closed()
 
 
-# What is only a part of something, and what is no line. Each would clear a plane if it were handed over.
-PARTS = {
-    "a close in the middle of a frame's head": frame_of(Opcode.TEXT, CLEAR)[:1],
-    "a close in the middle of a frame": frame_of(Opcode.TEXT, CLEAR)[:-1],
-    "a close in the middle of a message": frame_of(Opcode.TEXT, CLEAR, last=False),
-    "a close frame without its end": frame_of(Opcode.CLOSE, b"\x03\xe8bye")[:4],
-}
-WRONG = {
-    "a text with an LF": frame_of(Opcode.TEXT, CLEAR + b"\n"),
-    "two lines in a text": frame_of(Opcode.TEXT, CLEAR + b"\n" + CLEAR),
-    "bytes": frame_of(Opcode.BINARY, CLEAR),
-    "a text that isn't UTF-8": frame_of(Opcode.TEXT, CLEAR + b"\xff"),
-    "a text that is too long": frame_of(Opcode.TEXT, CLEAR + b" " * 2097153),
-    "a frame without a mask": frame_of(Opcode.TEXT, CLEAR, masked=False),
-}
-# Ways in which a page goes.
+# Ways in which a page goes. What is sent would clear a plane if it were handed over. It is a part of something, or is no line.
 LEAVES: dict[str, Way] = {
     "a close": Socket.leave,
     "a connection that only ends": Socket.close,
     "a connection that is reset": Socket.reset,
-    **{what: partial(left_by, data, False) for what, data in PARTS.items()},
-    **{what: partial(left_by, data, True) for what, data in WRONG.items()},
+    "a close in the middle of a frame's head": partial(left_by, frame_of(Opcode.TEXT, CLEAR)[:1], False),
+    "a close in the middle of a frame": partial(left_by, frame_of(Opcode.TEXT, CLEAR)[:-1], False),
+    "a close in the middle of a message": partial(left_by, frame_of(Opcode.TEXT, CLEAR, last=False), False),
+    "a close frame without its end": partial(left_by, frame_of(Opcode.CLOSE, b"\x03\xe8bye")[:4], False),
+    "a text with an LF": partial(left_by, frame_of(Opcode.TEXT, CLEAR + b"\n"), True),
+    "two lines in a text": partial(left_by, frame_of(Opcode.TEXT, CLEAR + b"\n" + CLEAR), True),
+    "bytes": partial(left_by, frame_of(Opcode.BINARY, CLEAR), True),
+    "a text that isn't UTF-8": partial(left_by, frame_of(Opcode.TEXT, CLEAR + b"\xff"), True),
+    "a text that is too long": partial(left_by, frame_of(Opcode.TEXT, CLEAR + b" " * 2097153), True),
+    "a frame without a mask": partial(left_by, frame_of(Opcode.TEXT, CLEAR, masked=False), True),
 }
-
-
-@pytest.fixture
-def served(host: Hosts, page: Pages) -> Page:
-    """A page of a host with two seats."""
-    return page(host("--users=2", "--side=512").port)
 
 
 @pytest.fixture(scope="module")
@@ -78,30 +65,19 @@ def left(cam6: str, cam6_web: str, readme: Session) -> Iterator[tuple[Page, str 
         yield page, cells
 
 
-def test_the_session_of_readme_at_a_seat(served: Page, readme: Session) -> None:
-    with Socket(served.port, 1) as one:
-        assert one.said == SEATED
-        assert_replies(readme.lines, answers(one, readme.lines), readme.replies)
-
-
-FIRST = {
-    "a seat that is taken": (SEAT % 1, TAKEN),
-    "a seat that isn't there": (SEAT % 3, NO_SEAT),
-    "a first message that is no seat": ("{}", NO_COMMAND),
-}
-
-
-@pytest.mark.parametrize(("line", "reply"), FIRST.values(), ids=FIRST)
-def test_after_a_first_message_that_takes_no_seat_the_host_is_gone(served: Page, line: str, reply: str) -> None:
-    with seated(Socket, served.port, 1), Socket(served.port) as other:
+@pytest.mark.parametrize("line, reply", [(SEAT % 1, TAKEN), (SEAT % 3, NO_SEAT), ("{}", NO_COMMAND)])
+def test_after_a_message_that_takes_no_seat_the_host_is_gone(host: Hosts, page: Pages, line: str, reply: str) -> None:
+    port = page(host("--users=2", "--side=512").port).port
+    with seated(Socket, port, 1), Socket(port) as other:
         assert other.ask(line) == reply
         assert end_of_next(other) == GONE
 
 
-def test_each_seat_has_a_machine_of_its_own(served: Page, readme: Session) -> None:
-    with seated(Socket, served.port, 1) as one, Socket(served.port, 2) as other:
-        assert answers(one, readme.lines) == readme.replies
-        assert other.said == SEATED
+def test_each_seat_has_a_machine_of_its_own(host: Hosts, page: Pages, readme: Session) -> None:
+    port = page(host("--users=2", "--side=512").port).port
+    with Socket(port, 1) as one, Socket(port, 2) as other:
+        assert (one.said, other.said) == (SEATED, SEATED)
+        assert_replies(readme.lines, answers(one, readme.lines), readme.replies)
         assert one.ask(COUNT) != other.ask(COUNT) == BLANK
 
 
@@ -125,31 +101,19 @@ def test_pages_that_only_come_and_go_leave_nothing(host: Hosts, page: Pages) -> 
     assert until(lambda: served.of_process("Threads") <= 12, 10), served.of_process("Threads")
 
 
-# Two hosts, and hosts that go.
-
-
-@pytest.fixture
-def two_hosts(host: Hosts, page: Pages) -> tuple[Host, Page]:
-    """The second one of two hosts with a seat each, and their page."""
+def test_sockets_of_the_second_path_are_those_of_the_second_host(host: Hosts, page: Pages, readme: Session) -> None:
     first, second = host("--users=1", "--side=512"), host("--users=1", "--side=512")
-    return second, page(first.port, second.port)
-
-
-def test_sockets_of_the_second_path_are_those_of_the_second_host(two_hosts: tuple[Host, Page], readme: Session) -> None:
-    port = two_hosts[1].port
+    port = page(first.port, second.port).port
+    assert get(port, "/hosts").body.strip() == b"2"
     with Socket(port, 1, "/ws/1") as one, Socket(port, 1, "/ws/2") as two, Socket(port, 1) as other:
         assert (one.said, two.said) == (SEATED, SEATED)
         assert answers(two, readme.lines) == readme.replies
         assert one.ask(COUNT) == BLANK
         assert other.said == TAKEN, "the path without a number is the first host"
-
-
-def test_one_of_two_hosts_goes_alone(two_hosts: tuple[Host, Page]) -> None:
-    second, page = two_hosts
     second.kill()
-    with Socket(page.port, path="/ws/2") as two:
-        assert two.closed() == GONE
-    seated(partial(Socket, path="/ws/1"), page.port, 1).close()
+    with Socket(port, path="/ws/2") as two:
+        assert two.closed() == GONE, "the second host goes alone"
+    seated(partial(Socket, path="/ws/1"), port, 1).close()
 
 
 def test_a_page_is_shown_though_its_host_is_not_there(page: Pages) -> None:
@@ -200,9 +164,6 @@ def test_a_socket_is_closed_by_its_hosts(page: Pages, word: str) -> None:
         assert one.closed() == GONE
 
 
-# A page that says nothing.
-
-
 @pytest.fixture
 def silent(host: Hosts, page: Pages) -> Socket:
     """A page that has a seat."""
@@ -210,6 +171,7 @@ def silent(host: Hosts, page: Pages) -> Socket:
 
 
 @pytest.mark.long
+@pytest.mark.slow
 def test_a_page_that_answers_pings_keeps_its_seat(silent: Socket) -> None:
     begun = time.monotonic()
     silent.socket.settimeout(PINGS + GRACE)
@@ -223,6 +185,7 @@ def test_a_page_that_answers_pings_keeps_its_seat(silent: Socket) -> None:
 
 
 @pytest.mark.long
+@pytest.mark.slow
 def test_a_page_that_answers_no_ping_is_closed(silent: Socket) -> None:
     begun, port = time.monotonic(), silent.socket.getpeername()[1]
     silent.socket.settimeout(DEAF + PINGS + GRACE)

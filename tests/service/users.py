@@ -2,17 +2,15 @@
 
 from __future__ import annotations
 
-import socket
 import time
-from collections.abc import Callable, Iterator
+from collections.abc import Callable, Iterator, Sequence
 from concurrent.futures import ThreadPoolExecutor
-from contextlib import ExitStack, contextmanager, suppress
-from functools import cache
+from contextlib import contextmanager, suppress
 from selectors import EVENT_READ, DefaultSelector
 from threading import Event
 from typing import NamedTuple, TypeVar
 
-from support.programs import PATIENCE, TOP, Host, Page, Peer, private
+from support.programs import END, PATIENCE, TOP, Host, Page, Peer, until
 from support.sessions import assert_replies, line_of
 
 Hosts = Callable[..., Host]
@@ -43,6 +41,7 @@ START = [PARITY, cycle("P"), CELL % 7]
 # What makes a machine blank again, if it had no other commands than these or than those of README.
 AFRESH = [cycle("-"), line_of(do="drop", name="P"), line_of(do="side", side=256)]
 ROUND = [(CELL % y, RUN % (1 + y % 3), ROW % y, ROW % (255 - y), line_of(do="count", mask=2), "{}") for y in range(40)]
+# The session of a user who goes on at a host.
 LINES = [*START[:2], *(line for lines in ROUND for line in lines)]
 
 
@@ -51,12 +50,6 @@ class Session(NamedTuple):
 
     lines: list[str]
     replies: list[str]
-
-
-@cache
-def usual(cam6: str) -> Session:
-    """The session of a user who goes on at a host."""
-    return Session(LINES, private(cam6, LINES))
 
 
 def answers(peer: Peer, lines: list[str]) -> list[str | None]:
@@ -74,31 +67,38 @@ def seated(kind: Callable[[int, int], P], port: int, user: int, patience: float 
     return peer
 
 
-def is_over(stream: socket.socket) -> bool:
-    """Whether a connection has ended. What comes over it is thrown away."""
-    with suppress(ConnectionError):
-        return stream.recv(65536) == b""
-    return True
-
-
-def closed(peers: list[Peer], within: float) -> int:
-    """How many of these connections the server closes within so many seconds, or has closed."""
-    left, end = {peer.socket.fileno(): peer.socket for peer in peers}, time.monotonic() + within
+def closed(peers: Sequence[Peer], within: float) -> int:
+    """How many of these connections the server closes within so many seconds, or has closed. What comes over them is lost."""
+    end = time.monotonic() + within
     with DefaultSelector() as selector:
-        for stream in left.values():
-            selector.register(stream, EVENT_READ)
-        while left and (ready := selector.select(max(0.0, end - time.monotonic()))):
+        for peer in peers:
+            selector.register(peer.socket, EVENT_READ, peer.socket)
+        while (left := selector.get_map()) and (ready := selector.select(max(0.0, end - time.monotonic()))):
             for key, _ in ready:
-                if is_over(left[key.fd]):
-                    selector.unregister(left.pop(key.fd))
-    return len(peers) - len(left)
+                with suppress(ConnectionError):
+                    if key.data.recv(65536):
+                        continue
+                selector.unregister(key.data)
+        return len(peers) - len(left)
+
+
+def fill(peer: Peer) -> None:
+    """Asks for answers without reading any, until no more can be sent."""
+    peer.socket.settimeout(1)
+    with suppress(OSError):
+        while True:
+            peer.send(f"{PLANES[0]}\n" * 40)
 
 
 @contextmanager
-def connected(port: int, count: int) -> Iterator[list[Peer]]:
-    """So many connections that have said nothing, and are closed in the end."""
-    with ExitStack() as stack:
-        yield [stack.enter_context(Peer(port)) for _ in range(count)]
+def connected(kind: Callable[[int], P], port: int, count: int) -> Iterator[list[P]]:
+    """So many connections of a kind that have said nothing, and are closed in the end."""
+    peers = [kind(port) for _ in range(count)]
+    try:
+        yield peers
+    finally:
+        for peer in peers:
+            peer.close()
 
 
 @contextmanager
@@ -106,7 +106,7 @@ def steady(peer: Peer, session: Session, pause: float = 0) -> Iterator[Callable[
     """A user goes on meanwhile, one line after another. They have sent the whole session before, and send it once more
     afterwards. It fails in the end if one of their replies was not that of a private machine. Yields a function that
     tells how often they have sent it."""
-    begun, enough, rounds = Event(), Event(), 0
+    enough, rounds = Event(), 0
 
     def go_on() -> None:
         nonlocal rounds
@@ -114,17 +114,14 @@ def steady(peer: Peer, session: Session, pause: float = 0) -> Iterator[Callable[
         while not is_last:
             is_last = enough.wait(pause)
             answers(peer, AFRESH)
-            assert_replies(
-                session.lines, answers(peer, session.lines), session.replies, "the seat of a user who goes on"
-            )
+            came = answers(peer, session.lines)
+            assert_replies(session.lines, came, session.replies, "the seat of a user who goes on")
             rounds += 1
-            begun.set()
 
     with peer, ThreadPoolExecutor(1) as pool:
         going = pool.submit(go_on)
-        going.add_done_callback(lambda _: begun.set())
-        begun.wait()
         try:
+            assert until(lambda: rounds or going.done(), END)
             yield lambda: rounds
         finally:
             enough.set()

@@ -8,9 +8,7 @@ import pytest
 from _pytest.mark import ParameterSet
 from oracle.examples import Example
 from support.programs import TOP
-
-# The most bytes of a line that are shown.
-SHOWN = 200
+from support.sessions import both
 
 
 def examples(*folders: str) -> list[ParameterSet]:
@@ -30,10 +28,10 @@ def first_other(answers: bytes, wanted: bytes) -> int:
     return answers[:same].count(b"\n") + 1
 
 
-def line_of(text: bytes, number: int) -> str:
-    """A line of a text, as it is shown."""
-    lines = text.split(b"\n")[:-1]
-    return repr(lines[number - 1][:SHOWN])[1:] if number <= len(lines) else "nothing"
+def both_lines(came: bytes, wanted: bytes, number: int) -> str:
+    """A line of two texts, as it is shown."""
+    found = (text.split(b"\n")[:-1][number - 1 : number] for text in (came, wanted))
+    return both(*(lines[0] if lines else ... for lines in found))
 
 
 def assert_answers(example: Example, answers: Iterable[bytes]) -> None:
@@ -42,7 +40,7 @@ def assert_answers(example: Example, answers: Iterable[bytes]) -> None:
     before, wrong = 0, example.wrong_line()
     for part, came in zip(example.parts, answers, strict=True):
         if line := first_other(came, part.wanted):
-            how = f"line {before + line} is {line_of(came, line)} and not {line_of(part.wanted, line)}"
+            how = f"line {before + line} of what comes back\n{both_lines(came, part.wanted, line)}"
             shown = b"".join(text + end for text, end in part.sent).decode(errors="backslashreplace")
             assert before + line == wrong, f"{how}\nsent, {part.way}:\n{shown}"
             return

@@ -11,14 +11,16 @@ import threading
 import time
 from collections.abc import Callable, Iterable, Mapping
 from pathlib import Path
+from subprocess import DEVNULL, PIPE
 from typing import Any, NamedTuple, Self
 
 TOP = Path(__file__).parents[2]
 # The crate of each program, and the players, which ./build doesn't build.
 CRATES = {"cam6": "cam6_host", "cam6_draw": "cam6_draw", "cam6_rle": "cam6_rle", "cam6_web": "cam6_web"}
 PLAYERS = {"cam6_try_rules": "cam6_try_rules"}
-# What is added to the environment of a program.
+# What is added to the environment of a program, and the command by which it listens at a port.
 Env = Mapping[str, str] | None
+Command = Callable[[int], list[str]]
 # Seconds within which a program has to listen, to answer a line, and to end.
 START, PATIENCE, END = 20.0, 60.0, 600.0
 # The exit status of a host whose port is taken, and how often another port is tried.
@@ -47,8 +49,7 @@ def ran(command: Iterable[str], data: bytes = b"", env: Env = None, patience: fl
     with tempfile.TemporaryFile() as given, tempfile.TemporaryFile() as output:
         given.write(data)
         given.seek(0)
-        how: dict[str, Any] = {"stdin": given, "stdout": output, "stderr": subprocess.PIPE}
-        done = subprocess.run([*command], timeout=patience, env=all_env, check=False, **how)
+        done = subprocess.run([*command], stdin=given, stdout=output, stderr=PIPE, env=all_env, timeout=patience)
         output.seek(0)
         return Ran(done.returncode, output.read(), done.stderr)
 
@@ -70,8 +71,7 @@ def free_port() -> int:
     """A port that nobody listens at."""
     with socket.socket() as free:
         free.bind(("127.0.0.1", 0))
-        port: int = free.getsockname()[1]
-        return port
+        return int(free.getsockname()[1])
 
 
 def of_process(pid: int, name: str) -> int:
@@ -103,9 +103,7 @@ class Listener:
     # The first line of its errors.
     first = "listening on 127.0.0.1:{}"
 
-    def __init__(
-        self, command: Callable[[int], list[str]], port: int | None, env: Env = None, stdin: int = subprocess.DEVNULL
-    ) -> None:
+    def __init__(self, command: Command, port: int | None, env: Env = None, stdin: int = DEVNULL) -> None:
         self.command_at, self.port, self.env, self.stdin = command, port or free_port(), dict(env or {}), stdin
         self.said: list[str] = []
         for _ in range(1 if port else STARTS):
@@ -120,8 +118,8 @@ class Listener:
     def begins(self) -> bool:
         """Starts the program. Returns whether it listens."""
         self.said = []
-        how: dict[str, Any] = {"stdin": self.stdin, "stdout": subprocess.PIPE, "stderr": subprocess.PIPE}
-        self.process = subprocess.Popen(self.command_at(self.port), env=os.environ | self.env, **how)
+        command, env = self.command_at(self.port), os.environ | self.env
+        self.process = subprocess.Popen(command, stdin=self.stdin, stdout=PIPE, stderr=PIPE, env=env)
         is_told = threading.Event()
 
         def listen() -> None:
@@ -181,7 +179,7 @@ class Host(Listener):
     """`cam6 serve`, with options such as `--users=4`."""
 
     def __init__(
-        self, cam6: str, *options: str, port: int | None = None, env: Env = None, stdin: int = subprocess.DEVNULL
+        self, cam6: str, *options: str, port: int | None = None, env: Env = None, stdin: int = DEVNULL
     ) -> None:
         super().__init__(lambda at: [cam6, "serve", f"--port={at}", *options], port, env, stdin)
 
@@ -202,10 +200,12 @@ class Page(Listener):
 
 
 class Peer:
-    """A connection to a host, line by line. If `seat` is a number, it asks for that seat; `said` is the answer."""
+    """A connection, line by line: to a port of this machine, or one that is there. If `seat` is a number, it asks for that
+    seat; `said` is the answer."""
 
-    def __init__(self, port: int, seat: int | None = None, patience: float = PATIENCE) -> None:
-        self.socket = socket.create_connection(("127.0.0.1", port), timeout=patience)
+    def __init__(self, port: int | socket.socket, seat: int | None = None, patience: float = PATIENCE) -> None:
+        own = "127.0.0.1"
+        self.socket = port if isinstance(port, socket.socket) else socket.create_connection((own, port), patience)
         self.socket.setsockopt(socket.IPPROTO_TCP, socket.TCP_NODELAY, 1)
         self.file = self.socket.makefile("rb")
         self.said = None if seat is None else self.ask(f'{{"seat":{seat}}}')
@@ -234,7 +234,7 @@ class Peer:
         self.socket.setsockopt(socket.SOL_SOCKET, socket.SO_LINGER, struct.pack("ii", 1, 0))
         self.close()
 
-    def __enter__(self) -> Peer:
+    def __enter__(self) -> Self:
         return self
 
     def __exit__(self, *_: object) -> None:

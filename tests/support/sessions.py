@@ -3,8 +3,11 @@
 from __future__ import annotations
 
 import json
+import os
+import tempfile
 from collections.abc import Sequence
 from itertools import zip_longest
+from pathlib import Path
 from typing import Any
 
 # The most characters of a line that are shown.
@@ -16,34 +19,41 @@ def line_of(**command: Any) -> str:
     return json.dumps(command, separators=(",", ":"), ensure_ascii=False)
 
 
-def short(line: object) -> str:
-    """The beginning of a line, as Python writes it."""
-    text = repr(line)
-    return text if len(text) <= SHOWN else f"{text[:SHOWN]} .."
+def short(line: object, first: int = 0) -> str:
+    """A part of a line, as Python writes it, from this character on. `...` is no line."""
+    text = "nothing" if line is ... else repr(line)
+    return f"{'.. ' * (first > 0)}{text[first : first + SHOWN]}{' ..' * (len(text) > first + SHOWN)}"
 
 
-def first_difference(came: Sequence[object], wanted: Sequence[object]) -> int | None:
-    """The place at which two lists first differ, or None if they are equal."""
-    pairs = zip_longest(came, wanted, fillvalue=Ellipsis)
-    return next((place for place, (one, other) in enumerate(pairs) if one != other), None)
+def both(came: object, wanted: object) -> str:
+    """What came and what is wanted, as far as they are shown: around the first character that differs."""
+    pairs = enumerate(zip_longest(repr(came), repr(wanted)))
+    place = next((place for place, (one, other) in pairs if one != other), 0)
+    first = 0 if place < SHOWN else place - SHOWN // 2
+    return f"  is     {short(came, first)}\n  wanted {short(wanted, first)}"
 
 
-def text_of(line: bytes | str) -> str:
-    """A line as a text. Bytes that are no UTF-8 are shown as `\\xNN`."""
-    return line if isinstance(line, str) else line.decode(errors="backslashreplace")
+def kept(lines: Sequence[bytes | str]) -> Path:
+    """A file that has these lines. The next one takes its place."""
+    path = Path(tempfile.gettempdir(), f"cam6-session-{os.getpid()}.lines")
+    path.write_bytes(b"".join((line if isinstance(line, bytes) else line.encode()) + b"\n" for line in lines))
+    return path
 
 
 def assert_replies(
     sent: Sequence[bytes | str], came: Sequence[object], wanted: Sequence[object], command: str = "./cam6 alone"
 ) -> None:
     """Fails if what came back differs from what is wanted. The message has the first difference, and then the lines up to
-    it, which can be piped into the command."""
-    place = first_difference(came, wanted)
+    it. A file has them too, and can be piped into the command."""
+    pairs = enumerate(zip_longest(came, wanted, fillvalue=Ellipsis))
+    place = next((place for place, (one, other) in pairs if one != other), None)
     if place is None:
         return
-    told = [short(lines[place]) if place < len(lines) else "nothing" for lines in (sent, came, wanted)]
-    lines = "\n".join(text_of(line) for line in sent[: place + 1])
+    line, one, other = (lines[place] if place < len(lines) else ... for lines in (sent, came, wanted))
+    session = sent[: place + 1]
+    # Bytes that are no UTF-8 are shown as `\xNN`.
+    texts = (line if isinstance(line, str) else line.decode(errors="backslashreplace") for line in session)
     raise AssertionError(
-        f"reply {place + 1} of {len(wanted)} to {told[0]}\n  is     {told[1]}\n  wanted {told[2]}\n"
-        f"the session, to be piped into {command}:\n{lines}"
+        f"reply {place + 1} of {len(wanted)} to {short(line)}\n{both(one, other)}\n"
+        f"the session, to be piped into {command}, is {kept(session)}:\n" + "\n".join(texts)
     )

@@ -6,6 +6,8 @@ import os
 import select
 import subprocess
 import time
+from contextlib import suppress
+from subprocess import PIPE
 
 from support.programs import PATIENCE
 
@@ -17,8 +19,7 @@ class Talk:
     """
 
     def __init__(self, command: list[str]) -> None:
-        pipe = subprocess.PIPE
-        self.process = subprocess.Popen(command, bufsize=0, stdin=pipe, stdout=pipe, stderr=pipe)
+        self.process = subprocess.Popen(command, bufsize=0, stdin=PIPE, stdout=PIPE, stderr=PIPE)
         assert self.process.stdin and self.process.stdout
         self.input, self.output = self.process.stdin.fileno(), self.process.stdout.fileno()
         os.set_blocking(self.input, False)
@@ -33,11 +34,9 @@ class Talk:
     def say(self, data: bytes) -> None:
         """Sends bytes. If the program takes no more of them, what comes back shows it."""
         self.end = time.monotonic() + PATIENCE
-        try:
+        with suppress(BrokenPipeError):
             while data and select.select([], [self.input], [], self.left())[1]:
                 data = data[os.write(self.input, data) :]
-        except BrokenPipeError:
-            pass
 
     def reply(self, line: bytes) -> bytes:
         """The next line that comes back once this one is sent."""

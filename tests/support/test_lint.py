@@ -5,13 +5,13 @@ from __future__ import annotations
 import re
 import shutil
 import subprocess
-from collections.abc import Callable
 from pathlib import Path
 
 import pytest
 from support.programs import TOP, ran
 
 pytestmark = [pytest.mark.lint, pytest.mark.slow]
+LINT = str(TOP / "tools" / "lint")
 GOOD = 'from __future__ import annotations\n\n\ndef twice(n: int) -> int:\n    return n + n\n\n\nprint(f"{twice(2)}")\n'
 PYTHON, BASH = "#!/usr/bin/env python3\n", "#!/usr/bin/env bash\n"
 FINE = {
@@ -36,69 +36,57 @@ FAULTS = {
     "without_a_reason.py": ("ignores", "\ntwo = 2  # noqa: E501\n"),
     "without_a_reason": ("ignores", f'{BASH}\n# shellcheck disable=SC2086\necho "$1"\n'),
 }
-# The lint of files, by their texts: its status, and how many findings each program has.
-Lint = Callable[[dict[str, str]], tuple[int, dict[str, int], str]]
+NOTHING = dict.fromkeys(["mypy", "pyflakes", "black", "tsc", "shellcheck", "ignores"], 0)
 
 
-@pytest.fixture
-def lint(tmp_path: Path) -> Lint:
-    """Makes a repository of files, with the settings of this one, and reads it."""
-
-    def linted(files: dict[str, str]) -> tuple[int, dict[str, int], str]:
-        for name in ("pyproject.toml", "jsconfig.json"):
-            shutil.copy(TOP / name, tmp_path)
-        for name, text in files.items():
-            (tmp_path / name).parent.mkdir(parents=True, exist_ok=True)
-            (tmp_path / name).write_text(text)
-        subprocess.run(["git", "init", "-q", tmp_path], check=True)
-        done = ran([str(TOP / "tools" / "lint"), str(tmp_path)])
-        text = done.output.decode()
-        return (
-            done.status,
-            {name: int(count) for name, count in re.findall(r"lint: (\w+): .* (\d+) findings", text)},
-            text,
-        )
-
-    return linted
+def lint(folder: Path, files: dict[str, str]) -> tuple[int, dict[str, int], str]:
+    """Makes a repository of files, by their texts, with the settings of this one, and reads it. Returns the status, how many
+    findings each program has, and what is printed."""
+    for name in ("pyproject.toml", "jsconfig.json"):
+        shutil.copy(TOP / name, folder)
+    for name, text in files.items():
+        (folder / name).parent.mkdir(parents=True, exist_ok=True)
+        (folder / name).write_text(text)
+    subprocess.run(["git", "init", "-q", folder], check=True)
+    done = ran([LINT, str(folder)])
+    told = done.output.decode()
+    counts = re.findall(r"lint: (\w+): .* (\d+) findings", told)
+    return done.status, {name: int(count) for name, count in counts}, told
 
 
-def test_nothing_is_found_where_nothing_is_wrong(lint: Lint) -> None:
-    status, counts, text = lint(FINE)
-    assert (status, set(counts.values())) == (0, {0}), text
-    assert text.endswith("\n0 findings\n")
-    assert "lint: mypy: 2 files" in text and "lint: shellcheck: 1 files" in text and "lint: tsc: 1 files" in text
+def test_nothing_is_found_where_nothing_is_wrong(tmp_path: Path) -> None:
+    status, counts, told = lint(tmp_path, FINE)
+    assert (status, counts) == (0, NOTHING), told
+    assert told.endswith("\n0 findings\n")
+    assert "lint: mypy: 2 files" in told and "lint: shellcheck: 1 files" in told and "lint: tsc: 1 files" in told
 
 
-def test_each_fault_is_found(lint: Lint) -> None:
+def test_each_fault_is_found(tmp_path: Path) -> None:
     """Each by its program, and no other file is blamed."""
-    status, counts, text = lint(FINE | {name: fault for name, (_, fault) in FAULTS.items()})
-    assert status == 1, text
-    blamed = {(name, path) for path in [*FAULTS, *FINE] for name in counts if is_blamed(path, name, text)}
-    assert blamed >= {(name, path) for path, (name, _) in FAULTS.items()}, text
-    assert not {path for _, path in blamed} & set(FINE), text
-    assert text.endswith(f"\n{sum(counts.values())} findings\n")
+    status, counts, told = lint(tmp_path, FINE | {name: fault for name, (_, fault) in FAULTS.items()})
+    assert status == 1, told
+    blamed = {(name, path) for path in [*FAULTS, *FINE] for name in counts if is_blamed(path, name, told)}
+    assert blamed >= {(name, path) for path, (name, _) in FAULTS.items()}, told
+    assert not {path for _, path in blamed} & set(FINE), told
+    assert told.endswith(f"\n{sum(counts.values())} findings\n")
 
 
-def is_blamed(path: str, name: str, text: str) -> bool:
+def is_blamed(path: str, name: str, told: str) -> bool:
     """Whether a program has a finding in a file."""
-    found, _, _ = text.partition(f"lint: {name}: ")
-    own = found.rpartition("lint: ")[2]
+    own = told.partition(f"lint: {name}: ")[0].rpartition("lint: ")[2]
     return re.search(rf"(^|\s|/){re.escape(path)}(:|\(|$)", own, re.MULTILINE) is not None
 
 
-def test_there_may_be_ten_ignores(lint: Lint) -> None:
+def test_there_may_be_ten_ignores(tmp_path: Path) -> None:
     """There are those of pyproject.toml too."""
     row = '# It is planted.\nprint("two")  # noqa: T201\n'
-    begun = lint({"some.py": row})[2]
+    begun = lint(tmp_path, {"some.py": row})[2]
     own = int(re.findall(r"lint: ignores: (\d+) of at most 10", begun)[0]) - 1
-    assert lint({"some.py": row * (10 - own)})[:2] == (
-        0,
-        dict.fromkeys(["mypy", "pyflakes", "black", "tsc", "shellcheck", "ignores"], 0),
-    )
-    status, counts, _ = lint({"some.py": row * (11 - own)})
+    assert lint(tmp_path, {"some.py": row * (10 - own)})[:2] == (0, NOTHING)
+    status, counts, _ = lint(tmp_path, {"some.py": row * (11 - own)})
     assert (status, counts["ignores"]) == (1, 11)
 
 
 def test_it_says_how_it_is_used() -> None:
-    done = ran([str(TOP / "tools" / "lint"), "--help"])
+    done = ran([LINT, "--help"])
     assert done.status == 0 and b"usage: lint" in done.output

@@ -2,7 +2,9 @@
 
 from __future__ import annotations
 
+import re
 from collections.abc import Callable
+from pathlib import Path
 
 import pytest
 from support.programs import Host, Page, Peer, Ran, private
@@ -28,7 +30,18 @@ def test_a_session_that_fails_is_shown() -> None:
     sent = ['{"do":"rules"}', "{}", "["]
     with pytest.raises(AssertionError, match=r"reply 2 of 3 to '\{\}'\n  is     'b'") as told:
         assert_replies(sent, ["a", "b", "c"], ["a", "B", "c"])
-    assert str(told.value).endswith('./cam6 alone:\n{"do":"rules"}\n{}')
+    assert str(told.value).endswith('.lines:\n{"do":"rules"}\n{}')
+    file = re.search(r"to be piped into ./cam6 alone, is (.*):$", str(told.value), re.M)
+    assert file and Path(file[1]).read_bytes() == b'{"do":"rules"}\n{}\n'
     with pytest.raises(AssertionError, match="is     nothing"):
         assert_replies(sent, ["a", "b"], ["a", "b", "c"])
     assert_replies(sent, ["a", "b", "c"], ["a", "b", "c"])
+
+
+def test_a_long_line_is_shown_where_it_differs() -> None:
+    sent, long = [b"\xff"], "0" * 5000
+    with pytest.raises(AssertionError, match=r"is     \.\. 0+0x0+ \.\.\n  wanted \.\. 0+0y0+ \.\.") as told:
+        assert_replies(sent, [f"{long}x{long}"], [f"{long}y{long}"])
+    assert len(str(told.value)) < 1000 and r"\xff" in str(told.value)
+    with pytest.raises(AssertionError, match=r"is     \.\. 0+'\n  wanted \.\. 0+y'\n"):
+        assert_replies(sent, [f"{long}"], [f"{long}y"])

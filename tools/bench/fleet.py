@@ -23,12 +23,12 @@ from pathlib import Path
 
 sys.path.insert(0, str(Path(__file__).resolve().parents[2] / "tests"))
 
-from service.fleets.commands import CRITTERS, LIFE
-from service.fleets.grounds import Ground
-from service.fleets.services import HOSTS, Fleet, Peer, Service
+from examples.named_rules import CROWDED, OTHERS
+from service.fleets.services import HOSTS, Fleet, Ground, Service
 from service.users import SEATED, TAKEN
+from support.programs import Peer
 
-RULES = {"Critters": ("N/MARG", "&/PHASES", CRITTERS), "Life": ("N/MOORE", "&/CENTERS", LIFE)}
+RULES = {"Critters": CROWDED["CRITTERS"][1:], "Life": OTHERS["LIFE"][1:]}
 SECONDS = 4
 Connect = Callable[[Fleet], Peer]
 # How a client comes to the front.

@@ -1,77 +1,129 @@
-"""The programs of a fleet: hosts, their doors, and the front; and connections to them. They run by the files of deploy/,
-as these stand.
+"""A fleet: its machines, their programs, which run by the files of deploy/ as these stand, and connections to them.
 
-What the tests give other values than deploy/ does stands in `Fleet.all_values`, and nowhere else.
+What the tests give other values than deploy/ does stands in `Fleet.values`, and nowhere else.
 """
 
 from __future__ import annotations
 
 import csv
-import io
+import ctypes
 import os
-import signal
 import socket
 import ssl
 import subprocess
-from contextlib import suppress
+from collections.abc import Iterator
+from contextlib import contextmanager, suppress
 from pathlib import Path
-from typing import TypeVar
+from signal import SIGCONT, SIGSTOP
+from subprocess import DEVNULL, Popen
+from typing import Self
 
 from service.users import SEAT, TAKEN
-from support import programs
-from support.programs import TOP, of_process, until
+from support.programs import TOP, Env, Peer, free_port, of_process, until
 
-from .grounds import Ground
-
-Self = TypeVar("Self", bound="Service")
-DEPLOY = TOP / "deploy"
-HOSTS = ("one", "two", "three")
-NAME = "cam6.example"
-# Seconds in which a program has to be there.
-START = 60
+DEPLOY, NAME, HOSTS = TOP / "deploy", "cam6.example", ("one", "two", "three")
+NODES = ("users", "gone", "front", *HOSTS)
+# What the names of network namespaces begin with, and the flag of this kind of namespace.
+OWN, CLONE_NEWNET = f"cam6-{os.getpid()}-", 0x40000000
+# Seconds in which a program has to be there, and in which a connection has to be made and a line to be answered.
+START, PATIENCE = 60, 15
 # What is raised by a connection that is over.
 OVER = (ConnectionError, ssl.SSLError)
+# The values that name the socket of an HAProxy's commands: each file of deploy/ reads one of them.
+ADMINS = ("CAM6_ADMIN", "CAM6_EDGE_ADMIN", "CAM6_SEATS_ADMIN", "CAM6_PAGE_ADMIN")
+# The usual ports of the fronts and of what they count, without TLS and by TLS.
+PORTS = {"CAM6_PLAIN": 6006, "CAM6_METRICS": 8404, "CAM6_SEATS": 6100}
+PORTS |= {"CAM6_SEATS_ONE": 6101, "CAM6_SEATS_TWO": 6102, "CAM6_SEATS_THREE": 6103}
+TLS_PORTS = {"CAM6_TLS": 6443, "CAM6_SEATS_TLS": 6444}
+WAITS = {"CAM6_WAIT": "2s", "CAM6_SILENT": "2s", "CAM6_ASKED": "1s", "CAM6_UNREAD": "5s", "CAM6_STOPPING": "5s"}
 
 
-class Peer(programs.Peer):
-    """A connection that is there. If it is over, the answer is None."""
+def ip(*words: str) -> None:
+    """Runs `ip`, which has to succeed."""
+    subprocess.run(["ip", *words], check=True, stdin=DEVNULL, capture_output=True)
 
-    def __init__(self, stream: socket.socket) -> None:
-        self.socket = stream
-        stream.settimeout(15)
-        stream.setsockopt(socket.IPPROTO_TCP, socket.TCP_NODELAY, 1)
-        self.file = stream.makefile("rb")
 
-    def read(self) -> str | None:
-        with suppress(*OVER):
-            return super().read()
-        return None
+class Ground:
+    """The machines of a fleet, its nodes. All of them are this machine, at free ports, until cables are laid. Then each node
+    is a network namespace, and so is the switch. Its cable can be pulled: what is sent then is lost, and nobody is told.
+    """
 
-    def ask(self, line: str) -> str | None:
-        with suppress(*OVER):
-            return super().ask(line)
-        return None
+    has_cables = False
 
-    def __enter__(self) -> Peer:
-        return self
+    def lay(self) -> None:
+        """Makes the nodes, and joins each of them to the switch. That takes root, and `ip`. Says so if it can't be done."""
+        switch = OWN + "switch"
+        try:
+            for node in ("switch", *NODES):
+                ip("netns", "add", OWN + node)
+            self.has_cables = True
+            ip("-n", switch, "link", "add", "bridge", "type", "bridge")
+            ip("-n", switch, "link", "set", "bridge", "up")
+            for node in NODES:
+                own = OWN + node
+                ip("-n", switch, "link", "add", node, "type", "veth", "peer", "name", "cable", "netns", own)
+                ip("-n", switch, "link", "set", node, "master", "bridge", "up")
+                ip("-n", own, "addr", "add", f"{self.address(node)}/24", "dev", "cable")
+                ip("-n", own, "link", "set", "cable", "up")
+                ip("-n", own, "link", "set", "lo", "up")
+        except subprocess.CalledProcessError as cause:
+            self.has_cables = False
+            print(f"fleet: no network namespaces can be made ({cause.stderr.decode().strip()})", flush=True)
+
+    def address(self, node: str) -> str:
+        """The address of a node, as other nodes see it."""
+        return f"10.77.0.{11 + NODES.index(node)}" if self.has_cables else "127.0.0.1"
+
+    def port(self, usual: int) -> int:
+        """The port of a program. A machine of its own has all ports, so the usual one is free there."""
+        return usual if self.has_cables else free_port()
+
+    @contextmanager
+    def pulled(self, node: str) -> Iterator[None]:
+        """A node's cable is pulled meanwhile."""
+        link = ["-n", OWN + "switch", "link", "set", node]
+        ip(*link, "nomaster")
+        try:
+            yield
+        finally:
+            ip(*link, "master", "bridge")
+
+    @contextmanager
+    def within(self, node: str) -> Iterator[None]:
+        """Sockets that this thread makes meanwhile are those of a node."""
+        if not self.has_cables:
+            yield
+            return
+        libc = ctypes.CDLL(None, use_errno=True)
+        with open("/proc/thread-self/ns/net", "rb") as home, open(f"/run/netns/{OWN}{node}", "rb") as there:
+            if libc.setns(there.fileno(), CLONE_NEWNET):
+                raise OSError(ctypes.get_errno(), "setns")
+            try:
+                yield
+            finally:
+                libc.setns(home.fileno(), CLONE_NEWNET)
+
+    def close(self) -> None:
+        """Removes all nodes. Programs that still run there go on without a network."""
+        for node in (*reversed(NODES), "switch"):
+            with suppress(subprocess.CalledProcessError):
+                ip("netns", "del", OWN + node)
 
 
 class Service:
     """A program at a node, which can be killed, stopped and started again."""
 
-    def __init__(
-        self, ground: Ground, node: str, words: list[str], log: Path, env: dict[str, str] | None = None
-    ) -> None:
-        self.words, self.log, self.env = [*ground.words(node), *words], log, os.environ | (env or {})
-        # All processes so far. The last one is the program.
-        self.processes: list[subprocess.Popen[bytes]] = []
+    def __init__(self, ground: Ground, node: str, words: list[str], log: Path, env: Env = None) -> None:
+        first = ["ip", "netns", "exec", OWN + node] if ground.has_cables else []
+        self.words, self.log, self.env = [*first, *words], log, os.environ | dict(env or {})
+        # All processes so far. The last one is the program, `process`.
+        self.processes: list[Popen[bytes]] = []
 
     def start(self, *more: str) -> None:
         """Starts the program."""
         with self.log.open("ab") as log:
-            words = [*self.words, *more]
-            none = subprocess.DEVNULL
-            self.processes += [subprocess.Popen(words, stdin=none, stdout=log, stderr=log, env=self.env)]
+            self.process = Popen([*self.words, *more], stdin=DEVNULL, stdout=log, stderr=log, env=self.env)
+        self.processes.append(self.process)
 
     def kill(self) -> None:
         """Ends it by SIGKILL. It can't do anything about that."""
@@ -79,54 +131,52 @@ class Service:
             process.kill()
             process.wait()
 
-    def send(self, number: signal.Signals) -> None:
-        """Sends a signal, if it is there. What is sent to it waits from SIGSTOP to SIGCONT."""
-        self.processes[-1].send_signal(number)
+    @contextmanager
+    def stopped(self) -> Iterator[None]:
+        """It is stopped in its place meanwhile. What is sent to it waits."""
+        self.process.send_signal(SIGSTOP)
+        try:
+            yield
+        finally:
+            self.process.send_signal(SIGCONT)
 
-    def __enter__(self: Self) -> Self:
+    def __enter__(self) -> Self:
         self.start()
         return self
 
     def __exit__(self, *_: object) -> None:
         self.kill()
 
-    def status(self) -> int | None:
-        """The status that it ended with, or None."""
-        return self.processes[-1].poll()
-
     def of_process(self, name: str) -> int:
         """A number that the system knows of the process."""
-        return of_process(self.processes[-1].pid, name)
+        return of_process(self.process.pid, name)
 
     def seconds(self) -> float:
         """Its processor time so far."""
-        stat = Path(f"/proc/{self.processes[-1].pid}/stat").read_text(encoding="utf-8")
+        stat = Path(f"/proc/{self.process.pid}/stat").read_text(encoding="utf-8")
         user, system = stat.rpartition(")")[2].split()[11:13]
         return (int(user) + int(system)) / os.sysconf("SC_CLK_TCK")
 
 
 class Proxy(Service):
-    """HAProxy with a file of deploy/. It answers commands at the socket `admin`."""
+    """HAProxy at a node, with a file of deploy/, and with values of its own. It answers commands at the socket `admin`."""
 
-    def __init__(self, ground: Ground, node: str, file: str, admin: str, log: Path, values: dict[str, str]) -> None:
-        super().__init__(ground, node, ["haproxy", "-db", "-f", str(DEPLOY / file)], log, values)
-        self.admin = admin
+    def __init__(self, fleet: Fleet, node: str, file: str, name: str, own: Env = None) -> None:
+        self.admin = str(fleet.folder / f"{name}.sock")
+        values = {**fleet.values, **dict.fromkeys(ADMINS, self.admin), **(own or {})}
+        words = ["haproxy", "-db", "-f", str(DEPLOY / file)]
+        super().__init__(fleet.ground, node, words, fleet.folder / f"{name}.log", values)
 
     def start(self, *more: str) -> None:
         super().start(*more)
-        until(lambda: self.is_there() or self.status() is not None, START)
+        until(lambda: self.is_there() or self.process.poll() is not None, START)
         assert self.is_there(), f"{' '.join(self.words)} is not there; {self.log} says why"
 
     def is_there(self) -> bool:
         """Whether this very process answers."""
-        try:
-            return f"Pid: {self.processes[-1].pid}\n" in self.ask("show info")
-        except OSError:
-            return False
-
-    def reload(self) -> None:
-        """Starts a new process, which takes the listeners over. The old one ends when its users have gone."""
-        self.start("-x", self.admin, "-sf", str(self.processes[-1].pid))
+        with suppress(OSError):
+            return f"Pid: {self.process.pid}\n" in self.ask("show info")
+        return False
 
     def ask(self, command: str) -> str:
         """The answer to a command."""
@@ -134,12 +184,11 @@ class Proxy(Service):
             admin.settimeout(5)
             admin.connect(self.admin)
             admin.sendall(command.encode() + b"\n")
-            with admin.makefile(encoding="utf-8") as file:
-                return file.read()
+            return admin.makefile(encoding="utf-8").read()
 
     def stats(self, server: str, backend: str = "fleet") -> dict[str, str]:
         """What it counts of a server."""
-        rows = csv.DictReader(io.StringIO(self.ask("show stat").lstrip("# ")))
+        rows = csv.DictReader(self.ask("show stat").lstrip("# ").splitlines())
         return next((row for row in rows if (row["pxname"], row["svname"]) == (backend, server)), {})
 
     def state(self, server: str, backend: str = "fleet") -> str:
@@ -158,72 +207,43 @@ class Fleet:
         self.ground, self.folder, self.users = ground, folder, users
         self.ports = {name: ground.port(7001) for name in HOSTS}
         self.doors = {name: ground.port(7200) for name in HOSTS}
-        self.plain, self.tls = ground.port(6006), ground.port(6443)
-        self.certificates = folder / "certificates"
+        self.certificates, self.authority = folder / "certificates", folder / "certificates" / "ca.pem"
         words = [str(DEPLOY / "certificates"), str(self.certificates), NAME, *HOSTS]
-        subprocess.run(words, check=True, stdout=subprocess.DEVNULL)
-        self.authority = self.certificates / "ca.pem"
-        self.values = self.all_values()
+        subprocess.run(words, check=True, stdout=DEVNULL)
+        self.values = WAITS | {"CAM6_USERS": str(users), "CAM6_MOST": "1000", "CAM6_LUA": str(DEPLOY / "renumber.lua")}
+        self.values["CAM6_CERTIFICATES"] = str(self.certificates)
+        self.values |= {f"CAM6_{name.upper()}": f"{ground.address(name)}:{port}" for name, port in self.doors.items()}
+        self.values |= {name: f"127.0.0.1:{ground.port(usual)}" for name, usual in PORTS.items()}
+        self.values |= {name: f"{ground.address('front')}:{ground.port(usual)}" for name, usual in TLS_PORTS.items()}
+        self.plain, self.tls = self.port_of("CAM6_PLAIN"), self.port_of("CAM6_TLS")
         serve = [cam6, "serve", f"--users={users}", f"--boards={boards}", "--side=256"]
         self.hosts = {name: self.service(name, name, [*serve, f"--port={port}"]) for name, port in self.ports.items()}
         self.edges = {name: self.edge(name, self.doors[name], f"127.0.0.1:{self.ports[name]}") for name in HOSTS}
-        self.front = self.proxy("front", "haproxy.cfg", "CAM6_ADMIN")
-
-    def all_values(self) -> dict[str, str]:
-        """All that the tests set in place of what deploy/ has: where things are, and how long is waited."""
-        ground = self.ground
-        ends = enumerate(("", *(f"_{name.upper()}" for name in HOSTS)))
-        seats = {f"CAM6_SEATS{end}": f"127.0.0.1:{ground.port(6100 + at)}" for at, end in ends}
-        doors = {f"CAM6_{name.upper()}": f"{ground.address(name)}:{self.doors[name]}" for name in HOSTS}
-        where = {
-            "CAM6_PLAIN": f"127.0.0.1:{self.plain}",
-            "CAM6_TLS": f"{ground.address('front')}:{self.tls}",
-            "CAM6_SEATS_TLS": f"{ground.address('front')}:{ground.port(6444)}",
-            "CAM6_METRICS": f"127.0.0.1:{ground.port(8404)}",
-            "CAM6_CERTIFICATES": str(self.certificates),
-            "CAM6_LUA": str(DEPLOY / "renumber.lua"),
-        }
-        waits = {"CAM6_WAIT": "2s", "CAM6_SILENT": "2s", "CAM6_ASKED": "1s", "CAM6_UNREAD": "5s", "CAM6_STOPPING": "5s"}
-        return {**where, **doors, **seats, **waits, "CAM6_USERS": str(self.users), "CAM6_MOST": "1000"}
+        self.front = Proxy(self, "front", "haproxy.cfg", "haproxy")
 
     def port_of(self, value: str) -> int:
         """The port of a value that is an address."""
         return int(self.values[value].rpartition(":")[2])
 
-    def service(self, node: str, name: str, words: list[str], env: dict[str, str] | None = None) -> Service:
+    def service(self, node: str, name: str, words: list[str], env: Env = None) -> Service:
         """A program at a node, with a log of this name."""
         return Service(self.ground, node, words, self.folder / f"{name}.log", env)
 
     def edge(self, node: str, port: int, host: str) -> Proxy:
         """The door of a host."""
         own = {"CAM6_EDGE": f"{self.ground.address(node)}:{port}", "CAM6_HOST": host, "CAM6_NODE": node}
-        return self.proxy(node, "haproxy-edge.cfg", "CAM6_EDGE_ADMIN", f"{node}-{port}", own)
-
-    def proxy(self, node: str, file: str, admin: str, name: str = "", own: dict[str, str] | None = None) -> Proxy:
-        """HAProxy at a node, with a file of deploy/, and with further values. The variable `admin` has its own socket."""
-        name = name or file.removesuffix(".cfg")
-        place = str(self.folder / f"{name}.sock")
-        values = {**self.values, admin: place, **(own or {})}
-        return Proxy(self.ground, node, file, place, self.folder / f"{name}.log", values)
+        return Proxy(self, node, "haproxy-edge.cfg", f"{node}-{port}", own)
 
     def start(self) -> None:
         """Starts all programs, and waits until the front has all hosts."""
         for service in (*self.hosts.values(), *self.edges.values(), self.front):
             service.start()
-        assert self.is_ready(START), f"the hosts are {self.states()}; {self.folder} has the logs"
+        assert self.is_ready(START), f"the hosts are {[*map(self.front.state, HOSTS)]}; {self.folder} has the logs"
 
     def kill(self) -> None:
         """Ends all programs."""
         for service in (self.front, *self.edges.values(), *self.hosts.values()):
             service.kill()
-
-    def set(self, name: str, state: str) -> None:
-        """Has the front take a host as `ready`, `drain` or `maint`."""
-        self.front.ask(f"set server fleet/{name} state {state}")
-
-    def states(self) -> list[str]:
-        """How the front sees each host."""
-        return [self.front.state(name) for name in HOSTS]
 
     def is_ready(self, seconds: float) -> bool:
         """Whether all hosts are up, within so many seconds."""
@@ -232,7 +252,7 @@ class Fleet:
     def stream_to(self, node: str, address: str, port: int, source: str = "") -> socket.socket:
         """A connection from a node to an address."""
         with self.ground.within(node):
-            return socket.create_connection((address, port), timeout=5, source_address=(source, 0) if source else None)
+            return socket.create_connection((address, port), PATIENCE, (source, 0) if source else None)
 
     def by_tls(self, stream: socket.socket, name: str | None = NAME, certificate: str = "") -> Peer:
         """A connection by TLS, with a certificate of the fleet, to a name that is looked at, if there is one."""
@@ -255,14 +275,16 @@ class Fleet:
         return Peer(self.stream_to(name, "127.0.0.1", self.ports[name]))
 
     def answer_of(self, line: str) -> str | None:
-        """What a line is answered at the front."""
-        with self.user() as one:
+        """What a line is answered at the front, or None if the connection is over before."""
+        with self.user() as one, suppress(*OVER):
             return one.ask(line)
+        return None
 
     def is_taken(self, name: str, seat: int) -> bool:
         """Whether a seat of a host is taken. If not, it is for a moment, until the host has seen that this one is over."""
-        with self.at_host(name) as one:
+        with self.at_host(name) as one, suppress(*OVER):
             return one.ask(SEAT % seat) == TAKEN
+        return False
 
     def hosts_with(self, seat: int) -> list[str]:
         """The hosts at which a seat is taken."""

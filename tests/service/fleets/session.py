@@ -19,8 +19,7 @@ import re
 import ssl
 import sys
 import time
-from collections.abc import Iterable, Iterator
-from contextlib import suppress
+from collections.abc import Iterable
 from dataclasses import dataclass, field
 from pathlib import Path
 from typing import Any
@@ -36,12 +35,6 @@ def texts(lines: Iterable[bytes]) -> list[str]:
     return [line.decode("latin-1") for line in lines]
 
 
-def rows_of(path: Path) -> Iterator[dict[str, Any]]:
-    """The whole lines of a record, if it is there. The last one may be torn."""
-    with suppress(FileNotFoundError), path.open("rb") as file:
-        yield from (json.loads(row) for row in file if row.endswith(b"\n"))
-
-
 @dataclass
 class Played:
     """A whole record: each line with its reply, which is None where nobody read it; the seconds of calls with a new seat;
@@ -52,21 +45,19 @@ class Played:
     waits: list[float] = field(default_factory=list)
     seats: int = 0
     again: int = 0
-    kills: int = 0
     has_ended: bool = False
     asked: list[bytes] = field(default_factory=list)
 
 
 def read(path: Path) -> Played:
-    """Reads a record."""
+    """Reads a record, if it is there. Its last row may be torn."""
     played = Played()
-    for row in rows_of(path):
+    for row in map(json.loads, path.read_bytes().split(b"\n")[:-1] if path.exists() else []):
         if "ask" in row:
             played.asked = [line.encode("latin-1") for line in row["ask"]]
         elif "end" in row:
             played.has_ended = True
         else:
-            played.kills += "kept" in row
             played.lines += zip(played.asked[: row.get("kept", len(played.asked))], row["got"])
             played.asked = []
             played.seats += row.get("seats", 0)
@@ -94,14 +85,11 @@ class Player:
 
     def resume(self, session: Session, before: Played) -> list[bytes]:
         """Notes what became of the lines amid which the process was killed. Returns those that don't count yet."""
-        kept, asked, resumed = session.asked - len(before.lines), before.asked, session.resumed
-        if not 0 <= kept <= len(asked):
-            what = f"the record {len(before.lines)} and {len(asked)} more"
-            raise RuntimeError(f"the journal has {session.asked} commands, {what}")
-        if not all(is_left_of(line, whole) for (line, _), whole in zip(resumed, asked[kept - len(resumed) : kept])):
-            raise RuntimeError("the journal has other commands without an answer than those that were asked for last")
-        known = texts(reply for _, reply in resumed)
-        self.write(kept=kept, got=[None] * (kept - len(known)) + known)
+        kept, asked, known = session.asked - len(before.lines), before.asked, session.resumed
+        assert 0 <= kept <= len(asked), f"{session.asked} are in the journal, {len(before.lines)} and {len(asked)} here"
+        are_these = all(is_left_of(line, whole) for (line, _), whole in zip(known, asked[kept - len(known) : kept]))
+        assert are_these, "the journal has other commands without an answer than those that were asked for last"
+        self.write(kept=kept, got=[None] * (kept - len(known)) + texts(reply for _, reply in known))
         return asked[kept:]
 
     def ask(self, machine: cam6.Machine, session: Session, sent: list[bytes]) -> list[bytes]:
@@ -116,16 +104,16 @@ class Player:
     def play(self) -> None:
         """Plays until there is a file that says that it is over, and then saves."""
         is_new, before = not Path(self.record).exists(), read(Path(self.record))
-        seed = self.seed * 1000 + (0 if is_new else before.kills + 1)
-        commands, pauses = Commands(seed, self.is_small), random.Random(self.seed)
+        # A process that goes on has other commands.
+        commands, pauses = Commands(self.seed * 1_000_000 + len(before.lines), self.is_small), random.Random(self.seed)
         tls = ssl.create_default_context(cafile=self.authority) if self.authority else None
         with cam6.connect(**self.how, tls=tls) as machine:
             session = machine.session
             assert session
             left = [] if is_new else self.resume(session, before)
-            sent = left or (commands.some() if session.asked else commands.first())
+            sent = left or commands.some()
             while sent:
-                commands.heard(sent, self.ask(machine, session, sent))
+                commands.heard(self.ask(machine, session, sent))
                 commands.side = session.journal.side
                 time.sleep(pauses.uniform(0, 2 * self.pause))
                 sent = [] if Path(self.over).exists() else commands.some()

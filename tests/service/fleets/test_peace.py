@@ -8,28 +8,24 @@ import re
 import subprocess
 import time
 from collections.abc import Callable, Iterator
-from contextlib import ExitStack, suppress
+from contextlib import ExitStack, closing, suppress
+from functools import partial
 from pathlib import Path
 
 import pytest
 from service.pages import Answer, Socket, get
-from service.users import BALLS, NO_JSON, NO_NAMES, NO_SEAT, PLANES, ROW, RULES, RUN, SAVE, SEAT, SEATED, answers
-from service.users import closed
-from support.programs import private, until
-from support.sessions import assert_replies, line_of
+from service.users import BALLS, NO_JSON, NO_NAMES, NO_SEAT, PLANES, ROW, RULES, RUN, SAVE, SEAT, SEATED, START
+from service.users import answers, closed, seated
+from support.programs import Peer, private, until
+from support.sessions import assert_replies
 
-from .commands import LIFE
-from .services import DEPLOY, HOSTS, NAME, Fleet, Peer
+from .services import DEPLOY, HOSTS, NAME, OVER, Fleet, Proxy
 
 # How long the fleet waits for a first line (CAM6_WAIT), until it knows that a silent user's machine is gone (CAM6_SILENT and
 # three times CAM6_ASKED) or one that acknowledges nothing (CAM6_UNREAD), and what a busy machine adds.
 WAIT, GONE, GRACE = 2, 5, 20
 PER_SOURCE = 100
-# The most that `systemd-analyze security` may find open, in tenths.
-EXPOSURE = 15
 SET, SET_OK = f'{{"do":"set","plane":0,"row":0,"bits":"{"5a" * 32}"}}', '{"ok":"set"}'
-RULE = line_of(do="rule", name="L", half="A", hood="N/MOORE", minor="&/CENTERS", text=LIFE)
-CYCLE = line_of(do="cycle", entries=[{"a": "L", "b": "-", "grid": "EVEN", "phase": 0}])
 
 
 @pytest.mark.parametrize("file", sorted(path.name for path in DEPLOY.glob("*.cfg")))
@@ -46,7 +42,8 @@ def test_systemd_accepts_each_unit(request: pytest.FixtureRequest, fleet: Fleet,
     unit.write_text(text.replace(f"/opt/cam6/{name} ", f"{request.getfixturevalue(name)} "), encoding="utf-8")
     said = subprocess.run(["systemd-analyze", "verify", str(unit)], capture_output=True, check=False)
     assert (said.returncode, [line for line in said.stderr.decode().splitlines() if name in line]) == (0, [])
-    words = ["systemd-analyze", "security", "--offline=true", f"--threshold={EXPOSURE}", str(unit)]
+    # It may find 1.5 of 10 open.
+    words = ["systemd-analyze", "security", "--offline=true", "--threshold=15", str(unit)]
     assert subprocess.run(words, capture_output=True, check=False).returncode == 0, "the unit is exposed to much"
 
 
@@ -62,24 +59,19 @@ FIRST = {
 @pytest.mark.parametrize(("parts", "wanted"), FIRST.values(), ids=FIRST)
 def test_a_first_line_is_answered(fleet: Fleet, parts: list[str], wanted: list[str]) -> None:
     with fleet.user() as one:
-        one.send(parts[0])
-        for part in parts[1:]:
-            time.sleep(0.3)
+        for part in parts:
             one.send(part)
+            time.sleep(0.3)
         assert [one.read() for _ in wanted] == wanted
 
 
-def test_a_first_line_that_is_too_long_is_not_waited_for(fleet: Fleet) -> None:
-    with fleet.user() as one:
-        one.send("x" * 20000)
-        assert closed([one], 1)
-
-
-def test_a_user_who_says_nothing_is_closed_after_a_time(fleet: Fleet) -> None:
+@pytest.mark.parametrize("sent, least, most", [("x" * 20000, 0, 1), ("", WAIT - 0.5, WAIT + 2)], ids=["long", "silent"])
+def test_who_takes_no_seat_is_closed(fleet: Fleet, sent: str, least: float, most: float) -> None:
     begun = time.monotonic()
     with fleet.user() as one:
-        assert closed([one], WAIT + 2)
-    assert time.monotonic() - begun > WAIT - 0.5
+        one.send(sent)
+        assert closed([one], most)
+    assert time.monotonic() - begun > least
 
 
 def at_door(fleet: Fleet, port: int, certificate: str | None) -> Peer:
@@ -88,15 +80,12 @@ def at_door(fleet: Fleet, port: int, certificate: str | None) -> Peer:
     return Peer(stream) if certificate is None else fleet.by_tls(stream, None, certificate)
 
 
-DOOR = [(None, None), ("", None), ("users.pem", None), ("front.pem", NO_SEAT)]
-
-
-@pytest.mark.parametrize(("certificate", "answer"), DOOR)
-def test_a_door_lets_in_the_front_alone(fleet: Fleet, certificate: str | None, answer: str | None) -> None:
+@pytest.mark.parametrize("certificate, wanted", [(None, None), ("", None), ("users.pem", None), ("front.pem", NO_SEAT)])
+def test_a_door_lets_in_the_front_alone(fleet: Fleet, certificate: str | None, wanted: str | None) -> None:
     came = None
     with suppress(OSError), at_door(fleet, fleet.doors["one"], certificate) as one:
         came = one.ask(SEAT % 99)
-    assert came == answer
+    assert came == wanted
 
 
 def test_a_door_whose_host_has_ended_says_so_at_once(fleet: Fleet) -> None:
@@ -105,24 +94,25 @@ def test_a_door_whose_host_has_ended_says_so_at_once(fleet: Fleet) -> None:
         for _ in range(3):
             with at_door(fleet, port, "front.pem") as one:
                 begun = time.monotonic()
-                assert one.ask(SEAT % 1) is None
+                with suppress(*OVER):
+                    assert one.ask(SEAT % 1) is None
                 waits.append(time.monotonic() - begun)
     # A door that tried again would do so after a second, each time.
     assert min(waits) < 0.8
 
 
 @pytest.fixture
-def cables(fleet: Fleet) -> None:
-    """The test is left out if no cable can be pulled."""
+def cabled(fleet: Fleet) -> Fleet:
+    """The fleet. The test is left out if no cable can be pulled."""
     if not fleet.ground.has_cables:
         pytest.skip("LEFT OUT: this takes network namespaces")
+    return fleet
 
 
 @pytest.mark.root
-@pytest.mark.usefixtures("cables")
-def test_a_host_is_not_reached_from_another_machine(fleet: Fleet) -> None:
+def test_a_host_is_not_reached_from_another_machine(cabled: Fleet) -> None:
     with pytest.raises(ConnectionRefusedError):
-        fleet.stream_to("front", fleet.ground.address("one"), fleet.ports["one"])
+        cabled.stream_to("front", cabled.ground.address("one"), cabled.ports["one"])
 
 
 @pytest.mark.parametrize(("connect", "seat"), [(Fleet.tls_user, 1), (Fleet.user, 2)])
@@ -134,26 +124,23 @@ def test_a_user_who_thinks_for_long_keeps_the_seat(fleet: Fleet, connect: Callab
 
 
 @pytest.mark.root
-@pytest.mark.usefixtures("cables")
-@pytest.mark.parametrize(
-    ("seat", "is_asking"), [(21, False), (22, True)], ids=["who was silent", "who is owed a reply"]
-)
-def test_the_seat_is_free_of_a_user_whose_machine_is_gone(fleet: Fleet, seat: int, is_asking: bool) -> None:
-    with fleet.tls_user("gone") as one:
-        assert answers(one, [SEAT % seat, RULE, CYCLE]) == [SEATED, '{"ok":"rule"}', '{"ok":"cycle"}']
+@pytest.mark.parametrize("seat, is_asking", [(21, False), (22, True)], ids=["who was silent", "who is owed a reply"])
+def test_the_seat_is_free_of_a_user_whose_machine_is_gone(cabled: Fleet, seat: int, is_asking: bool) -> None:
+    with cabled.tls_user("gone") as one:
+        assert answers(one, [SEAT % seat, *START[:2]]) == [SEATED, '{"ok":"rule"}', '{"ok":"cycle"}']
         begun = time.monotonic()
         one.ask(RUN % 100)
         steps = 100 + int(200 / (time.monotonic() - begun))
-        (name,) = fleet.hosts_with(seat)
+        (name,) = cabled.hosts_with(seat)
         # What the user has got so far is acknowledged.
         time.sleep(0.5)
         if is_asking:
             # The run takes longer than the cable is in place: some two seconds.
-            before = fleet.hosts[name].seconds()
+            before = cabled.hosts[name].seconds()
             one.send(f"{RUN % min(steps, 65535)}\n")
-            assert until(lambda: fleet.hosts[name].seconds() > before, pause=0.002), "the host doesn't run"
-        with fleet.ground.pulled("gone"):
-            assert until(lambda: not fleet.is_taken(name, seat), GONE + GRACE)
+            assert until(lambda: cabled.hosts[name].seconds() > before, pause=0.002), "the host doesn't run"
+        with cabled.ground.pulled("gone"):
+            assert until(lambda: not cabled.is_taken(name, seat), GONE + GRACE)
 
 
 def test_one_address_has_so_many_connections_and_no_more(fleet: Fleet) -> None:
@@ -162,17 +149,24 @@ def test_one_address_has_so_many_connections_and_no_more(fleet: Fleet) -> None:
         for _ in range(PER_SOURCE + 20):
             with suppress(ConnectionResetError):
                 many.append(stack.enter_context(fleet.user("127.0.0.9")))
-        until(lambda: len(many) - closed([*many], 0) <= PER_SOURCE, WAIT / 2)
-        assert len(many) - closed([*many], 0) == PER_SOURCE
+        until(lambda: len(many) - closed(many, 0) <= PER_SOURCE, WAIT / 2)
+        assert len(many) - closed(many, 0) == PER_SOURCE
         assert fleet.answer_of(SEAT % 99) == NO_SEAT, "another address is served beside it"
 
 
 @pytest.fixture(scope="module")
 def seats(fleet: Fleet) -> Iterator[Callable[[str], Peer]]:
     """The front of numbered seats. Seats 33 to 64 are those of the second host, and so on. It is called for a connection."""
-    with fleet.proxy("front", "haproxy-seats.cfg", "CAM6_SEATS_ADMIN") as proxy:
+
+    def connect(value: str) -> Peer:
+        if value == "CAM6_SEATS_TLS":
+            stream = fleet.stream_to("users", fleet.ground.address("front"), fleet.port_of(value))
+            return fleet.by_tls(stream, "two.cam6.example")
+        return Peer(fleet.stream_to("front", "127.0.0.1", fleet.port_of(value)))
+
+    with Proxy(fleet, "front", "haproxy-seats.cfg", "haproxy-seats") as proxy:
         assert until(lambda: all(proxy.is_up(name, name) for name in HOSTS), GRACE)
-        yield lambda value: Peer(fleet.stream_to("front", "127.0.0.1", fleet.port_of(value)))
+        yield connect
 
 
 # The front that is asked, what is sent, and the seat that is taken of a host.
@@ -181,13 +175,13 @@ BY = {
     "its number, in three packets": ("CAM6_SEATS", ['{"se', 'at":64}\n', f"{SET}\n"], 32, "two"),
     "its number, before more": ("CAM6_SEATS", ['{ "seat" : 75 }\n' + SET + f"\n{RULES}" * 5000 + "\n"], 11, "three"),
     "the port of its host": ("CAM6_SEATS_THREE", [SEAT % 13 + f"\n{SET}\n"], 13, "three"),
+    "the name of its host": ("CAM6_SEATS_TLS", [SEAT % 14 + "\n", f"{SET}\n"], 14, "two"),
 }
 
 
-@pytest.mark.parametrize(("value", "parts", "seat", "host"), BY.values(), ids=BY)
-def test_a_seat_is_taken_by(
-    fleet: Fleet, seats: Callable[[str], Peer], value: str, parts: list[str], seat: int, host: str
-) -> None:
+@pytest.mark.parametrize("how", BY)
+def test_a_seat_is_taken_by(fleet: Fleet, seats: Callable[[str], Peer], how: str) -> None:
+    value, parts, seat, host = BY[how]
     with seats(value) as one:
         for part in parts:
             one.send(part)
@@ -195,14 +189,6 @@ def test_a_seat_is_taken_by(
         assert [one.read(), one.read()] == [SEATED, SET_OK]
         assert fleet.hosts_with(seat) == [host]
         assert {one.read() for _ in range(parts[-1].count(RULES))} <= {NO_NAMES}, "what was sent with it is answered"
-
-
-@pytest.mark.usefixtures("seats")
-def test_a_seat_is_taken_by_the_name_of_its_host(fleet: Fleet) -> None:
-    stream = fleet.stream_to("users", fleet.ground.address("front"), fleet.port_of("CAM6_SEATS_TLS"))
-    with fleet.by_tls(stream, "two.cam6.example") as one:
-        assert one.ask(SEAT % 14) == SEATED
-        assert fleet.hosts_with(14) == ["two"]
 
 
 @pytest.mark.parametrize("seat", [0, 97, 12345])
@@ -214,12 +200,12 @@ def test_a_number_beyond_all_seats_is_none(seats: Callable[[str], Peer], seat: i
 @pytest.mark.parametrize(("path", "status", "server"), [("/metrics", 200, 'server="two"'), ("/", 403, "")])
 def test_the_front_counts_for_prometheus_alone(fleet: Fleet, path: str, status: int, server: str) -> None:
     connection = http.client.HTTPConnection("127.0.0.1", fleet.port_of("CAM6_METRICS"), timeout=20)
-    with fleet.ground.within("front"):
+    with fleet.ground.within("front"), closing(connection):
         connection.request("GET", path)
-    answer = connection.getresponse()
+        answer = connection.getresponse()
+        text = answer.read().decode()
     assert answer.status == status
-    assert f'haproxy_server_status{{proxy="fleet",{server},state="UP"}} 1' in answer.read().decode() or not server
-    connection.close()
+    assert f'haproxy_server_status{{proxy="fleet",{server},state="UP"}} 1' in text or not server
 
 
 class Pages:
@@ -231,7 +217,7 @@ class Pages:
         self.plain = ground.port(8080)
         own = {f"CAM6_WEB_{name.upper()}": f"127.0.0.1:{port}" for name, port in ports.items()}
         own |= {"CAM6_PAGE_PLAIN": f"127.0.0.1:{self.plain}", "CAM6_PAGE": f"127.0.0.1:{ground.port(8443)}"}
-        self.front = fleet.proxy("front", "haproxy-page.cfg", "CAM6_PAGE_ADMIN", own=own)
+        self.front = Proxy(fleet, "front", "haproxy-page.cfg", "haproxy-page", own)
         words = [cam6_web, "--name", NAME, "--host", f"127.0.0.1:{fleet.plain}", "--port"]
         self.programs = {name: fleet.service("front", f"page-{name}", [*words, str(at)]) for name, at in ports.items()}
 
@@ -239,60 +225,36 @@ class Pages:
         """How often the front has connected to a program."""
         return int(self.front.stats(name, "pages")["stot"])
 
-    def get(self, path: str, cookie: str = "") -> Answer:
+    def get(self, path: str, **fields: str) -> Answer:
         """What a browser is answered."""
-        fields = {"Host": NAME, "Connection": "close", **({"Cookie": cookie} if cookie else {})}
         with self.fleet.ground.within("front"):
-            return get(self.plain, path, fields)
+            return get(self.plain, path, {"Host": NAME, "Connection": "close", **fields})
 
-    def seated(self, cookie: str) -> Socket:
-        """A socket that has a seat, as the page looks for one: from the last one down, which others leave free."""
-        fields = {"Host": NAME, "Origin": f"https://{NAME}", "Cookie": cookie}
-        for number in range(30, 0, -1):
-            with self.fleet.ground.within("front"):
-                one = Socket(self.plain, number, "/ws/1", fields)
-            if one.said == SEATED:
-                return one
-            one.close()
-        raise AssertionError("no seat is free")
+    def seated(self, name: str) -> Socket:
+        """A socket with a seat that no other test takes, of a browser that has the cookie of a program."""
+        fields = {"Host": NAME, "Origin": f"https://{NAME}", "Cookie": f"cam6={name}"}
+        with self.fleet.ground.within("front"):
+            return seated(partial(Socket, path="/ws/1", fields=fields), self.plain, 30)
 
 
-@pytest.fixture
-def pages(fleet: Fleet, cam6_web: str) -> Iterator[Pages]:
-    """Two programs of the page, behind a front."""
-    made = Pages(fleet, cam6_web)
-    with ExitStack() as stack:
-        for service in (*made.programs.values(), made.front):
-            stack.enter_context(service)
-        assert until(lambda: all(made.front.is_up(name, "pages") for name in made.programs), GRACE)
-        yield made
-
-
-def names_of(pages: Pages) -> tuple[str, str]:
-    """The program by which a browser is shown the page, and the other one."""
-    first = pages.get("/")
-    found = re.search(r"cam6=(one|two)", first.fields.get("set-cookie", ""))
-    assert first.status == 200 and found
-    return found[1], "two" if found[1] == "one" else "one"
-
-
-def test_a_browser_stays_with_the_program_of_its_cookie(pages: Pages) -> None:
-    name, other = names_of(pages)
-    assert [pages.get("/app.js", f"cam6={name}").status for _ in range(4)] == [200] * 4
-    assert pages.count(other) == 0
-    assert pages.get("/hosts", f"cam6={name}").text.strip() == "1", "its host is the front of hosts"
-
-
-def test_a_page_goes_on_at_the_other_program(pages: Pages, cam6: str) -> None:
-    name, other = names_of(pages)
-    lines = [*BALLS, RUN % 9, SAVE]
-    with pages.seated(f"cam6={name}") as one:
-        came = answers(one, lines)
-        assert_replies(lines, came, private(cam6, lines, 256))
-        pages.programs[name].kill()
-        assert one.read() is None
-    load = '{"do":"load","machine":' + str(came[-1]).removeprefix('{"machine":').removesuffix(',"ok":"save"}') + "}"
-    with pages.seated(f"cam6={name}") as two:
-        assert pages.count(other) > 0
-        again = answers(two, [load, RUN % 5, PLANES[0]])
-        assert again[-1] == private(cam6, [*BALLS, RUN % 14, PLANES[0]], 256)[-1]
+def test_a_browser_stays_with_a_program_and_goes_on_at_the_other_one(fleet: Fleet, cam6_web: str, cam6: str) -> None:
+    pages, lines = Pages(fleet, cam6_web), [*BALLS, RUN % 9, SAVE]
+    with pages.programs["one"], pages.programs["two"], pages.front:
+        assert until(lambda: all(pages.front.is_up(name, "pages") for name in pages.programs), GRACE)
+        first = pages.get("/")
+        found = re.search(r"cam6=(one|two)", first.fields.get("set-cookie", ""))
+        assert first.status == 200 and found
+        name, other = found[1], "two" if found[1] == "one" else "one"
+        assert [pages.get("/app.js", Cookie=f"cam6={name}").status for _ in range(4)] == [200] * 4
+        assert pages.count(other) == 0
+        assert pages.get("/hosts", Cookie=f"cam6={name}").text.strip() == "1", "its host is the front of hosts"
+        with pages.seated(name) as one:
+            came = answers(one, lines)
+            assert_replies(lines, came, private(cam6, lines, 256))
+            pages.programs[name].kill()
+            assert one.read() is None
+        load = str(came[-1]).replace(',"ok":"save"}', "}").replace("{", '{"do":"load",', 1)
+        with pages.seated(name) as two:
+            assert pages.count(other) > 0
+            again = answers(two, [load, RUN % 5, PLANES[0]])
+            assert again[-1] == private(cam6, [*BALLS, RUN % 14, PLANES[0]], 256)[-1]
