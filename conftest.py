@@ -14,9 +14,15 @@ import pytest
 from support.programs import CRATES, PLAYERS, Host, Page, built
 
 SUPPORT = Path(__file__).parent / "tests" / "support"
-# Programs take their time, and more of it on a busy computer.
+# Programs take their time, and more of it on a busy computer. The phase `target` is left out: no test has a target, and without
+# one that phase shrinks sessions that passed. So is `explain`, which runs a failure again and again.
+PHASES = [hypothesis.Phase[name] for name in ("explicit", "reuse", "generate", "shrink")]
 PATIENT = hypothesis.settings(
-    deadline=None, print_blob=True, stateful_step_count=30, suppress_health_check=list(hypothesis.HealthCheck)
+    deadline=None,
+    print_blob=True,
+    stateful_step_count=30,
+    suppress_health_check=list(hypothesis.HealthCheck),
+    phases=PHASES,
 )
 hypothesis.settings.register_profile("programs", PATIENT, max_examples=100)
 # `--hypothesis-profile long` tries far more.

@@ -201,8 +201,9 @@ class Asking(RuleBasedStateMachine):
 
     @rule(side=st.sampled_from(SIDES))
     def side(self, side: int) -> None:
-        """A blank torus."""
+        """A blank torus, whose machine begins its cycle again: a step tells the position."""
         self.do(do("side", side=side))
+        self.do(do("run", n=1))
 
     @rule(colours=st.lists(st.integers(0, 15), min_size=16, max_size=16))
     def colours(self, colours: list[int]) -> None:
@@ -233,8 +234,9 @@ class Asking(RuleBasedStateMachine):
 
     @rule(machine=saved)
     def load(self, machine: Command) -> None:
-        """A machine that was saved."""
+        """A machine that was saved, and its position."""
         self.do(do("load", machine=machine))
+        self.do(do("run", n=0))
 
     @rule(machine=saved, data=st.data())
     def load_another(self, machine: Command, data: st.DataObject) -> None:
@@ -253,14 +255,18 @@ class Asking(RuleBasedStateMachine):
         commands.append(do("rule", name=data.draw(NO_NAMES)) | data.draw(rules(("block",))))
         self.do(data.draw(st.sampled_from(commands)))
 
-    @rule(word=st.sampled_from(list(REVERSIBLE)), count=st.sampled_from([15, 16, 17]))
-    def many_rules(self, word: str, count: int) -> None:
-        """As many rules as there can be, or one more, and then fewer."""
+    @rule(word=st.sampled_from(list(REVERSIBLE)), count=st.sampled_from([3, 15, 16, 17]), last=st.integers(0, 2))
+    def many_rules(self, word: str, count: int, last: int) -> None:
+        """Rules, as many as there can be, or one more. Then one of three has a cycle, and others are dropped from the first on."""
+        entry = {"a": "-", "b": "-", "grid": "EVEN", "phase": 0} | {REVERSIBLE[word][0].lower(): f"n{last}"}
+        self.do(FREE)
         for number in range(count):
             self.do(rule_command(f"n{number}", *REVERSIBLE[word]))
-        self.do(do("rules"))
-        for number in range(2, count):
+        for command in (do("rules"), do("cycle", entries=[entry])):
+            self.do(command)
+        for number in range(count):
             self.do(do("drop", name=f"n{number}"))
+        self.do(do("save"))
 
     @rule(line=st.sampled_from([b"", b" ", b"{", b"{}", b"\xff", b'{"do":"fly"}', b'{"do":"run","n":-1}', b"[" * 200]))
     def no_command(self, line: bytes) -> None:

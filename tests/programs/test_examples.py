@@ -11,8 +11,8 @@ from collections.abc import Callable
 from pathlib import Path
 
 import pytest
-from oracle.examples import Example, Part, limit_of, outcome_of, sizes_of
-from support.playing import assert_answers, examples
+from oracle.examples import Example, Part, outcome_of
+from support.playing import arguments_of, assert_answers, examples
 from support.programs import ran
 from support.talk import Talk, how_it_ended
 
@@ -44,7 +44,7 @@ def command_by_command(command: list[str], data: bytes) -> bytes:
 
 def alone(cam6: str, part: Part) -> tuple[list[str], bytes]:
     """The command that plays a session, and its input."""
-    return [cam6, "alone", "--side", str(limit_of(part.way))], part.bytes_sent()
+    return [cam6, *arguments_of(part.way)], part.bytes_sent()
 
 
 @pytest.mark.parametrize("path", examples(SESSIONS))
@@ -66,16 +66,10 @@ def test_a_session_command_by_command(either_cam6: str, path: Path) -> None:
     assert_answers(example, (command_by_command(*alone(either_cam6, part)) for part in example.parts))
 
 
-def replay(cam6: str, part: Part) -> list[str]:
-    """The command that plays events."""
-    words = zip(("--users", "--boards", "--cache", "--side"), map(str, sizes_of(part.way)))
-    return [cam6, "replay", *(word for pair in words for word in pair)]
-
-
 def one_by_one(cam6: str, part: Part) -> tuple[bytes, list[bytes], bytes]:
     """The answers of a part, whose short forms are many events; and all events that were sent, with all that came back."""
     assert all(end == b"\n" and b"\n" not in line for line, end in part.sent), "an event is one line"
-    with Talk(replay(cam6, part)) as talk:
+    with Talk([cam6, *arguments_of(part.way)]) as talk:
         answers = b"".join(outcome_of(talk.answer, line) + b"\n" for line, _ in part.sent)
         rest = talk.rest()
     return answers + rest, talk.lines, b"".join(answer + b"\n" for answer in talk.answers) + rest
@@ -86,9 +80,10 @@ def test_events(either_cam6: str, path: Path) -> None:
     """They have the outcomes of their file one by one, and the same ones all at once."""
     example = Example(path)
     played = [one_by_one(either_cam6, part) for part in example.parts]
-    assert_answers(example, (answers for answers, _, _ in played))
-    for part, (_, lines, came) in zip(example.parts, played):
-        assert written_for(replay(either_cam6, part), b"".join(line + b"\n" for line in lines)) == came
+    sent = [b"".join(line + b"\n" for line in lines) for _, lines, _ in played]
+    assert_answers(example, (answers for answers, _, _ in played), sent)
+    for part, data, (_, _, came) in zip(example.parts, sent, played):
+        assert written_for([either_cam6, *arguments_of(part.way)], data) == came
 
 
 @pytest.mark.parametrize("script", ["read line; exec sleep 600", "exec cat > /dev/null"])

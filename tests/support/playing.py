@@ -2,13 +2,13 @@
 
 from __future__ import annotations
 
-from collections.abc import Iterable
+from collections.abc import Iterable, Sequence
 
 import pytest
 from _pytest.mark import ParameterSet
-from oracle.examples import Example
+from oracle.examples import Example, limit_of, sizes_of
 from support.programs import TOP
-from support.sessions import both
+from support.sessions import both, kept
 
 
 def examples(*folders: str) -> list[ParameterSet]:
@@ -34,15 +34,28 @@ def both_lines(came: bytes, wanted: bytes, number: int) -> str:
     return both(*(lines[0] if lines else ... for lines in found))
 
 
-def assert_answers(example: Example, answers: Iterable[bytes]) -> None:
+def arguments_of(way: str) -> list[str]:
+    """The arguments of `cam6` by which a session or events are played."""
+    if way.startswith("session"):
+        return ["alone", "--side", str(limit_of(way))]
+    words = zip(("--users", "--boards", "--cache", "--side"), map(str, sizes_of(way)))
+    return ["replay", *(word for pair in words for word in pair)]
+
+
+def assert_answers(example: Example, answers: Iterable[bytes], sent: Sequence[bytes] = ()) -> None:
     """Fails if what came back for the parts of an example isn't what its file says. Of a file that is wrong on purpose all
-    but the line that its head names has to come back."""
+    but the line that its head names has to come back. What was sent is told, and kept in a file that can be piped into the
+    program. `sent` has it for each part if it isn't what the example says."""
     before, wrong = 0, example.wrong_line()
-    for part, came in zip(example.parts, answers, strict=True):
+    for place, (part, came) in enumerate(zip(example.parts, answers, strict=True)):
         if line := first_other(came, part.wanted):
-            how = f"line {before + line} of what comes back\n{both_lines(came, part.wanted, line)}"
-            shown = b"".join(text + end for text, end in part.sent).decode(errors="backslashreplace")
-            assert before + line == wrong, f"{how}\nsent, {part.way}:\n{shown}"
-            return
+            if before + line == wrong:
+                return
+            data, how = sent[place] if sent else part.bytes_sent(), part.way
+            if how.startswith(("session", "events")):
+                how = f"to be piped into ./cam6 {' '.join(arguments_of(how))}, is {kept(data)}"
+            text = data.decode(errors="backslashreplace")
+            shown = f"{both_lines(came, part.wanted, line)}\nwhat was sent, {how}:\n{text}"
+            raise AssertionError(f"line {before + line} of what comes back\n{shown}")
         before += part.wanted.count(b"\n")
     assert not wrong, f"all lines came back, and line {wrong} is wrong on purpose"

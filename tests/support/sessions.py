@@ -33,10 +33,10 @@ def both(came: object, wanted: object) -> str:
     return f"  is     {short(came, first)}\n  wanted {short(wanted, first)}"
 
 
-def kept(lines: Sequence[bytes | str]) -> Path:
-    """A file that has these lines. The next one takes its place."""
+def kept(sent: bytes) -> Path:
+    """A file that has what was sent. The next one takes its place."""
     path = Path(tempfile.gettempdir(), f"cam6-session-{os.getpid()}.lines")
-    path.write_bytes(b"".join((line if isinstance(line, bytes) else line.encode()) + b"\n" for line in lines))
+    path.write_bytes(sent)
     return path
 
 
@@ -51,9 +51,10 @@ def assert_replies(
         return
     line, one, other = (lines[place] if place < len(lines) else ... for lines in (sent, came, wanted))
     session = sent[: place + 1]
+    file = kept(b"".join((line if isinstance(line, bytes) else line.encode()) + b"\n" for line in session))
     # Bytes that are no UTF-8 are shown as `\xNN`.
     texts = (line if isinstance(line, str) else line.decode(errors="backslashreplace") for line in session)
     raise AssertionError(
         f"reply {place + 1} of {len(wanted)} to {short(line)}\n{both(one, other)}\n"
-        f"the session, to be piped into {command}, is {kept(session)}:\n" + "\n".join(texts)
+        f"the session, to be piped into {command}, is {file}:\n" + "\n".join(texts)
     )
