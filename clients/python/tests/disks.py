@@ -9,6 +9,7 @@ import os
 from collections.abc import Iterator
 from contextlib import contextmanager
 from dataclasses import dataclass
+from errno import ENOSPC
 from pathlib import Path
 from typing import IO, Any, Optional
 from unittest import mock
@@ -24,18 +25,19 @@ class Crash(BaseException):
 class Failure:
     """What fails, and when: the act `at`, counted from 0. Acts are writes, cuts, renames, and syncs of a file or a folder.
 
-    A write is done up to its byte `cut`, as Python cuts it. Nothing is done of another act.
+    A write is done up to its byte `cut`, as Python cuts it. Nothing is done of another act, unless it is interrupted.
 
     - `"kill"` ends the program.
-    - `"power"` ends the computer. Of what was not synced, `kept` bytes are kept, and the last rename if `is_renamed`.
+    - `"power"` ends the computer. Of what was not synced, `kept` bytes are kept, and the first `renames` renames.
     - `"error"` is an `OSError`, and the program goes on.
+    - `"interrupt"` is a `KeyboardInterrupt` after the act, and the program goes on.
     """
 
     at: int
     cut: int = 0
     kind: str = "kill"
     kept: int = 0
-    is_renamed: bool = False
+    renames: int = 0
 
 
 @dataclass
@@ -61,9 +63,9 @@ class File:
 
     def truncate(self, size: int) -> int:
         """Cuts the file."""
-        self.disk.acts()
-        self.content.synced = min(self.content.synced, size)
-        return self.file.truncate(size)
+        with self.disk.act():
+            self.content.synced = min(self.content.synced, size)
+            return self.file.truncate(size)
 
     def __getattr__(self, name: str) -> Any:
         return getattr(self.file, name)
@@ -104,13 +106,19 @@ class Disk:
         """What is raised by a failure."""
         self.failure = None
         if failure.kind == "error":
-            return OSError(28, "No space left on device")
+            return OSError(ENOSPC, "No space left on device")
+        if failure.kind == "interrupt":
+            return KeyboardInterrupt()
         self.ended = failure
         return Crash()
 
-    def acts(self) -> None:
+    @contextmanager
+    def act(self) -> Iterator[None]:
         """Counts an act that is done whole, or not at all."""
         failure = self.failing()
+        if failure and failure.kind != "interrupt":
+            raise self.failed(failure)
+        yield
         if failure:
             raise self.failed(failure)
 
@@ -128,18 +136,20 @@ class Disk:
         if self.ended and self.ended.kind == "power":
             self.lose(self.ended)
 
+    def left(self, kept: int, renames: int) -> Optional[bytes]:
+        """What the journal's file would have if the computer ended now, or None if there would be none."""
+        now = self.path.read_bytes() if self.path.exists() else None
+        data, content = [*self.before, (now, self.contents.get(str(self.path), Content()))][: renames + 1][-1]
+        return None if data is None else data[: content.synced + kept]
+
     def lose(self, failure: Failure) -> None:
-        """What is not on the disk is lost, but for some bytes of it."""
-        if self.before and not failure.is_renamed:
-            data, self.contents[str(self.path)] = self.before[0]
-            self.path.unlink()
-            if data is not None:
-                self.path.write_bytes(data)
+        """What is not on the disk is lost, but for some of it."""
+        data = self.left(failure.kept, failure.renames)
         self.before.clear()
-        if self.path.exists():
-            content, size = self.contents[str(self.path)], self.path.stat().st_size
-            content.synced = min(size, content.synced + failure.kept)
-            os.truncate(self.path, content.synced)
+        self.path.unlink(missing_ok=True)
+        if data is not None:
+            self.path.write_bytes(data)
+            self.contents[str(self.path)] = Content(len(data))
 
 
 class System:
@@ -152,21 +162,21 @@ class System:
         """Has the content of a file on the disk, or the names of the folder. After the end nothing happens."""
         if self.disk.ended:
             return
-        self.disk.acts()
-        synced = [file for file in self.disk.files if not file.file.closed and file.fileno() == number]
-        for file in synced:
-            file.content.synced = os.fstat(number).st_size
-        if not synced:
-            self.disk.before.clear()
+        with self.disk.act():
+            synced = [file for file in self.disk.files if not file.file.closed and file.fileno() == number]
+            for file in synced:
+                file.content.synced = os.fstat(number).st_size
+            if not synced:
+                self.disk.before.clear()
 
     def replace(self, new: str, path: str) -> None:
         """Renames a file."""
         disk = self.disk
-        disk.acts()
-        old = disk.path.read_bytes() if disk.path.exists() else None
-        disk.before.append((old, disk.contents.get(path, Content())))
-        os.replace(new, path)
-        disk.contents[path] = disk.contents.pop(new)
+        with disk.act():
+            old = disk.path.read_bytes() if disk.path.exists() else None
+            disk.before.append((old, disk.contents.get(path, Content())))
+            os.replace(new, path)
+            disk.contents[path] = disk.contents.pop(new)
 
     def __getattr__(self, name: str) -> Any:
         return getattr(os, name)

@@ -13,6 +13,7 @@ from collections.abc import Callable, Iterator, Sequence
 from contextlib import closing, contextmanager
 from dataclasses import dataclass, field, replace
 from enum import Enum
+from errno import ENOSPC
 from functools import partial
 from pathlib import Path
 from typing import Any, Optional
@@ -64,8 +65,10 @@ FAILURES = st.builds(
     cut=st.integers(-80, 80) | st.sampled_from([20_000, 10_000]),
     kind=st.sampled_from(["kill", "power"]),
     kept=st.integers(0, 200),
-    is_renamed=st.booleans(),
+    renames=st.integers(0, 2),
 )
+# What is raised if the program goes on.
+GOES_ON = (OSError, KeyboardInterrupt)
 
 
 @dataclass(frozen=True)
@@ -233,6 +236,76 @@ def test_a_file_that_is_cut_has_the_machine_of_the_commands_before(story: Story,
             data = program.path.read_bytes()
             program.path.write_bytes(data[: max(data.index(b"\n") + 1, len(data) - cut)])
             program.live(seat)
+
+
+class Lives:
+    """Programs that have a journal one after the other. What fails ends each of them."""
+
+    def __init__(self, path: Path, sync: str) -> None:
+        self.disk, self.sync = Disk(path), sync
+
+    def opened(self) -> Journal:
+        """The journal of a new program, for which nothing fails yet."""
+        self.disk.begin(None)
+        return Journal(str(self.disk.path), self.sync, LIMIT)
+
+    def ends(self, made: Journal, failure: Failure) -> Journal:
+        """The program of this journal begins to save, and ends by a failure. Returns the journal of the next one."""
+        self.disk.begin(failure)
+        with pytest.raises(Crash):
+            made.checkpoint(lines.blank(LIMIT))
+        self.disk.end()
+        return self.opened()
+
+
+# The acts of a checkpoint.
+CUT, WRITE, SYNC, RENAME, SYNC_FOLDER = range(5)
+
+
+@pytest.mark.parametrize("sync", ["checkpoint", "each"])
+def test_the_next_program_has_a_checkpoint_on_the_disk(sync: str, path: Path) -> None:
+    """A program is killed before the name of the new file is on the disk. What the next one gives up stays so."""
+    lives = Lives(path, sync)
+    with lives.disk.used():
+        first = lives.opened()
+        first.asked([RUN])
+        first.checkpoint(SAVED)
+        second = lives.ends(first, Failure(SYNC_FOLDER, kind="kill"))
+        assert second.drop() == [RUN]
+        last = lives.ends(second, Failure(CUT, kind="power"))
+        assert (list(last.pending), last.number) == ([], 0)
+
+
+@pytest.mark.parametrize("kind", ["error", "interrupt"])
+@pytest.mark.parametrize("at", [CUT, WRITE, SYNC, RENAME, SYNC_FOLDER])
+def test_what_is_asked_for_after_a_failed_checkpoint_is_on_the_disk(at: int, kind: str, path: Path) -> None:
+    """The program goes on after an error, or after Ctrl-C."""
+    lives = Lives(path, "each")
+    with lives.disk.used():
+        first = lives.opened()
+        lives.disk.begin(Failure(at, kind=kind))
+        with pytest.raises(GOES_ON):
+            first.checkpoint(SAVED)
+        first.asked([RUN])
+        last = lives.ends(first, Failure(CUT, kind="power"))
+        assert (list(last.pending), last.number) == ([RUN], 1)
+
+
+def test_a_journal_is_opened_after_an_error(path: Path) -> None:
+    """The error came as it was opened, or as it was closed. The program still has the error, and no file is open."""
+    lives = Lives(path, "each")
+    with lives.disk.used():
+        # The first file is written anew. A file that is there is cut, and synced with its folder.
+        for at in [SYNC_FOLDER, 0, 1, 2]:
+            lives.disk.begin(Failure(at, kind="error"))
+            with pytest.raises(OSError) as raised:
+                Journal(str(path), "each", LIMIT)
+            made = lives.opened()
+            lives.disk.begin(Failure(0, kind="error"))
+            with pytest.raises(OSError) as raised_too:
+                made.close()
+            lives.opened().close()
+            assert raised.value.errno == raised_too.value.errno == ENOSPC
 
 
 def is_json(row: bytes) -> bool:

@@ -40,8 +40,9 @@ class Journal:
     `load` is the load line, `tail` the commands since then with their replies, and `pending` the commands without an
     answer. `number` counts the commands that were asked for, from the journal's beginning.
 
-    `sync` says when the system has to have written a file to its disk: `none` never, `checkpoint` at checkpoints, and
-    `each` also before commands are sent. Whatever it is, nothing is lost if only the program ends.
+    `sync` says when the system has to have written a file to its disk: `none` never, `checkpoint` at checkpoints and as
+    the file is opened, and `each` also before commands are sent. Whatever it is, nothing is lost if only the program
+    ends.
     """
 
     def __init__(self, path: Optional[str], sync: str, limit: int) -> None:
@@ -52,10 +53,14 @@ class Journal:
         self.number = 0
         self.size = 0
         self._file: Optional[IO[bytes]] = None
-        # Whether a write failed, so that the file lacks what is known here.
+        # Whether the file lacks what is known here, or may be another one after a crash, since a write or a sync failed.
         self._is_behind = False
         if path is not None:
-            self._open(path)
+            try:
+                self._open(path)
+            except BaseException:
+                self._close()
+                raise
 
     @property
     def side(self) -> int:
@@ -69,17 +74,13 @@ class Journal:
             self._rewrite()
             return
         self._file = open(path, "r+b", buffering=0)
-        try:
-            lock(self._file, path)
-            if os.fstat(self._file.fileno()).st_ino != os.stat(path).st_ino:
-                raise BadJournal(f"The journal {path!r} is open in another program. End that one first.")
-            good = self._read(self._file.read(), path)
-        except BaseException:
-            self._close()
-            raise
+        lock(self._file, path)
+        if os.fstat(self._file.fileno()).st_ino != os.stat(path).st_ino:
+            raise BadJournal(f"The journal {path!r} is open in another program. End that one first.")
+        good = self._read(self._file.read(), path)
         self._file.truncate(good)
         self._file.seek(good)
-        if self.sync == "each":
+        if self.sync != "none":
             # The last program may have ended before its syncs. What it asked for is sent next.
             os.fsync(self._file.fileno())
             sync_folder(os.path.dirname(path) or ".")
@@ -185,9 +186,10 @@ class Journal:
 
     def close(self) -> None:
         """Writes the file to its disk, unless `sync` is `none`, and closes it."""
-        if self._file:
-            if self.sync != "none":
+        try:
+            if self._file and self.sync != "none":
                 os.fsync(self._file.fileno())
+        finally:
             self._close()
 
     def _close(self) -> None:
@@ -227,14 +229,17 @@ class Journal:
                 raise OSError(f"the journal {self.path!r} can't be written whole: is the disk full?")
             if self.sync != "none":
                 os.fsync(new.fileno())
+            # Until the new name is on the disk the old file may come back, without what is written from now on.
+            self._is_behind = True
             os.replace(self.path + ".new", self.path)
         except BaseException:
             new.close()
             raise
         self._close()
-        self._file, self._is_behind = new, False
+        self._file = new
         if self.sync != "none":
             sync_folder(os.path.dirname(self.path) or ".")
+        self._is_behind = False
 
     def _first(self) -> dict[str, Any]:
         """All that is known, as the first line of a file. So a file that is cut has all of it, or is no journal."""

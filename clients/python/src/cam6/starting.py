@@ -70,8 +70,8 @@ def connect(
     `journal` is the path of a file, or `":memory:"`. These have a meaning only with a journal:
 
     - `limit`: the largest side of each host's machines (`--side`): 128, 256 or 512.
-    - `sync`: when the system has to write the file to its disk. `"checkpoint"` at each checkpoint, `"each"` also before
-      each command, `"none"` never. If only the program ends, nothing is lost with any of them.
+    - `sync`: when the system has to write the file to its disk. `"checkpoint"` as it is opened and at each checkpoint,
+      `"each"` also before each command, `"none"` never. If only the program ends, nothing is lost with any of them.
     - `every_seconds`: a checkpoint is made when answers took so long together, 0 or more. Long runs are split so.
     - `deadline`: seconds without any progress after which calls raise `GaveUp`, above 0. None stands for no end.
 
