@@ -24,7 +24,7 @@ from disks import Crash, Disk, Failure
 from fakes import Plain, compact, north
 from hypothesis import assume, example, given, note, settings
 from hypothesis import strategies as st
-from hypothesis.stateful import RuleBasedStateMachine, initialize, precondition, rule
+from hypothesis.stateful import RuleBasedStateMachine, initialize, invariant, precondition, rule
 from oracle.machine import answers
 
 from cam6 import BadJournal, Lost, lines, sessions
@@ -63,10 +63,11 @@ FAILURES = st.builds(
     Failure,
     at=st.integers(0, 4) | st.integers(0, 40),
     cut=st.integers(-80, 80) | st.sampled_from([20_000, 10_000]),
-    kind=st.sampled_from(["kill", "power"]),
+    kind=st.sampled_from(["kill", "power", "error", "interrupt"]),
     kept=st.integers(0, 200),
     renames=st.integers(0, 2),
 )
+SOON = st.builds(replace, FAILURES, at=st.integers(0, 5))
 # What is raised if the program goes on.
 GOES_ON = (OSError, KeyboardInterrupt)
 
@@ -179,18 +180,21 @@ class Program:
             while session.asked < len(self.sent):
                 place, saves = session.asked, session.checkpoints
                 batch = self.sent[place : place + self.story.batch]
-                assert session.talk(batch) == self.want[place : place + self.story.batch]
-                assert session.asked == place + len(batch)
+                try:
+                    assert session.talk(batch) == self.want[place : place + self.story.batch]
+                    assert session.asked == place + len(batch)
+                except GOES_ON:
+                    saves = session.checkpoints  # The last one may not be on the disk.
                 self.note(session, place if session.checkpoints > saves else 0)
 
     def note(self, session: Session, saved: int) -> None:
         """Notes how far it is, with so many commands in a machine that was saved."""
-        self.asked = session.asked
+        self.asked = self.least = session.asked
         self.synced = max(self.synced, self.asked if self.story.sync == "each" else saved)
 
     def end(self, kind: str) -> None:
         """It has ended. Only if the computer did too, what is not on the disk may be lost."""
-        self.least = self.asked if kind == "kill" else self.synced
+        self.least = self.synced if kind == "power" else self.least
 
 
 @contextmanager
@@ -214,11 +218,10 @@ def test_replies_are_those_of_one_machine_that_never_failed(story: Story, fails:
             try:
                 program.live(seat)
                 break
-            except Crash:
+            except (Crash, *GOES_ON):
                 disk.end()
-                assert disk.ended
-                note(f"ended by {disk.ended}, with {program.asked} commands asked for")
-                program.end(disk.ended.kind)
+                note(f"ended by {disk.ended or failure}, with {program.asked} commands asked for")
+                program.end(disk.ended.kind if disk.ended else "kill")
         disk.begin(None)
         with closing(program.opened(seat)) as session:
             assert session.asked == len(program.sent)
@@ -234,7 +237,10 @@ def test_a_file_that_is_cut_has_the_machine_of_the_commands_before(story: Story,
         program.live(seat)
         for cut in cuts:
             data = program.path.read_bytes()
-            program.path.write_bytes(data[: max(data.index(b"\n") + 1, len(data) - cut)])
+            data = data[: max(data.index(b"\n") + 1, len(data) - cut)]
+            program.path.write_bytes(data)
+            first, *rows = map(json.loads, data.split(b"\n")[:-1])
+            program.least = first["number"] + len(first["ask"]) + sum("ask" in row for row in rows)
             program.live(seat)
 
 
@@ -403,6 +409,18 @@ class Known:
         return replace(self, load=load, tail=())
 
 
+def known_to(made: Journal) -> Known:
+    """What a journal knows."""
+    return Known(made.load, tuple(made.tail), tuple(made.pending), made.number)
+
+
+def said(data: Optional[bytes]) -> Known:
+    """What the content of a file says."""
+    made = Journal(None, "none", LIMIT)
+    made._read(data or b"", "what is left")
+    return known_to(made)
+
+
 COUNT, LOAD, RUN = compact(do="count", mask=2), lines.LOAD_HEAD + b"{}}", compact(do="run", n=9)
 DONE = b'{"ok":"run","position":0}'
 REPLIES = {COUNT: b'{"count":0,"ok":"count"}', LOAD: b'{"ok":"load"}', b"\xff\xc3": b'{"fault":2}'}
@@ -416,7 +434,7 @@ class Sync(Enum):
 
 
 class Journals(RuleBasedStateMachine):
-    """A journal, and what its file may say if the program ends now, or the computer does."""
+    """A journal, and what its file may say if the program ends now (`file`), or the computer does (`power`)."""
 
     def __init__(self) -> None:
         super().__init__()
@@ -432,60 +450,72 @@ class Journals(RuleBasedStateMachine):
         self.used.__exit__(None, None, None)
         self.folder.cleanup()
 
-    def opened(self) -> Known:
-        """Opens the journal. Returns what it knows."""
-        self.disk.begin(None)
-        self.journal = Journal(str(self.disk.path), self.sync, LIMIT)
-        return self.known()
-
-    def known(self) -> Known:
-        """What the journal knows."""
-        made = self.journal
-        return Known(made.load, tuple(made.tail), tuple(made.pending), made.number)
-
-    @initialize(sync=st.sampled_from(["each", "checkpoint"]))
-    def begin(self, sync: str) -> None:
+    @initialize(sync=st.sampled_from(["each", "checkpoint"]), failure=st.none() | SOON)
+    def begin(self, sync: str, failure: Optional[Failure]) -> None:
         """Begins a journal."""
         self.sync = sync
-        self.now = self.opened()
-        assert self.now == Known(lines.blank(LIMIT))
-        self.file, self.power, self.is_behind = [self.now], [self.now], False
+        self.file = self.power = [Known(lines.blank(LIMIT))]
+        self.open(failure)
 
-    @rule(failure=FAILURES, at=st.integers(0, 5), kind=st.sampled_from(["kill", "power", "error"]))
-    def fail_next(self, failure: Failure, at: int, kind: str) -> None:
+    def open(self, failure: Optional[Failure] = None) -> None:
+        """A program opens the journal. If it fails in that, it does so again, or another one does."""
+        self.disk.begin(failure)
+        try:
+            self.journal = Journal(str(self.disk.path), self.sync, LIMIT)
+        except GOES_ON:
+            return self.open()
+        except Crash:
+            return self.end()
+        self.now, self.is_behind = known_to(self.journal), False
+        assert self.now in self.file
+        # What the last program wrote is on the disk now.
+        self.file = self.power = [self.now]
+
+    def end(self) -> None:
+        """The program has ended, or its computer. Another one begins."""
+        assert self.disk.ended
+        self.file = self.power if self.disk.ended.kind == "power" else self.file
+        self.disk.end()
+        self.open()
+
+    @rule(failure=SOON)
+    def fail_next(self, failure: Failure) -> None:
         """Something will fail soon."""
-        self.disk.begin(replace(failure, at=at, kind=kind))
+        self.disk.begin(failure)
 
     def do(self, call: Callable[[], Any], acts: list[Act], sync: Sync = Sync.NEVER, is_known: bool = True) -> None:
         """Does what leads to some lines of the file. It may fail after each of them."""
         after = states_of(self.now, acts)[-1]
         is_anew = self.is_behind or sync is Sync.ANEW
-        # The file may be written anew, before lines of what is not known yet, or with those of what is.
-        begins = [*self.file, self.now] if is_anew else self.file
-        states = [state for before in begins for state in states_of(before, acts)]
+        if is_anew:
+            # The old file stays as it is. A new one has what is known, and then lines of what is not known yet.
+            ends, new = [after], [after] if is_known else states_of(self.now, acts)
+            states, power = [*self.file, *new], new
+        else:
+            ends = [states_of(before, acts)[-1] for before in self.file]
+            states = [state for before in self.file for state in states_of(before, acts)]
+            power = [*self.power, *states]
         try:
             call()
-        except OSError:
+        except GOES_ON:
             self.file, self.power = states, [*self.power, *states]
-            self.is_behind = self.is_behind or sync is not Sync.ANEW
+            # A file whose name is not on the disk is behind, too.
+            self.is_behind = self.is_behind or sync is not Sync.ANEW or bool(self.disk.before)
             self.now = after if is_known else self.now
         except Crash:
-            self.end(states)
+            self.file, self.power = states, [*self.power, *states]
+            self.end()
         else:
-            self.file = [after] if is_anew else [states_of(before, acts)[-1] for before in self.file]
-            self.power = [*self.power, *states] if sync is Sync.NEVER else self.file
+            self.file, self.power = ends, power if sync is Sync.NEVER else ends
             self.is_behind, self.now = False, after
-        assert self.known() == self.now
+        assert known_to(self.journal) == self.now
 
-    def end(self, states: list[Known]) -> None:
-        """The program has ended, with one of these states in the file. Another one begins."""
-        assert self.disk.ended
-        is_power = self.disk.ended.kind == "power"
-        self.disk.end()
-        self.now = self.opened()
-        assert self.now in (self.power + states if is_power else states)
-        self.file, self.is_behind = [self.now], False
-        self.power = [self.now] if is_power else [*self.power, *states]
+    @invariant()
+    def is_written(self) -> None:
+        """If the program ended now, or the computer, the file would say what it may."""
+        assert said(self.disk.path.read_bytes()) in self.file
+        for renames in range(len(self.disk.before) + 1):
+            assert said(self.disk.left(0, renames)) in self.power
 
     @rule(sent=st.lists(st.sampled_from([RUN, LOAD, b"\xff\xc3", compact(do="clear", plane=0), COUNT]), max_size=3))
     def ask(self, sent: list[bytes]) -> None:
@@ -520,14 +550,18 @@ class Journals(RuleBasedStateMachine):
         """The machine is saved."""
         self.do(lambda: self.journal.checkpoint(load), [partial(Known.saved, load=load)], Sync.ANEW)
 
-    @rule()
-    def open_again(self) -> None:
-        """The program ends by itself, and another one begins."""
-        self.disk.begin(None)
-        self.journal.close()
-        self.now = self.opened()
-        assert self.now in self.file
-        self.file, self.power, self.is_behind = [self.now], [self.now], False
+    @rule(failure=st.none() | SOON)
+    def open_again(self, failure: Optional[Failure]) -> None:
+        """The program ends by itself, and another one begins. Either may fail in that."""
+        try:
+            self.journal.close()
+        except GOES_ON:
+            self.open(failure)
+        except Crash:
+            self.end()
+        else:
+            self.power = self.power if self.is_behind else self.file
+            self.open(failure)
 
 
 def states_of(known: Known, acts: list[Act]) -> list[Known]:
