@@ -15,6 +15,7 @@ from calls import Calls
 from fakes import BALLS, PARITY, Plain, compact
 from oracle.lines import COMMANDS
 from plain import bits_of, digits, value
+from support.programs import Host
 from support.stateful import play
 
 import cam6
@@ -87,6 +88,46 @@ def test_ask(local: Local) -> None:
     machine.set_side(256)
     machine.ask(saved)
     assert (machine.side, machine.save()) == (128, saved)
+
+
+def nested(count: int) -> str:
+    """So many lists, one in the other."""
+    return "[" * count + "]" * count
+
+
+@pytest.mark.parametrize(
+    ("line", "number"),
+    [
+        (nested(100_000), 1),
+        (nested(8_000), 2),
+        ('{"do":"run","n":' + nested(100_000) + "}", 1),
+        ('{"do":"run","n":' + nested(8_000) + "}", 2),
+        ('{"do":"side","side":128,"x":' + nested(8_000) + "}", 2),
+        ('{"do":"load","machine":' + nested(100_000) + "}", 2),
+    ],
+    ids=["long", "lists", "long_run", "run", "side", "load"],
+)
+def test_what_is_nested_too_deep_for_python(
+    line: str, number: int, local: Local, host: Callable[..., Host], connected: Callable[..., Machine]
+) -> None:
+    """The machine refuses it, for its length or as no JSON. So it does through a journal."""
+    for machine in (local(), connected(host("--users=1").port, limit=256)):
+        with pytest.raises(FAULTS[number]) as raised:
+            machine.ask(line)
+        assert raised.value.line == line.encode()
+        faults = machine.pipeline().ask(line).ask({"do": "side", "side": 128}).execute(raise_on_error=False)
+        assert [type(fault) for fault in faults] == [FAULTS[number], dict]
+        assert machine.side == 128
+
+
+def test_a_mapping_that_is_nested_too_deep_for_python(machine: Machine) -> None:
+    """JSON can't say it, so nothing is sent."""
+    deep: list[Any] = []
+    for _ in range(100_000):
+        deep = [deep]
+    with pytest.raises(ValueError, match="nested too deep"):
+        machine.ask({"do": deep})
+    assert machine.rules() == []
 
 
 def test_more_steps_than_a_command_may_ask_for(local: Local) -> None:

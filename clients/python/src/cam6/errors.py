@@ -284,7 +284,7 @@ def fault_of(reply: bytes, line: bytes) -> Fault:
     try:
         said = json.loads(reply)
         kind = FAULTS[said["fault"]]
-    except (ValueError, KeyError, TypeError):
+    except (ValueError, KeyError, TypeError, RecursionError):
         raise Cam6Error(f"This is no reply of cam6: {shortened(reply)}. Does cam6 really run there?") from None
     return kind(said, line)
 
@@ -306,10 +306,10 @@ def shortened(data: bytes, most: int = 80) -> str:
 
 
 def command_of(line: bytes) -> dict[str, Any]:
-    """The object that a line says, or an empty one."""
+    """The object that a line says. It is empty if there is none, or if it is nested too deep for Python."""
     try:
         said = json.loads(line)
-    except ValueError:
+    except (ValueError, RecursionError):
         return {}
     return said if isinstance(said, dict) else {}
 

@@ -164,7 +164,7 @@ class Journal:
         """The first commands without an answer have these replies."""
         rows = []
         for reply in replies:
-            kept = reply if is_change(self.pending[0], reply) else None
+            kept = reply if reply.startswith(lines.CHANGES) else None
             self._answered(kept)
             rows.append({"reply": None if kept is None else text_of(kept)})
         self._write(rows, False)
@@ -251,11 +251,6 @@ class Journal:
             "done": [[text_of(command), text_of(reply)] for command, reply in self.tail],
             "ask": [text_of(command) for command in self.pending],
         }
-
-
-def is_change(line: bytes, reply: bytes) -> bool:
-    """Whether a command has changed the machine, by its reply."""
-    return reply.startswith(b'{"ok":') and command_of(line).get("do") in lines.CHANGES
 
 
 def rest_of(line: bytes, part: bytes) -> bytes:

@@ -28,8 +28,8 @@ LOADED = b'{"ok":"load"}'
 # The most steps of a line, and of a call.
 MOST_STEPS, MOST_OF_CALL = 65_535, 2**31 - 1
 LARGEST = 2**64 - 1
-# The commands that change a machine.
-CHANGES = frozenset("set clear rule drop cycle run back side map load".split())
+# A reply that begins so is one to a command that changed the machine.
+CHANGES = tuple(b'{"ok":"%s"' % word for word in b"set clear rule drop cycle run back side map load".split())
 # A line of steps, as `steps` writes it.
 STEPS = re.compile(rb'\{"do":"(run|back)","n":(0|[1-9][0-9]{0,4})\}')
 
@@ -351,6 +351,8 @@ def _line_of(line: Any) -> bytes:
             )
         except (TypeError, ValueError) as cause:
             raise type(cause)(f"line is a command that JSON can say: {cause}") from None
+        except RecursionError:
+            raise ValueError("line is a command that JSON can say: this one is nested too deep") from None
         return text_of(text, "line").encode()
     raise TypeError(f"line is a text, bytes or a mapping, not {line!r:.60}")
 
