@@ -13,6 +13,8 @@ from oracle.wirings import BESIDE, FIRST_PLANE, PLACES, TURNS
 
 # Of each number below 256 the bit at a place.
 BITS = [bytes(number >> place & 1 for number in range(256)) for place in range(8)]
+# The digit of each cell.
+DIGITS = bytes.maketrans(b"\0\1", b"01")
 
 
 def numbers(planes: list[bytes]) -> bytes:
@@ -98,7 +100,7 @@ class Torus:
 
     def digits(self, plane: int, y: int) -> str:
         """The hexadecimal digits of a row."""
-        return f"{int(''.join(map(str, self.planes[plane][y])), 2):0{self.side // 4}x}"
+        return f"{int(self.planes[plane][y].translate(DIGITS), 2):0{self.side // 4}x}"
 
     def put(self, plane: int, y: int, digits: str) -> None:
         """Gives a row these digits."""

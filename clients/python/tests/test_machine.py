@@ -31,7 +31,7 @@ Kind = type[Exception]
 @pytest.mark.parametrize("limit", [128, 256, 512])
 def test_random_sessions(limit: int, cam6: str) -> None:
     """Random commands of all kinds have the replies of the oracle."""
-    play(lambda: Calls(cam6, limit), examples=15, steps=30)
+    play(lambda: Calls(cam6, limit), examples=40, steps=30)
 
 
 def test_each_command_by_its_call(cam6: str) -> None:

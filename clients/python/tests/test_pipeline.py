@@ -35,7 +35,7 @@ def looks(source: random.Random, count: int) -> list[bytes]:
 
 @pytest.mark.slow
 def test_calls_in_batches_return_what_they_return_one_by_one(cam6: str) -> None:
-    play(lambda: Batches(cam6, 512), examples=15, steps=30)
+    play(lambda: Batches(cam6, 512), examples=40, steps=30)
 
 
 @pytest.mark.slow
