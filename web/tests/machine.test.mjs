@@ -4,20 +4,10 @@ import assert from 'node:assert/strict';
 import { test as plainTest } from 'node:test';
 import { Machine } from '../machine.js';
 import { Fault, commandOf, cycle, drop, lineOf, machineIn, rule, set, side } from '../lines.js';
+import './detailed_event.mjs';
 import { FakeNet } from './fake_net.mjs';
 import { FakeStorage } from './fake_storage.mjs';
 import { BALLS, ECHOES, PARITY, PlainMachine } from './plain_machine.mjs';
-
-class DetailedEvent extends Event {
-  /** @param {string} type @param {{detail?: unknown}} how */
-  constructor(type, { detail = null } = {}) {
-    super(type);
-    this.detail = detail;
-  }
-}
-
-// Browsers have it, and so has node from version 19 on.
-Object.assign(globalThis, { CustomEvent: globalThis.CustomEvent ?? DetailedEvent });
 
 /** @type {(name: string, work: () => Promise<void>) => void} */
 const test = (name, work) => plainTest(name, { timeout: 120000 }, work);

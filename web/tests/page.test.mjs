@@ -10,6 +10,7 @@ import { Piece } from '../piece.js';
 import { Screen } from '../screen.js';
 import { Tools } from '../tools.js';
 import { Torus } from '../torus.js';
+import './detailed_event.mjs';
 import { FakeNet } from './fake_net.mjs';
 import { openPage } from './fake_page.mjs';
 
