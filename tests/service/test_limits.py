@@ -8,10 +8,10 @@ import socket
 import time
 from concurrent.futures import ThreadPoolExecutor
 from contextlib import suppress
-from statistics import median_high
+from statistics import median
 
 import pytest
-from support.programs import Peer, Ran, private, until
+from support.programs import END, Peer, Ran, private, until
 from support.sessions import line_of
 
 from .users import BACK, NO_JSON, NO_NAMES, NO_SEAT, ONE_NAME, PARITY, ROW, RULES, RUN, SEAT, SEATED, START, TAKEN
@@ -160,34 +160,37 @@ def prepare(user: Peer, other: Peer) -> None:
     assert {*answers(other, expensive_lines())} == {'{"ok":"rule"}', '{"ok":"cycle"}'}
 
 
-def seconds(peer: Peer, line: str, pause: float = 0) -> float:
-    """How long the answer to a line takes, which is asked after a pause."""
-    time.sleep(pause)
+def seconds(peer: Peer, line: str) -> float:
+    """How long the answer to a line takes."""
     begun = time.monotonic()
     peer.ask(line)
     return time.monotonic() - begun
 
 
+def longest_part(user: Peer, other: Peer, line: str) -> float:
+    """The longest wait of a user who asks for steps while another one's line is answered, as a part of that line's time. The
+    computer is as busy for both, and so the part doesn't depend on it."""
+    with ThreadPoolExecutor(1) as pool:
+        taken = pool.submit(seconds, other, line)
+        waits = [seconds(user, RUN % 1) for _ in iter(taken.done, True)]
+    return max(waits) / taken.result()
+
+
 def test_beside_sixteen_expensive_tables_another_user_waits_for_a_few(beside: Hosts) -> None:
-    # Each table is filled under the cache's lock, and others may have it in between.
+    # Each table is filled under the cache's lock, and others may have it in between. So a wait is some of sixteen fillings.
     one = beside(1)
-    with Peer(one.port, 2) as user, Peer(one.port, 3) as other, ThreadPoolExecutor(1) as pool:
+    with Peer(one.port, 2) as user, Peer(one.port, 3) as other:
         prepare(user, other)
-        waiting = pool.submit(lambda: [seconds(user, RUN % 1, 0.01) for _ in range(40)])
-        # The other user does a step and undoes it, until the user has done forty.
-        taken = [seconds(other, line) for _ in iter(waiting.done, True) for line in (RUN % 1, BACK)]
-        assert median_high(waiting.result()) < median_high(taken) / 3
+        assert median(longest_part(user, other, line) for line in (RUN % 1, BACK) * 4) < 1 / 2
 
 
 def test_beside_a_long_run_by_such_tables_another_user_waits_for_one_filling(host: Hosts) -> None:
-    # Filling tables is a part of the time for which a command has its board, and no reason to have it longer.
+    # Filling tables is a part of the time for which a command has its board, and no reason to have it longer. So the tables
+    # are filled anew for each of six steps, and a wait is one of six fillings.
     one = host("--users=2", "--boards=1")
-    with Peer(one.port, 1) as user, Peer(one.port, 2) as other:
+    with Peer(one.port, 1) as user, Peer(one.port, 2, END) as other:
         prepare(user, other)
-        end = time.monotonic() + 2
-        taken = [seconds(other, line) for _ in iter(lambda: time.monotonic() > end, True) for line in (RUN % 1, BACK)]
-        other.send(f"{RUN % 65535}\n" * 50)
-        assert median_high(seconds(user, RUN % 1, 0.01) for _ in range(9)) < 3 * median_high(taken)
+        assert median(longest_part(user, other, RUN % 6) for _ in range(3)) < 1 / 2
 
 
 REFUSED = [(FIRST, TAKEN), (SEAT % 9, NO_SEAT), ("{", NO_JSON), (FIRST.ljust(100_010), TOO_LONG)]
