@@ -25,7 +25,7 @@ ENTRIES = ("letters", "echoes", "critters", "rings", "time_tunnel")
 # Frames are counted for so many seconds, and if fewer came than that, until so many have come, or for so many seconds at most.
 SECONDS, LEAST, MOST_SECONDS = 1.0, 8, 20.0
 # The page has to have so many frames a second, or on a busy computer a sixth of what the client has, in one of so many tries.
-WANTED, SHARE, TRIES = 15, 1 / 6, 3
+WANTED, SHARE, TRIES = 15, 1 / 6, 6
 # The dial: 64 steps a second, a step a frame, and as many as there may be.
 SLOW, FAST = 0.52, 1.0
 COUNT = (Path(__file__).parent / "frames.js").read_text(encoding="utf-8")
