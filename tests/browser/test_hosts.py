@@ -103,6 +103,7 @@ def test_the_page_goes_on_when_its_program_is_started_again(teacher: Teacher, ho
     assert teacher.errors("ERR_CONNECTION_REFUSED", "can’t establish a connection") == []
 
 
+@pytest.mark.alone
 def test_the_page_goes_on_at_another_host(teacher: Teacher, host: Hosts, page: Pages) -> None:
     one, other = host(*FOUR), host(*FOUR)
     begun = time.monotonic()
