@@ -25,6 +25,8 @@ from browser.browsers import Browser
 POLL = 0.03
 # The seconds and the looks for which a count has to stay, so that no step is under way.
 STAYS, LOOKS = 1.0, 25
+# Seconds after which a browser is asked again for what it has not done.
+ASKS_AGAIN = 3
 READY = "document.documentElement.dataset.ready === '1'"
 TORUS = "document.getElementById('torus').dataset"
 # Where the torus is in the window, which place of it is in its left upper corner there, its side, and the pixels of a cell.
@@ -235,7 +237,11 @@ class Teacher:
         return paths[0]
 
     def size(self, width: int, height: int) -> None:
-        """Gives the window another size. The page has so much of it."""
-        more = self.value("[outerWidth - innerWidth, outerHeight - innerHeight]")
-        self.driver.set_window_size(width + more[0], height + more[1])
-        self.until(f"innerWidth === {width} && innerHeight === {height}")
+        """Gives the window another size. The page has so much of it. The browser is asked again until it has done so."""
+
+        def is_taken() -> bool:
+            more = self.value("[outerWidth - innerWidth, outerHeight - innerHeight]")
+            self.driver.set_window_size(width + more[0], height + more[1])
+            return until(lambda: self.value("[innerWidth, innerHeight]") == [width, height], ASKS_AGAIN)
+
+        assert until(is_taken), f"the window never comes to be {width} by {height}"
