@@ -143,21 +143,21 @@ def test_runs_are_no_silence(cam6: str, beside: Hosts) -> None:
     assert said == private(cam6, session)
 
 
-def expensive_lines() -> list[str]:
-    """Sixteen rules of 3,840 words with an IF for each address line, all of half A, and a cycle of them. A cache of
-    sixteen tables never has the next."""
+def expensive_lines(count: int) -> list[str]:
+    """So many rules of 3,840 words with an IF for each address line, all of half A, and a cycle of them. A cache of as
+    many tables never has the next."""
     names = "CENTER CENTER' CW CCW OPP CW' CCW' OPP' HORZ VERT &PHASE &PHASE'".split()
     text = ": UNIT0 " + " ".join(f"{name} IF 1 XOR THEN" for name in names) + " ;"
     text += "".join(f" : UNIT{n} UNIT{n - 1} UNIT{n - 1} ;" for n in range(1, 7))
     how = {"do": "rule", "half": "A", "hood": "N/MARG-HV", "minor": "&/PHASES"}
-    rules = [line_of(**how, name=f"R{n}", text=f"{text} : R {n} UNIT6 UNIT4 ;") for n in range(16)]
-    return [*rules, cycle(*(f"R{n}" for n in range(16)))]
+    rules = [line_of(**how, name=f"R{n}", text=f"{text} : R {n} UNIT6 UNIT4 ;") for n in range(count)]
+    return [*rules, cycle(*(f"R{n}" for n in range(count)))]
 
 
-def prepare(user: Peer, other: Peer) -> None:
-    """A user has a rule that is done, and the other one expensive tables."""
+def prepare(user: Peer, other: Peer, count: int) -> None:
+    """A user has a rule that is done, and the other one so many expensive tables."""
     answers(user, START[:2])
-    assert {*answers(other, expensive_lines())} == {'{"ok":"rule"}', '{"ok":"cycle"}'}
+    assert {*answers(other, expensive_lines(count))} == {'{"ok":"rule"}', '{"ok":"cycle"}'}
 
 
 def seconds(peer: Peer, line: str) -> float:
@@ -180,17 +180,17 @@ def test_beside_sixteen_expensive_tables_another_user_waits_for_a_few(beside: Ho
     # Each table is filled under the cache's lock, and others may have it in between. So a wait is some of sixteen fillings.
     one = beside(1)
     with Peer(one.port, 2) as user, Peer(one.port, 3) as other:
-        prepare(user, other)
+        prepare(user, other, 16)
         assert median(longest_part(user, other, line) for line in (RUN % 1, BACK) * 4) < 1 / 2
 
 
 def test_beside_a_long_run_by_such_tables_another_user_waits_for_one_filling(host: Hosts) -> None:
     # Filling tables is a part of the time for which a command has its board, and no reason to have it longer. So the tables
     # are filled anew for each of six steps, and a wait is one of six fillings.
-    one = host("--users=2", "--boards=1")
+    one = host("--users=2", "--boards=1", "--cache=4")
     with Peer(one.port, 1) as user, Peer(one.port, 2, END) as other:
-        prepare(user, other)
-        assert median(longest_part(user, other, RUN % 6) for _ in range(3)) < 1 / 2
+        prepare(user, other, 4)
+        assert median(longest_part(user, other, RUN % 6) for _ in range(5)) < 1 / 2
 
 
 REFUSED = [(FIRST, TAKEN), (SEAT % 9, NO_SEAT), ("{", NO_JSON), (FIRST.ljust(100_010), TOO_LONG)]
