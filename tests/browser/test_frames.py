@@ -20,7 +20,7 @@ from support.sessions import line_of
 from browser import cells
 from browser.teacher import TORUS, Teacher
 
-pytestmark = [pytest.mark.browser, pytest.mark.slow, pytest.mark.alone]
+pytestmark = [pytest.mark.browser, pytest.mark.slow, pytest.mark.alone, pytest.mark.timeout(1800)]
 ENTRIES = ("letters", "echoes", "critters", "rings", "time_tunnel")
 # Frames are counted for so many seconds, and if fewer came than that, until so many have come, or for so many seconds at most.
 SECONDS, LEAST, MOST_SECONDS = 1.0, 8, 20.0

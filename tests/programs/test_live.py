@@ -25,7 +25,7 @@ pytestmark = pytest.mark.xdist_group("live")
 
 LIVE = str(TOP / "live")
 # Seconds in which it has to start, and to end.
-START, END = 30, 10
+START, END = 60, 30
 ADDRESS = re.compile(rb"open (http://\S+/) in")
 
 
@@ -103,7 +103,7 @@ def live(cam6: str, cam6_web: str, monkeypatch: pytest.MonkeyPatch) -> Iterator[
 
 def hosts_at(address: str) -> str:
     """How many hosts a page's program has, or nothing if it isn't there."""
-    with suppress(OSError, ValueError), urllib.request.urlopen(f"{address}hosts", timeout=5) as answer:
+    with suppress(OSError, ValueError), urllib.request.urlopen(f"{address}hosts", timeout=END) as answer:
         return str(answer.read(), "utf-8").strip()
     return ""
 

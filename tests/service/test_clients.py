@@ -56,14 +56,14 @@ def test_a_line_without_its_end_is_the_last_one(there: Host, go: Way) -> None:
 def test_who_goes_within_a_run_is_seated_until_it_is_done(cam6: str, there: Host, go: Way) -> None:
     peer = Peer(there.port, 1)
     assert answers(peer, START) == ['{"ok":"rule"}', '{"ok":"cycle"}', '{"ok":"set"}']
-    peer.send(f"{RUN % 20001}\n")
+    peer.send(f"{RUN % 65535}\n")
     go(peer)
     with Peer(there.port, 1) as other:
         assert (other.said, other.read()) == (TAKEN, None)
     with seated(Peer, there.port, 1) as again:
         # The run is done all the same.
         shown = answers(again, [ROW % 6, ROW % 7])
-    assert shown == private(cam6, [*START, RUN % 20001, ROW % 6, ROW % 7])[-2:]
+    assert shown == private(cam6, [*START, RUN % 65535, ROW % 6, ROW % 7])[-2:]
 
 
 def test_who_asks_for_341_runs_and_goes_leaves_the_seat(there: Host) -> None:
@@ -114,8 +114,8 @@ def test_3000_connections_hold_no_more_memory_or_threads_than_300(there: Host) -
     memory, threads = there.of_process("VmRSS"), there.of_process("Threads")
     for number in range(3000):
         Peer(there.port, 9 if number % 2 else 1).close()
-    assert there.of_process("VmRSS") - memory < 2000
-    assert there.of_process("Threads") - threads < 20
+    assert until(lambda: there.of_process("Threads") - threads < 20, GRACE)
+    assert until(lambda: there.of_process("VmRSS") - memory < 2000, GRACE)
 
 
 def stacks(host: Host) -> int:

@@ -124,8 +124,9 @@ def test_a_seat_is_free_after_two_seconds_of_silence_and_its_machine_stays(besid
 
 
 def test_who_says_something_each_second_keeps_the_seat(beside: Hosts) -> None:
-    with Peer(beside(3, "--users=3", "--idle=2").port, 2) as lively:
-        end = time.monotonic() + 5
+    # A busy machine may add some seconds.
+    with Peer(beside(3, "--users=3", "--idle=4").port, 2) as lively:
+        end = time.monotonic() + 9
         while time.monotonic() < end:
             assert lively.ask(RULES) == NO_NAMES
             time.sleep(1)
@@ -217,7 +218,7 @@ def test_nobody_is_let_in_behind_the_last_connection(host: Hosts) -> None:
         begun = time.monotonic()
         Peer(one.port, 1).close()
         assert first_answer(one.port, FIRST) is None
-        assert time.monotonic() - begun < 3
+        assert time.monotonic() - begun < WAIT - 2
 
 
 @pytest.mark.slow

@@ -36,6 +36,8 @@ from support.stateful import play
 
 from .users import TAKEN, Hosts, seated
 
+pytestmark = [pytest.mark.slow, pytest.mark.timeout(3600)]
+
 
 class Play:
     """What a user sent, what came, and what was wanted, by a machine of the oracle."""
@@ -135,7 +137,6 @@ def running(host: Host) -> int:
     return sum(stat.read_text().rpartition(") ")[2].startswith("R") for stat in stats)
 
 
-@pytest.mark.slow
 def test_32_users_on_eight_boards_have_the_replies_of_private_machines(host: Hosts) -> None:
     sizes = {"users": USERS, "boards": BOARDS, "cache": TABLES, "side": LARGE, "connections": USERS}
     one = host(*(f"--{name}={number}" for name, number in sizes.items()))
@@ -231,6 +232,5 @@ class Users(RuleBasedStateMachine):
                 self.peers[user].close()
 
 
-@pytest.mark.slow
 def test_users(cam6: str) -> None:
     play(lambda: Users(cam6), examples=25, steps=25)

@@ -16,8 +16,8 @@ from .users import BALLS, BLANK, COUNT, NO_COMMAND, NO_SEAT, PLANES, RUN, SAVE, 
 from .users import Hosts, Pages, Session, answers, seated
 
 Way = Callable[[Socket], object]
-# Seconds in which a seat is free after its page went.
-SEAT_PATIENCE = 5
+# Seconds in which a seat is free after its page went: before the page is pinged.
+SEAT_PATIENCE = 20
 # Seconds after which a page is pinged, after which one that answers none is given up, and that a busy machine may add.
 PINGS, DEAF, GRACE = 30, 90, 8
 GONE = (1001, "the host is gone")
