@@ -151,9 +151,9 @@ class Asking(RuleBasedStateMachine):
     def keep_a_rule_and_use_it(self, of: dict[str, str], data: st.DataObject, way: str) -> None:
         """A rule that may be one, a cycle of it, two rows, of which one is at the seam of the torus, a step, and both planes."""
         first, side = FIRST_PLANE[of["half"]], self.machine_at().torus.side
-        entry = data.draw(entries(st.just("-"), PHASES)) | {of["half"].lower(): "R"}
-        cycle = do("cycle", entries=[entry] * data.draw(st.sampled_from([1, 2, 16])))
-        for command in (FREE, do("rule", name="R", **of), cycle):
+        some = data.draw(st.lists(entries(st.just("-"), PHASES), min_size=1, max_size=2))
+        cycle = [entry | {of["half"].lower(): "R"} for entry in some] * data.draw(st.sampled_from([1, 8]))
+        for command in (FREE, do("rule", name="R", **of), do("cycle", entries=cycle)):
             self.do(command)
         for row in (data.draw(st.sampled_from([0, side - 1])), self.row(data)):
             self.do(do("set", plane=first + data.draw(st.integers(0, 1)), row=row, bits=self.digits(data)))
