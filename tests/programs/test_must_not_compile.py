@@ -14,39 +14,49 @@ from pathlib import Path
 import pytest
 from support.programs import TOP
 
-pytestmark = pytest.mark.slow
+# One worker compiles them all.
+pytestmark = [pytest.mark.slow, pytest.mark.xdist_group("must_not_compile")]
 
 FILES = sorted((Path(__file__).parent / "refused").glob("*.rt.txt"))
-WANTED = {path: path.read_text(encoding="utf-8").split("\n")[1].removeprefix("//! ") for path in FILES}
-# The crate that a program is compiled in, and the crates that it stands on.
+TEXTS = {path.name.partition(".")[0]: path.read_text(encoding="utf-8") for path in FILES}
+WANTED = {name: text.split("\n")[1].removeprefix("//! ") for name, text in TEXTS.items()}
+# The crate that the programs are compiled in, and the crates that it stands on.
 LINE = "cam6_tried: cam6_planes cam6_wiring cam6_entries cam6_table cam6_band\n"
 
 
 @pytest.fixture(scope="module")
-def copy(tmp_path_factory: pytest.TempPathFactory) -> Path:
-    """A copy of the crates, with one more."""
-    top = tmp_path_factory.mktemp("crates")
+def verdicts(request: pytest.FixtureRequest, tmp_path_factory: pytest.TempPathFactory) -> dict[str, str]:
+    """What the compiler finds in each program whose test is run.
+
+    They are the modules of one crate. The compiler looks for some errors only if there are no others. So what it refuses is
+    left out, and the rest is compiled again, until all of the rest is accepted.
+    """
+    rt, top, found = shutil.which("rt"), tmp_path_factory.mktemp("crates"), dict[str, str]()
+    assert rt, "there is no rt on the PATH; docs/INSTALL.md says how the Rattle kit is installed"
     shutil.copy(TOP / "HANDLES", top)
     shutil.copytree(TOP / "crates", top / "crates", ignore=shutil.ignore_patterns("out"))
     (top / "crates.txt").write_text((TOP / "crates.txt").read_text(encoding="utf-8") + LINE, encoding="utf-8")
-    (top / "crates" / "cam6_tried" / "src").mkdir(parents=True)
-    return top / "crates" / "cam6_tried"
+    crate, tests = top / "crates" / "cam6_tried", {test.name for test in request.session.items}
+    left = [name for name in TEXTS if f"test_the_compiler_names_the_reason[{name}]" in tests]
+    while left:
+        shutil.rmtree(crate, ignore_errors=True)
+        (crate / "src").mkdir(parents=True)
+        modules = "".join(f"mod {name};\n" for name in left)
+        texts = {name: re.sub(r"^#!\[tactic.*\n", "", TEXTS[name], flags=re.M) for name in left}
+        for name, text in (texts | {"lib": f"#![tactic(auto)]\n{modules}#[test]\nfn is_compiled() {{}}\n"}).items():
+            (crate / "src" / f"{name}.rt").write_text(text, encoding="utf-8")
+        done = subprocess.run([rt, "try", "--test"], cwd=crate, capture_output=True, text=True, check=False)
+        told, pattern = done.stdout + done.stderr, r"(?<![a-z_]){}\.rt:[0-9].*error\[([a-z0-9-]+)\]"
+        errors = {name: sorted(set(re.findall(pattern.format(name), told))) for name in left if done.returncode}
+        refused = {name: f"refused: {' '.join(some)}" for name, some in errors.items() if some}
+        found |= refused or dict.fromkeys(left, f"refused: {told}" if done.returncode else "accepted")
+        left = [name for name in left if name not in found]
+    return found
 
 
-@pytest.mark.parametrize("path", FILES, ids=[path.name.partition(".")[0] for path in FILES])
-def test_the_compiler_names_the_reason(path: Path, copy: Path) -> None:
-    rt, name, text = shutil.which("rt"), path.name.partition(".")[0], path.read_text(encoding="utf-8")
-    assert rt, "there is no rt on the PATH; docs/INSTALL.md says how the Rattle kit is installed"
-    for module in (copy / "src").iterdir():
-        module.unlink()
-    library = f"#![tactic(auto)]\nmod {name};\n#[test]\nfn is_compiled() {{}}\n"
-    (copy / "src" / "lib.rt").write_text(library, encoding="utf-8")
-    (copy / "src" / f"{name}.rt").write_text(re.sub(r"^#!\[tactic.*\n", "", text, flags=re.M), encoding="utf-8")
-    done = subprocess.run([rt, "try", "--test"], cwd=copy, capture_output=True, text=True, check=False)
-    told = done.stdout + done.stderr
-    errors = re.findall(rf"(?<![a-z_]){name}\.rt:[0-9].*error\[([a-z0-9-]+)\]", told)
-    came = f"refused: {' '.join(sorted(set(errors))) or told}" if done.returncode else "accepted"
-    assert came == WANTED[path]
+@pytest.mark.parametrize("name", TEXTS)
+def test_the_compiler_names_the_reason(name: str, verdicts: dict[str, str]) -> None:
+    assert verdicts[name] == WANTED[name]
 
 
 def test_one_program_compiles() -> None:
