@@ -82,12 +82,14 @@ stop_compiling() {
   done
   kill "$@" 2> /dev/null || true
   sleep 0.5
+  # A copy of the shell that gets Ctrl-C before it has quite begun ends by nothing else.
+  { kill -KILL "$@" && wait "$@"; } 2> /dev/null || true
   rm -rf "$top/$KEPT"/room.*.$$
 }
 
 # Compiles those of these programs that aren't kept, side by side.
 compile_all() {
-  local sum name began=$SECONDS missing=() jobs=()
+  local sum name is_over="" began=$SECONDS missing=() jobs=()
   sum=$(sum_of_sources)
   for name in "$@"; do
     is_kept "$name" || missing+=("$name")
@@ -99,12 +101,18 @@ compile_all() {
   fi
   name=${missing[*]}
   echo "$script: compiling ${name// / and } without a proof, once; it takes ${MINUTES_OF[${!#}]}" >&2
+  # While they are started, a signal is only noted.
+  trap 'is_over=yes' INT TERM HUP
   mkdir -p "$KEPT"
-  trap 'stop_compiling "${jobs[@]}"; exit 130' INT TERM HUP
   for name in "${missing[@]}"; do
     compile "$name" &
     jobs+=($!)
   done
+  trap 'stop_compiling "${jobs[@]}"; exit 130' INT TERM HUP
+  if [[ -n $is_over ]]; then
+    stop_compiling "${jobs[@]}"
+    exit 130
+  fi
   for name in "${jobs[@]}"; do
     if ! wait "$name"; then
       stop_compiling "${jobs[@]}"
