@@ -8,6 +8,7 @@ from __future__ import annotations
 import os
 import pty
 import re
+import resource
 import select
 import signal
 import socket
@@ -80,6 +81,11 @@ class Live:
                     found.append(int(path.parent.name))
         return found
 
+    def program(self, word: bytes) -> tuple[int, list[bytes]]:
+        """The process of the program that has this among its arguments, and all of them."""
+        words = {process: Path(f"/proc/{process}/cmdline").read_bytes().split(b"\0") for process in self.left()}
+        return next((process, said) for process, said in words.items() if word in said and b"bash" not in said[0])
+
     def close(self) -> None:
         """Closes the terminal, and ends what is left."""
         self.terminal.close()
@@ -108,11 +114,13 @@ def hosts_at(address: str) -> str:
     return ""
 
 
-# How it is ended: by Ctrl-C, or by a signal to it alone.
+# How it is ended: by Ctrl-C, or by a signal to it alone or to all.
 ENDS: dict[str, Callable[[Live], object]] = {
     "ctrl_c": Live.press_ctrl_c,
     "sigterm": lambda it: it.process.terminate(),
     "sigint": lambda it: it.process.send_signal(signal.SIGINT),
+    "sighup": lambda it: it.process.send_signal(signal.SIGHUP),
+    "sigterm_to_all": lambda it: os.killpg(it.process.pid, signal.SIGTERM),
 }
 WAYS = [*(("", "1", end) for end in ENDS), ("--alone", "0", "ctrl_c"), ("--users 2 --port 6117", "1", "ctrl_c")]
 
@@ -122,6 +130,8 @@ def test_both_programs_end(words: str, hosts: str, end: str, live: Starts) -> No
     it = live(*words.split())
     address = it.address()
     assert hosts_at(address) == hosts, "the page is there"
+    # A helper that the shell has just started would run the shell's traps if a signal came then.
+    assert len(it.left()) == 2 + int(hosts), "nothing runs but the script and its programs"
     ENDS[end](it)
     assert (it.status(), it.left()) == (0, [])
     assert hosts_at(address) == "", "nobody listens"
@@ -150,11 +160,50 @@ def test_ctrl_c_while_it_starts_leaves_nothing(pause: float, live: Starts) -> No
 def test_it_ends_with_each_of_its_programs(what: str, word: bytes, live: Starts) -> None:
     it = live()
     assert it.address()
-    words = {process: Path(f"/proc/{process}/cmdline").read_bytes().split(b"\0") for process in it.left()}
-    process = next(process for process, said in words.items() if word in said and b"bash" not in said[0])
-    os.kill(process, signal.SIGKILL)
+    os.kill(it.program(word)[0], signal.SIGKILL)
     assert (it.status(), it.left()) == (1, [])
     assert f"{what} ended".encode() in it.said
+    assert b"illed" not in it.said, "the shell says nothing of its own"
+
+
+@pytest.mark.parametrize("word", [b"serve", b"--host"])
+def test_a_later_message_of_each_program_is_passed_on(word: bytes, live: Starts) -> None:
+    it = live()
+    assert it.address()
+    process, words = it.program(word)
+    # The program may open only a few more files than it has.
+    most = max(map(int, os.listdir(f"/proc/{process}/fd"))) + 3
+    resource.prlimit(process, resource.RLIMIT_NOFILE, (most, most))
+    with ExitStack() as stack:
+        for _ in range(8):
+            stack.enter_context(socket.create_connection(("127.0.0.1", int(words[words.index(b"--port") + 1]))))
+        assert until(lambda: it.read() and b": cannot accept a connection" in it.said, START), it.said
+    it.press_ctrl_c()
+    assert (it.status(), it.left()) == (0, [])
+
+
+# A host that takes no notice of SIGTERM, and says much.
+LOUD = """#!/bin/sh
+trap '' TERM
+echo before >&2
+echo listening on 127.0.0.1:6006 >&2
+seq 9999 >&2
+printf 'no end' >&2
+exec sleep 600
+"""
+
+
+def test_all_that_a_program_says_is_passed_on(live: Starts, tmp_path: Path, monkeypatch: pytest.MonkeyPatch) -> None:
+    loud = tmp_path / "loud"
+    loud.write_text(LOUD, encoding="utf-8")
+    loud.chmod(0o755)
+    monkeypatch.setenv("CAM6", str(loud))
+    it = live()
+    assert until(lambda: it.read() and it.said.endswith(b"no end"), START), it.said
+    it.press_ctrl_c()
+    assert (it.status(), it.left()) == (0, [])
+    assert it.said.startswith(b"before\r\n")
+    assert b"".join(b"%d\r\n" % number for number in range(1, 10_000)) + b"no end" in it.said
 
 
 def test_it_takes_no_ports_that_are_taken(live: Starts) -> None:

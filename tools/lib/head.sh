@@ -5,7 +5,10 @@
 # script's name.
 script=${0##*/}
 from=$PWD
-top=$(realpath "$(dirname "${BASH_SOURCE[0]}")/../..")
+# Without another process: a shell that waits for one may miss a Ctrl-C.
+CDPATH='' cd -P "${BASH_SOURCE[0]%/*}/../.." || exit 1
+top=$PWD
+cd "$from" || exit 1
 
 # Refuses the script's arguments.
 refuse() {
