@@ -5,14 +5,13 @@ from __future__ import annotations
 import os
 import re
 import shutil
-import signal
 from collections.abc import Iterator
 from contextlib import ExitStack
 
 import pytest
 from support.programs import TOP, Host, Page, Peer, private
 
-from .fleets.services import Fleet, Ground
+from .fleets.services import Fleet, Ground, ended_by_sigterm
 from .users import LINES, Hosts, Session, seated, steady
 
 # The package of each program that a fleet takes.
@@ -71,9 +70,7 @@ def fleet(request: pytest.FixtureRequest, cam6: str, tmp_path_factory: pytest.Te
         for program, package in PACKAGES.items():
             if not shutil.which(program) and not (program == "ip" and is_plain):
                 pytest.fail(f"there is no {program}: install the package {package} of packages.txt", pytrace=False)
-        # Whoever ends the tests has programs and namespaces removed too.
-        before = signal.signal(signal.SIGTERM, lambda *_: pytest.exit("ended by SIGTERM"))
-        stack.callback(signal.signal, signal.SIGTERM, before)
+        stack.enter_context(ended_by_sigterm())
         ground = Ground()
         if not is_plain:
             stack.callback(ground.close)

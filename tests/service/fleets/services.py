@@ -11,13 +11,15 @@ import os
 import socket
 import ssl
 import subprocess
+import threading
 from collections.abc import Iterator
 from contextlib import contextmanager, suppress
 from pathlib import Path
-from signal import SIGCONT, SIGSTOP
+from signal import SIGCONT, SIGSTOP, SIGTERM, signal
 from subprocess import DEVNULL, Popen
 from typing import Self
 
+import pytest
 from service.users import SEAT, TAKEN
 from support.programs import TOP, Env, Peer, free_port, of_process, until
 
@@ -41,6 +43,20 @@ WAITS = {"CAM6_WAIT": "2s", "CAM6_SILENT": "2s", "CAM6_ASKED": "1s", "CAM6_UNREA
 def ip(*words: str) -> None:
     """Runs `ip`, which has to succeed."""
     subprocess.run(["ip", *words], check=True, stdin=DEVNULL, capture_output=True)
+
+
+@contextmanager
+def ended_by_sigterm() -> Iterator[None]:
+    """Whoever ends the tests meanwhile has programs and namespaces removed too. Only a main thread gets signals. A worker of
+    xdist has its tests in another thread if the computer was busy as the worker began."""
+    if threading.current_thread() is not threading.main_thread():
+        yield
+        return
+    before = signal(SIGTERM, lambda *_: pytest.exit("ended by SIGTERM"))
+    try:
+        yield
+    finally:
+        signal(SIGTERM, before)
 
 
 class Ground:

@@ -8,6 +8,7 @@ import re
 import subprocess
 import time
 from collections.abc import Callable, Iterator
+from concurrent.futures import ThreadPoolExecutor
 from contextlib import ExitStack, closing, suppress
 from functools import partial
 from pathlib import Path
@@ -19,13 +20,18 @@ from service.users import answers, closed, seated
 from support.programs import Peer, private, until
 from support.sessions import assert_replies
 
-from .services import DEPLOY, HOSTS, NAME, OVER, Fleet, Proxy
+from .services import DEPLOY, HOSTS, NAME, OVER, Fleet, Proxy, ended_by_sigterm
 
 # How long the fleet waits for a first line (CAM6_WAIT), until it knows that a silent user's machine is gone (CAM6_SILENT and
 # three times CAM6_ASKED) or one that acknowledges nothing (CAM6_UNREAD), and what a busy machine adds.
 WAIT, GONE, GRACE = 2, 5, 20
 PER_SOURCE = 100
 SET, SET_OK = f'{{"do":"set","plane":0,"row":0,"bits":"{"5a" * 32}"}}', '{"ok":"set"}'
+
+
+def test_a_fleet_is_made_in_any_thread() -> None:
+    with ThreadPoolExecutor(1) as pool, ExitStack() as stack:
+        pool.submit(stack.enter_context, ended_by_sigterm()).result()
 
 
 @pytest.mark.parametrize("file", sorted(path.name for path in DEPLOY.glob("*.cfg")))
