@@ -10,7 +10,7 @@ from collections.abc import Callable
 from concurrent.futures import ThreadPoolExecutor
 
 import pytest
-from support.programs import Host, Peer, private, until
+from support.programs import END, Host, Peer, private, until
 from support.sessions import assert_replies
 
 from .users import CELL, NO_JSON, NO_NAMES, NO_SEAT, ONE_NAME, PARITY, PLANES, ROW, RULES, RUN, SEAT, SEATED, START
@@ -60,7 +60,7 @@ def test_who_goes_within_a_run_is_seated_until_it_is_done(cam6: str, there: Host
     go(peer)
     with Peer(there.port, 1) as other:
         assert (other.said, other.read()) == (TAKEN, None)
-    with seated(Peer, there.port, 1) as again:
+    with seated(Peer, there.port, 1, END) as again:
         # The run is done all the same.
         shown = answers(again, [ROW % 6, ROW % 7])
     assert shown == private(cam6, [*START, RUN % 65535, ROW % 6, ROW % 7])[-2:]
