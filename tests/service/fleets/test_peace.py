@@ -30,8 +30,12 @@ SET, SET_OK = f'{{"do":"set","plane":0,"row":0,"bits":"{"5a" * 32}"}}', '{"ok":"
 
 
 def test_a_fleet_is_made_in_any_thread() -> None:
-    with ThreadPoolExecutor(1) as pool, ExitStack() as stack:
-        pool.submit(stack.enter_context, ended_by_sigterm()).result()
+    def is_made() -> bool:
+        with ended_by_sigterm():
+            return True
+
+    with ThreadPoolExecutor(1) as pool:
+        assert pool.submit(is_made).result()
 
 
 @pytest.mark.parametrize("file", sorted(path.name for path in DEPLOY.glob("*.cfg")))
