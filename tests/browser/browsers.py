@@ -60,8 +60,10 @@ Services.console.reset();
 return told.filter(one => !(one.flags & Ci.nsIScriptError.warningFlag) && !one.isFromChromeContext)
   .map(one => ({ level: 'SEVERE', source: one.category, message: `${one.errorMessage} ${one.sourceName}`, timestamp: 0 }));
 """
-# How Firefox's output has what pages write to their consoles. The browser's own parts begin with a name and a colon.
-CALLS = re.compile(r"^console\.(error|assert|warn): (?!\w+: )(.*)", re.M)
+# How Firefox's output has what pages write to their consoles. The browser's own parts begin with a name and a colon, as
+# `services.settings: `, and one of them tells at its first start for how many web sites it does nothing.
+OWN_PARTS = r'[\w.]+: |"Skipping" [0-9]+ "un-needed interventions"'
+CALLS = re.compile(rf"^console\.(error|assert|warn): (?!{OWN_PARTS})(.*)", re.M)
 
 
 @dataclass(frozen=True)
