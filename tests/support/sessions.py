@@ -5,6 +5,7 @@ from __future__ import annotations
 import json
 import os
 import tempfile
+import zlib
 from collections.abc import Sequence
 from itertools import zip_longest
 from pathlib import Path
@@ -34,8 +35,9 @@ def both(came: object, wanted: object) -> str:
 
 
 def kept(sent: bytes) -> Path:
-    """A file that has what was sent. The next one takes its place."""
-    path = Path(tempfile.gettempdir(), f"cam6-session-{os.getpid()}.lines")
+    """A file that has what was sent: one for each test, in which the shortest session found comes last."""
+    test = zlib.crc32(os.environ.get("PYTEST_CURRENT_TEST", "").encode())
+    path = Path(tempfile.gettempdir(), f"cam6-session-{os.getpid()}-{test:08x}.lines")
     path.write_bytes(sent)
     return path
 

@@ -12,6 +12,9 @@ from fakes import Breaking
 
 from cam6 import Machine, connect, local
 
+# Its assertions show both sides, as those of tests do.
+pytest.register_assert_rewrite("calls")
+
 
 @pytest.fixture(name="local")
 def local_machines(cam6: str) -> Iterator[Callable[..., Machine]]:
