@@ -12,6 +12,7 @@ from oracle.lines import Unclear, is_command, read_line
 from oracle.lines import plain as line_of
 from oracle.machine import Alone
 from programs.test_random_sessions import MOST_CELLS, Sessions
+from support.sessions import assert_replies
 
 import cam6
 from cam6 import lines
@@ -54,6 +55,8 @@ class Calls(Sessions):
         self.calls = cam6.local(program, side_limit=limit)
         self.oracle = self.alone = Alone(limit)
         self.machine, self.said = self.oracle.machine, [{"do": "rules"}]
+        self.asked: list[bytes] = []
+        self.way = f"./cam6 alone --side {limit}"
 
     def say(self, line: bytes) -> None:
         """A line by its own call, unless it asks for too many steps. A call may ask for more steps than a line."""
@@ -79,7 +82,11 @@ class Calls(Sessions):
         except cam6.Fault as fault:
             assert type(fault) is FAULTS[fault.number]
             got = fault.reply
-        assert got == wanted(command, reply)
+        want = wanted(command, reply)
+        self.asked.append(line)
+        if got != want:
+            before = [None] * (len(self.asked) - 1)
+            assert_replies(self.asked, [*before, got], [*before, want], self.way)
         assert self.calls.side == self.oracle.machine.torus.side
         self.words.add(command["do"] if command else "")
 
