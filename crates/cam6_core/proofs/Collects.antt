@@ -19,10 +19,12 @@ pub collect_spares : (s : State) (u : ℕ) (x : Whereabouts) →
     Spares (event.Collect u) s (with_user s u x)
 collect_spares s u x = ((λ v apart. else_with s.users u v x apart), refl, refl)
 
-pub collected : (s : State) (u : ℕ) (f : StoredFinished) (r : StoredMachine) →
-    at_number s.users u ≡ Some (whereabouts.Finished f) → r ≡ f.machine →
+-- the user has a machine like that of what is finished
+pub collected_as : (s : State) (u : ℕ) (f : StoredFinished) (r : StoredMachine) →
+    at_number s.users u ≡ Some (whereabouts.Finished f) →
+    machine_stored r ≡ machine_stored f.machine →
     Moves s (event.Collect u) (Collected f.told) (with_user s u (whereabouts.Resting r))
-collected s u f r at same a good =
+collected_as s u f r at same a good =
     let p : User = user a.users u in
     let ends = at_end (machine_of p) f p.stage (good.users u (whereabouts.Finished f) at) in
     let c : Command = ends.0 in
@@ -33,5 +35,10 @@ collected s u f r at same a good =
       user_moves s a good u (whereabouts.Resting r)
           (record p { done = c ∷ p.done; stage = resting })
           (is_number s.users u (whereabouts.Finished f) at) (subst IsOnNone (sym ends.1) tt) tt
-          (ap machine_stored same ∙ ends.2.machine),
+          (same ∙ ends.2.machine),
     )
+
+pub collected : (s : State) (u : ℕ) (f : StoredFinished) (r : StoredMachine) →
+    at_number s.users u ≡ Some (whereabouts.Finished f) → r ≡ f.machine →
+    Moves s (event.Collect u) (Collected f.told) (with_user s u (whereabouts.Resting r))
+collected s u f r at same = collected_as s u f r at (ap machine_stored same)

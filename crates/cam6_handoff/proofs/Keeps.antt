@@ -70,11 +70,11 @@ module _ (p : View → Bool) (vs : List View) (id : ℕ) (w : View) where
 
 -- what the row is, where a view or the word is known
 module _ (ws : List ℕ) (hs : List (maybe.Option Slot)) (vs : List View) (u id : ℕ) where
-  abbrev Mine : Type 0
+  abbrev pub Mine : Type 0
   Mine = (get_or ws u 0 ≡ 0) × (get_elem? hs u ≡ some none) × Only (is_desk_of u) vs id ×
       NoOne (is_board_of u) vs
 
-  rests_row : At vs id (Rests u) → Row ws hs vs u → Mine
+  pub rests_row : At vs id (Rests u) → Row ws hs vs u → Mine
   rests_row at (uncut w h nd nb) = absurd (nd id (Rests u) at (self_eqb u))
   rests_row at (unseated d w h k nb) =
       absurd (let e = one_at vs d id (Unseated u) (Rests u) k.0 at
@@ -91,11 +91,11 @@ module _ (ws : List ℕ) (hs : List (maybe.Option Slot)) (vs : List View) (u id 
       absurd (let e = one_at vs d id (Waits u asked) (Rests u) k.0 at
       (k.1 id (Rests u) at (self_eqb u)) in cc)
 
-  abbrev New : Type 0
+  abbrev pub New : Type 0
   New = (get_or ws u 0 ≡ 0) × (get_elem? hs u ≡ some (some None)) × Only (is_desk_of u) vs id ×
       NoOne (is_board_of u) vs
 
-  unseated_row : At vs id (Unseated u) → Row ws hs vs u → New
+  pub unseated_row : At vs id (Unseated u) → Row ws hs vs u → New
   unseated_row at (uncut w h nd nb) = absurd (nd id (Unseated u) at (self_eqb u))
   unseated_row at (resting d w h k nb) =
       absurd (let e = one_at vs d id (Rests u) (Unseated u) k.0 at
@@ -112,12 +112,12 @@ module _ (ws : List ℕ) (hs : List (maybe.Option Slot)) (vs : List View) (u id 
       absurd (let e = one_at vs d id (Waits u asked) (Unseated u) k.0 at
       (k.1 id (Unseated u) at (self_eqb u)) in cc)
 
-  abbrev Ready : Type 0
+  abbrev pub Ready : Type 0
   Ready = (d : ℕ) × (asked : QueuedPlace) × (q : QueuedPlace) ×
       (get_elem? hs u ≡ some (some (Some (Queued q)))) × StandsForAsked asked q ×
       Desk ws hs vs u d (Waits u asked) × NoOne (is_board_of u) vs
 
-  ready_row : get_or ws u 0 ≡ 1 → Row ws hs vs u → Ready
+  pub ready_row : get_or ws u 0 ≡ 1 → Row ws hs vs u → Ready
   ready_row one (uncut w h nd nb) = absurd (omega arith)
   ready_row one (unseated d w h k nb) = absurd (omega arith)
   ready_row one (resting d w h k nb) = absurd (omega arith)
@@ -125,11 +125,11 @@ module _ (ws : List ℕ) (hs : List (maybe.Option Slot)) (vs : List View) (u id 
   ready_row one (out d e b asked q w h st k l) = absurd (omega arith)
   ready_row one (finished d asked f w h st k nb) = absurd (omega arith)
 
-  abbrev Out : ℕ → QueuedPlace → Type 0
+  abbrev pub Out : ℕ → QueuedPlace → Type 0
   Out b q = (get_elem? hs u ≡ some none) × (get_or ws u 0 ≡ 3 + b) × Only (is_board_of u) vs id ×
       ((d : ℕ) × (asked : QueuedPlace) × StandsForAsked asked q × Desk ws hs vs u d (Waits u asked))
 
-  holds_row : (b : ℕ) (q : QueuedPlace) → At vs id (Holds b u q) → Row ws hs vs u → Out b q
+  pub holds_row : (b : ℕ) (q : QueuedPlace) → At vs id (Holds b u q) → Row ws hs vs u → Out b q
   holds_row b q at (uncut w h nd nb) = absurd (nb id (Holds b u q) at (self_eqb u))
   holds_row b q at (unseated d w h k nb) = absurd (nb id (Holds b u q) at (self_eqb u))
   holds_row b q at (resting d w h k nb) = absurd (nb id (Holds b u q) at (self_eqb u))
@@ -144,11 +144,11 @@ module _ (ws : List ℕ) (hs : List (maybe.Option Slot)) (vs : List View) (u id 
       )
   holds_row b q at (finished d asked f w h st k nb) = absurd (nb id (Holds b u q) at (self_eqb u))
 
-  abbrev Ended : QueuedPlace → Type 0
+  abbrev pub Ended : QueuedPlace → Type 0
   Ended asked = (f : FinishedPlace) × (get_elem? hs u ≡ some (some (Some (Finished f)))) ×
       IsAskedDone asked f × Only (is_desk_of u) vs id × NoOne (is_board_of u) vs
 
-  done_row : (asked : QueuedPlace) → At vs id (Waits u asked) → get_or ws u 0 ≡ 2 → Row ws hs vs u →
+  pub done_row : (asked : QueuedPlace) → At vs id (Waits u asked) → get_or ws u 0 ≡ 2 → Row ws hs vs u →
       Ended asked
   done_row asked at two (uncut w h nd nb) = absurd (omega arith)
   done_row asked at two (unseated d w h k nb) = absurd (omega arith)
@@ -238,21 +238,28 @@ module _ (users : ℕ) where
     t,
   )
 
+  pub put_keeps : (s : Shared) → Rule users s → (u id n : ℕ) (q : QueuedPlace) → n ≡ 1 → u < users →
+      StandsForAsked q q → At s.views id (Rests u) →
+      Rule users (stepped s u n id ((u, Some (Queued q)) ∷ []) (Waits u q) gives)
+  put_keeps s r u id n q is small st at = let w : View = Waits u q in let row =
+      rests_row s.words s.homes s.views u id at (r.rows u small) in
+      let wide : u < length s.words = (let e = r.words in omega arith) in
+      let wide' : u < length s.homes = (let e = r.slots in omega arith) in
+      moved users s r u n id (Rests u) w (set s.homes u (some (Some (Queued q)))) at
+      (put_turns u q) (length-set s.homes u _) (λ j ne. set_else s.homes u j _ ne)
+      (queued id q q (get_or-set_same s.words u n 0 wide ∙ is) (set_here s.homes u _ wide') st
+      (at_here s.views id (Rests u) w at, only_kept (is_desk_of u) s.views id w id row.2 refl)
+      (none_kept (is_board_of u) s.views id w row.3 refl))
+
   pub puts : (slots u id n : ℕ) (q : QueuedPlace) → n ≡ 1 → u < users → StandsForAsked q q
       → Allows (Rule users) slots id (Rests u, (u, Some (Queued q)) ∷ []) u (λ _. n)
       (PutTells (step slots u n 0 none) (Rests u, (u, Some (Queued q)) ∷ []))
-  puts slots u id n q is small st s r _ at _ = let w : View = Waits u q in let row =
-      rests_row s.words s.homes s.views u id at (r.rows u small) in
-      let wide : u < length s.words = (let e = r.words in omega arith) in
-      let wide' : u < length s.homes = (let e = r.slots in omega arith) in (
-        w,
+  puts slots u id n q is small st s r _ at _ = let row =
+      rests_row s.words s.homes s.views u id at (r.rows u small) in (
+        Waits u q,
         gives,
         tt,
-        moved users s r u n id (Rests u) w (set s.homes u (some (Some (Queued q)))) at
-            (put_turns u q) (length-set s.homes u _) (λ j ne. set_else s.homes u j _ ne)
-            (queued id q q (get_or-set_same s.words u n 0 wide ∙ is) (set_here s.homes u _ wide') st
-            (at_here s.views id (Rests u) w at, only_kept (is_desk_of u) s.views id w id row.2 refl)
-            (none_kept (is_board_of u) s.views id w row.3 refl)),
+        put_keeps s r u id n q is small st at,
         (
           row.0,
           (λ q' e. let head : ◌≡◌ {A = ℕ × Slot} (u, Some (Queued q)) (u, Some (Queued q')) =
@@ -263,82 +270,131 @@ module _ (users : ℕ) where
         ),
       )
 
+  pub back_keeps : (s : Shared) → Rule users s → (u id b n : ℕ) (q q' : QueuedPlace) → n ≡ 1 →
+      u < users → ((asked : QueuedPlace) → StandsForAsked asked q → StandsForAsked asked q') →
+      At s.views id (Holds b u q) →
+      Rule users (stepped s u n id ((u, Some (Queued q')) ∷ []) (Idle b) gives)
+  back_keeps s r u id b n q q' is small law at = let row = holds_row s.words s.homes s.views u
+      id b q at (r.rows u small) in let t = row.3 in
+      let wide : u < length s.words = (let e = r.words in omega arith) in
+      let wide' : u < length s.homes = (let e = r.slots in omega arith) in
+      moved users s r u n id (Holds b u q) (Idle b) (set s.homes u (some (Some (Queued q')))) at
+      (give_turns b u q) (length-set s.homes u _) (λ j ne. set_else s.homes u j _ ne)
+      (queued t.0 t.1 q' (get_or-set_same s.words u n 0 wide ∙ is)
+      (set_here s.homes u _ wide') (law t.1 t.2)
+      (other_desk s id b u q t.0 t.1 (Idle b) at refl t.3)
+      (none_left (is_board_of u) s.views id (Idle b) id row.2 refl refl))
+
   pub backs : (slots u id b n : ℕ) (q q' : QueuedPlace) → n ≡ 1 → u < users →
       ((asked : QueuedPlace) → StandsForAsked asked q → StandsForAsked asked q')
       → Allows (Rule users) slots id (Holds b u q, (u, Some (Queued q')) ∷ []) u (λ _. n)
       (BackTells (step slots u n 0 none) (Holds b u q, (u, Some (Queued q')) ∷ []))
-  backs slots u id b n q q' is small law s r _ at _ = let row = holds_row s.words s.homes s.views u
-      id b q at (r.rows u small) in let t = row.3 in
-      let wide : u < length s.words = (let e = r.words in omega arith) in
-      let wide' : u < length s.homes = (let e = r.slots in omega arith) in (
+  backs slots u id b n q q' is small law s r _ at _ = let row = holds_row s.words s.homes s.views
+      u id b q at (r.rows u small) in (
         Idle b,
         gives,
         tt,
-        moved users s r u n id (Holds b u q) (Idle b) (set s.homes u (some (Some (Queued q')))) at
-            (give_turns b u q) (length-set s.homes u _) (λ j ne. set_else s.homes u j _ ne)
-            (queued t.0 t.1 q' (get_or-set_same s.words u n 0 wide ∙ is)
-            (set_here s.homes u _ wide') (law t.1 t.2)
-            (other_desk s id b u q t.0 t.1 (Idle b) at refl t.3)
-            (none_left (is_board_of u) s.views id (Idle b) id row.2 refl refl)),
+        back_keeps s r u id b n q q' is small law at,
         (row.1, refl, is),
       )
+
+  pub done_keeps : (s : Shared) → Rule users s → (u id b n : ℕ) (q : QueuedPlace) (f : FinishedPlace) →
+      n ≡ 2 → u < users → ((asked : QueuedPlace) → StandsForAsked asked q → IsAskedDone asked f) →
+      At s.views id (Holds b u q) →
+      Rule users (stepped s u n id ((u, Some (Finished f)) ∷ []) (Idle b) gives)
+  done_keeps s r u id b n q f is small law at = let row = holds_row s.words s.homes s.views
+      u id b q at (r.rows u small) in let t = row.3 in
+      let wide : u < length s.words = (let e = r.words in omega arith) in
+      let wide' : u < length s.homes = (let e = r.slots in omega arith) in
+      moved users s r u n id (Holds b u q) (Idle b) (set s.homes u (some (Some (Finished f)))) at
+      (give_turns b u q) (length-set s.homes u _) (λ j ne. set_else s.homes u j _ ne)
+      (finished t.0 t.1 f (get_or-set_same s.words u n 0 wide ∙ is)
+      (set_here s.homes u _ wide') (law t.1 t.2)
+      (other_desk s id b u q t.0 t.1 (Idle b) at refl t.3)
+      (none_left (is_board_of u) s.views id (Idle b) id row.2 refl refl))
 
   pub finishes : (slots u id b n : ℕ) (q : QueuedPlace) (f : FinishedPlace) → n ≡ 2 → u < users →
       ((asked : QueuedPlace) → StandsForAsked asked q → IsAskedDone asked f)
       → Allows (Rule users) slots id (Holds b u q, (u, Some (Finished f)) ∷ []) u (λ _. n)
       (DoneTells (step slots u n 0 none) (Holds b u q, (u, Some (Finished f)) ∷ []))
   finishes slots u id b n q f is small law s r _ at _ = let row = holds_row s.words s.homes s.views
-      u id b q at (r.rows u small) in let t = row.3 in
-      let wide : u < length s.words = (let e = r.words in omega arith) in
-      let wide' : u < length s.homes = (let e = r.slots in omega arith) in (
+      u id b q at (r.rows u small) in (
         Idle b,
         gives,
         tt,
-        moved users s r u n id (Holds b u q) (Idle b) (set s.homes u (some (Some (Finished f)))) at
-            (give_turns b u q) (length-set s.homes u _) (λ j ne. set_else s.homes u j _ ne)
-            (finished t.0 t.1 f (get_or-set_same s.words u n 0 wide ∙ is)
-            (set_here s.homes u _ wide') (law t.1 t.2)
-            (other_desk s id b u q t.0 t.1 (Idle b) at refl t.3)
-            (none_left (is_board_of u) s.views id (Idle b) id row.2 refl refl)),
+        done_keeps s r u id b n q f is small law at,
         (row.1, refl, is),
       )
+
+  pub take_keeps : (s : Shared) → Rule users s → (u id b n : ℕ) (q : QueuedPlace) → n ≡ 3 + b →
+      u < users → At s.views id (Idle b) → get_or s.words u 0 ≡ 1 →
+      get_elem? s.homes u ≡ some (some (Some (Queued q))) →
+      Rule users (stepped s u n id [] (Holds b u q) (takes u (Some (Queued q))))
+  take_keeps s r u id b n q is small at one home =
+      let wide : u < length s.words = (let e = r.words in omega arith) in
+      let row = ready_row s.words s.homes s.views u id one (r.rows u small) in
+      let k = row.5 in
+      let same : row.2 ≡ q = there row.2 (sym row.3 ∙ home) in
+      moved users s r u n id (Idle b) (Holds b u q) (set s.homes u none) at (take_turns b u q)
+      (length-set s.homes u _) (λ j ne. set_else s.homes u j _ ne)
+      (out row.0 id b row.1 q (get_or-set_same s.words u n 0 wide ∙ is)
+      (set_here s.homes u none (let e = r.slots in omega arith))
+      (subst (λ (z : QueuedPlace). StandsForAsked row.1 z) same row.4) (
+        set_else s.views id row.0 _
+            (λ same. let e = one_at s.views id row.0 (Idle b) (Waits u row.1) at k.0 same in
+            cc) ∙ k.0,
+        only_else (is_desk_of u) s.views id (Holds b u q) (Idle b) row.0 at refl
+            refl k.1,
+      ) (
+        at_here s.views id (Idle b) _ at,
+        only_new (is_board_of u) s.views id
+            (Holds b u q) row.6,
+      ))
+    where
+      there : (p : QueuedPlace) → some (some (Some (Queued p))) ≡ some (some (Some (Queued q))) →
+          p ≡ q
+      there p e =
+          let part : ◌≡◌ {A = Slot} (Some (Queued p)) (Some (Queued q)) =
+          some-injective (Some (Queued p)) (Some (Queued q))
+          (some-injective (some (Some (Queued p))) (some (Some (Queued q))) e) in cc
 
   pub took : (slots u id b old n : ℕ) → old ≡ 1 → n ≡ 3 + b → u < users
       → Allows (Rule users) slots id (Idle b, []) u (λ x. either (eqb x old) n x)
       (TakeTells (step slots u old n none) (Idle b, []))
   took slots u id b old n was is small s r _ at _ = let x : ℕ = get_or s.words u 0 in
-      let wide : u < length s.words = (let e = r.words in omega arith) in
       exchanged x old n (Goes s u id (Idle b, [])
       (TakeTells (step slots u old n none) (Idle b, []) x))
       (λ hit. let row = ready_row s.words s.homes s.views u id (hit ∙ was) (r.rows u small) in
-      let q = row.2 in let k = row.5 in (
+      let q = row.2 in (
         Holds b u q,
         takes u (Some (Queued q)),
         row.3,
-        moved users s r u n id (Idle b) (Holds b u q) (set s.homes u none) at (take_turns b u q)
-            (length-set s.homes u _) (λ j ne. set_else s.homes u j _ ne)
-            (out row.0 id b row.1 q (get_or-set_same s.words u n 0 wide ∙ is)
-            (set_here s.homes u none (let e = r.slots in omega arith)) row.4 (
-              set_else s.views id row.0 _
-                  (λ same. let e = one_at s.views id row.0 (Idle b) (Waits u row.1) at k.0 same in
-                  cc) ∙ k.0,
-              only_else (is_desk_of u) s.views id (Holds b u q) (Idle b) row.0 at refl
-                  refl k.1,
-            ) (
-              at_here s.views id (Idle b) _ at,
-              only_new (is_board_of u) s.views id
-                  (Holds b u q) row.6,
-            )),
+        take_keeps s r u id b n q is small at (hit ∙ was) row.3,
         ((λ _. (q, refl, is)), λ miss. absurd (miss (hit ∙ was))),
       ))
       (λ miss. stays s r u id (Idle b, []) (TakeTells (step slots u old n none) (Idle b, []) x) at
       ((λ hit. absurd (miss (hit ∙ sym was))), λ _. refl))
 
+  pub collect_keeps : (s : Shared) → Rule users s → (u id n : ℕ) (asked : QueuedPlace)
+      (slot : Slot) → n ≡ 0 → u < users → At s.views id (Waits u asked) → get_or s.words u 0 ≡ 2 →
+      Rule users (stepped s u n id [] (Rests u) (takes u slot))
+  collect_keeps s r u id n asked slot is small at two =
+      let wide : u < length s.words = (let e = r.words in omega arith) in
+      let row = done_row s.words s.homes s.views u id asked at two (r.rows u small) in
+      moved users s r u n id (Waits u asked) (Rests u) (set s.homes u none) at
+      (collect_turns u asked) (length-set s.homes u _) (λ j ne. set_else s.homes u j _ ne)
+      (resting id (get_or-set_same s.words u n 0 wide ∙ is)
+      (set_here s.homes u none (let e = r.slots in omega arith)) (
+        at_here s.views id (Waits u asked) _ at,
+        only_kept (is_desk_of u) s.views id
+            (Rests u) id row.3 refl,
+      )
+      (none_kept (is_board_of u) s.views id (Rests u) row.4 refl))
+
   pub collects : (slots u id old n : ℕ) (asked : QueuedPlace) → old ≡ 2 → n ≡ 0 → u < users
       → Allows (Rule users) slots id (Waits u asked, []) u (λ x. either (eqb x old) n x)
       (CollectTells (step slots u old n none) (Waits u asked, []))
   collects slots u id old n asked was is small s r _ at _ = let x : ℕ = get_or s.words u 0 in
-      let wide : u < length s.words = (let e = r.words in omega arith) in
       exchanged x old n (Goes s u id (Waits u asked, [])
       (CollectTells (step slots u old n none) (Waits u asked, []) x))
       (λ hit. let row = done_row s.words s.homes s.views u id asked at (hit ∙ was)
@@ -346,15 +402,7 @@ module _ (users : ℕ) where
         Rests u,
         takes u (Some (Finished f)),
         row.1,
-        moved users s r u n id (Waits u asked) (Rests u) (set s.homes u none) at
-            (collect_turns u asked) (length-set s.homes u _) (λ j ne. set_else s.homes u j _ ne)
-            (resting id (get_or-set_same s.words u n 0 wide ∙ is)
-            (set_here s.homes u none (let e = r.slots in omega arith)) (
-              at_here s.views id (Waits u asked) _ at,
-              only_kept (is_desk_of u) s.views id
-                  (Rests u) id row.3 refl,
-            )
-            (none_kept (is_board_of u) s.views id (Rests u) row.4 refl)),
+        collect_keeps s r u id n asked (Some (Finished f)) is small at (hit ∙ was),
         (
           (λ _. (
             f,
@@ -371,22 +419,29 @@ module _ (users : ℕ) where
       (CollectTells (step slots u old n none) (Waits u asked, []) x) at
       ((λ hit. absurd (miss (hit ∙ sym was))), λ _. refl))
 
+  pub sit_keeps : (s : Shared) → Rule users s → (u id : ℕ) → u < users →
+      At s.views id (Unseated u) →
+      Rule users (stepped s u (get_or s.words u 0) id [] (Rests u) (takes u None))
+  sit_keeps s r u id small at = let x : ℕ = get_or s.words u 0 in
+      let wide : u < length s.words = (let e = r.words in omega arith) in let row =
+      unseated_row s.words s.homes s.views u id at (r.rows u small) in
+      moved users s r u x id (Unseated u) (Rests u) (set s.homes u none) at (sit_turns u)
+      (length-set s.homes u _) (λ j ne. set_else s.homes u j _ ne)
+      (resting id (get_or-set_same s.words u x 0 wide ∙ row.0)
+      (set_here s.homes u none (let e = r.slots in omega arith)) (
+        at_here s.views id (Unseated u) _ at,
+        only_kept (is_desk_of u) s.views id
+            (Rests u) id row.2 refl,
+      ) (none_kept (is_board_of u) s.views id (Rests u) row.3 refl))
+
   pub sits : (slots u id : ℕ) → u < users → Allows (Rule users) slots id (Unseated u, []) u (λ x. x)
       (SitTells (step slots u 0 0 none) (Unseated u, []))
-  sits slots u id small s r _ at _ = let x : ℕ = get_or s.words u 0 in
-      let wide : u < length s.words = (let e = r.words in omega arith) in let row =
+  sits slots u id small s r _ at _ = let row =
       unseated_row s.words s.homes s.views u id at (r.rows u small) in (
         Rests u,
         takes u None,
         row.1,
-        moved users s r u x id (Unseated u) (Rests u) (set s.homes u none) at (sit_turns u)
-            (length-set s.homes u _) (λ j ne. set_else s.homes u j _ ne)
-            (resting id (get_or-set_same s.words u x 0 wide ∙ row.0)
-            (set_here s.homes u none (let e = r.slots in omega arith)) (
-              at_here s.views id (Unseated u) _ at,
-              only_kept (is_desk_of u) s.views id
-                  (Rests u) id row.2 refl,
-            ) (none_kept (is_board_of u) s.views id (Rests u) row.3 refl)),
+        sit_keeps s r u id small at,
         refl,
       )
 
@@ -479,7 +534,7 @@ module _ (users : ℕ) where
     one_first = two_firsts s r id d b d n (Idle k) at refl;
   }
 
-  zeros_at : (n u : ℕ) → ◌≡◌ {A = ℕ} (get_or (replicate n 0) u 0) 0
+  pub zeros_at : (n u : ℕ) → ◌≡◌ {A = ℕ} (get_or (replicate n 0) u 0) 0
   zeros_at zero u = refl
   zeros_at (suc n) zero = refl
   zeros_at (suc n) (suc u) = zeros_at n u

@@ -33,7 +33,7 @@ use Rattle.cam6_turns.proofs.Turning as turning
 
 module _ (a : Model) (p : User) (u b : ℕ) (has : HasUser a u p) where
   -- a lease of a command that waits
-  leases : (c : Command) (left home : ℕ) → p.stage ≡ queued c left home →
+  pub leases : (c : Command) (left home : ℕ) → p.stage ≡ queued c left home →
       turn a (event.Lease u b) ≡
       (with_both a u (at_stage p (out b c)) b (loaded u left home), outcome.Leased left)
   leases c left home is =
@@ -42,7 +42,7 @@ module _ (a : Model) (p : User) (u b : ℕ) (has : HasUser a u p) where
   module _ (left home : ℕ) (seat : HasSeat a b (loaded u left home)) (c : Command)
       (is : p.stage ≡ out b c) where
     -- a board that has his command is freed of it
-    preempts :
+    pub preempts :
         let after = home_after (bands_of_step (machine_of p).side) left home in
         turn a (event.Preempt b) ≡
         (with_both a u (at_stage p (queued c left after)) b idle, outcome.Preempted left)
@@ -56,7 +56,7 @@ module _ (a : Model) (p : User) (u b : ℕ) (has : HasUser a u p) where
         ap (λ (s : Stage).
         (with_both a u (at_stage p (back left after s)) b idle, outcome.Preempted left)) is
 
-    fails : turn a (event.Fail b) ≡
+    pub fails : turn a (event.Fail b) ≡
         (with_both a u (at_stage p (queued c home home)) b dead, outcome.Failed (Some home))
     fails =
         ap (fail a b) (turning.seat_is a b (loaded u left home) seat) ∙
@@ -67,7 +67,7 @@ module _ (a : Model) (p : User) (u b : ℕ) (has : HasUser a u p) where
         (with_both a u (at_stage p (back home home s)) b dead, outcome.Failed (Some home))) is
 
   -- the last band
-  finishes : (home : ℕ) (c : Command) → HasSeat a b (loaded u 1 home) → p.stage ≡ out b c →
+  pub finishes : (home : ℕ) (c : Command) → HasSeat a b (loaded u 1 home) → p.stage ≡ out b c →
       turn a (event.Band b) ≡
       (with_both a u (at_stage p (finished c)) b idle, outcome.Banded 0)
   finishes home c seat is =
@@ -89,13 +89,13 @@ module _ (a : Model) (p : User) (u b : ℕ) (has : HasUser a u p) where
   }
 
 -- why a lease is refused, by where the user and the board stand
-abbrev lease_reason : Option Status → Option Posture → Option Refused
+abbrev pub lease_reason : Option Status → Option Posture → Option Refused
 lease_reason o k = first
     ((is_missing o, why.NoSuchNumber) ∷ (is_missing k, why.NoSuchNumber)
     ∷ (is_dead k, why.BoardIsDead) ∷ (not (is_idle k), why.BoardIsNotIdle)
     ∷ (not (is_queued o), why.UserIsNotQueued) ∷ [])
 
-abbrev fail_reason : Option Posture → Option Refused
+abbrev pub fail_reason : Option Posture → Option Refused
 fail_reason k = first ((is_missing k, why.NoSuchNumber) ∷ (is_dead k, why.BoardIsDead) ∷ [])
 
 pub take_is_lease : (a : Model) (p : User) (b : ℕ) (q : StoredQueued) (step : Step Slot)

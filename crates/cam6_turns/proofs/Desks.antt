@@ -32,7 +32,7 @@ begun_with c n some =
 
 module _ (a : Model) (p : User) (u : ℕ) (has : HasUser a u p) where
   -- an ask of a user who rests
-  asks : (c : Command) → p.stage ≡ resting → (n : ℕ) → n ≡ bands_of (machine_of p) c → 0 < n →
+  pub asks : (c : Command) → p.stage ≡ resting → (n : ℕ) → n ≡ bands_of (machine_of p) c → 0 < n →
       turn a (event.Ask u c) ≡ (with_user a u (at_stage p (queued c n n)), outcome.Asked n)
   asks c rests n is some =
       ap (λ (x : User). ask a u c x x.stage) (turning.user_is a u p has) ∙
@@ -40,8 +40,16 @@ module _ (a : Model) (p : User) (u : ℕ) (has : HasUser a u p) where
       ap (λ (k : ℕ). (with_user a u (at_stage p (begun c k)), outcome.Asked k)) (sym is) ∙
       ap (λ (s : Stage). (with_user a u (at_stage p s), outcome.Asked n)) (begun_with c n some)
 
+  -- and of a command without bands
+  pub asks_at_once : (c : Command) → p.stage ≡ resting → bands_of (machine_of p) c ≡ 0 →
+      turn a (event.Ask u c) ≡ (with_user a u (at_stage p (finished c)), outcome.Asked 0)
+  asks_at_once c rests none =
+      ap (λ (x : User). ask a u c x x.stage) (turning.user_is a u p has) ∙
+      ap (ask a u c p) rests ∙
+      ap (λ (k : ℕ). (with_user a u (at_stage p (begun c k)), outcome.Asked k)) none
+
   -- a collect of what is finished
-  collects : (c : Command) → p.stage ≡ finished c → turn a (event.Collect u) ≡ (
+  pub collects : (c : Command) → p.stage ≡ finished c → turn a (event.Collect u) ≡ (
     with_user a u (record p { done = c ∷ p.done; stage = resting }),
     outcome.Collected (reply (machine_of p) c),
   )
@@ -49,10 +57,10 @@ module _ (a : Model) (p : User) (u : ℕ) (has : HasUser a u p) where
       ap (λ (x : User). collect a u x x.stage) (turning.user_is a u p has) ∙ ap (collect a u p) is
 
 -- why they are refused, by where the user stands
-abbrev ask_reason : Option Status → Option Refused
+abbrev pub ask_reason : Option Status → Option Refused
 ask_reason o = first ((is_missing o, why.NoSuchNumber) ∷ (is_waiting o, why.UserIsWaiting) ∷ [])
 
-abbrev collect_reason : Option Status → Option Refused
+abbrev pub collect_reason : Option Status → Option Refused
 collect_reason o = first
     ((is_missing o, why.NoSuchNumber) ∷ (not (is_finished o), why.NothingIsFinished) ∷ [])
 

@@ -3,6 +3,8 @@
 ghost use Rattle.cam6_turns.specs.Laws.{WordIsStatus, RowIsSaid, PutIsAsk, TakeIsLease};
 ghost use Rattle.cam6_turns.specs.Laws.{BackIsPreempt, BackFromHomeIsFail, DoneIsLastBand};
 ghost use Rattle.cam6_turns.specs.Laws.{CollectIsCollect, LookIsNoEvent, FirstTakeIsNoEvent};
+ghost use Rattle.cam6_turns.specs.Threads.{ActionIsEvents, BeginsAtFresh, ExecutionIsEvents};
+ghost use Rattle.cam6_turns.specs.Threads.{DesksGiveTheReplies, TakenPlaceStands};
 
 /// A user's status is that of the word that says where the user is.
 pub fn a_word_is_a_status()
@@ -52,4 +54,29 @@ pub fn a_look_is_no_event()
 /// The first take of a desk's slot is no event.
 pub fn a_first_take_is_no_event()
     ensures law { FirstTakeIsNoEvent }
+{}
+
+/// An action of threads that are where a model of the core is, is the action's events.
+pub fn an_action_is_its_events()
+    ensures law { ActionIsEvents }
+{}
+
+/// At the beginning the threads are where the model of a new core is.
+pub fn threads_begin_at_a_new_core()
+    ensures law { BeginsAtFresh }
+{}
+
+/// All actions from the beginning on are one list of events of a new core.
+pub fn an_execution_is_a_list_of_events()
+    ensures law { ExecutionIsEvents }
+{}
+
+/// Each desk gives the replies of a private machine to the commands that were put there.
+pub fn desks_give_the_replies()
+    ensures law { DesksGiveTheReplies }
+{}
+
+/// What a board took stands for what its user waits for.
+pub fn a_taken_place_stands()
+    ensures law { TakenPlaceStands }
 {}
