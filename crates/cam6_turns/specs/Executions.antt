@@ -1,6 +1,6 @@
 -- Actions one after another, and the events that they are.
 use Rattle.std.specs.Prelude.{◌≡◌, ◌==◌, ℕ, suc, List, [], ◌∷◌, ◌++◌, if◌then◌else◌, length}
-use Rattle.std.specs.Prelude.{replicate, None}
+use Rattle.std.specs.Prelude.{map, replicate, None}
 use Rattle.atomic_table.specs.Table.{opening}
 use Rattle.cam6_planes.specs.declared.sides.Side.{Side}
 use Rattle.cam6_commands.specs.declared.commands.Command.{Command}
@@ -8,11 +8,14 @@ use Rattle.cam6_commands.specs.declared.events.Event.{Event}
 use Rattle.cam6_commands.specs.declared.events.Event.TheVariants as event
 use Rattle.cam6_commands.specs.declared.outcomes.Outcome.{Outcome}
 use Rattle.cam6_commands.specs.declared.replies.Reply.{Reply}
-use Rattle.cam6_core.specs.Fresh.{fresh}
-use Rattle.cam6_core.specs.Good.{Good}
 use Rattle.cam6_core.specs.Headline.{commands, given}
 use Rattle.cam6_core.specs.Model.{Model}
 use Rattle.cam6_core.specs.Runs.{AreTheModels, after_all}
+use Rattle.cam6_core.specs.declared.parts.Whereabouts.{Whereabouts}
+use Rattle.cam6_core.specs.declared.parts.Whereabouts.TheVariants as whereabouts
+use Rattle.cam6_station.specs.Held as board
+use Rattle.cam6_handoff.specs.Boot.{AreBlankDesks}
+use Rattle.cam6_handoff.specs.Standing.{Stance, standing, waiting, nowhere}
 use Rattle.cam6_handoff.specs.declared.rule.View.TheVariants.{First}
 use Rattle.cam6_turns.specs.Actions.{Action, Acts, answer, put, collect, take, band, back, lose}
 use Rattle.cam6_turns.specs.Actions.{done, repair, cache, look, cut_desk, cut_board, sit}
@@ -66,11 +69,22 @@ Executes users k [] end = end ≡ k
 Executes users k (action ∷ later) end =
     (next : Configuration) × Acts users k action next × Executes users next later end
 
--- the table is new, with no seat but the first, and all that is held is what a new core holds
+-- a desk at a machine holds it
+abbrev pub held_at : Stance → Whereabouts
+held_at (standing u machine) = whereabouts.Resting machine
+held_at (waiting u asked) = whereabouts.Out
+held_at nowhere = whereabouts.Out
+
+-- the table is new, with no seat but the first; each user's desk has a blank machine of the user's
+-- limit, as `boot` makes it; the boards are idle, and no table is cached
 pub record Begins (limits : List Side) (boards : ℕ) (k : Configuration) : Type 0 where
   pub table : k.table
       ≡ opening (replicate (length limits) 0) (replicate (length limits) None) (First 0 0)
-  pub held : Good k.held (fresh limits boards)
+  pub desks : List Stance
+  pub blank : AreBlankDesks limits desks
+  pub users : k.held.users ≡ map held_at desks
+  pub idle : k.held.boards ≡ replicate boards board.idle
+  pub none_cached : k.held.cache.tables ≡ []
 
 -- the model's outcomes of these events are these, and after them the model is where the threads are;
 -- by these events each user asks for what was put at their desk, and is given what was told there
