@@ -16,7 +16,7 @@ SHORT = ": R NORTH SOUTH XOR WEST XOR EAST XOR >PLN0 ;"
 # Each neighbour has a weight of its own, so that no short program makes a bit of the square of their sum.
 WEIGHTS = {"CENTER": 1, "NORTH": 3, "SOUTH": 7, "WEST": 13, "EAST": 19, "N.WEST": 29, "N.EAST": 37, "S.WEST": 41, "S.EAST": 47}
 LONG = f": R 0 {' '.join(f'{name} {weight} * +' for name, weight in WEIGHTS.items())} DUP * 64 AND 0= >PLN0 ;"
-STEPS, TURNS = 20_000, 5
+STEPS, TURNS = 4_000, 5
 
 
 def seconds(cam6: str, text: str) -> float:
