@@ -56,3 +56,5 @@ pub mod SavedPlanes
 pub mod FoundParts
 -- A machine is what is loaded of what was saved of it, and nothing else is loaded.
 pub mod SavedLaws
+-- What a machine and its replies are if others take the place of those that were lost.
+pub mod Recoveries

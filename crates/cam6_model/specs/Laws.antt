@@ -26,6 +26,7 @@ use Rattle.cam6_model.specs.Always.{IsMachine}
 use Rattle.cam6_commands.specs.RuleTexts.{HasText}
 use Rattle.cam6_model.specs.Saved.{saved_of}
 use Rattle.cam6_model.specs.Alone.{after, replies}
+use Rattle.cam6_model.specs.Recovery.{HaveTexts, IsRecovered, Part, IsPart, IsOneList}
 use Rattle.cam6_commands.specs.declared.commands.Command.{Command}
 use Rattle.cam6_commands.specs.declared.commands.Command.TheVariants.{Run, Back, Load}
 use Rattle.cam6_commands.specs.declared.commands.NamedEntry.{NamedEntry}
@@ -165,3 +166,15 @@ abbrev pub LoadedAnswersAlike : Type 0
 LoadedAnswersAlike =
     (m n : Machine) (commands : List Command) → IsMachine m → m.limit ≡ n.limit →
     replies (after n (Load (saved_of m))) commands ≡ replies m commands
+
+-- any machine takes the place of a lost one of its limit: it loads what was saved after some
+-- commands and is given those since, and nothing tells it from the machine that was never lost
+abbrev pub RecoveryIsExact : Type 0
+RecoveryIsExact =
+    (other : Machine) (saved since : List Command) → HaveTexts saved →
+    IsRecovered other.limit saved since other
+
+-- so it is however often machines of one limit are lost
+abbrev pub RecoveriesAreExact : Type 0
+RecoveriesAreExact =
+    (limit : Side) (parts : List Part) → AllByRecursion (IsPart limit) parts → IsOneList limit parts

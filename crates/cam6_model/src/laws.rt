@@ -6,7 +6,7 @@ ghost use Rattle.cam6_model.specs.Laws.{StaysMachine, RulesRun, LimitStays, Step
 ghost use Rattle.cam6_model.specs.Laws.{InvertedTablesUndo, UndoingUndoes, DoingRedoes};
 ghost use Rattle.cam6_model.specs.Laws.{BackGivesTheMachineBack, BackNeedsReversibleRules};
 ghost use Rattle.cam6_model.specs.Laws.{LoadGivesBack, LoadTakesSaved, SavedOfOne};
-ghost use Rattle.cam6_model.specs.Laws.{LoadedAnswersAlike};
+ghost use Rattle.cam6_model.specs.Laws.{LoadedAnswersAlike, RecoveryIsExact, RecoveriesAreExact};
 
 /// A step by the tables of an entry's rules is the step by the rules' words.
 pub fn true_tables_step_as_words_do()
@@ -105,4 +105,16 @@ pub fn what_is_saved_is_of_one_machine()
 /// A machine that was saved and loaded under the same limit replies to all commands as before.
 pub fn a_loaded_machine_answers_alike()
     ensures law { LoadedAnswersAlike }
+{}
+
+/// A machine that loads what was saved of a lost one of its limit, and is given the commands since,
+/// goes on as if nothing had been lost. The machine and all replies are those of one list of
+/// commands.
+pub fn recovery_is_exact()
+    ensures law { RecoveryIsExact }
+{}
+
+/// So are they if machines are lost again and again.
+pub fn recoveries_are_exact()
+    ensures law { RecoveriesAreExact }
 {}

@@ -29,6 +29,9 @@
 //!   keeps it so. No command changes the limit. The rules that a cycle names run, whatever is seen.
 //! - What is saved of a machine is all of it but its limit (`specs/Saved.antt`). A machine loads it
 //!   if its limit allows the saved side, and becomes that machine. Nothing else is loaded.
+//! - If a machine is lost, any other one of its limit takes its place (`specs/Recovery.antt`). It
+//!   loads what was saved and is given the commands since. The machine and all replies are then
+//!   those of one list of commands. The law doesn't say that a client does this.
 //!
 //! Stands on: `cam6_planes`, `cam6_wiring`, `cam6_entries`, `cam6_forth`, `cam6_table`, `cam6_block`,
 //! `cam6_cycle`, `cam6_band`, `cam6_view` and `cam6_commands`. Of `cam6_band` and `cam6_view` it uses
