@@ -7,6 +7,12 @@
 //! the seat and the board agree as `Serves` says (`specs/Serving.antt`). The call may wait, for the
 //! cache's lock and at its gate, and need not return.
 //!
+//! Users take turns (`specs/Rounds.antt`). A round of looks begins at the user after the one whose
+//! command was taken last, and passes over nobody twice. So as long as a user is neither taken nor
+//! passed over, a worker takes fewer others than there are users (`laws`). No contract says that a
+//! command that waits isn't passed over, that a worker keeps its round from take to take, or that
+//! it runs.
+//!
 //! So, if the gate stops a worker in the middle of a step: the worker puts the step back half done and
 //! ends. Another worker takes it and does the rest of its bands. If the board fails instead, all
 //! steps since the home are put back.
@@ -15,11 +21,13 @@
 //! `cam6_slot`, `cam6_cache`, the tables that workers share, and their lock; `cam6_band`,
 //! `cam6_commands`, `cam6_model` and `cam6_planes`.
 //!
-//! Read next: `gates`, what a worker asks before it goes on; `workers`; then `slices`, the gate of a
-//! host.
+//! Read next: `gates`, what a worker asks before it goes on; `rounds`, a seat that looks at users
+//! in turn; `workers`; `slices`, the gate of a host; then `laws`.
 #![tactic(auto)]
 
 mod gates;
+pub mod laws;
+mod rounds;
 mod slices;
 mod workers;
 

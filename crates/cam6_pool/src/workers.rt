@@ -10,6 +10,7 @@ ghost use Rattle.cam6_pool.specs.Serving.{Serves};
 ghost use Rattle.cam6_pool.specs.Internal.Served.{Carries, TakesNext, ServesOn, turns_left};
 
 use crate::gates::{Gate, Turn};
+use crate::rounds::Round;
 use cam6_band::BAND;
 use cam6_board::{Board, Job};
 use cam6_cache::TableCache;
@@ -116,33 +117,30 @@ fn give_back(seat: &mut BoardSeat, lease: Lease, job: Job)
     seat.put_back(queued);
 }
 
-/// Takes the command of the first user who has one that waits and isn't held back. Begins at the
-/// user of `row`, counted from 0, and goes round all users. Returns `None` if there is none.
-fn take_next(seat: &mut BoardSeat, row: u8) -> Option<(User, Lease, Job)>
-    requires { IsIdle seat.old }
-    ensures { TakesNext seat.old result seat.new }
+/// Takes the command of the first user in turn who has one that waits and isn't held back. Goes
+/// once round all users, from the user after the one whose command it took last. Returns `None` if
+/// there is none.
+fn take_next(round: &mut Round) -> Option<(User, Lease, Job)>
+    requires { IsIdle round.old.seat }
+    ensures { TakesNext round.old result round.new }
 {
-    let users = seat.users();
-    for step in 0..users {
-        let user = User::numbered((usize::from(row) + step) % users + 1);
-        if seat.is_held_back(user) {
-            continue;
-        }
-        if let Some((lease, job)) = seat.try_take(usize::from(user.number())) {
-            return Some((user, lease, job));
+    round.begin();
+    while !round.is_over() {
+        if let Some(taken) = round.look() {
+            return Some(taken);
         }
     }
     None
 }
 
 /// Serves users with a board until the gate ends it, or the board fails. Users take turns: each
-/// time it goes on from the user after the one whose command it took last. Each table is filled
-/// under the cache's lock, and no lock is held while bands are done. A lease that it has at its end
-/// is put back first: with its half-done step if the gate stopped it, from its home if the board
-/// failed. The seat can serve again, with this board or another one.
+/// round of looks begins at the user after the one whose command was taken last. Each table is
+/// filled under the cache's lock, and no lock is held while bands are done. A lease that it has at
+/// its end is put back first: with its half-done step if the gate stopped it, from its home if the
+/// board failed. The seat can serve again, with this board or another one.
 pub fn serve_board<R: Wait, B: Board, G: Gate>(
     rt: &R,
-    mut seat: BoardSeat,
+    seat: BoardSeat,
     board: B,
     cache: &Mutex<TableCache>,
     gate: &G,
@@ -156,26 +154,24 @@ pub fn serve_board<R: Wait, B: Board, G: Gate>(
     ensures faults { EndsBy result.2 (B.fault_count board) (B.fault_count result.1) }
 {
     let mut station = Station::of(board);
-    let mut row = 0;
+    let mut round = Round::new(seat);
     for _ in rt.forever() {
-        let Some((user, lease, job)) = take_next(&mut seat, row) else {
-            if gate.idle(seat.number()) {
+        let Some((user, lease, job)) = take_next(&mut round) else {
+            if gate.idle(round.seat.number()) {
                 continue;
             }
-            return (seat, station.into_board(), Ended::Stopped);
+            return (round.seat, station.into_board(), Ended::Stopped);
         };
-        // Users are numbered from 1, so this is the row of the user after this one.
-        row = user.number();
-        if !seat.fill_each(rt, &lease, cache) {
-            give_back(&mut seat, lease, job);
+        if !round.seat.fill_each(rt, &lease, cache) {
+            give_back(&mut round.seat, lease, job);
             continue;
         }
-        let stops = serve_lease(&mut seat, &mut station, user, lease, job, gate);
+        let stops = serve_lease(&mut round.seat, &mut station, user, lease, job, gate);
         if station.is_dead() {
-            return (seat, station.into_board(), Ended::Dead);
+            return (round.seat, station.into_board(), Ended::Dead);
         }
         if stops {
-            return (seat, station.into_board(), Ended::Stopped);
+            return (round.seat, station.into_board(), Ended::Stopped);
         }
     }
     unreachable!()

@@ -1,4 +1,4 @@
--- A seat and its station, while a worker serves a lease.
+-- A seat whose looks go round all users, and a seat and its station while a worker serves a lease.
 use Rattle.std.specs.Prelude.{ℕ, ◌≡◌, ◌<◌, ◌+◌, Option, Some, None}
 use Rattle.cam6_board.specs.Jobs.{StoredJob}
 use Rattle.cam6_commands.specs.declared.commands.Command.{Command}
@@ -10,13 +10,27 @@ use Rattle.cam6_slot.specs.Lefts.{lease_left}
 use Rattle.cam6_slot.specs.Stands.{Stands, StandsOut}
 use Rattle.cam6_station.specs.Calls.{Rises}
 use Rattle.cam6_station.specs.Held.{Manned, Stationed, idle, loaded, dead, is_dead, held_left}
+use Rattle.cam6_pool.specs.Rounds.{user_in_turn, IsInTurn}
 use Rattle.cam6_pool.specs.Serving.{Serves}
+use Rattle.cam6_pool.specs.declared.rounds.Round.{Round}
 
--- nobody's command waits and the seat is as it was, or it holds this user's place, leased
-abbrev pub TakesNext :
-    BoardStance → Option (ℕ × StoredLease × StoredJob) → BoardStance → Type 0
-TakesNext old None new = new ≡ old
-TakesNext old (Some taken) new = TakeGives old taken.0 (Some (taken.1, taken.2)) new
+-- the user in turn is passed over and the seat is as it was; or it holds their place, leased, and
+-- the row is that of the user after them
+abbrev pub LooksInTurn : Round → Option (ℕ × StoredLease × StoredJob) → Round → Type 0
+LooksInTurn old None new = new ≡ record old { passed = old.passed + 1 }
+LooksInTurn old (Some taken) new =
+    (taken.0 ≡ user_in_turn old.seat.users old.row old.passed)
+    × (new ≡ record old { seat = new.seat; row = taken.0 })
+    × TakeGives old.seat taken.0 (Some (taken.1, taken.2)) new.seat
+
+-- all users are passed over and the seat is as it was; or it holds the place of the first in turn
+-- who isn't, leased, and the row is that of the user after this one
+abbrev pub TakesNext : Round → Option (ℕ × StoredLease × StoredJob) → Round → Type 0
+TakesNext old None new = new ≡ record old { passed = old.seat.users }
+TakesNext old (Some taken) new =
+    IsInTurn old.seat.users old.row (record { passed = new.passed; user = taken.0 })
+    × (new.row ≡ taken.0)
+    × TakeGives old.seat taken.0 (Some (taken.1, taken.2)) new.seat
 
 -- a lease with its job, of which a band is left, and which stand for whatever the place stood for
 abbrev pub Carries : Holding → StoredLease → StoredJob → Type 0

@@ -6,9 +6,9 @@ use Rattle.cam6_pool.proofs.workers.serve_board.Given as goal
 -- between two leases the seat holds none, and the board no job
 abbrev pub invariant-loop : goal.invariant-loop
 invariant-loop g l = record {
-  rests : IsIdle l.seat;
-  number : l.seat.number ≡ l.initial.seat.number;
-  users : l.seat.users ≡ l.initial.seat.users;
+  rests : IsIdle l.round.seat;
+  number : l.round.seat.number ≡ l.initial.round.seat.number;
+  users : l.round.seat.users ≡ l.initial.round.seat.users;
   station : l.station.at ≡ idle;
   count : g.B.Board.fault_count l.fn.board ≤ l.station.faults;
 }
