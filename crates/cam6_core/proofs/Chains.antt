@@ -9,7 +9,7 @@ use Rattle.cam6_core.specs.State.{State}
 use Rattle.cam6_core.specs.Refusals.{Standing, standing, refusal}
 use Rattle.cam6_core.specs.Model.{Model}
 use Rattle.cam6_core.specs.Good.{Good}
-use Rattle.cam6_core.specs.Goes.{Goes, Obeys, Takes, Spares}
+use Rattle.cam6_core.specs.Goes.{Goes, LoadsTables, Obeys, Takes, Spares}
 use Rattle.cam6_core.specs.Runs.{AnswersAs, IsTheModels, AreTheModels, after_one, after_all}
 use Rattle.cam6_core.specs.Runs.{GoThrough, Counts}
 use Rattle.cam6_core.proofs.Standings.{stands_the_same, wanted_alone}
@@ -20,28 +20,30 @@ none_yet s = refl
 
 -- an event before the others, and one behind them
 pub one_before : (old mid new : State) (es : List Event) (rs : List Outcome) (e : Event)
-    (r : Outcome) → Goes old e r mid → Spares e old mid → GoThrough mid es rs new →
-    GoThrough old (e ∷ es) (r ∷ rs) new
+    (r : Outcome) → Goes old e r mid → LoadsTables e r old mid → Spares e old mid →
+    GoThrough mid es rs new → GoThrough old (e ∷ es) (r ∷ rs) new
 unfolding GoThrough
-one_before old mid new es rs e r goes spares through = (mid, goes, spares, through)
+one_before old mid new es rs e r goes loads spares through = (mid, goes, loads, spares, through)
 
 pub one_more : (old mid new : State) (es : List Event) (rs : List Outcome) (e : Event)
-    (r : Outcome) → GoThrough old es rs mid → Goes mid e r new → Spares e mid new →
-    GoThrough old (es ++ e ∷ []) (rs ++ r ∷ []) new
+    (r : Outcome) → GoThrough old es rs mid → Goes mid e r new → LoadsTables e r mid new →
+    Spares e mid new → GoThrough old (es ++ e ∷ []) (rs ++ r ∷ []) new
 unfolding GoThrough
-one_more old mid new [] [] e r through goes spares = (
+one_more old mid new [] [] e r through goes loads spares = (
   new,
   subst (λ (s : State). Goes s e r new) through goes,
+  subst (λ (s : State). LoadsTables e r s new) through loads,
   subst (λ (s : State). Spares e s new) through spares,
   refl,
 )
-one_more old mid new [] (q ∷ rs) e r through goes spares = absurd through
-one_more old mid new (d ∷ es) [] e r through goes spares = absurd through
-one_more old mid new (d ∷ es) (q ∷ rs) e r through goes spares = (
+one_more old mid new [] (q ∷ rs) e r through goes loads spares = absurd through
+one_more old mid new (d ∷ es) [] e r through goes loads spares = absurd through
+one_more old mid new (d ∷ es) (q ∷ rs) e r through goes loads spares = (
   through.0,
   through.1,
   through.2,
-  one_more through.0 mid new es rs e r through.3 goes spares,
+  through.3,
+  one_more through.0 mid new es rs e r through.4 goes loads spares,
 )
 
 -- one event, as the model has it
@@ -89,5 +91,5 @@ counts [] (r ∷ rs) old new through a good = absurd through
 counts (e ∷ es) [] old new through a good = absurd through
 counts (e ∷ es) (r ∷ rs) old new through a good =
     let one = one_goes old e through.0 a good r through.1 in
-    let rest = counts es rs through.0 new through.3 (after_one a e r) one.1 in
+    let rest = counts es rs through.0 new through.4 (after_one a e r) one.1 in
     ((one.0, rest.0), rest.1)

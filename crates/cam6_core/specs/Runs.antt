@@ -15,7 +15,7 @@ use Rattle.cam6_core.specs.Refusals as stands
 use Rattle.cam6_core.specs.Model.{Stage, resting, queued, out, finished, Seat, idle, loaded, dead}
 use Rattle.cam6_core.specs.Model.{User, user, Model, machine_of, turn}
 use Rattle.cam6_core.specs.Good.{Good}
-use Rattle.cam6_core.specs.Goes.{Goes, Spares}
+use Rattle.cam6_core.specs.Goes.{Goes, LoadsTables, Spares}
 
 -- an outcome is neither a refusal nor `NoMemory`
 abbrev pub accepted : Outcome → Bool
@@ -77,13 +77,14 @@ AreTheModels a [] (r ∷ rs) = ⊥
 AreTheModels a (e ∷ es) [] = ⊥
 AreTheModels a (e ∷ es) (r ∷ rs) = IsTheModels a e r × AreTheModels (after_one a e r) es rs
 
--- the events go one after another, each by `Goes` and `Spares`
+-- the events go one after another, each by `Goes`, `LoadsTables` and `Spares`
 unfoldable pub GoThrough : State → List Event → List Outcome → State → Type 0
 GoThrough old [] [] new = new ≡ old
 GoThrough old [] (r ∷ rs) new = ⊥
 GoThrough old (e ∷ es) [] new = ⊥
 GoThrough old (e ∷ es) (r ∷ rs) new =
-    (mid : State) × Goes old e r mid × Spares e old mid × GoThrough mid es rs new
+    (mid : State) × Goes old e r mid × LoadsTables e r old mid × Spares e old mid
+    × GoThrough mid es rs new
 
 -- whatever model the core agreed with, the outcomes of the events are the model's, with the bands
 -- that are left, and the core agrees with the model after them

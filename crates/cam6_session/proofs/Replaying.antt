@@ -34,8 +34,8 @@ module _ (s u t : State) (text rest written : List ℕ) (later : List (Result Ev
   unfolding GoThrough
   came_first (Ok e) told = (
     told.0 ∷ came.0,
-    (u, told.1, told.2, came.1),
-    is ∙ ap (λ l. l ++ rest) told.3 ∙ append_assoc (outcome_bytes told.0) (10 ∷ []) rest
+    (u, told.1, told.2, told.3, came.1),
+    is ∙ ap (λ l. l ++ rest) told.4 ∙ append_assoc (outcome_bytes told.0) (10 ∷ []) rest
         ∙ ap (λ l. outcome_bytes told.0 ++ 10 ∷ l) came.2,
   )
   came_first (Err fault) told = (
@@ -72,9 +72,9 @@ module _ (s t : State) (line : List ℕ) (later : List (List ℕ))
     outcome_texts (map event later) rs,
     went.0,
     subst (λ x. IsTold s x (outcome_bytes r ++ 10 ∷ []) went.0) (sym is)
-        (r, went.1, went.2, refl),
+        (r, went.1, went.2, went.3, refl),
     sym (append_assoc (outcome_bytes r) (10 ∷ []) (outcome_texts (map event later) rs)),
-    then went.0 rs went.3,
+    then went.0 rs went.4,
   )
   answers_first (Err fault) is rs went = (
     fault_bytes fault ++ 10 ∷ [],

@@ -7,7 +7,7 @@ use Rattle.cam6_commands.specs.declared.commands.Command.{Command}
 use Rattle.cam6_commands.specs.declared.events.Event.{Event}
 use Rattle.cam6_commands.specs.declared.outcomes.Outcome.{Outcome}
 use Rattle.cam6_core.specs.State.{State}
-use Rattle.cam6_core.specs.Goes.{Goes, Spares}
+use Rattle.cam6_core.specs.Goes.{Goes, LoadsTables, Spares}
 use Rattle.cam6_core.specs.Runs.{accepted}
 use Rattle.cam6_wire.specs.declared.faults.LineFault.{LineFault}
 use Rattle.cam6_wire.specs.declared.faults.LineFault.TheVariants as fault
@@ -95,10 +95,11 @@ module _ (result : Result (Unit {0}) Stop) (line : List ℕ) (old new : Option (
   pub outcome_told : (e : Event) (r : Outcome) (s t : State)
       → TellsText result (outcome_bytes r) old new
       → (result ≡ Err (NoMemory true) → accepted r ≡ true) → event line ≡ Ok e → Goes s e r t
-      → Spares e s t → Responds by_core result line old new s t
-  outcome_told e r s t tells done said goes spares =
+      → LoadsTables e r s t → Spares e s t → Responds by_core result line old new s t
+  outcome_told e r s t tells done said goes loads spares =
       text_told by_core line old new result (outcome_bytes r) s t tells
-      (subst (λ x. IsTold s x (outcome_bytes r ++ 10 ∷ []) t) (sym said) (r, goes, spares, refl))
+      (subst (λ x. IsTold s x (outcome_bytes r ++ 10 ∷ []) t) (sym said)
+      (r, goes, loads, spares, refl))
       (λ none. subst (λ x. IsDone s x t) (sym said) (r, goes, done none))
 
   pub fault_told_by_core : (f : LineFault) (s : State) → TellsFault result f old new

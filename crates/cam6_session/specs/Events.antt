@@ -3,7 +3,7 @@ use Rattle.std.specs.Prelude.{◌≡◌, ℕ, List, [], ◌∷◌, ◌++◌, Res
 use Rattle.cam6_commands.specs.declared.events.Event.{Event}
 use Rattle.cam6_commands.specs.declared.outcomes.Outcome.{Outcome}
 use Rattle.cam6_core.specs.State.{State}
-use Rattle.cam6_core.specs.Goes.{Goes, Spares}
+use Rattle.cam6_core.specs.Goes.{Goes, LoadsTables, Spares}
 use Rattle.cam6_core.specs.Runs.{accepted}
 use Rattle.cam6_wire.specs.declared.faults.LineFault.{LineFault}
 use Rattle.cam6_wire.specs.Events.{event}
@@ -13,10 +13,12 @@ use Rattle.cam6_session.specs.Answering.{Answering}
 use Rattle.cam6_session.specs.Answers.{among, texts_by}
 
 -- what a line says may be answered by this text from s on, and then the core is at t: an event goes
--- by `Goes` and `Spares`, and its outcome has this text; a fault has its own, and leaves the core
+-- by `Goes`, `LoadsTables` and `Spares`, and its outcome has this text; a fault has its own, and
+-- leaves the core
 abbrev pub IsTold : State → Result Event LineFault → List ℕ → State → Type 0
 IsTold s (Ok e) text t =
-    (r : Outcome) × Goes s e r t × Spares e s t × (text ≡ outcome_bytes r ++ 10 ∷ [])
+    (r : Outcome) × Goes s e r t × LoadsTables e r s t × Spares e s t
+    × (text ≡ outcome_bytes r ++ 10 ∷ [])
 IsTold s (Err fault) text t = (text ≡ fault_bytes fault ++ 10 ∷ []) × (t ≡ s)
 
 -- what a line says is an event that is done: it isn't refused, and doesn't run out of memory

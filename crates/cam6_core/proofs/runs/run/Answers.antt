@@ -25,7 +25,7 @@ loop-event-preserved c =
           (sym c.push_reserved.ensures.items)
           (one_more c.args.core.now l.core c.apply-outcome.new.self l.yielded l.outcomes.items
           c.in-Some.event c.apply-outcome.result i.done c.apply-outcome.ensures.goes
-          c.apply-outcome.ensures.others);
+          c.apply-outcome.ensures.loads c.apply-outcome.ensures.others);
       whole = append_assoc l.yielded (c.in-Some.event ∷ []) c.next.new.self.rest.items ∙
           ap (λ (es : List Event). l.yielded ++ es) (sym c.in-Some.ensures.steps.0) ∙ i.whole;
       long = grind (arith, common_steps);
