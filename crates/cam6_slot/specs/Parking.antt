@@ -37,11 +37,13 @@ abbrev pub IsParkedBetween : Cells → Cells → Parked → Type 0
 IsParkedBetween o p (Spare spare) = ⊤
 IsParkedBetween o p (Step mid) = Partway o p mid
 
--- a step at least is to be done, and what is parked belongs beside the image at home
+-- a step at least is to be done, and what is parked belongs beside the image at home; the rows of a
+-- parked step that are done are whole bands, fewer than the step has
 pub record IsQueued (q : StoredQueued) : Type 0 where
   pub work : IsWork q.work
   pub some : q.work.reached.steps < q.work.total
   pub parked : IsBeside q.work q.parked
+  pub within : IsWithinStep q.parked
 
 -- spare planes have room for what the image at home shows
 abbrev pub HasRoomFor : Stored → Parked → Type 0

@@ -39,6 +39,8 @@ impl Queued {
         ensures { result ≡ record { work = work; parked = parked } }
     {
         let _home = work.home();
+        // The rows of a parked step are whole bands, fewer than the step has.
+        let _rows = parked.rows_done();
         Queued { work, parked }
     }
 
