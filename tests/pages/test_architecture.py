@@ -4,6 +4,8 @@ from __future__ import annotations
 
 import re
 import shutil
+from collections.abc import Iterable, Iterator
+from dataclasses import dataclass
 
 import pytest
 from pages.texts import CRATES, LISTED, named, rows, sources_of, text_of
@@ -18,9 +20,24 @@ STEPS = [
     ("put_done", "done", "swap::<GivingDone>"),
     ("try_collect", "collect", "compare_exchange::<Collecting>"),
 ]
-CODE = "".join(re.sub(r"//.*", "", text_of(path)) for path in sources_of("cam6_handoff"))
-# The functions of cam6_handoff, each with its indentation, its name and its body, without comments.
-HANDOFF = re.findall(r"^( *)(?:pub(?:\(\w+\))? )?fn (\w+)(.*?)^\1}", CODE, re.M | re.S)
+# The sources of cam6_handoff by their names, without comments.
+HANDOFF = {path.stem: re.sub(r"//.*", "", text_of(path)) for path in sources_of("cam6_handoff")}
+# A function: its indentation, its name, and what is between the name and its end.
+FUNCTION = re.compile(r"^( *)(?:pub(?:\(\w+\))? )?fn (\w+)(.*?)^\1}", re.M | re.S)
+# What changes a word. The words of `turns` are no words of the table.
+CHANGE = re.compile(r"(?:\.|::)((?:swap|store|compare_exchange|fetch_)\w*(?:::<[^()]*>)?)\(")
+OTHER_WORDS = "turns"
+# Changes under which a step isn't one exchange: what is wrong then, the source, and the old text and the new one.
+WRONG = [
+    ("changes", "steps", "shelf.swap::<GivingBack>(", "shelf.store::<GivingBack>("),
+    ("changes", "seats", "self.taken = Some(row);", "self.table.shared.store(&mut self.seat, row, 1);"),
+    ("changes", "turns", "self.taken.store(0, ", "self.table.shared.store(0, "),
+    ("makes", "desks", "Some(reply)\n", "steps::collect(&self.table.shared, &mut self.seat, self.row);\n"),
+    ("loops", "steps", "let found = shelf.swap", "for _ in 0..2 {}\n    let found = shelf.swap"),
+    ("steps::collect calls itself", "steps", "MINE) != DONE {", "MINE) != DONE {\n collect(shelf, chair, row);"),
+    ("desks::try_collect calls itself", "desks", "return None;", "return self.try_collect();"),
+    ("desks::try_collect calls itself", "desks", "return None;", "return Some(self.wait(rt));"),
+]
 COUNTS = (
     "The {programs} programs stand on {code} crates with code, in layers. "
     "{laws} crates have definitions and laws alone, and {tests} read"
@@ -32,21 +49,75 @@ NEWEST = re.findall(r"^## Version (\S+)$", text_of("CHANGELOG.md"), re.M)[0]
 KIT = re.findall(r"`rattle-kit-\w+ logic (\w+)`", text_of("README.md"))[0]
 
 
-def test_the_handoff_has_one_exchange_for_each_kind_of_step() -> None:
-    """There is no other exchange."""
-    bodies = "".join(body for _, _, body in HANDOFF)
-    exchanges = re.findall(r"\.((?:swap|compare_exchange|fetch_\w+)\S*?>)\(", bodies)
-    assert sorted(exchanges) == sorted(exchange for _, _, exchange in STEPS)
+@dataclass(frozen=True)
+class Function:
+    """A function: its source, the type in whose `impl` it is if any, its name, and what is between the name and its end."""
+
+    source: str
+    owner: str
+    name: str
+    body: str
+
+    def __str__(self) -> str:
+        return f"{self.source}::{self.name}"
+
+    def calls(self, other: Function) -> int:
+        """How often it may call the other one. A call by a dot may be one of any method of that name."""
+        ways = [rf"\b{other.source}::", r"(?<![\w.:])"]
+        if other.owner:
+            ways = [r"\.", rf"\b{other.owner}::", *([r"\bSelf::"] if self.owner == other.owner else [])]
+        return len(re.findall(rf"(?:{'|'.join(ways)}){other.name}(?:::<[^()]*>)?\(", self.body))
 
 
-@pytest.mark.parametrize(("call", "step", "exchange"), STEPS)
-def test_a_step_of_the_handoff_is_one_exchange(call: str, step: str, exchange: str) -> None:
-    """No proof counts exchanges. A step is one, in one function that tries none again, and one call makes it, once."""
-    makers = [(name, body) for _, name, body in HANDOFF if f".{exchange}(" in body]
-    callers = [(name, body) for _, name, body in HANDOFF if f"steps::{step}(" in body]
-    assert ([name for name, _ in makers], [name for name, _ in callers]) == ([step], [call])
-    assert callers[0][1].count(f"steps::{step}(") == 1
-    assert not any(re.search(r"\b(?:for|while|loop)\b", body) for _, body in makers + callers)
+def functions_of(sources: dict[str, str]) -> Iterator[Function]:
+    for source, code in sources.items():
+        for part in re.split(r"^(?=impl\b)", code, flags=re.M):
+            owner = re.match(r"impl(?:<.*?>)? (?:.* for )?(\w+)", part)
+            for indentation, name, body in FUNCTION.findall(part):
+                yield Function(source, owner[1] if owner and indentation else "", name, body)
+
+
+def reached(function: Function, every: Iterable[Function]) -> set[Function]:
+    """The functions that it calls, and those that these call."""
+    found, left = set[Function](), [function]
+    while left:
+        last = left.pop()
+        further = {it for it in every if last.calls(it)} - found
+        found |= further
+        left += further
+    return found
+
+
+def faults_in(sources: dict[str, str]) -> list[str]:
+    """What is wrong if the steps of the hand-off aren't one exchange each, which one call makes once."""
+    every = list(functions_of(sources))
+    others = {OTHER_WORDS} if "shared" not in sources[OTHER_WORDS] else set()
+    changes = sorted(found for it in every if it.source not in others for found in CHANGE.findall(it.body))
+    steps = {it for it in every if it.source == "steps"}
+    faults = []
+    if changes != sorted(exchange for _, _, exchange in STEPS):
+        faults.append(f"the changes are {', '.join(changes)}")
+    for call, step, exchange in STEPS:
+        makers = [it for it in every if f".{exchange}(" in it.body]
+        callers = {it: it.calls(maker) for maker in makers for it in every if it.calls(maker)}
+        if [it.name for it in makers] != [step] or [(it.name, often) for it, often in callers.items()] != [(call, 1)]:
+            faults.append(f"another function than `{call}` makes {step}, or makes it twice")
+        faults += [f"{it} loops" for it in [*makers, *callers] if re.search(r"\b(?:for|while|loop)\b", it.body)]
+        steps.update(callers)
+    steps = steps.union(*(reached(it, every) for it in steps))
+    return faults + [f"{it} calls itself" for it in steps if it in reached(it, every)]
+
+
+def test_a_step_of_the_handoff_is_one_exchange() -> None:
+    """No proof counts exchanges. A step is one, in one function, and one call makes it. Neither of them tries it again."""
+    assert faults_in(HANDOFF) == []
+
+
+@pytest.mark.parametrize(("fault", "source", "old", "new"), WRONG)
+def test_a_step_that_is_not_one_exchange_is_found(fault: str, source: str, old: str, new: str) -> None:
+    """Another word is changed, or a word twice, or the step is tried again by a loop or a call of itself."""
+    assert HANDOFF[source].count(old) == 1
+    assert any(fault in found for found in faults_in({**HANDOFF, source: HANDOFF[source].replace(old, new)}))
 
 
 def test_each_crate_is_named() -> None:
