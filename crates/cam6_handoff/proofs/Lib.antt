@@ -12,5 +12,5 @@ pub mod Asking
 pub mod Counting
 -- Seats that hold nothing, one after another.
 pub mod Idle
--- Desks at blank machines may be asked.
+-- Desks at blank machines may be asked, and each is its user's.
 pub mod Resting

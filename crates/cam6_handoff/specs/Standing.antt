@@ -17,3 +17,9 @@ is_waiting nowhere = true
 
 abbrev pub IsResting : Stance → Type 0
 IsResting s = is_waiting s ≡ false
+
+-- the desk is this user's, counted from 1
+abbrev pub IsDeskOf : ℕ → Stance → Type 0
+IsDeskOf u (standing v m) = v ≡ u
+IsDeskOf u (waiting v asked) = v ≡ u
+IsDeskOf u nowhere = ⊥
