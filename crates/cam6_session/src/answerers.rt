@@ -30,6 +30,9 @@ pub trait Answerer {
     /// Where what is asked stands.
     ghost asked: { Self → state };
 
+    /// Whether it is this user's, counted from 1.
+    ghost is_of: { ℕ → Self → Type 0 };
+
     /// Whether it may be given a line.
     ghost may_answer: { Self → Type 0 };
 
@@ -45,6 +48,7 @@ pub trait Answerer {
     ) -> Result<(), Stop>
         requires { may_answer self.old }
         ensures ready { may_answer self.new }
+        ensures user { (u : ℕ) → is_of u self.old → is_of u self.new }
         ensures responds { (l : List ℕ) → Holds line.now l → Responds answering result l
             (W.contents writer.old) (W.contents writer.new) (asked self.old) (asked self.new) };
 }
@@ -61,6 +65,8 @@ impl<D: Ask> Answerer for D {
 
     ghost asked = { D.stands_at };
 
+    ghost is_of = { D.is_of };
+
     ghost may_answer = { D.is_ready };
 
     ghost answering = { by_machine };
@@ -73,6 +79,7 @@ impl<D: Ask> Answerer for D {
     ) -> Result<(), Stop>
         requires { D.is_ready self.old }
         ensures ready { D.is_ready self.new }
+        ensures user { (u : ℕ) → D.is_of u self.old → D.is_of u self.new }
         ensures responds { (l : List ℕ) → Holds line.now l → Responds by_machine result l
             (W.contents writer.old) (W.contents writer.new)
             (D.stands_at self.old) (D.stands_at self.new) }
@@ -105,6 +112,7 @@ fn respond_to<W: Write, D: Ask>(
 ) -> Result<(), Stop>
     requires { D.is_ready desk.old }
     ensures ready { D.is_ready desk.new }
+    ensures user { (u : ℕ) → D.is_of u desk.old → D.is_of u desk.new }
     ensures responds { (l : List ℕ) → what_is_said l ≡ Ok command → Responds by_machine result l
         (W.contents writer.old) (W.contents writer.new)
         (D.stands_at desk.old) (D.stands_at desk.new) }

@@ -8,12 +8,15 @@ use std::sync::Wait;
 
 /// Something that stands at a machine, and answers commands as that machine does.
 pub trait Ask {
-    ghost use Rattle.std.specs.Prelude.{◌≡◌, IfOk, OnOk, OnErr};
+    ghost use Rattle.std.specs.Prelude.{◌≡◌, ℕ, IfOk, OnOk, OnErr};
     ghost use Rattle.cam6_model.specs.Machine.{Machine};
     ghost use Rattle.cam6_model.specs.Alone.{reply, after};
 
     /// The machine at which it stands.
     ghost stands_at: { Self → Machine };
+
+    /// Whether it is this user's, counted from 1.
+    ghost is_of: { ℕ → Self → Type 0 };
 
     /// Whether it may be asked.
     ghost is_ready: { Self → Type 0 };
@@ -24,16 +27,20 @@ pub trait Ask {
         ensures reply { IfOk result (λ r. r ≡ reply (stands_at self.old) command) }
         ensures machine { OnOk result (stands_at self.new ≡ after (stands_at self.old) command) }
         ensures err { OnErr result (stands_at self.new ≡ stands_at self.old) }
-        ensures ready { is_ready self.new };
+        ensures ready { is_ready self.new }
+        ensures user { (u : ℕ) → is_of u self.old → is_of u self.new };
 }
 
 impl Ask for Machine {
-    ghost use Rattle.std.specs.Prelude.{◌≡◌, false, IfOk, IsOk, OnOk, OnErr, ⊤};
+    ghost use Rattle.std.specs.Prelude.{◌≡◌, ℕ, false, IfOk, IsOk, OnOk, OnErr, ⊤};
     ghost use Rattle.cam6_machine.specs.Stored.{machine_of};
     ghost use Rattle.cam6_model.specs.Alone.{reply, after};
     ghost use Rattle.cam6_model.specs.Memory.{may_want_memory};
 
     ghost stands_at = { λ m. machine_of m };
+
+    // A private machine is anybody's.
+    ghost is_of = { λ _ _. ⊤ };
 
     // A machine may always be asked.
     ghost is_ready = { λ _. ⊤ };
@@ -45,6 +52,7 @@ impl Ask for Machine {
             ≡ after (machine_of self.old) command) }
         ensures err { OnErr result (machine_of self.new ≡ machine_of self.old) }
         ensures ready { ⊤ }
+        ensures user { ℕ → ⊤ → ⊤ }
         // It may run out of memory only if `Machine::reply_to` may.
         ensures memory { may_want_memory (machine_of self.old) command ≡ false → IsOk result }
     {
@@ -98,13 +106,15 @@ pub struct AtDesk<W> {
 }
 
 impl<W: Waiter> Ask for AtDesk<W> {
-    ghost use Rattle.std.specs.Prelude.{◌≡◌, IfOk, IsOk, OnOk, OnErr};
+    ghost use Rattle.std.specs.Prelude.{◌≡◌, ℕ, IfOk, IsOk, OnOk, OnErr};
     ghost use Rattle.cam6_model.specs.Alone.{reply, after};
-    ghost use Rattle.cam6_handoff.specs.Standing.{IsResting};
+    ghost use Rattle.cam6_handoff.specs.Standing.{IsDeskOf, IsResting};
     ghost use Rattle.cam6_handoff.specs.Desks.{WantsNone};
     ghost use Rattle.cam6_session.specs.Desks.{machine_at};
 
     ghost stands_at = { λ d. machine_at d.desk };
+
+    ghost is_of = { λ u d. IsDeskOf u d.desk };
 
     // A desk may be asked while it doesn't wait, and no longer waits when it has answered.
     ghost is_ready = { λ d. IsResting d.desk };
@@ -118,6 +128,7 @@ impl<W: Waiter> Ask for AtDesk<W> {
             ≡ after (machine_at self.old.desk) command) }
         ensures err { OnErr result (machine_at self.new.desk ≡ machine_at self.old.desk) }
         ensures ready { IsResting self.new.desk }
+        ensures user { (u : ℕ) → IsDeskOf u self.old.desk → IsDeskOf u self.new.desk }
         // It may run out of memory only if a private machine may.
         ensures memory { WantsNone self.old.desk command → IsOk result }
     {

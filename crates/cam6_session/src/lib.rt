@@ -4,9 +4,9 @@
 //! input's lines, and of the faults of the others, in their order (`specs/Headline.antt`). `serve`
 //! does this for anything that stands at a machine and answers as it does (`Ask`). That is a
 //! private machine, or a user's desk with boards that other threads serve (`AtDesk`,
-//! `specs/Desks.antt`). `replay` reads events of a core, and writes their outcomes one after
-//! another. From a new core, each user is given the replies of their private machine
-//! (`specs/Replays.antt`).
+//! `specs/Desks.antt`), which stays that user's. `replay` reads events of a core, and writes their
+//! outcomes one after another. From a new core, each user is given the replies of their private
+//! machine (`specs/Replays.antt`).
 //!
 //! All use `answer_lines`, which serves whatever answers lines in a way of its own (`Answerer`,
 //! `specs/Answering.antt`). Each of its five ends says exactly which lines were taken, what was

@@ -57,6 +57,9 @@ impl Answerer for Core {
 
     ghost asked = { λ core. core };
 
+    // A core is no one user's.
+    ghost is_of = { λ _ _. ⊥ };
+
     // A core may always be given a line.
     ghost may_answer = { λ _. ⊤ };
 
@@ -69,6 +72,7 @@ impl Answerer for Core {
         writer: &mut W,
     ) -> Result<(), Stop>
         ensures ready { ⊤ }
+        ensures user { ℕ → ⊥ → ⊥ }
         ensures responds { (l : List ℕ) → Holds line.now l → Responds by_core result l
             (W.contents writer.old) (W.contents writer.new) self.old self.new }
     {

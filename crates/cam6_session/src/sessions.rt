@@ -1,5 +1,5 @@
 //! A stream of command lines, each answered by one line.
-ghost use Rattle.std.specs.Prelude.{◌≡◌};
+ghost use Rattle.std.specs.Prelude.{◌≡◌, ℕ};
 ghost use Rattle.cam6_session.specs.Answers.{by_machine};
 ghost use Rattle.cam6_session.specs.Sessions.{AnswersReader};
 ghost use Rattle.cam6_session.specs.Spending.{SpendsItsTurns};
@@ -77,6 +77,7 @@ pub fn serve<R: BufRead, W: Write, D: Ask>(
 ) -> End
     requires { D.is_ready desk.old }
     ensures ready { D.is_ready desk.new }
+    ensures user { (u : ℕ) → D.is_of u desk.old → D.is_of u desk.new }
     ensures served { AnswersReader by_machine result
         (R.remaining reader.old) (R.remaining reader.new)
         (W.contents writer.old) (W.contents writer.new)
@@ -98,6 +99,7 @@ pub fn answer_lines<R: BufRead, W: Write, A: Answerer>(
 ) -> End
     requires { A.may_answer answerer.old }
     ensures ready { A.may_answer answerer.new }
+    ensures user { (u : ℕ) → A.is_of u answerer.old → A.is_of u answerer.new }
     ensures served { AnswersReader A.answering result
         (R.remaining reader.old) (R.remaining reader.new)
         (W.contents writer.old) (W.contents writer.new)

@@ -28,6 +28,8 @@ impl Ask for Desk {
 
     ghost stands_at = { λ d. machine_of d.machine };
 
+    ghost is_of = { λ _ _. ⊤ };
+
     ghost is_ready = { λ _. ⊤ };
 
     fn ask(&mut self, command: Command) -> Result<Reply, NoMemory> {

@@ -38,6 +38,7 @@ returns-in-Err-clause-served g c =
 pub loop-line-preserved : goal.loop-line-preserved
 loop-line-preserved g c = record {
   ready = c.respond.ensures.ready;
+  user = λ u is. c.respond.ensures.user u (c.loop-line.invariant.user u is);
   runs = runs_on _ _ _ _ _ _ _ _ _ c.loop-line.invariant.runs _ _ c.in-Ended.ensures.line
       c.in_default-respond.ensures.responds;
   spent = spent_more _ _ _ _ _ _ _ c.loop-line.invariant.spent c.in-Ended.ensures.line
