@@ -21,7 +21,7 @@ FILES = sorted((Path(__file__).parent / "refused").glob("*.rt.txt"))
 TEXTS = {path.name.partition(".")[0]: path.read_text(encoding="utf-8") for path in FILES}
 WANTED = {name: text.split("\n")[1].removeprefix("//! ") for name, text in TEXTS.items()}
 # The crate that the programs are compiled in, and the crates that it stands on.
-LINE = "cam6_tried: cam6_planes cam6_wiring cam6_entries cam6_table cam6_band\n"
+LINE = "cam6_tried: cam6_planes cam6_wiring cam6_entries cam6_table cam6_band cam6_server\n"
 
 
 @pytest.fixture(scope="module")

@@ -32,5 +32,5 @@ mod slices;
 mod workers;
 
 pub use gates::{Gate, Turn};
-pub use slices::SlicingGate;
+pub use slices::{Rung, SlicingGate};
 pub use workers::{Ended, serve_board};

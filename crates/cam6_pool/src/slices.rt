@@ -68,6 +68,10 @@ impl Slice {
     }
 }
 
+/// Shows that a gate was rung. `SlicingGate::ring` alone makes one.
+#[derive(Drop)]
+pub struct Rung(());
+
 /// A gate that lets a command have its board for about two milliseconds, its tables and whole steps, if
 /// another command waits, and else for as long as it wants. A command whose tables take longer does one
 /// step. A board without a command sleeps until `ring` is called, which has to follow each put.
@@ -101,10 +105,11 @@ impl<R: Wait + Clock + Drop> SlicingGate<R> {
 
     /// Wakes one board that sleeps, since a command was put. A board that is awake doesn't sleep
     /// when it is idle next.
-    pub fn ring(&self) {
+    pub fn ring(&self) -> Rung {
         let mut rings = self.bell.lock(&self.rt);
         *rings = rings.wrapping_add(1);
         self.rung.notify_one();
+        Rung(())
     }
 
     /// Stops each worker that asks from now on, and wakes those that sleep. Doesn't wait until they

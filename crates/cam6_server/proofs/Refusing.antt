@@ -12,7 +12,7 @@ use Rattle.cam6_wire.specs.declared.seats.Seating.TheVariants.{Seated, Taken, No
 use Rattle.cam6_server.specs.Connections.{AnswersOnly, Converses, FirstSays, IsFirst, IsRefusal}
 use Rattle.cam6_server.specs.Connections.{IsRefused, Went}
 use Rattle.cam6_server.specs.Places.{Takes}
-use Rattle.cam6_server.specs.declared.free_desks.FreeDesk.{FreeDesk}
+use Rattle.cam6_handoff.specs.Standing.{Stance}
 use Rattle.cam6_server.specs.declared.connections.Visit.{Visit}
 use Rattle.cam6_server.specs.declared.connections.Visit.TheVariants.{Silent, Refused, Unheard, Served}
 
@@ -25,7 +25,7 @@ fault_is NoCommand said told is = is
 fault_is OtherSpelling said told is = is
 
 -- a place from which nothing is taken never tells that its seat is had
-pub not_seated : (old new : List (Option FreeDesk)) (user : ℕ) (seating : Seating) →
+pub not_seated : (old new : List (Option Stance)) (user : ℕ) (seating : Seating) →
     Takes old user (Err seating) new → seating ≢ Seated
 not_seated old new user Seated takes is = absurd takes
 not_seated old new user Taken takes is = cc

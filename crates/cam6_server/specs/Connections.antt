@@ -1,8 +1,10 @@
 -- What is written to a connection for what is read of it.
 use Rattle.std.specs.Prelude.{◌≡◌, ◌≢◌, ◌⊎◌, ℕ, List, [], ◌∷◌, ◌++◌, Option, Some, IfSome}
 use Rattle.std.specs.Prelude.{Result, Ok, Err, true, false}
+use Rattle.cam6_handoff.specs.Standing.{Stance, IsDeskOf}
 use Rattle.cam6_model.specs.Machine.{Machine}
 use Rattle.cam6_session.specs.Answers.{by_machine}
+use Rattle.cam6_session.specs.Desks.{machine_at}
 use Rattle.cam6_session.specs.Reading.{IsLongLoad}
 use Rattle.cam6_session.specs.Responding.{TakesMemory}
 use Rattle.cam6_session.specs.Sessions.{AnswersReader}
@@ -118,17 +120,20 @@ abbrev pub SitsDown : Visit → Option (List ℕ) → Option (List ℕ) → Opti
 SitsDown visit read remaining old new m n =
     IfSome read (λ unread. IfSome old (λ out. Sits visit unread remaining out new m n))
 
--- the same, where the machine stands somewhere in the end
-abbrev pub SitsDownAt : Machine → Visit → Option (List ℕ) → Option (List ℕ) → Option (List ℕ)
+-- the same at a user's desk, which is that user's in the end, too
+abbrev pub SitsDownAt : ℕ → Stance → Visit → Option (List ℕ) → Option (List ℕ) → Option (List ℕ)
     → Option (List ℕ) → Type 0
-SitsDownAt m visit read remaining old new =
-    (n : Machine) × SitsDown visit read remaining old new m n
+SitsDownAt user d visit read remaining old new =
+    (e : Stance) × IsDeskOf user e
+    × SitsDown visit read remaining old new (machine_at d) (machine_at e)
 
--- the first line asks for a seat and gets it; the user's machine stands somewhere, before and after
+-- the first line asks for a user's seat and gets it: the machine is the one at which a desk of that
+-- user stands, before and after
 abbrev pub IsSeated : Visit → List ℕ → Option (List ℕ) → List ℕ → Option (List ℕ) → Type 0
 IsSeated visit all remaining out new =
     (line unread : List ℕ) × (user : ℕ) × IsFirst all line unread × (seat line ≡ Ok user)
-    × ((m n : Machine) × Sits visit unread remaining out new m n)
+    × ((d e : Stance) × IsDeskOf user d × IsDeskOf user e
+    × Sits visit unread remaining out new (machine_at d) (machine_at e))
 
 -- by how it went: nothing was written; or the first line's refusal; or a prefix of that or of the
 -- seated line; or the client has its seat

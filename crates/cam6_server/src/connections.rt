@@ -1,6 +1,6 @@
 //! What is said on a connection: its first line asks for a seat, and then there is a session.
 ghost use Rattle.std.specs.Prelude.{◌≡◌, ◌≢◌, List, ℕ, Ok, Err};
-ghost use Rattle.cam6_session.specs.Desks.{machine_at};
+ghost use Rattle.cam6_handoff.specs.Standing.{IsDeskOf, IsResting};
 ghost use Rattle.cam6_session.specs.Held.{Holds};
 ghost use Rattle.cam6_session.specs.Responding.{TakesMemory};
 ghost use Rattle.cam6_wire.specs.Commands.{IsSaid};
@@ -9,10 +9,11 @@ ghost use Rattle.cam6_server.specs.Connections.{AnswersOnly, Converses, ReadsFir
 ghost use Rattle.cam6_server.specs.Connections.{SitsDown, SitsDownAt, Tells};
 
 use crate::desks::AtGate;
-use crate::free_desks::FreeDesk;
 use crate::halls::{Hall, Handle};
+use crate::places::SeatedDesk;
 use crate::streams::Connection;
-use cam6_session::{Ask, AtDesk, End, Line, LineBuf, answer_lines, next_line_within};
+use crate::waits::Patience;
+use cam6_session::{Ask, End, Line, LineBuf, answer_lines, next_line_within};
 use cam6_wire::{LineFault, Seating, fault_line, read_seat, seating_line};
 use cam6_writing::send;
 use std::alloc::Global;
@@ -52,9 +53,14 @@ pub fn converse<H: Handle, R: BufRead, W: Write, C: Connection>(
         Ok(Err(fault)) => return refuse(writer, fault_line(fault)),
         Err(end) => return Visit::Silent(end),
     };
-    let taken = hall.places.lock(&hall.rt).take(user);
+    let waiter = AtGate {
+        patience: Patience::new(hall.rt),
+        gate: &hall.gate,
+        connection,
+    };
+    let taken = hall.places.lock(&hall.rt).take(user, waiter);
     match taken {
-        Ok(desk) => seated(hall, reader, writer, connection, user, desk),
+        Ok(desk) => seated(hall, reader, writer, connection, desk),
         Err(seating) => refuse(writer, seating_line(seating)),
     }
 }
@@ -120,36 +126,18 @@ fn seated<H: Handle, R: BufRead, W: Write, C: Connection>(
     reader: &mut R,
     writer: &mut W,
     connection: &C,
-    user: u64,
-    free: FreeDesk,
+    desk: SeatedDesk<AtGate<'_, H, C>>,
 ) -> Visit
-    ensures { SitsDownAt (machine_at free.desk) result
+    requires { IsResting desk }
+    ensures { (user : ℕ) → IsDeskOf user desk.entry → SitsDownAt user desk.entry result
         (R.remaining reader.old) (R.remaining reader.new)
         (W.contents writer.old) (W.contents writer.new) }
 {
     connection.sit();
-    let waiter = AtGate {
-        rt: hall.rt,
-        gate: &hall.gate,
-        connection,
-    };
-    let mut desk = AtDesk {
-        waiter,
-        desk: free.sit(),
-    };
+    let mut desk = desk;
     let visit = sit_down(hall.rt.alloc(), reader, writer, &mut desk);
     connection.release();
-    let AtDesk {
-        waiter: AtGate {
-            rt: _,
-            gate: _,
-            connection: _,
-        },
-        desk,
-    } = desk;
-    hall.places
-        .lock(&hall.rt)
-        .give_back(user, FreeDesk::new(desk));
+    hall.places.lock(&hall.rt).give_back(desk);
     visit
 }
 
@@ -163,6 +151,7 @@ fn sit_down<R: BufRead, W: Write, D: Ask>(
 ) -> Visit
     requires { D.is_ready desk.old }
     ensures ready { D.is_ready desk.new }
+    ensures user { (u : ℕ) → D.is_of u desk.old → D.is_of u desk.new }
     ensures sits { SitsDown result (R.remaining reader.old) (R.remaining reader.new)
         (W.contents writer.old) (W.contents writer.new)
         (D.stands_at desk.old) (D.stands_at desk.new) }

@@ -1,6 +1,7 @@
 //! Who waits at the desk of a host's user.
 
 use crate::streams::Connection;
+use crate::waits::Patience;
 use cam6_commands::{Command, Reply};
 use cam6_handoff::{Desk, Put};
 use cam6_planes::NoMemory;
@@ -9,10 +10,11 @@ use cam6_session::Waiter;
 use std::sync::Wait;
 use std::time::Clock;
 
-/// Waits by a handle of the runtime. If steps wait for a board, the gate of the boards is rung, and the
-/// connection sends the answers that it held back.
+/// Waits for boards. If steps wait for a board, the gate of the boards is rung, and the connection
+/// sends the answers that it held back. Nothing here can wait without that (`Patience`).
+#[derive(Drop)]
 pub struct AtGate<'a, R, C> {
-    pub rt: R,
+    pub patience: Patience<R>,
     pub gate: &'a SlicingGate<R>,
     pub connection: &'a C,
 }
@@ -32,9 +34,9 @@ impl<'a, R: Wait + Clock + Drop, C: Connection> Waiter for AtGate<'a, R, C> {
         match desk.put(command)? {
             Put::Answered(reply) => Ok(reply),
             Put::Waiting => {
-                self.gate.ring();
-                self.connection.release();
-                Ok(desk.wait(&self.rt))
+                let rung = self.gate.ring();
+                let released = self.connection.release();
+                Ok(self.patience.wait(desk, rung, released))
             }
         }
     }

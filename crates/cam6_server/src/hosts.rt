@@ -1,6 +1,6 @@
 //! A host: users at their desks, boards in threads of their own, and a thread for each connection.
 ghost use Rattle.std.specs.Prelude.{◌<◌, length};
-ghost use Rattle.cam6_server.specs.Places.{AreResting};
+ghost use Rattle.cam6_server.specs.Places.{AreOwnDesks};
 
 use crate::boards::{IdleBoard, boards_at};
 use crate::guests::Guests;
@@ -9,7 +9,7 @@ use crate::places::Places;
 use crate::serving::{Fault, Serving};
 use crate::sessions::receive;
 use cam6_cache::TableCache;
-use cam6_handoff::laws::blank_desks_rest;
+use cam6_handoff::laws::{blank_desks_are_their_users, blank_desks_rest};
 use cam6_handoff::{BoardSeat, Desk, boot};
 use cam6_planes::NoMemory;
 use cam6_pool::SlicingGate;
@@ -58,6 +58,7 @@ fn open<R: Handle>(rt: R, serving: &Serving) -> Result<(Arc<House<R>>, Vec<IdleB
     let alloc = rt.alloc();
     let limits = vec![in alloc; serving.limit; serving.users]?;
     let (desks, seats) = boot(alloc, serving.users, serving.boards, limits.as_slice())?;
+    blank_desks_are_their_users();
     blank_desks_rest();
     let house = House {
         hall: hall_of(rt, serving, desks, seats.as_slice())?,
@@ -84,7 +85,7 @@ fn hall_of<R: Handle>(
     seats: &[BoardSeat],
 ) -> Result<Hall<R>, NoMemory>
     requires a_seat { 0 < length seats.now }
-    requires desks { AreResting desks.items }
+    requires desks { AreOwnDesks desks.items }
 {
     let alloc = rt.alloc();
     let places = Places::new(alloc, desks)?;

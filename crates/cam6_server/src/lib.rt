@@ -3,12 +3,14 @@
 //!
 //! Contract: the clause of `converse` says what is written on a connection for what is read of it
 //! (`specs/Connections.antt`). If no first line is answered, nothing is written. If the first line
-//! is refused, only the refusal is written. Otherwise `{"ok":"seat"}` is written, and then a
-//! machine's answers to the lines after it, as `serve` of `cam6_session` answers them. A desk at
-//! which nobody sits doesn't wait (`FreeDesk`), so no desk is put back before its reply is
-//! collected. A user's desk is taken from its place. If somebody has it, or there is no such user,
-//! nothing changes. What is given back is at its place (`specs/Places.antt`). What is written to an
-//! `Outbox` goes to its writer in order, each byte once, when it is released. After bytes couldn't
+//! is refused, only the refusal is written. Otherwise `{"ok":"seat"}` is written, and then the
+//! answers to the lines after it of the machine at which the user's desk stands, as `serve` of
+//! `cam6_session` answers them. A desk at which nobody sits is at its user's place and doesn't wait.
+//! So no desk is put back before its reply is collected. A user's desk is taken from its place. If
+//! somebody has it, or there is no such user, nothing changes. A desk that was taken can't be dropped
+//! (`SeatedDesk`), only given back, and is then at its user's place (`specs/Places.antt`). A session
+//! waits for boards only after it rang for one and sent what was held back (`waits`). What is written
+//! to an `Outbox` goes to its writer in order, each byte once, when it is released. After bytes couldn't
 //! be sent, it takes none and sends none (`specs/Outboxes.antt`). All of this holds if the call
 //! returns: it may wait for its client, for a board, and for a lock. No more clients wait for a
 //! seat than there is room for (`specs/Guests.antt`, an invariant of the counts under a lock).
@@ -28,14 +30,13 @@
 //!
 //! Read next: `serving`, how much a host has; `hosts`, all of it; `halls`, what its threads share;
 //! `boards`; `guests`, the counts of clients; `sessions`, a thread for each connection;
-//! `connections`, what is said there; `free_desks`, `places` and `desks`; `outboxes`, `terms` and
+//! `connections`, what is said there; `places`, `desks` and `waits`; `outboxes`, `terms` and
 //! `streams`, the bytes and their limits.
 #![tactic(auto)]
 
 mod boards;
 mod connections;
 mod desks;
-mod free_desks;
 mod guests;
 mod halls;
 mod hosts;
@@ -45,12 +46,12 @@ mod serving;
 mod sessions;
 mod streams;
 mod terms;
+mod waits;
 
 pub use connections::{Visit, converse};
-pub use free_desks::FreeDesk;
 pub use halls::{Hall, Handle};
 pub use hosts::serve_net;
 pub use outboxes::Outbox;
-pub use places::Places;
+pub use places::{Places, SeatedDesk};
 pub use serving::{Fault, Serving};
 pub use streams::Connection;

@@ -1,54 +1,136 @@
-//! The desks at which nobody sits.
+//! Users' desks, and the places at which they stand while nobody sits at them.
 ghost use Rattle.std.specs.Prelude.{◌≡◌, map, IfOk, Some};
-ghost use Rattle.cam6_server.specs.Places.{AreResting, Takes, stances, with_user};
+ghost use Rattle.cam6_handoff.specs.Standing.{IsResting};
+ghost use Rattle.cam6_server.specs.Places.{AreAtTheirPlaces, AreOwnDesks, GivesBack, IsFreeDeskOf};
+ghost use Rattle.cam6_server.specs.Places.{Takes, with_user};
 
-use crate::free_desks::FreeDesk;
+use cam6_commands::{Command, Reply};
 use cam6_handoff::Desk;
+use cam6_planes::NoMemory;
+use cam6_session::{Ask, AtDesk, Waiter};
 use cam6_wire::Seating;
 use std::alloc::{AllocError, Global};
+use std::marker::Model;
 
 /// A place for each user, counted from 1. It has the user's desk, unless somebody sits at it.
 #[derive(Drop)]
 pub struct Places {
-    desks: Vec<Option<FreeDesk>>,
+    desks: Vec<Option<Desk>>,
+}
+
+impl Model for Places {
+    ghost use Rattle.std.specs.Prelude.{List, Option};
+    ghost use Rattle.cam6_handoff.specs.Standing.{Stance};
+    ghost use Rattle.cam6_server.specs.Places.{AreAtTheirPlaces};
+
+    ghost Value = { List (Option Stance) };
+
+    ghost view = { λ places. places.desks.items };
+
+    // Each desk is at its user's place, and doesn't wait.
+    ghost invariant = { λ places. AreAtTheirPlaces places.desks.items };
+}
+
+/// A user's desk, at which somebody sits, with whoever asks it. It can't be dropped: it is given back.
+pub struct SeatedDesk<W> {
+    user: u64,
+    at: AtDesk<W>,
+}
+
+impl<W> Model for SeatedDesk<W> {
+    ghost use Rattle.cam6_handoff.specs.Standing.{Stance, IsDeskOf};
+
+    ghost Value = { Stance };
+
+    ghost view = { λ seated. seated.at.desk };
+
+    ghost invariant = { λ seated. IsDeskOf seated.user seated.at.desk };
+}
+
+impl<W: Waiter> Ask for SeatedDesk<W> {
+    ghost use Rattle.cam6_handoff.specs.Standing.{IsDeskOf, IsResting};
+    ghost use Rattle.cam6_session.specs.Desks.{machine_at};
+
+    ghost stands_at = { λ desk. machine_at desk };
+
+    ghost is_of = { λ u desk. IsDeskOf u desk };
+
+    // A desk may be asked while it doesn't wait, and no longer waits when it has answered.
+    ghost is_ready = { λ desk. IsResting desk };
+
+    /// Has the waiter ask the desk, and replies.
+    fn ask(&mut self, command: Command) -> Result<Reply, NoMemory> {
+        self.at.ask(command)
+    }
 }
 
 impl Places {
     /// Makes a place for each desk, at which nobody sits. The first desk is that of user 1.
     pub fn new(alloc: Global, desks: Vec<Desk>) -> Result<Places, AllocError>
-        requires { AreResting desks.items }
-        ensures { IfOk result (λ places. stances places.desks.items ≡ map Some desks.items) }
+        requires { AreOwnDesks desks.items }
+        ensures { IfOk result (λ places. places ≡ map Some desks.items) }
     {
         let mut places = Vec::with_capacity(alloc, desks.len())?;
         for desk in desks {
-            places.push(Some(FreeDesk::new(desk)))?;
+            places.push(Some(desk))?;
         }
         Ok(Places { desks: places })
     }
 
-    /// Takes a user's desk from its place. Fails if somebody has it or there is no such user.
-    pub fn take(&mut self, user: u64) -> Result<FreeDesk, Seating>
-        ensures { Takes self.old.desks.items user result self.new.desks.items }
+    /// Takes a user's desk from its place, for whoever asks it from here on. Fails if somebody has it
+    /// or there is no such user.
+    pub fn take<W: Drop>(&mut self, user: u64, waiter: W) -> Result<SeatedDesk<W>, Seating>
+        ensures { Takes self.old user result self.new }
     {
-        let Some(index) = user.checked_sub(1) else {
-            return Err(Seating::NoUser);
-        };
-        match self.desks.get_mut(index as usize) {
-            Some(place) => place.take().ok_or(Seating::Taken),
-            None => Err(Seating::NoUser),
+        match take_from(&mut self.desks, user) {
+            Ok(desk) => Ok(SeatedDesk {
+                user,
+                at: AtDesk { waiter, desk },
+            }),
+            Err(seating) => Err(seating),
         }
     }
 
-    /// Gives a user's desk back to its place. If there is no such user, drops the desk.
-    pub fn give_back(&mut self, user: u64, desk: FreeDesk)
-        ensures { self.new.desks.items ≡ with_user self.old.desks.items user (Some desk) }
+    /// Gives a desk back to its user's place. No other call takes a desk at which somebody sits.
+    pub fn give_back<W: Drop>(&mut self, desk: SeatedDesk<W>)
+        requires { IsResting desk }
+        ensures { GivesBack self.old desk self.new }
     {
-        let Some(index) = user.checked_sub(1) else {
-            return;
-        };
-        let index = index as usize;
-        if index < self.desks.len() {
-            self.desks[index].insert(desk);
-        }
+        let SeatedDesk {
+            user,
+            at: AtDesk { waiter: _, desk },
+        } = desk;
+        put_back(&mut self.desks, user, desk);
+    }
+}
+
+/// Takes the desk at a user's place.
+fn take_from(desks: &mut Vec<Option<Desk>>, user: u64) -> Result<Desk, Seating>
+    requires { AreAtTheirPlaces desks.old.items }
+    ensures own { AreAtTheirPlaces desks.new.items }
+    ensures taken { Takes desks.old.items user result desks.new.items }
+{
+    let Some(index) = user.checked_sub(1) else {
+        return Err(Seating::NoUser);
+    };
+    match desks.get_mut(index as usize) {
+        Some(place) => place.take().ok_or(Seating::Taken),
+        None => Err(Seating::NoUser),
+    }
+}
+
+/// Puts a user's desk at its place. If there is no such place, drops it.
+fn put_back(desks: &mut Vec<Option<Desk>>, user: u64, desk: Desk)
+    requires places { AreAtTheirPlaces desks.old.items }
+    requires desk { IsFreeDeskOf user desk }
+    ensures own { AreAtTheirPlaces desks.new.items }
+    ensures back { desks.new.items ≡ with_user desks.old.items user (Some desk) }
+{
+    let Some(index) = user.checked_sub(1) else {
+        return;
+    };
+    let index = index as usize;
+    if index < desks.len() {
+        desks[index].insert(desk);
     }
 }

@@ -26,13 +26,17 @@ const DRAINED: usize = 1_048_576;
 /// Seconds for which bytes are read and dropped, at most.
 const DRAIN_SECONDS: u64 = 2;
 
+/// Shows that a connection was told to send what it held back. A `Connection` alone makes one.
+#[derive(Drop)]
+pub struct Released(());
+
 /// What `converse` reports to the connection.
 pub trait Connection {
     /// Notes that the client has its seat from now on.
     fn sit(&self);
 
     /// Sends the answers that are held back, because what is waited for next may take a while.
-    fn release(&self);
+    fn release(&self) -> Released;
 }
 
 /// The socket of a connection. A call that is interrupted is made again, and a write that waits fails
@@ -163,9 +167,10 @@ impl<R: Handle> Connection for Link<'_, R> {
         self.terms.sit();
     }
 
-    fn release(&self) {
+    fn release(&self) -> Released {
         // The outbox is broken if it fails, so the next write and the next read fail too.
         let _ = self.send();
+        Released(())
     }
 }
 
