@@ -7,7 +7,7 @@ use Rattle.cam6_model.specs.Alone.{reply, after}
 use Rattle.cam6_model.specs.Machine.{Machine, blank}
 use Rattle.cam6_model.specs.Memory.{may_want_memory}
 use Rattle.cam6_planes.specs.declared.sides.Side.{Side}
-use Rattle.cam6_slot.specs.Lefts.{bands_of}
+use Rattle.cam6_slot.specs.Lefts.{bands_of, queued_left, queued_home}
 use Rattle.cam6_handoff.specs.Rule.{asked_machine, asked_command}
 use Rattle.cam6_handoff.specs.Standing.{Stance, standing, waiting, nowhere}
 use Rattle.cam6_handoff.specs.declared.desks.Put.{Put}
@@ -19,10 +19,12 @@ StandsAt u m (standing v s) = (v ≡ u) × (machine_of s ≡ m)
 StandsAt u m (waiting v asked) = ⊥
 StandsAt u m nowhere = ⊥
 
--- it waits for what this command makes of this machine
+-- it waits for what this command makes of this machine; all of the command's bands are left, and all
+-- of them from home
 abbrev pub WaitsFor : ℕ → Machine → Command → Stance → Type 0
 WaitsFor u m c (waiting v asked) =
     (v ≡ u) × (asked_machine asked ≡ m) × (asked_command asked ≡ c)
+    × (queued_left asked ≡ bands_of m c) × (queued_home asked ≡ bands_of m c)
 WaitsFor u m c (standing v s) = ⊥
 WaitsFor u m c nowhere = ⊥
 

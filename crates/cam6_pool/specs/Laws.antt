@@ -2,7 +2,8 @@
 use Rattle.std.specs.Prelude.{ℕ, ◌<◌, ◌≤◌, List, length}
 use Rattle.cam6_pool.specs.Rounds.{Take, AreInTurn, AreWithout}
 
--- as long as a user is neither taken nor passed over, fewer others are taken than there are users
+-- in a list of takes in turn, if no round takes a user or passes over them, there are fewer takes
+-- than users
 abbrev pub UsersTakeTurns : Type 0
 UsersTakeTurns =
     (users row user : ℕ) (takes : List Take) → 0 < user → user ≤ users →

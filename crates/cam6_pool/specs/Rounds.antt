@@ -28,7 +28,7 @@ IsWithout users row user take =
     (take.user ≢ user)
     × ((passed : ℕ) → passed < take.passed → user_in_turn users row passed ≢ user)
 
--- none of the rounds of these takes does
+-- no round of these takes takes the user or passes over them
 abbrev pub AreWithout : ℕ → ℕ → ℕ → List Take → Type 0
 AreWithout users row user [] = ⊤
 AreWithout users row user (take ∷ later) =

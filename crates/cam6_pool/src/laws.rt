@@ -2,8 +2,8 @@
 //! that does nothing.
 ghost use Rattle.cam6_pool.specs.Laws.{UsersTakeTurns};
 
-/// As long as a user is neither taken nor passed over, a worker takes fewer others than there are
-/// users.
+/// In a list of takes in turn, if no round takes a user or passes over them, there are fewer takes
+/// than users.
 pub fn users_take_turns()
     ensures law { UsersTakeTurns }
 {}

@@ -3,7 +3,7 @@ use Rattle.std.proofs.Common.{[], sym, subst}
 use Rattle.cam6_turns.specs.Actions.{answer, put, collect, take, band, back, lose, done}
 use Rattle.cam6_turns.specs.Actions.{repair, cache, look, cut_desk, cut_board, sit}
 use Rattle.cam6_turns.specs.Configurations.{Configuration, IsAtModel}
-use Rattle.cam6_turns.specs.Threads.{ActionIsEvents}
+use Rattle.cam6_turns.specs.Threads.{ActionIsEvents, CollectedIsGiven}
 use Rattle.cam6_turns.proofs.BoardActions as boards
 use Rattle.cam6_turns.proofs.DeskActions as desks
 use Rattle.cam6_turns.proofs.OtherActions as others
@@ -36,3 +36,7 @@ action_is_events users k next a (cut_board b) at does =
     ([], no_events users a next (others.cuts_a_board users k next a at b does))
 action_is_events users k next a (sit row) at does =
     ([], no_events users a next (others.sits users k next a at row does.0 does.1))
+
+pub collected_is_given : CollectedIsGiven
+collected_is_given users k next a row r at small does =
+    desks.collected_is_given users k next a row at small r does

@@ -37,7 +37,9 @@ use Rattle.cam6_core.proofs.Frames.{user_here, user_else}
 use Rattle.cam6_core.proofs.Inversions.{at_rest, at_end}
 use Rattle.cam6_core.proofs.Numbers.{here_with}
 use Rattle.cam6_handoff.specs.Rule.{Shared, Rule, At, StandsForAsked, IsAskedDone}
-use Rattle.cam6_handoff.specs.Rule.{asked_command}
+use Rattle.cam6_handoff.specs.Desks.{CollectGives}
+use Rattle.cam6_handoff.specs.Rule.{asked_machine, asked_command}
+use Rattle.cam6_handoff.specs.Standing.{standing, waiting}
 use Rattle.cam6_handoff.specs.declared.rule.View.{View}
 use Rattle.cam6_handoff.specs.declared.rule.View.TheVariants.{Rests, Waits}
 use Rattle.cam6_handoff.proofs.Keeps.{put_keeps, collect_keeps, done_row}
@@ -85,30 +87,29 @@ module _ (users : ℕ) (k next : Configuration) (a : Model) (row : ℕ) (at : Is
       let n = queued_left q in
       let rest = at_rest (machine_of p) s p.stage
       (at.good.users u (whereabouts.Resting s) does.rests) in
+      let all : n ≡ bands_of (machine_stored s) c = does.call.1.3 in
       let left : n ≡ bands_of (machine_of p) c =
-      does.begun.left ∙ ap (λ (m : Machine). bands_of m c) rest.1 in
-      let any : 0 < n = (let few = does.begun.some in omega (arith, does.begun.left, few)) in
+      all ∙ ap (λ (m : Machine). bands_of m c) rest.1 in
+      let any : 0 < n = (let few = does.call.0 in omega (arith, all, few)) in
+      let begun : Stands q (machine_stored s) c =
+      subst (λ (m : Machine). Stands q m c) does.call.1.1
+      (subst (λ (d : Command). Stands q (asked_machine q) d) does.call.1.2 does.stands) in
       let y : User = at_stage p (queued c n n) in
       let moves : Moves k.held (event.Ask u c) (outcome.Asked n) next.held =
       subst (λ (t : State). Moves k.held (event.Ask u c) (outcome.Asked n) t) (sym does.held)
-      (put_in_queue k.held u c s does.rests q does.waits does.begun.stands does.begun.left
-      does.begun.home does.begun.some) in
+      (put_in_queue k.held u c s does.rests q does.waits begun all does.call.1.4 does.call.0) in
       let goes = goes_on k.held next.held (event.Ask u c) (outcome.Asked n)
       (subst (λ (o : Option Whereabouts). ask_reason (option_map status o) ≡ None)
       (sym does.rests) refl) moves in
       let turns : (turn a (event.Ask u c)).0 ≡ model_with_user a u y =
       ap (λ (t : Model × Outcome). t.0) (asks a p u his c rest.0 n left any) in
-      let stands : StandsForAsked q q =
-      subst (λ (m : Machine). Stands q m (asked_command q)) (sym does.call.1.1)
-      (subst (λ (d : Command). Stands q (machine_stored s) d) (sym does.call.1.2)
-      does.begun.stands) in
       let to = gives_it k.table next.table row 1 does.seat (Rests row) (Waits row q)
       (Some (Queued q)) does.step in
       let wide : row < length k.table.words = omega (arith, small, at.said.rule.words) in
       let wide' : row < length k.table.homes = omega (arith, small, at.said.rule.slots) in
       let rule : Rule users next.table =
       subst (Rule users) (sym does.step.after)
-      (put_keeps users k.table at.said.rule row does.seat 1 q refl small stands does.step.at) in
+      (put_keeps users k.table at.said.rule row does.seat 1 q refl small does.stands does.step.at) in
       let said = said_with users k next row (whereabouts.Queued q) at.said small rule
       (ap (λ (t : State). t.users) does.held) (
         word_here k.table next.table row 1 does.seat (Waits row q) (some (Some (Queued q))) to wide,
@@ -156,6 +157,19 @@ module _ (users : ℕ) (k next : Configuration) (a : Model) (row : ℕ) (at : Is
           ap whereabouts.Finished (one_finished g f
           (one_slot k.table.homes row (Some (Finished g)) (Some (Finished f)) says.1 slot))
 
+  -- what is collected is what the desk waits for
+  pub collected_is_given : (r : Reply) → (does : Collects k row r next) →
+      CollectGives (waiting u does.asked) (Some r) (standing u does.then)
+  collected_is_given r does =
+      let ended = done_row k.table.words k.table.homes k.table.views row does.seat does.asked
+      does.step.at does.found (at.said.rule.rows row small) in
+      let same : ended.0 ≡ does.place = one_finished ended.0 does.place
+      (one_slot k.table.homes row (Some (Finished ended.0)) (Some (Finished does.place)) ended.1
+      does.step.valid) in
+      let is : IsAskedDone does.asked does.place =
+      subst (λ (z : StoredFinished). IsAskedDone does.asked z) same ended.2 in
+      (does.told ∙ is.told, (refl, does.machine ∙ is.machine))
+
   pub collected : (r : Reply) → Collects k row r next →
       (rs : List Outcome) × AreEvents users a (event.Collect u ∷ []) rs
       (λ v. put_by v (act.collect row r)) (λ v. told_by v (act.collect row r)) next
@@ -165,19 +179,14 @@ module _ (users : ℕ) (k next : Configuration) (a : Model) (row : ℕ) (at : Is
       let asked = does.asked in
       let ended = done_row k.table.words k.table.homes k.table.views row does.seat asked
       does.step.at does.found (at.said.rule.rows row small) in
-      let same : ended.0 ≡ f = one_finished ended.0 f
-      (one_slot k.table.homes row (Some (Finished ended.0)) (Some (Finished f)) ended.1
-      does.step.valid) in
-      let is : IsAskedDone asked f =
-      subst (λ (z : StoredFinished). IsAskedDone asked z) same ended.2 in
       let there = finished_there f does.found does.step.valid in
       let end = at_end (machine_of p) f p.stage (at.good.users u (whereabouts.Finished f) there) in
-      let told : f.told ≡ r = is.told ∙ sym does.call.0 in
+      let told : f.told ≡ r = sym does.told in
       let y : User = record p { done = end.0 ∷ p.done; stage = resting } in
       let moves : Moves k.held (event.Collect u) (outcome.Collected f.told) next.held =
       subst (λ (t : State). Moves k.held (event.Collect u) (outcome.Collected f.told) t)
       (sym does.held)
-      (collected_as k.held u f t there (does.call.1.1 ∙ sym is.machine)) in
+      (collected_as k.held u f t there does.machine) in
       let goes = goes_on k.held next.held (event.Collect u) (outcome.Collected f.told)
       (subst (λ (o : Option Whereabouts). collect_reason (option_map status o) ≡ None)
       (sym there) refl) moves in

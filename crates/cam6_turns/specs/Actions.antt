@@ -1,5 +1,7 @@
--- What threads do, one action at a time. Each is a step of the hand-off table with the call that
--- makes it, or a call that makes none; its conditions are the clauses of that call.
+-- What threads do, one action at a time. An action is a step of the hand-off table with the calls
+-- that belong to it, or calls without a step. Its conditions are clauses of these calls and
+-- invariants of their values. By reading: what one call returns is what the next one is given, and a
+-- board's seat and its station are in one thread.
 use Rattle.std.specs.Prelude.{◌≡◌, ◌<◌, ℕ, suc, ◌+◌, [], ◌∷◌, ◌++◌, Some, None, slice_set}
 use Rattle.std.specs.Prelude.{slice_index}
 use Rattle.std.specs.List.{slice_get}
@@ -19,9 +21,9 @@ use Rattle.cam6_station.specs.declared.stations.Banded.TheVariants.{More, Last}
 use Rattle.cam6_station.specs.declared.stations.Preempted.TheVariants.{Back}
 use Rattle.cam6_core.specs.State.{State, at_number, with_user, with_board}
 use Rattle.cam6_core.specs.declared.parts.Whereabouts.TheVariants as whereabouts
-use Rattle.cam6_handoff.specs.Desks.{PutGives, CollectGives}
+use Rattle.cam6_handoff.specs.Desks.{PutGives}
 use Rattle.cam6_handoff.specs.Holding.{BoardStance, holding}
-use Rattle.cam6_handoff.specs.Rule.{Slot, Shared, Seated, At}
+use Rattle.cam6_handoff.specs.Rule.{Slot, Shared, Seated, At, StandsForAsked}
 use Rattle.cam6_handoff.specs.Seats.{TakeGives, Accepts, AcceptsDone}
 use Rattle.cam6_handoff.specs.Standing.{standing, waiting}
 use Rattle.cam6_handoff.specs.declared.desks.Put.TheVariants.{Answered, Waiting}
@@ -29,7 +31,6 @@ use Rattle.cam6_handoff.specs.declared.rule.View.{View}
 use Rattle.cam6_handoff.specs.declared.rule.View.TheVariants.{First, Unseated, Rests, Waits}
 use Rattle.cam6_handoff.specs.declared.rule.View.TheVariants.{Idle, Holds}
 use Rattle.cam6_turns.specs.Configurations.{Configuration, WordIs, IsLoadedWith}
-use Rattle.cam6_turns.specs.Steps.{IsBegun}
 
 -- rows and boards are counted from 0; the row u is that of user u + 1
 pub data Action : Type 0 where
@@ -48,7 +49,7 @@ pub data Action : Type 0 where
   repair : ℕ → Action
   -- tables come into the cache, or leave it
   cache : Action
-  -- a look finds another word than it looks for
+  -- a step that looks for a word finds another one; nothing changes
   look : Action
   -- a seat is cut for a desk or for a board, and a desk takes its slot for the first time
   cut_desk : ℕ → Action
@@ -68,7 +69,7 @@ pub record IsCut (s : Shared) (seat : ℕ) (old new cut : View) (t : Shared) : T
   pub at : At s.views seat old
   pub after : t ≡ record s { views = slice_set s.views seat new ++ cut ∷ [] }
 
--- a user is out, a board is loaded with this for the user, and these tables are cached
+-- a user is out, and a board is loaded for the user with this
 abbrev pub leased : State → ℕ → ℕ → Held → State
 leased s u b h = with_board (with_user s u whereabouts.Out) b (board.loaded u h)
 
@@ -76,7 +77,7 @@ module _ (k : Configuration) (row : ℕ) where
   abbrev pub RestsAt : StoredMachine → Type 0
   RestsAt m = at_number k.held.users (suc row) ≡ Some (whereabouts.Resting m)
 
-  -- the desk answers at once, as `PutGives` has it, and then has another machine
+  -- the desk answers at once, and then stands at the machine `then`, as `PutGives` has it
   pub record Answers (c : Command) (r : Reply) (next : Configuration) : Type 0 where
     pub before : StoredMachine
     pub then : StoredMachine
@@ -92,28 +93,29 @@ module _ (k : Configuration) (row : ℕ) where
     pub seat : ℕ
     pub rests : RestsAt before
     pub call : PutGives (standing (suc row) before) c Waiting (waiting (suc row) asked)
-    pub begun : IsBegun asked (machine_of before) c
+    pub stands : StandsForAsked asked asked
     pub waits : IsQueued asked
     pub step : IsStep k.table row 1 seat (Rests row, (row, Some (Queued asked)) ∷ [])
         (Waits row asked) gives next.table
     pub held : next.held ≡ with_user k.held (suc row) (whereabouts.Queued asked)
 
-  -- the desk finds 2 and takes what is finished from its slot; it has the reply and the machine
-  -- that `CollectGives` has
+  -- the desk finds 2 and takes what is finished from its slot; it tells that reply, and then stands at
+  -- that machine
   pub record Collects (r : Reply) (next : Configuration) : Type 0 where
     pub asked : StoredQueued
     pub place : StoredFinished
     pub then : StoredMachine
     pub seat : ℕ
     pub found : WordIs k row 2
-    pub call : CollectGives (waiting (suc row) asked) (Some r) (standing (suc row) then)
+    pub told : r ≡ place.told
+    pub machine : machine_of then ≡ machine_of place.machine
     pub step : IsStep k.table row 0 seat (Waits row asked, []) (Rests row)
         (takes row (Some (Finished place))) next.table
     pub held : next.held ≡ with_user k.held (suc row) (whereabouts.Resting then)
 
 module _ (k : Configuration) (b row : ℕ) where
-  -- an idle board finds 1 and takes the place from the slot; it leases the place as `TakeGives` has
-  -- it, and fills its tables
+  -- an idle board finds 1 and takes the place from the slot, and leases it as `TakeGives` has it; its
+  -- tables fit the lease: those that the seat fills next, or any if it puts the place back unbegun
   pub record Takes (next : Configuration) : Type 0 where
     pub place : StoredQueued
     pub taken : Held

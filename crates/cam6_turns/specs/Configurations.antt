@@ -1,4 +1,4 @@
--- All that the threads of a host have together, and when it is where a model of the core is.
+-- All that the threads of a host have together, and when it agrees with a model of the core.
 use Rattle.std.specs.Prelude.{◌≡◌, ℕ, suc, ◌+◌, Option, Some, None, length, slice_index}
 use Rattle.std.specs.List.{slice_get}
 use mathlib.Core.Option.{some}
@@ -18,7 +18,8 @@ use Rattle.cam6_handoff.specs.Rule.{Slot, Shared, Rule, At, asked_machine, asked
 use Rattle.cam6_handoff.specs.declared.rule.View.TheVariants.{Waits}
 
 -- the hand-off table, and what is held: the machine of each user at rest, by the user's desk; the
--- place of each other user, in the user's slot; what each board is at; and the cached tables
+-- place of a user who is queued or finished, in the slot; for each board what it was leased, from the
+-- take until it puts a place; and the cached tables
 pub record Configuration : Type 0 where
   pub table : Shared
   pub held : State

@@ -75,8 +75,8 @@ held_at (standing u machine) = whereabouts.Resting machine
 held_at (waiting u asked) = whereabouts.Out
 held_at nowhere = whereabouts.Out
 
--- the table is new, with no seat but the first; each user's desk has a blank machine of the user's
--- limit, as `boot` makes it; the boards are idle, and no table is cached
+-- the table is new, with no seat but the first; each user's machine is the blank one that the user's
+-- desk will have, as `boot` says; the boards are idle, and no table is cached
 pub record Begins (limits : List Side) (boards : ℕ) (k : Configuration) : Type 0 where
   pub table : k.table
       ≡ opening (replicate (length limits) 0) (replicate (length limits) None) (First 0 0)

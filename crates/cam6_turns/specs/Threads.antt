@@ -4,6 +4,7 @@ use Rattle.std.specs.Prelude.{◌≡◌, ◌<◌, ℕ, suc, ◌+◌, List, lengt
 use Rattle.cam6_planes.specs.declared.sides.Side.{Side}
 use Rattle.cam6_commands.specs.declared.commands.Command.{Command}
 use Rattle.cam6_commands.specs.declared.outcomes.Outcome.{Outcome}
+use Rattle.cam6_commands.specs.declared.replies.Reply.{Reply}
 use Rattle.cam6_model.specs.Alone.{replies}
 use Rattle.cam6_model.specs.Machine.{blank}
 use Rattle.cam6_slot.specs.Parking.{StoredQueued}
@@ -14,13 +15,15 @@ use Rattle.cam6_core.specs.Model.{Model, out, user, machine_of}
 use Rattle.cam6_core.specs.State.{at_number}
 use Rattle.cam6_handoff.specs.Rule.{At}
 use Rattle.cam6_handoff.specs.declared.rule.View.TheVariants.{Holds}
-use Rattle.cam6_turns.specs.Actions.{Action, Acts}
+use Rattle.cam6_handoff.specs.Desks.{CollectGives}
+use Rattle.cam6_handoff.specs.Standing.{standing, waiting}
+use Rattle.cam6_turns.specs.Actions.{Action, Acts, Collects}
 use Rattle.cam6_turns.specs.Configurations.{Configuration, IsAtModel, WordIs}
 use Rattle.cam6_turns.specs.Executions.{events_of, put_by, told_by, events_in, put_in, told_in}
 use Rattle.cam6_turns.specs.Executions.{Executes, Begins, AreEvents}
 
--- from wherever the threads are at a model, an action is its events: it brings the threads to where
--- these events bring the model
+-- if the threads are where a model is, an action is its events: it brings the threads to where these
+-- events bring the model
 abbrev pub ActionIsEvents : Type 0
 ActionIsEvents =
     (users : ℕ) (k next : Configuration) (a : Model) (action : Action) → IsAtModel users k a →
@@ -52,6 +55,14 @@ DesksGiveTheReplies =
     at_number limits u ≡ Some limit →
     AreGiven (at_number end.held.users u) (told_in u actions)
     (replies (blank limit) (put_in u actions))
+
+-- what a desk collects is what `CollectGives` says: the private machine's reply to what the desk waits
+-- for, and the machine after that
+abbrev pub CollectedIsGiven : Type 0
+CollectedIsGiven =
+    (users : ℕ) (k next : Configuration) (a : Model) (row : ℕ) (r : Reply) →
+    IsAtModel users k a → row < users → (does : Collects k row r next) →
+    CollectGives (waiting (suc row) does.asked) (Some r) (standing (suc row) does.then)
 
 -- the place that a board took, by its seat's view, stands for the user's private machine and the
 -- command that the user waits for; the user's word says that this board has the command

@@ -4,7 +4,7 @@ ghost use Rattle.cam6_turns.specs.Laws.{WordIsStatus, RowIsSaid, PutIsAsk, TakeI
 ghost use Rattle.cam6_turns.specs.Laws.{BackIsPreempt, BackFromHomeIsFail, DoneIsLastBand};
 ghost use Rattle.cam6_turns.specs.Laws.{CollectIsCollect, LookIsNoEvent, FirstTakeIsNoEvent};
 ghost use Rattle.cam6_turns.specs.Threads.{ActionIsEvents, BeginsAtFresh, ExecutionIsEvents};
-ghost use Rattle.cam6_turns.specs.Threads.{DesksGiveTheReplies, TakenPlaceStands};
+ghost use Rattle.cam6_turns.specs.Threads.{DesksGiveTheReplies, CollectedIsGiven, TakenPlaceStands};
 
 /// A user's status is that of the word that says where the user is.
 pub fn a_word_is_a_status()
@@ -74,6 +74,11 @@ pub fn an_execution_is_a_list_of_events()
 /// Each desk gives the replies of a private machine to the commands that were put there.
 pub fn desks_give_the_replies()
     ensures law { DesksGiveTheReplies }
+{}
+
+/// What a desk collects is the private machine's reply to what the desk waits for.
+pub fn what_is_collected_is_the_reply()
+    ensures law { CollectedIsGiven }
 {}
 
 /// What a board took stands for what its user waits for.

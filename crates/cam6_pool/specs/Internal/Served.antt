@@ -23,8 +23,8 @@ LooksInTurn old (Some taken) new =
     × (new ≡ record old { seat = new.seat; row = taken.0 })
     × TakeGives old.seat taken.0 (Some (taken.1, taken.2)) new.seat
 
--- all users are passed over and the seat is as it was; or it holds the place of the first in turn
--- who isn't, leased, and the row is that of the user after this one
+-- all users are passed over and the seat is as it was; or it holds the leased place of the next user
+-- in turn, and the row is then that of the user after them
 abbrev pub TakesNext : Round → Option (ℕ × StoredLease × StoredJob) → Round → Type 0
 TakesNext old None new = new ≡ record old { passed = old.seat.users }
 TakesNext old (Some taken) new =
