@@ -1,11 +1,16 @@
 -- How a private machine answers lines.
-use Rattle.std.specs.Prelude.{◌≡◌, ◌⊎◌, ℕ, List}
+use Rattle.std.specs.Prelude.{◌≡◌, ◌⊎◌, ℕ, List, Ok, false}
+use Rattle.cam6_commands.specs.declared.commands.Command.{Command}
+use Rattle.cam6_commands.specs.declared.replies.Reply.{Reply}
+use Rattle.cam6_model.specs.Alone.{after, reply}
 use Rattle.cam6_model.specs.Machine.{Machine}
-use Rattle.cam6_wire.specs.Commands.{command}
 use Rattle.cam6_session.specs.Answers.{after_line, text_to}
+use Rattle.cam6_session.specs.Responding.{TakesMemory}
 use Rattle.cam6_web_talk.specs.Hosts.{HostWays}
 use Rattle.cam6_web_talk.specs.declared.hosts.Silence.{Silence}
 use Rattle.cam6_web_talk.specs.declared.hosts.Silence.TheVariants.{NoMemory}
+use Rattle.cam6_wire.specs.Commands.{command}
+use Rattle.cam6_wire.specs.Replies.{is_fixed}
 
 -- a line is answered by the text of the machine's reply to what it says, or of the line's fault; the
 -- machine is then as the command leaves it
@@ -13,10 +18,22 @@ pub record Answers (m : Machine) (line answer : List ℕ) (n : Machine) : Type 0
   pub text : answer ≡ text_to m (command line)
   pub machine : n ≡ after_line m (command line)
 
--- an allocation failed; the machine is as it was, or as the command leaves it
-pub record Fails (m : Machine) (line : List ℕ) (silence : Silence) (n : Machine) : Type 0 where
+-- an allocation failed for the text of a reply, which is no fixed one
+pub record IsUntold (reply : Reply) (silence : Silence) : Type 0 where
   pub memory : silence ≡ NoMemory
-  pub machine : (n ≡ m) ⊎ (n ≡ after_line m (command line))
+  pub made : is_fixed reply ≡ false
+
+-- an allocation failed for a command, which isn't done; or it is done, and its reply isn't told
+abbrev pub FailsCommand : Machine → Command → Silence → Machine → Type 0
+FailsCommand m c silence n =
+    ((silence ≡ NoMemory) × (n ≡ m)) ⊎ (IsUntold (reply m c) silence × (n ≡ after m c))
+
+-- an allocation failed for a line: nothing is done, and memory is taken for it; or what it says is
+-- done, and the reply isn't told
+abbrev pub Fails : Machine → List ℕ → Silence → Machine → Type 0
+Fails m line silence n =
+    ((silence ≡ NoMemory) × (n ≡ m) × TakesMemory line)
+    ⊎ ((c : Command) × (command line ≡ Ok c) × IsUntold (reply m c) silence × (n ≡ after m c))
 
 abbrev pub by_private_machine : HostWays Machine
 by_private_machine = record { answers = Answers; fails = Fails }

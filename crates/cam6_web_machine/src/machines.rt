@@ -1,22 +1,24 @@
 //! A machine that answers lines.
-ghost use Rattle.std.specs.Prelude.{◌≡◌, IfErr, IfOk, List, ℕ};
+ghost use Rattle.std.specs.Prelude.{◌≡◌, IfErr, IfOk};
 ghost use Rattle.cam6_machine.specs.Stored.{machine_of};
+ghost use Rattle.cam6_model.specs.Alone.{after, reply};
 ghost use Rattle.cam6_model.specs.Machine.{blank};
-ghost use Rattle.cam6_session.specs.Held.{Holds};
-ghost use Rattle.cam6_web_machine.specs.Answers.{Answers, Fails};
+ghost use Rattle.cam6_wire.specs.Replies.{reply_bytes};
+ghost use Rattle.cam6_web_machine.specs.Answers.{FailsCommand, IsUntold};
+ghost use Rattle.cam6_web_talk.specs.Hosts.{answer_bytes};
 
+use cam6_commands::{Command, Reply};
 use cam6_machine::Machine;
 use cam6_planes::{NoMemory, Side};
-use cam6_session::{Answerer, LineBuf};
-use cam6_web_talk::{Host, Silence};
+use cam6_web_talk::{Answer, Host, Silence};
+use cam6_wire::{LineFault, fault_text, fixed_text, read_command, reply_text};
 use std::alloc::Global;
 
-/// A machine, with the room of the line that it answers.
+/// A machine of a page's own.
 #[derive(Drop)]
 pub struct PrivateMachine {
     alloc: Global,
     machine: Machine,
-    line: LineBuf,
 }
 
 impl PrivateMachine {
@@ -27,7 +29,6 @@ impl PrivateMachine {
         Ok(PrivateMachine {
             alloc,
             machine: Machine::new(alloc, limit)?,
-            line: LineBuf::new(alloc)?,
         })
     }
 }
@@ -43,29 +44,44 @@ impl Host for PrivateMachine {
 
     ghost answering = { by_private_machine };
 
-    /// Does what a line says, and returns the text of the reply, without its LF.
-    fn ask(&mut self, line: &[u8]) -> Result<Vec<u8>, Silence> {
-        self.line.clear();
-        if self.line.add(line).is_err() {
-            return Err(Silence::NoMemory);
+    /// Does what a line says, and returns the text of the reply, without its LF. Allocates nothing
+    /// for an empty line and for one that is too long.
+    fn ask(&mut self, line: &[u8]) -> Result<Answer, Silence> {
+        match read_command(self.alloc, line) {
+            Ok(command) => reply_to(self.alloc, &mut self.machine, command),
+            Err(LineFault::NoMemory) => Err(Silence::NoMemory),
+            Err(fault) => Ok(Answer::Fixed(fault_text(fault))),
         }
-        reply_to(self.alloc, &mut self.machine, &self.line)
     }
 }
 
-/// Does what a line says, and returns the text of the machine's reply, without its LF. After an
-/// error the command may have been done.
-fn reply_to(alloc: Global, machine: &mut Machine, line: &LineBuf) -> Result<Vec<u8>, Silence>
-    ensures answer { (l : List ℕ) → Holds line.now l → IfOk result (λ answer.
-        Answers (machine_of machine.old) l answer.items (machine_of machine.new)) }
-    ensures silence { (l : List ℕ) → Holds line.now l → IfErr result (λ silence.
-        Fails (machine_of machine.old) l silence (machine_of machine.new)) }
+/// Does a command, and returns the text of the machine's reply, without its LF. After an error the
+/// command may have been done.
+fn reply_to(alloc: Global, machine: &mut Machine, command: Command) -> Result<Answer, Silence>
+    ensures text { IfOk result (λ answer.
+        answer_bytes answer ≡ reply_bytes (reply (machine_of machine.old) command)) }
+    ensures machine { IfOk result (λ answer.
+        machine_of machine.new ≡ after (machine_of machine.old) command) }
+    ensures silence { IfErr result (λ silence.
+        FailsCommand (machine_of machine.old) command silence (machine_of machine.new)) }
 {
-    let mut answer = Vec::new(alloc);
-    if machine.respond(alloc, line, &mut answer).is_err() {
-        return Err(Silence::NoMemory);
+    match machine.reply_to(command) {
+        Ok(reply) => answer_of(alloc, &reply),
+        Err(_) => Err(Silence::NoMemory),
     }
-    // The LF.
-    answer.pop();
-    Ok(answer)
+}
+
+/// Returns the text of a reply, without its LF. Allocates nothing for a reply that only says what was
+/// done.
+fn answer_of(alloc: Global, reply: &Reply) -> Result<Answer, Silence>
+    ensures text { IfOk result (λ answer. answer_bytes answer ≡ reply_bytes reply.now) }
+    ensures silence { IfErr result (λ silence. IsUntold reply.now silence) }
+{
+    if let Some(text) = fixed_text(reply) {
+        return Ok(Answer::Fixed(text));
+    }
+    match reply_text(alloc, reply) {
+        Ok(text) => Ok(Answer::Made(text.into_bytes())),
+        Err(_) => Err(Silence::NoMemory),
+    }
 }

@@ -131,6 +131,19 @@ IsCarried page host (Err (end.Unpinged why)) line s h t k = ⊥
 IsCarried page host (Err end.Silent) line s h t k = ⊥
 IsCarried page host (Err end.TurnBound) line s h t k = ⊥
 
+-- an answer was sent to the page as a text; or it isn't UTF-8, or wasn't sent
+abbrev pub IsSentOn : {P : Type 0} → PageWays P → Result (Unit {0}) End → List ℕ → P → P → Type 0
+IsSentOn page (Ok done) answer s t = page.sends s answer t
+IsSentOn page (Err end.NoText) answer s t = (¬ (IsUtf8 answer)) × (t ≡ s)
+IsSentOn page (Err (end.Unsent why)) answer s t = page.unsent s answer why t
+IsSentOn page (Err end.NotALine) answer s t = ⊥
+IsSentOn page (Err end.TooLong) answer s t = ⊥
+IsSentOn page (Err (end.Unanswered silence)) answer s t = ⊥
+IsSentOn page (Err (end.Unheard why)) answer s t = ⊥
+IsSentOn page (Err (end.Unpinged why)) answer s t = ⊥
+IsSentOn page (Err end.Silent) answer s t = ⊥
+IsSentOn page (Err end.TurnBound) answer s t = ⊥
+
 -- a page that was silent was sent a ping; or it was silent too often; or the ping wasn't sent
 abbrev pub IsWaitedOn : {P : Type 0} → PageWays P → Result ℕ End → ℕ → P → P → Type 0
 IsWaitedOn page (Ok count) silent s t =

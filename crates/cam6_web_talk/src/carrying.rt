@@ -1,10 +1,11 @@
 //! Messages carried to a host, and its answers carried back.
 ghost use Rattle.std.specs.Prelude.{◌≡◌, ◌↔◌, ◌<◌, IsTrue, IfOk, IfErr};
 ghost use Rattle.cam6_web_talk.specs.Lines.{HasNoLf};
-ghost use Rattle.cam6_web_talk.specs.Talks.{Exchanges, IsCarried, IsWaitedOn, TalksUntil};
+ghost use Rattle.cam6_web_talk.specs.Hosts.{answer_bytes};
+ghost use Rattle.cam6_web_talk.specs.Talks.{Exchanges, IsCarried, IsSentOn, IsWaitedOn, TalksUntil};
 ghost use Rattle.cam6_web_talk.specs.Talks.{max_silences};
 
-use crate::hosts::{Host, MESSAGE_LIMIT, Silence};
+use crate::hosts::{Answer, Host, MESSAGE_LIMIT, Silence};
 use crate::pages::{Page, Said, Unheard, Unsent};
 
 /// How often in a row a page may be silent before the talk ends.
@@ -97,14 +98,25 @@ fn carry_line<P: Page, H: Host>(page: &mut P, host: &mut H, line: &[u8]) -> Resu
     if line.len() > MESSAGE_LIMIT {
         return Err(End::TooLong);
     }
-    let answer = match host.ask(line) {
-        Ok(answer) => answer,
-        Err(silence) => return Err(End::Unanswered(silence)),
+    match host.ask(line) {
+        Ok(answer) => send_answer(page, answer),
+        Err(silence) => Err(End::Unanswered(silence)),
+    }
+}
+
+/// Sends the page an answer as a text, if it is one.
+fn send_answer<P: Page>(page: &mut P, answer: Answer) -> Result<(), End>
+    ensures { IsSentOn P.talking result (answer_bytes answer)
+        (P.stands page.old) (P.stands page.new) }
+{
+    let sent = match answer {
+        Answer::Fixed(text) => page.send_fixed(text),
+        Answer::Made(bytes) => match String::from_utf8(bytes) {
+            Ok(text) => page.send(text),
+            Err(_) => return Err(End::NoText),
+        },
     };
-    let Ok(text) = String::from_utf8(answer) else {
-        return Err(End::NoText);
-    };
-    match page.send(text) {
+    match sent {
         Ok(()) => Ok(()),
         Err(why) => Err(End::Unsent(why)),
     }

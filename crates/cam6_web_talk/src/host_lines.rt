@@ -3,7 +3,7 @@ ghost use Rattle.std.specs.Prelude.{◌≡◌, IfOk, IfErr};
 ghost use Rattle.cam6_web_talk.specs.Lines.{sent_line};
 ghost use Rattle.cam6_web_talk.specs.HostLines.{Hands, Takes, Misses};
 
-use crate::hosts::{Host, Silence};
+use crate::hosts::{Answer, Host, Silence};
 use cam6_writing::send;
 use std::alloc::{AllocError, Global};
 use std::io::{BufRead, Write};
@@ -40,9 +40,9 @@ impl<R: BufRead, W: Write> Host for HostLines<R, W> {
     ghost answering = { by_lines };
 
     /// Hands a line over with its LF, and takes the next line as its answer.
-    fn ask(&mut self, line: &[u8]) -> Result<Vec<u8>, Silence> {
+    fn ask(&mut self, line: &[u8]) -> Result<Answer, Silence> {
         hand_over(self.alloc, &mut self.writer, line)?;
-        next_answer(self.alloc, &mut self.reader)
+        Ok(Answer::Made(next_answer(self.alloc, &mut self.reader)?))
     }
 }
 

@@ -16,11 +16,20 @@ pub enum Silence {
     NoMemory,
 }
 
+/// A host's answer to a line, without an LF.
+#[derive(Debug, Drop)]
+pub enum Answer {
+    /// A text that is always the same, so that no memory is taken for it.
+    Fixed(&'static str),
+    /// Bytes made for this answer. The caller checks that they are UTF-8.
+    Made(Vec<u8>),
+}
+
 /// Something that answers lines, one after another.
 pub trait Host {
     ghost use Rattle.std.specs.Prelude.{List, ℕ, IfOk, IfErr};
     ghost use Rattle.cam6_web_talk.specs.Lines.{IsLine};
-    ghost use Rattle.cam6_web_talk.specs.Hosts.{HostWays};
+    ghost use Rattle.cam6_web_talk.specs.Hosts.{HostWays, answer_bytes};
 
     /// The type of what it stands at.
     ghost state: { Type 0 };
@@ -31,12 +40,11 @@ pub trait Host {
     /// How it answers lines, and how it fails to.
     ghost answering: { HostWays state };
 
-    /// Takes a line without its LF, and returns its answer, without an LF too. The caller checks
-    /// that the answer is UTF-8.
-    fn ask(&mut self, line: &[u8]) -> Result<Vec<u8>, Silence>
+    /// Takes a line without its LF, and returns its answer, without an LF too.
+    fn ask(&mut self, line: &[u8]) -> Result<Answer, Silence>
         requires { IsLine line.now }
         ensures answer { IfOk result (λ answer.
-            answering.answers (stands self.old) line.now answer.items (stands self.new)) }
+            answering.answers (stands self.old) line.now (answer_bytes answer) (stands self.new)) }
         ensures silence { IfErr result (λ silence.
             answering.fails (stands self.old) line.now silence (stands self.new)) };
 }

@@ -31,7 +31,7 @@ mod talking;
 
 pub use carrying::{End, carry};
 pub use host_lines::HostLines;
-pub use hosts::{Host, MESSAGE_LIMIT, Silence};
+pub use hosts::{Answer, Host, MESSAGE_LIMIT, Silence};
 pub use pages::{Page, Said, Unheard, Unsent};
 pub use partings::{Away, farewell, farewell_away};
 pub use sockets::{Pace, Paced, SocketPage};

@@ -73,6 +73,12 @@ pub trait Page {
         ensures unsent { IfErr result (λ why.
             talking.unsent (stands self.old) (string_bytes text) why (stands self.new)) };
 
+    /// Sends the page a text that is always the same, which is not copied.
+    fn send_fixed(&mut self, text: &'static str) -> Result<(), Unsent>
+        ensures sent { OnOk result (talking.sends (stands self.old) text.now (stands self.new)) }
+        ensures unsent { IfErr result (λ why.
+            talking.unsent (stands self.old) text.now why (stands self.new)) };
+
     /// Sends the page a ping.
     fn ping(&mut self) -> Result<(), Unsent>
         ensures sent { OnOk result (talking.pings (stands self.old) (stands self.new)) }

@@ -87,6 +87,14 @@ impl<S: Read + Write + Paced + Drop, K: MaskKeys + Drop> Page for SocketPage<S, 
         send_text(&mut self.socket, text)
     }
 
+    /// Sends the page a text that is always the same, which is not copied.
+    fn send_fixed(&mut self, text: &'static str) -> Result<(), Unsent> {
+        send_message(
+            &mut self.socket,
+            Message::Text(Utf8Bytes::from_static(text)),
+        )
+    }
+
     /// Sends the page a ping.
     fn ping(&mut self) -> Result<(), Unsent> {
         send_message(&mut self.socket, Message::Ping(Bytes::new()))

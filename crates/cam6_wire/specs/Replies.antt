@@ -1,5 +1,5 @@
 -- The JSON values that replies and the faults of lines are, and their texts.
-use Rattle.std.specs.Prelude.{ℕ, List, [], ◌∷◌, map, codes, slice_index}
+use Rattle.std.specs.Prelude.{ℕ, List, [], ◌∷◌, map, codes, slice_index, Bool, true, false}
 use Rattle.serde_json.specs.Data.{Data, string, array, object}
 use Rattle.serde_json.specs.Data.{Members, no_members, member}
 use Rattle.serde_json.specs.Written.{compact_text}
@@ -106,6 +106,19 @@ refusal_data (refused.NotReversible entry half cause) = cause_data entry half ca
 abbrev pub reply_data : Reply → Data
 reply_data (Done d) = done_data d
 reply_data (Refused refusal) = refusal_data refusal
+
+-- the reply only says that the command was done, so its text is always the same
+abbrev pub is_fixed : Reply → Bool
+is_fixed (Done Set) = true
+is_fixed (Done Clear) = true
+is_fixed (Done Rule) = true
+is_fixed (Done Drop) = true
+is_fixed (Done Cycle) = true
+is_fixed (Done Side) = true
+is_fixed (Done Map) = true
+is_fixed (Done Load) = true
+is_fixed (Done d) = false
+is_fixed (Refused refusal) = false
 
 -- the compact text of a reply
 unfoldable pub reply_bytes : Reply → List ℕ

@@ -56,6 +56,6 @@ pub use events::{event_shown, read_event};
 pub use faults::LineFault;
 pub use limits::{LINE_LIMIT, LOAD_LINE_LIMIT, begins_load_in, line_limit};
 pub use outcomes::{outcome_text, undone_line};
-pub use replies::{fault_line, fault_text, fixed_line, reply_text};
+pub use replies::{fault_line, fault_text, fixed_line, fixed_text, reply_text};
 pub use saved::{Version, machine_value};
 pub use seats::{Seating, read_seat, seating_line};

@@ -1,5 +1,5 @@
 //! Replies and the faults of lines as lines of JSON.
-ghost use Rattle.std.specs.Prelude.{◌≡◌, ◌≢◌, ◌≤◌, [], ◌∷◌, ◌++◌, Some, IfOk, IfSome, string_bytes};
+ghost use Rattle.std.specs.Prelude.{◌≡◌, ◌≢◌, ◌≤◌, [], ◌∷◌, ◌++◌, None, Some, IfOk, IfSome, false, string_bytes};
 ghost use Rattle.std.specs.Prelude.{length};
 ghost use Rattle.std.specs.Prelude.{map, take};
 ghost use Rattle.std.specs.Prelude.{◌<◌, ◌^◌, codes, decimal};
@@ -12,7 +12,7 @@ ghost use Rattle.serde_json.specs.View.{view, members_view};
 ghost use Rattle.cam6_wiring.specs.Name.{phase_number};
 ghost use Rattle.cam6_wire.specs.Replies.{colour_digit, done, reply_data, reply_bytes};
 ghost use Rattle.cam6_wire.specs.Numbers.{texts};
-ghost use Rattle.cam6_wire.specs.Replies.{fault_bytes, cause_data};
+ghost use Rattle.cam6_wire.specs.Replies.{fault_bytes, cause_data, is_fixed};
 ghost use Rattle.cam6_wire.specs.Numbers.{natural, naturals};
 ghost use Rattle.cam6_wire.specs.Replies.{done_data, refusal_data};
 ghost use Rattle.cam6_commands.specs.Limits.{max_colour};
@@ -107,6 +107,27 @@ pub fn fixed_line(reply: &Reply) -> Option<&'static str>
         Done::Side => Some("{\"ok\":\"side\"}\n"),
         Done::Map => Some("{\"ok\":\"map\"}\n"),
         Done::Load => Some("{\"ok\":\"load\"}\n"),
+        _ => None,
+    }
+}
+
+/// Returns the same line without its LF, and `None` for any other reply. Does not allocate.
+pub fn fixed_text(reply: &Reply) -> Option<&'static str>
+    ensures text { IfSome result (λ text. text.now ≡ reply_bytes reply.now) }
+    ensures others { result ≡ None → is_fixed reply.now ≡ false }
+{
+    let Reply::Done(done) = reply else {
+        return None;
+    };
+    match done {
+        Done::Set => Some("{\"ok\":\"set\"}"),
+        Done::Clear => Some("{\"ok\":\"clear\"}"),
+        Done::Rule => Some("{\"ok\":\"rule\"}"),
+        Done::Drop => Some("{\"ok\":\"drop\"}"),
+        Done::Cycle => Some("{\"ok\":\"cycle\"}"),
+        Done::Side => Some("{\"ok\":\"side\"}"),
+        Done::Map => Some("{\"ok\":\"map\"}"),
+        Done::Load => Some("{\"ok\":\"load\"}"),
         _ => None,
     }
 }

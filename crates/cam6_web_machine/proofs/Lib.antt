@@ -1,0 +1,4 @@
+-- Lemmas.
+
+-- A private machine runs out of memory for a line that says a command.
+pub mod Answering
