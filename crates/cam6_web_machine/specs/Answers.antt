@@ -23,11 +23,6 @@ pub record IsUntold (reply : Reply) (silence : Silence) : Type 0 where
   pub memory : silence ≡ NoMemory
   pub made : is_fixed reply ≡ false
 
--- an allocation failed for a command, which isn't done; or it is done, and its reply isn't told
-abbrev pub FailsCommand : Machine → Command → Silence → Machine → Type 0
-FailsCommand m c silence n =
-    ((silence ≡ NoMemory) × (n ≡ m)) ⊎ (IsUntold (reply m c) silence × (n ≡ after m c))
-
 -- an allocation failed for a line: nothing is done, and memory is taken for it; or what it says is
 -- done, and the reply isn't told
 abbrev pub Fails : Machine → List ℕ → Silence → Machine → Type 0

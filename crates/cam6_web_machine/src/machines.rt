@@ -1,10 +1,11 @@
 //! A machine that answers lines.
-ghost use Rattle.std.specs.Prelude.{◌≡◌, IfErr, IfOk};
+ghost use Rattle.std.specs.Prelude.{◌≡◌, IfErr, IfOk, List, ℕ, Ok};
 ghost use Rattle.cam6_machine.specs.Stored.{machine_of};
 ghost use Rattle.cam6_model.specs.Alone.{after, reply};
 ghost use Rattle.cam6_model.specs.Machine.{blank};
+ghost use Rattle.cam6_wire.specs.Commands.{command as what_is_said};
 ghost use Rattle.cam6_wire.specs.Replies.{reply_bytes};
-ghost use Rattle.cam6_web_machine.specs.Answers.{FailsCommand, IsUntold};
+ghost use Rattle.cam6_web_machine.specs.Answers.{Fails, IsUntold};
 ghost use Rattle.cam6_web_talk.specs.Hosts.{answer_bytes};
 
 use cam6_commands::{Command, Reply};
@@ -62,8 +63,8 @@ fn reply_to(alloc: Global, machine: &mut Machine, command: Command) -> Result<An
         answer_bytes answer ≡ reply_bytes (reply (machine_of machine.old) command)) }
     ensures machine { IfOk result (λ answer.
         machine_of machine.new ≡ after (machine_of machine.old) command) }
-    ensures silence { IfErr result (λ silence.
-        FailsCommand (machine_of machine.old) command silence (machine_of machine.new)) }
+    ensures silence { (l : List ℕ) → what_is_said l ≡ Ok command → IfErr result (λ silence.
+        Fails (machine_of machine.old) l silence (machine_of machine.new)) }
 {
     match machine.reply_to(command) {
         Ok(reply) => answer_of(alloc, &reply),
