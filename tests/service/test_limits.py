@@ -185,11 +185,12 @@ def test_beside_sixteen_expensive_tables_another_user_waits_for_a_few(beside: Ho
         assert median(longest_part(user, other, line) for line in (RUN % 1, BACK) * 4) < 1 / 2
 
 
-def test_beside_a_long_run_by_such_tables_another_user_waits_for_one_filling(host: Hosts) -> None:
+@pytest.mark.parametrize("seat, long", [(1, 2), (2, 1)])
+def test_beside_a_long_run_by_such_tables_another_user_waits_for_one_filling(host: Hosts, seat: int, long: int) -> None:
     # Filling tables is a part of the time for which a command has its board, and no reason to have it longer. So the tables
     # are filled anew for each of six steps, and a wait is one of six fillings.
     one = host("--users=2", "--boards=1", "--cache=4")
-    with Peer(one.port, 1) as user, Peer(one.port, 2, END) as other:
+    with Peer(one.port, seat) as user, Peer(one.port, long, END) as other:
         prepare(user, other, 4)
         assert median(longest_part(user, other, RUN % 6) for _ in range(5)) < 1 / 2
 
