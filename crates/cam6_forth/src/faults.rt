@@ -77,6 +77,7 @@ impl From<AllocError> for AdvanceFault {
 
     ghost from_gives = { λ _ e. e ≡ NoMemory };
 
+    /// A refused allocation becomes `NoMemory`, which is no fault of the token.
     fn from(_refused: AllocError) -> AdvanceFault {
         AdvanceFault::NoMemory
     }
@@ -87,6 +88,7 @@ impl<T: Drop> From<AllocFailed<T>> for AdvanceFault {
 
     ghost from_gives = { λ _ e. e ≡ NoMemory };
 
+    /// Drops the value that couldn't be stored, and returns `NoMemory`.
     fn from(_refused: AllocFailed<T>) -> AdvanceFault {
         AdvanceFault::NoMemory
     }

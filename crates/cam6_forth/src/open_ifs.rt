@@ -24,6 +24,7 @@ impl Model for OpenIfs {
 }
 
 impl OpenIfs {
+    /// No open IF, as at the start of a definition.
     pub(crate) fn new() -> Self
         ensures { result ≡ [] }
     {
@@ -33,6 +34,7 @@ impl OpenIfs {
         }
     }
 
+    /// How many IFs are open, at most `MAX_OPEN_IFS`.
     pub(crate) fn len(&self) -> usize
         ensures value { result ≡ length self.now }
         ensures limit { result ≤ MAX_OPEN_IFS }

@@ -93,6 +93,8 @@ fn read_text(alloc: Global, text: &str, wiring: Wiring) -> Result<Rule, ParseFau
     }
 }
 
+/// A fault of the text at a token. Tokens are numbered from 1. Token 0 stands for a text that is
+/// too long.
 fn text_fault(fault: TokenFault, token: u32) -> ParseFault
     ensures { result ≡ Text (record { number = fault_number fault; token = token }) }
 {

@@ -63,6 +63,7 @@ impl Reader {
     ghost use Rattle.cam6_forth.specs.declared.faults.AdvanceFault.TheVariants.{NoMemory};
     ghost use Rattle.cam6_forth.specs.Outcome.{Steps, Finishes};
 
+    /// A reader that has read nothing. Does not allocate.
     pub(crate) fn new(alloc: Global) -> Self
         ensures { result ≡ beginning }
     {

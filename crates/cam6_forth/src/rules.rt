@@ -43,6 +43,7 @@ impl Model for Rule {
 impl Rule {
     ghost use Rattle.cam6_forth.specs.Tree.{IsOfTree};
 
+    /// The rule of these definitions. They must be those of a well-formed tree.
     pub(crate) fn new(wiring: Wiring, definitions: Vec<Definition>) -> Rule
         requires definitions { IsOfTree
             (record { wiring = wiring; definitions = definitions.items }) }

@@ -6,6 +6,7 @@ ghost use Rattle.cam6_forth.specs.Spellings.{primed_name, block_name, added_name
 use crate::words::{Output, StackWord, Target};
 use cam6_wiring::{Compass, Half, Level, Name, Rotation};
 
+/// The stack word that a token spells, in capitals, or `None` for any other token.
 #[tactic(auto, unfolding(crate::specs::Spellings::stack_word))]
 pub(crate) fn stack_word(token: &[u8]) -> Option<StackWord>
     ensures { result ≡ stack_word token.now }

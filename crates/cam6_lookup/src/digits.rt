@@ -13,6 +13,7 @@ pub(crate) enum Digit {
 }
 
 impl Digit {
+    /// How far apart two rows or two positions are that differ in this digit alone: 1, 2, 4 or 8.
     #[inline(always)]
     pub(crate) fn worth(self) -> usize
         ensures value { result ≡ worth self }

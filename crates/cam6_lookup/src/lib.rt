@@ -13,6 +13,10 @@
 //! digit of the position in the row. Then each word has four addresses of sixteen bits, one after
 //! the other.
 //!
+//! In the field's words, lines and planes are bit-sliced: a word has one bit of each of 64 cells
+//! (Biham, "A Fast New DES Implementation in Software", FSE 1997). The rounds are masked swaps of
+//! bits (Knuth, "The Art of Computer Programming", volume 4A, section 7.1.3).
+//!
 //! Read next: `digits`, then `swap`, the transposing; then `look_up`.
 #![tactic(auto)]
 

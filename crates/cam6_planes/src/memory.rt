@@ -13,6 +13,7 @@ impl fmt::Display for NoMemory {
 
     ghost output = { λ _. Some (codes "no memory") };
 
+    /// Writes `no memory`.
     fn fmt<W: fmt::Write>(&self, f: &mut fmt::Formatter<W>) -> fmt::Result {
         write!(f, "no memory")
     }
@@ -21,12 +22,14 @@ impl fmt::Display for NoMemory {
 impl Error for NoMemory {}
 
 impl From<AllocError> for NoMemory {
+    /// Any refused allocation becomes `NoMemory`.
     fn from(_refused: AllocError) -> NoMemory {
         NoMemory
     }
 }
 
 impl<T: Drop> From<AllocFailed<T>> for NoMemory {
+    /// Drops the value that couldn't be stored, and returns `NoMemory`.
     fn from(_refused: AllocFailed<T>) -> NoMemory {
         NoMemory
     }

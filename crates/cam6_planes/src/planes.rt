@@ -61,6 +61,7 @@ impl Planes {
         })
     }
 
+    /// The side of the planes, which is at most their limit.
     pub fn side(&self) -> Side
         ensures side { result ≡ self.now.side }
         ensures within { width self.now ≤ side_number self.now.limit }
@@ -205,6 +206,7 @@ fn copy_rows(to: &mut [CellRow], from: &[CellRow], count: usize)
     }
 }
 
+/// Sets every bit of the rows to 0, in all four planes and past the side too.
 fn clear(rows: &mut [CellRow])
     ensures { (y : ℕ) → y < length rows.old →
         slice_index_or rows.new y [] ≡ replicate 4 (replicate WORDS 0) }
@@ -226,6 +228,7 @@ fn clear_rows(rows: &mut [CellRow], p: usize)
     }
 }
 
+/// The words of plane `p`, out of a stored row of all four planes.
 fn plane_row(rows: &CellRow, p: usize) -> Row
     requires { p < 4 }
     ensures { result ≡ slice_index_or rows.now p [] }
@@ -233,6 +236,7 @@ fn plane_row(rows: &CellRow, p: usize) -> Row
     rows[p]
 }
 
+/// Replaces the words of plane `p` in a stored row. The other planes stay as they are.
 fn set_plane_row(rows: &mut CellRow, p: usize, words: Row)
     requires { p < 4 }
     ensures planes { length rows.old ≡ 4 }

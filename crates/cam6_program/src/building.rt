@@ -2,8 +2,7 @@
 //!
 //! At first there is a node for each bit of each entry: the bit itself. Two that lie side by side
 //! differ in one line alone, so that their choice by that line stands for both. Then there are half
-//! as many, and the next line's turn comes. After the last line two nodes are left, one for each
-//! level.
+//! as many, and the next line follows. After the last line two nodes are left, one for each level.
 //!
 //! A choice and its inverse have one place. The one whose `low` is no inverse stands there.
 ghost use Rattle.std.specs.Prelude.{◌<◌, ◌≤◌, ◌+◌, ◌≡◌, ◌^◌, length, IfOk};

@@ -45,6 +45,7 @@ pub(crate) fn counter(place: usize) -> Operation {
     }
 }
 
+/// What a line shows, as a source of a step.
 fn line(line: u8) -> Source {
     Source::Line(line)
 }
@@ -63,10 +64,12 @@ pub(crate) fn result_of(place: usize) -> Node
     Node::at(LINES + place)
 }
 
+/// 1 if exactly one of two sources is 1.
 fn xor(first: Source, second: Source) -> Operation {
     Operation::Xor(first, second)
 }
 
+/// `high` if `by` is 1, and `low` if it is 0.
 fn choice(by: Source, low: Source, high: Source) -> Operation {
     Operation::Choice { by, low, high }
 }
@@ -90,7 +93,7 @@ fn are_alike(entries: &[u8], bit: usize) -> bool
 {
     let both = bit | bit << 1;
     for address in 0..ENTRIES {
-        // Where the lower line alone shows 1, turning both bits exchanges the lines.
+        // Where the lower line alone shows 1, inverting both bits exchanges the lines.
         if address & both == bit && entries[address] != entries[(address ^ both) % ENTRIES] {
             return false;
         }

@@ -16,7 +16,7 @@ pub(crate) enum Order {
 }
 
 impl Order {
-    /// The line that is joined at a turn.
+    /// The line that is joined in this round. Rounds are counted from 0.
     pub(crate) fn line(self, turn: usize) -> usize
         requires { turn < LINES }
         ensures { result < LINES }
@@ -34,7 +34,7 @@ impl Order {
         }
     }
 
-    /// The address whose lines show the bits of `k`. The line of turn 0 shows the lowest bit.
+    /// The address whose lines show the bits of `k`. The line of round 0 shows the lowest bit.
     pub(crate) fn address(self, k: usize) -> usize
         requires { k < ENTRIES }
         ensures { result < ENTRIES }

@@ -134,7 +134,7 @@ impl Program {
     }
 
     /// Writes the new bits of both levels in the first `words` words. Lines that the program
-    /// doesn't ask for must show 0. A level that is kept is not written. The slots are room for
+    /// doesn't ask for must show 0. A level that is kept is not written. The slots are scratch for
     /// what the steps make, and may hold anything before.
     pub fn run(
         &self,

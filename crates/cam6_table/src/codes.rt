@@ -46,6 +46,7 @@ impl Instructions {
     ghost use Rattle.std.specs.Prelude.{[], ◌∷◌, ◌++◌, ◌+◌, OnOk};
     ghost use Rattle.cam6_table.specs.Codes.{last_of};
 
+    /// No instructions yet. Does not allocate.
     pub fn new(alloc: Global) -> Instructions
         ensures { result ≡ [] }
     {
@@ -54,6 +55,7 @@ impl Instructions {
         }
     }
 
+    /// How many instructions there are, which is how many are left at the start.
     pub fn len(&self) -> usize
         ensures { result ≡ length self.now }
     {
@@ -106,6 +108,7 @@ impl Model for Code {
 }
 
 impl Code {
+    /// The code of these instructions. They must be 4,096 at most.
     pub(crate) fn new(instructions: Instructions) -> Code
         requires { length instructions ≤ max_turns }
         ensures { result ≡ instructions }
@@ -113,6 +116,7 @@ impl Code {
         Code { instructions }
     }
 
+    /// The instructions, 4,096 at most.
     pub(crate) fn instructions(&self) -> &Instructions
         ensures instructions { result.now ≡ self.now }
         ensures limit { length self.now ≤ max_turns }

@@ -29,6 +29,7 @@ impl From<NoMemory> for NotCompiled {
 
     ghost from_gives = { λ _ e. e ≡ NoMemory };
 
+    /// A failed allocation becomes `NoMemory`, which is no fault of the text.
     fn from(_refused: NoMemory) -> NotCompiled {
         NotCompiled::NoMemory
     }

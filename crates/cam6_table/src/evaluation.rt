@@ -12,7 +12,7 @@ use crate::codes::{Code, Instruction, Instructions};
 use crate::faults::RuleFault;
 use crate::outputs::{State, entry_of, untouched, write_output};
 
-/// Turns that a rule can take, one for each instruction.
+/// Steps that a rule can take, one for each instruction.
 pub const MAX_TURNS: u32 = 4096;
 
 /// Returns the entry of the rule's table at an address, or the fault at which the rule stops there.

@@ -181,13 +181,14 @@ fn next_batch(mask: u16, from: u16, last: u16, table: &Table) -> Batch
     }
 }
 
-/// Room for a batch: where each lane is, and its state.
+/// Scratch for a batch: where each lane is, and its state.
 #[derive(Drop)]
 struct Room {
     places: Places,
     lanes: Lanes,
 }
 
+/// Scratch with each lane at the start of the code and its stack empty.
 fn new_room(code: &Code) -> Room {
     Room {
         places: all_at_start(code.instructions()),

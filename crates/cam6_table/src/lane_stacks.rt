@@ -32,6 +32,7 @@ pub struct Stacks {
 }
 
 impl Stacks {
+    /// Empty stacks in all lanes, with 0 in every row.
     pub fn new() -> Stacks {
         Stacks {
             rows: [[0; LANES]; ROWS],
@@ -242,6 +243,7 @@ impl Stacks {
         Ok(())
     }
 
+    /// Exchanges the top values with those below them.
     fn swap(&mut self, set: &LaneSet, span: Span) -> Result<(), Apart>
         requires holds { Holds span self.old.len }
         ensures { LeavesIn set.now.mask span StackWord.Swap self.old self.new result }

@@ -3,7 +3,7 @@
 //!
 //! Contract: the result of a rule's code at each address is what the rule means there
 //! (`specs/Meaning.antt`), the two new bits or the first fault. `eval` returns that result in at
-//! most 4,096 turns, one instruction each. `fill` makes the table of all results. If any fault
+//! most 4,096 steps, one instruction each. `fill` makes the table of all results. If any fault
 //! comes, it returns the least address with one, even if no cell shows it, and the fault there.
 //! `compile` turns a text into its rule's code, or returns what is wrong in the text. `Table` and
 //! what belongs to it are those of `cam6_entries`, which this crate hands on.
@@ -14,6 +14,15 @@
 //! the same. The least address with a fault is what a search over all addresses finds. A stack word
 //! has fault 40 exactly if there are fewer values than it wants. If code of the rule that a text
 //! was accepted as filled a table, it is the text's code, and the table is the text's table.
+//!
+//! How: 64 lanes, each with an address of its own, do the same instruction at once under a mask.
+//! Lanes diverge at an IF and at a case. Those with the most instructions left go on first, and
+//! jumps only lead forward, so lanes that come to one place reconverge there. Lanes that can't go on
+//! together are run one by one.
+//!
+//! In the field's words this is SIMT execution (Fung, Sham, Yuan and Aamodt, "Dynamic Warp Formation
+//! and Scheduling for Efficient GPU Control Flow", MICRO 2007). The order is that of thread frontiers
+//! (Diamos and others, "SIMD Re-Convergence at Thread Frontiers", MICRO 2011).
 //!
 //! Stands on: `cam6_planes`, `cam6_wiring`, `cam6_entries` and `cam6_forth`.
 //!

@@ -30,6 +30,7 @@ impl Model for Stack {
 impl Stack {
     ghost use Rattle.std.specs.Prelude.{[], ◌∷◌, ◌<◌, OnOk};
 
+    /// An empty stack. Does not allocate.
     pub fn new() -> Stack
         ensures { result ≡ [] }
     {
@@ -104,6 +105,7 @@ impl Stack {
         self.push(a)
     }
 
+    /// Takes the top value off. Returns `MissingValue` if the stack is empty.
     fn drop_top(&mut self) -> Result<(), RuleFault>
         ensures { IsOutcome (on_stack StackWord.Drop self.old) self.new result }
     {
@@ -111,6 +113,7 @@ impl Stack {
         Ok(())
     }
 
+    /// Exchanges the two top values. Returns `MissingValue` if there are fewer.
     fn swap(&mut self) -> Result<(), RuleFault>
         ensures { IsOutcome (on_stack StackWord.Swap self.old) self.new result }
     {

@@ -67,7 +67,7 @@ fn run_flows(
     }
 }
 
-/// Runs the code in the lanes of a flow up to where others wait, while there are turns. Returns
+/// Runs the code in the lanes of a flow up to where others wait, while steps are left. Returns
 /// `Apart` at an instruction that can't be done in all of them.
 fn run_flow(
     code: &Instructions,
