@@ -60,6 +60,7 @@ impl MidStep {
         self.done as u16
     }
 
+    /// The side of the image, at most its limit.
     pub fn side(&self) -> Side
         ensures side { result ≡ self.now.planes.side }
         ensures within { width self.now.planes ≤ side_number self.now.planes.limit }
@@ -74,7 +75,7 @@ impl MidStep {
         self.image.limit()
     }
 
-    /// As `band_in`, in room that is made for this band alone.
+    /// As `band_in`, with scratch that is made for this band alone.
     pub fn band(self, tables: &EntryTables) -> Next
         ensures next { let s = width self.planes in (o : Cells) →
             Partway o (step_by s (values_of tables.now) o) self →
@@ -86,7 +87,7 @@ impl MidStep {
     }
 
     /// Makes the next sixteen rows, by the tables of the step. Returns the step, or the whole image
-    /// if these rows were the last. The room is lent for it, and may hold anything before.
+    /// if these rows were the last. The scratch is lent for it, and may hold anything before.
     pub fn band_in(mut self, tables: &EntryTables, room: &mut Room) -> Next
         ensures next { let s = width self.planes in (o : Cells) →
             Partway o (step_by s (values_of tables.now) o) self →

@@ -30,6 +30,7 @@ impl AtRest {
         AtRest { planes }
     }
 
+    /// Gives up the image, and returns the planes that it shows.
     pub fn into_planes(self) -> Planes
         ensures { result ≡ self.planes }
     {
@@ -37,6 +38,7 @@ impl AtRest {
         planes
     }
 
+    /// The planes that the image shows.
     pub fn planes(&self) -> &Planes
         ensures { result.now ≡ self.now.planes }
     {
@@ -85,6 +87,7 @@ impl Spare {
         self.planes.limit()
     }
 
+    /// Gives up the image, and returns its planes. Nobody needs what they show.
     pub fn into_planes(self) -> Planes
         ensures { result ≡ self.planes }
     {

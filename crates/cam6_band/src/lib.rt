@@ -2,11 +2,11 @@
 //! to another image and go on there.
 //!
 //! Contract: an image is at rest, spare, or in the middle of a step (`AtRest`, `Spare`, `MidStep`).
-//! `AtRest::begin` starts a step, and `MidStep::band_in` makes sixteen more rows of it, in a `Room`
-//! that is lent for it. It promises this for all old planes from which the image is partway
+//! `AtRest::begin` starts a step, and `MidStep::band_in` makes sixteen more rows of it, with a `Room`
+//! as scratch. It promises this for all old planes from which the image is partway
 //! (`specs/Partway.antt`) to their step by the tables at hand (`specs/ByTables.antt`). The last band
-//! returns `Next::Whole`, with the planes after the step. The room may hold anything before a band and
-//! after it. `MidStep::band` has room of its own, and promises the same. `move_into` moves a
+//! returns `Next::Whole`, with the planes after the step. The scratch may hold anything before a band
+//! and after it. `MidStep::band` has scratch of its own, and promises the same. `move_into` moves a
 //! step, with all that is saved of it, to another image. `abandon` gives it up. `go_by` takes tables
 //! that lie as a cycle needs them. It returns those that a step from a position uses, and the position
 //! after it (`specs/AtPosition.antt`). The law: each half uses the table that the cycle needs for this

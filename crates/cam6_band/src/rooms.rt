@@ -1,10 +1,10 @@
-//! The room that is lent to bands.
+//! The scratch that is lent to bands.
 
 use crate::half_rows::HalfRows;
 use cam6_entries::TableRoom;
 
-/// Room for the bands of steps. It is made once and lent to each band. Nothing is promised of what it
-/// holds between bands.
+/// Scratch for the bands of steps. It is made once and lent to each band. Nothing is promised of what
+/// it holds between bands.
 #[derive(Drop)]
 pub struct Room {
     /// Half A's new rows, which are made before those of half B and written after them.
@@ -12,7 +12,7 @@ pub struct Room {
     pub(crate) half: HalfRoom,
 }
 
-/// Room for a half's new rows, and for what its table needs to make them.
+/// Scratch for a half's new rows, and for what its table needs to make them.
 #[derive(Drop)]
 pub(crate) struct HalfRoom {
     pub(crate) rows: HalfRows,
@@ -20,7 +20,7 @@ pub(crate) struct HalfRoom {
 }
 
 impl Room {
-    /// Room for the bands of any step.
+    /// Scratch for the bands of any step.
     pub fn blank() -> Room {
         Room {
             a: HalfRows::blank(),

@@ -112,6 +112,8 @@ impl Board for FlakyBoard {
         }
     }
 
+    /// Loads the board, unless this call is one of the list. If it fails, returns the job's planes
+    /// as spare.
     fn load(&mut self, job: Job, tables: &Tables) -> Result<(), BoardFault>
         requires { self.old.load ≡ empty }
         // It fails exactly if this call is one of the list.
@@ -134,6 +136,7 @@ impl Board for FlakyBoard {
         Ok(())
     }
 
+    /// Does one band of the job, unless this call is one of the list.
     fn band(&mut self) -> Result<BandEnd, BoardFault>
         requires { HasWork self.old.load }
         ensures fails { is_err result ≡ is_due self.old.due }
@@ -160,6 +163,7 @@ impl Board for FlakyBoard {
         Ok(job.band(self.tables.as_slice(), &mut self.room))
     }
 
+    /// Takes the job's image off the board. If this call is one of the list, the image is lost.
     fn unload(&mut self) -> Result<Image, BoardFault>
         requires { IsLoaded self.old.load }
         ensures fails { is_err result ≡ is_due self.old.due }

@@ -16,6 +16,7 @@ pub enum Image {
 }
 
 impl Drop for Image {
+    /// Abandons the step, if one is under way.
     fn drop(self) {
         match self {
             Image::Rest(image) => drop(image),
@@ -38,6 +39,7 @@ impl Image {
         }
     }
 
+    /// The side of the planes, in the middle of a step too.
     pub fn side(&self) -> Side
         ensures { result ≡ (planes_in self.now).side }
     {

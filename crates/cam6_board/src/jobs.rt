@@ -59,6 +59,7 @@ impl Job {
         self.image.image()
     }
 
+    /// The cycle along which the steps go.
     pub fn cycle(&self) -> &Cycle
         ensures { result.now ≡ self.now.cycle }
     {
@@ -94,8 +95,8 @@ impl Job {
         self.steps
     }
 
-    /// Does one band, by tables that lie as the cycle needs them, in room that is lent for it. If a
-    /// step ends with it, moves the position on and counts the step.
+    /// Does one band, by tables that lie as the cycle needs them, with scratch that is lent for it.
+    /// If a step ends with it, moves the position on and counts the step.
     pub fn band(&mut self, tables: &[Table], room: &mut Room) -> BandEnd
         requires work { 0 < self.old.steps }
         requires room { max_tables ≤ length tables.now }

@@ -9,7 +9,7 @@ use cam6_band::Room;
 use cam6_planes::NoMemory;
 use std::alloc::Global;
 
-/// A board that never fails. Its tables, and the room for its bands, are made once.
+/// A board that never fails. Its tables, and the scratch for its bands, are made once.
 #[derive(Drop)]
 pub struct SoftBoard {
     job: Option<Job>,
@@ -45,6 +45,7 @@ impl Board for SoftBoard {
 
     ghost fault_count = { λ board. 0 };
 
+    /// Always 0.
     fn faults(&self) -> u64 {
         0
     }
@@ -56,6 +57,7 @@ impl Board for SoftBoard {
         }
     }
 
+    /// Takes the job, and copies the tables. Never fails.
     fn load(&mut self, job: Job, tables: &Tables) -> Result<(), BoardFault>
         requires { load_in self.old ≡ empty }
         ensures never { IsOk result }
@@ -78,6 +80,7 @@ impl Board for SoftBoard {
         Ok(job.band(self.tables.as_slice(), &mut self.room))
     }
 
+    /// Takes the job's image off the board. Never fails.
     fn unload(&mut self) -> Result<Image, BoardFault>
         requires { IsLoaded (load_in self.old) }
         ensures never { IsOk result }

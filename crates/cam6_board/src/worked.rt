@@ -28,12 +28,14 @@ impl Model for Worked {
 }
 
 impl Worked {
+    /// Holds this image.
     pub(crate) fn of(image: Image) -> Worked
         ensures { result ≡ image }
     {
         Worked { image: Some(image) }
     }
 
+    /// Gives the image back.
     pub(crate) fn into_image(self) -> Image
         ensures { result ≡ self }
     {
@@ -43,6 +45,7 @@ impl Worked {
         }
     }
 
+    /// The image, which is there between bands.
     pub(crate) fn image(&self) -> &Image
         ensures { result.now ≡ self.now }
     {

@@ -22,7 +22,7 @@ pub const MAX_CAPACITY: usize = 64;
 pub struct TableCache {
     alloc: Global,
     tables: LruCache<NamedKey, Table>,
-    // Room for the table of a rule that is to be undone.
+    // Scratch for the table of a rule that is to be undone.
     straight: Table,
 }
 

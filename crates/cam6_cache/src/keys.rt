@@ -26,6 +26,7 @@ impl NamedKey {
     ghost use Rattle.cam6_cache.specs.Keys.{way_of};
     ghost use Rattle.cam6_cache.specs.Internal.Entries.{key_of};
 
+    /// The half, hood and minor that the key's rule is written for.
     pub(crate) fn wiring(&self) -> Wiring
         ensures { result ≡ (key_of self.now).wiring }
     {
@@ -64,7 +65,7 @@ impl Hash for NamedKey {
     }
 }
 
-/// What a table is asked for by, in room that is kept: what a rule is written for, its whole text,
+/// What a table is asked for by, in memory that is kept: what a rule is written for, its whole text,
 /// and whether the table is to undo it. The rule's name is no part of it.
 #[derive(Debug, Drop)]
 pub struct Key {

@@ -24,12 +24,14 @@ impl<T> Items<T> {
         Items { items }
     }
 
+    /// Lends the items in their order.
     pub fn as_slice(&self) -> &[T]
         ensures { result.now ≡ self.now }
     {
         self.items.as_slice()
     }
 
+    /// Gives up the list, and returns its items without a copy.
     pub fn into_vec(self) -> Vec<T>
         ensures { result.items ≡ self }
     {

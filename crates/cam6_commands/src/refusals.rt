@@ -49,6 +49,7 @@ impl From<Fault> for Refusal {
 
     ghost from_gives = { λ fault refusal. refusal ≡ Refusal.Fault fault };
 
+    /// A fault becomes the refusal with the fault's number.
     fn from(fault: Fault) -> Refusal {
         Refusal::Fault(fault)
     }

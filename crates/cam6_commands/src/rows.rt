@@ -43,6 +43,7 @@ impl RowText {
         RowText { digits, text }
     }
 
+    /// The digits in ASCII, from column 0 on.
     pub fn as_slice(&self) -> &[u8]
         ensures digits { result.now ≡ self.now }
         ensures ascii { IsAscii result.now }
@@ -86,6 +87,7 @@ impl RowColours {
         RowColours { count, colours }
     }
 
+    /// The colours, 0 to 15, from column 0 on.
     pub fn as_slice(&self) -> &[u8]
         ensures value { result.now ≡ self.now }
         ensures few { length result.now ≤ COLUMNS }

@@ -26,12 +26,14 @@ impl Text {
     ghost use Rattle.std.specs.Str.{IsUtf8};
     ghost use Rattle.cam6_commands.specs.Names.{is_rule_name};
 
+    /// Any text. `is_rule_name` returns whether it can be a rule's name.
     pub fn new(text: String) -> Text
         ensures { result ≡ string_bytes text }
     {
         Text { text }
     }
 
+    /// Lends the text as it was given.
     pub fn as_str(&self) -> &str
         ensures text { result.now ≡ self.now }
         ensures utf8 { IsUtf8 self.now }
@@ -39,6 +41,7 @@ impl Text {
         self.text.as_str()
     }
 
+    /// Gives the string back without a copy.
     pub fn into_string(self) -> String
         ensures { string_bytes result ≡ self }
     {
@@ -58,12 +61,14 @@ impl Text {
     }
 }
 
+/// Whether each of the bytes can be in a rule's name.
 fn are_name_bytes(bytes: &[u8]) -> bool
     ensures { result ≡ list_all is_name_byte bytes.now }
 {
     bytes.iter().all(|byte| is_name_byte(*byte))
 }
 
+/// Whether a byte can be in a rule's name: `!` to `~`, without `"` and `\`.
 fn is_name_byte(byte: u8) -> bool
     ensures { result ≡ is_name_byte byte }
 {

@@ -50,7 +50,7 @@ pub(crate) fn asked_by(program: &Option<Program>) -> u16
 impl Table {
     /// Makes the new rows of both planes of a half, for the sixteen rows of a band. Each cell gets
     /// its bit of the entry at the address that it shows. A plane in which every cell keeps its bit
-    /// may stay unwritten. Words past the side may hold anything. The room may hold anything before.
+    /// may stay unwritten. Words past the side may hold anything. So may the scratch before.
     pub fn band(
         &self,
         room: &mut TableRoom,

@@ -1,10 +1,10 @@
-//! The room in which a table makes the rows of a band.
+//! The scratch with which a table makes the rows of a band.
 
 use cam6_lines::UnitLines;
 use cam6_program::Slots;
 
-/// Room for what the cells of a unit see, and for the slots of a program. It is made once and lent to
-/// each band. Nothing is promised of what it holds between bands.
+/// Scratch for what the cells of a unit see, and for the slots of a program. It is made once and lent
+/// to each band. Nothing is promised of what it holds between bands.
 #[derive(Drop)]
 pub struct TableRoom {
     pub(crate) lines: UnitLines,
@@ -12,7 +12,7 @@ pub struct TableRoom {
 }
 
 impl TableRoom {
-    /// Room for the bands of any table.
+    /// Scratch for the bands of any table.
     pub fn blank() -> TableRoom {
         TableRoom {
             lines: UnitLines::blank(),

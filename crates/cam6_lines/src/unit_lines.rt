@@ -25,7 +25,7 @@ use std::marker::Model;
 /// What the cells of a unit show on each address line, the lowest line first.
 pub type Lines<'a> = [&'a Unit; LINES];
 
-/// Room for what a unit's cells see on their address lines. It is made once and lent to each band.
+/// Scratch for what a unit's cells see on their address lines. It is made once and lent to each band.
 /// Contracts see it as the units of the twelve lines.
 #[derive(Drop)]
 pub struct UnitLines {
@@ -49,7 +49,7 @@ impl Model for UnitLines {
 }
 
 impl UnitLines {
-    /// Room in which every line shows 0.
+    /// Scratch in which every line shows 0.
     pub fn blank() -> UnitLines {
         UnitLines {
             parts: [[0; PART]; LINES],

@@ -21,7 +21,7 @@ pub(crate) struct View {
     pub(crate) row: u8,
 }
 
-/// The parts that lines need: the names for which they are made, in the order of their room.
+/// The parts that lines need: the names for which they are made, in the order in which they lie.
 #[derive(Clone, Copy)]
 pub(crate) struct Needed {
     pub(crate) names: [Option<Name>; LINES],

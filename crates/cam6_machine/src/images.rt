@@ -37,12 +37,14 @@ impl Model for Held {
 }
 
 impl Held {
+    /// Holds this image.
     pub(crate) fn of(image: AtRest) -> Held
         ensures { result ≡ image.planes }
     {
         Held { image: Some(image) }
     }
 
+    /// Gives the image back.
     pub(crate) fn into_image(self) -> AtRest
         ensures { result.planes ≡ self }
     {
@@ -52,6 +54,7 @@ impl Held {
         }
     }
 
+    /// The image, which is there between commands.
     pub(crate) fn at_rest(&self) -> &AtRest
         ensures { result.now.planes ≡ self.now }
     {
@@ -61,6 +64,7 @@ impl Held {
         }
     }
 
+    /// The planes that the image shows.
     pub(crate) fn planes(&self) -> &Planes
         ensures { result.now ≡ self.now }
     {
@@ -82,6 +86,7 @@ impl Held {
         image.planes_mut().put_row(p, y, bits);
     }
 
+    /// Sets every bit of plane `p` to 0. The other planes stay as they are.
     pub(crate) fn clear_plane(&mut self, p: usize)
         requires plane { p < 4 }
         ensures cells { cells self.new

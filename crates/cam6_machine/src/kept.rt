@@ -35,7 +35,7 @@ use std::marker::Model;
 
 /// All of a machine but its images: rules, cycle, position, colours and the limit of the side. The
 /// tables of the cycle's rules are with it, and stay filled from one command to the next. So is the
-/// room for the bands of its steps.
+/// scratch for the bands of its steps.
 #[derive(Drop)]
 pub struct Kept {
     alloc: Global,
@@ -94,6 +94,7 @@ impl Kept {
         self.limit
     }
 
+    /// The rules by name, in the order in which the names came first.
     pub fn rules(&self) -> &Rules
         ensures { result.now ≡ self.now.rules }
     {
@@ -114,6 +115,7 @@ impl Kept {
         self.position
     }
 
+    /// The allocator of all that the machine keeps.
     pub(crate) fn alloc(&self) -> Global {
         self.alloc
     }

@@ -33,7 +33,7 @@ pub(crate) struct Loaded {
 }
 
 /// Returns what was saved as it is loaded, or within `Ok` the fault for which it isn't. The tables
-/// have room to try its rules.
+/// have scratch to try its rules.
 pub(crate) fn tried_machine(
     alloc: Global,
     limit: Side,

@@ -6,8 +6,8 @@ ghost use Rattle.cam6_band.specs.ByTables.{step_by, values_of};
 
 use cam6_band::{AtRest, EntryTables, Room};
 
-/// One step by tables, band by band, in room that is lent to each band. Each cell of both halves
-/// takes what its half's table makes of the planes.
+/// One step by tables, band by band, with scratch that is lent to each band. Each cell of both
+/// halves takes what its half's table makes of the planes.
 pub(crate) fn step(image: AtRest, tables: &EntryTables, room: &mut Room) -> AtRest
     ensures planes { cells result.planes
         ≡ step_by (width image.planes) (values_of tables.now) (cells image.planes) }

@@ -40,6 +40,7 @@ impl CompiledRule {
     ghost use Rattle.cam6_block.specs.RuleTables.{IsTableBy};
     ghost use Rattle.cam6_cycle.specs.declared.tables.Direction.TheVariants.{Backward};
 
+    /// The rule of a text. `code` must be the code of that text.
     pub(crate) fn new(wiring: Wiring, text: Text, code: Code) -> CompiledRule
         requires { IsCodeFor wiring text code }
         ensures { result ≡ record { wiring = wiring; text = text; code = code } }
@@ -88,8 +89,8 @@ impl CompiledRule {
     }
 }
 
-/// Reads a rule's text and tries the rule at every address, in the tables' room for that. Returns
-/// the rule, or why there is none.
+/// Reads a rule's text and tries the rule at every address, in the tables' scratch. Returns the
+/// rule, or why there is none.
 pub(crate) fn tried_rule(
     alloc: Global,
     wiring: Wiring,

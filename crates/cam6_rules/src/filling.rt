@@ -23,7 +23,7 @@ use cam6_wiring::Half;
 
 /// Fills the tables that a cycle needs to go one way along it. If rules have no table, returns why
 /// the first of them has none, by the order of the entries, and half A's before half B's.
-/// `straight` is room for a table to invert, and may hold anything.
+/// `straight` is scratch for a table to invert, and may hold anything.
 pub(crate) fn fill_entries(
     rules: &Rules,
     cycle: &Cycle,
@@ -54,6 +54,7 @@ pub(crate) fn fill_entries(
     Ok(())
 }
 
+/// The refusal of a cycle whose rule for this half can't be undone. Entries are counted from 0.
 fn not_reversible(entry: usize, half: Half, cause: NotReversible) -> Refusal
     ensures { result ≡ Refusal.NotReversible entry half cause }
 {

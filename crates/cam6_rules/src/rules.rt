@@ -35,6 +35,7 @@ impl From<NoMemory> for NotDefined {
 
     ghost from_gives = { λ _ e. e ≡ NoMemory };
 
+    /// A failed allocation becomes `NoMemory`, which is no refusal.
     fn from(_refused: NoMemory) -> NotDefined {
         NotDefined::NoMemory
     }
@@ -84,7 +85,7 @@ impl Rules {
     }
 
     /// Defines saved rules one after another, each under a name of its own. Returns `None` if one
-    /// of them can't be defined. Tries their texts in the room that the tables have for it.
+    /// of them can't be defined. Tries their texts in the tables' scratch.
     pub fn of(
         alloc: Global,
         rules: NamedRules,
@@ -174,8 +175,8 @@ impl Rules {
     }
 
     /// Keeps a rule under a name, instead of the one that has it, unless it is refused: a rule that
-    /// the cycle uses stays. Tries its text in the room that the tables have for it. If it isn't
-    /// defined, nothing changes.
+    /// the cycle uses stays. Tries its text in the tables' scratch. If it isn't defined, nothing
+    /// changes.
     pub fn define(
         &mut self,
         cycle: &[Entry],

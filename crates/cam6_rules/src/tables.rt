@@ -1,4 +1,4 @@
-//! Tables that remember for which way along a cycle they are filled, in room that they have from
+//! Tables that remember for which way along a cycle they are filled, in memory that they have from
 //! the beginning. They lie as the cycle needs them: a table for each use of a rule.
 ghost use Rattle.std.specs.Prelude.{◌≡◌, ◌≢◌, ℕ, false, length, None, Some, Err, IfOk, OnOk};
 ghost use Rattle.std.specs.Result.{result_err};
@@ -17,14 +17,14 @@ use cam6_wiring::Wiring;
 use std::alloc::Global;
 use std::marker::Model;
 
-/// Room for the tables of a cycle's rules, and for trying a rule. Contracts see what the tables
-/// have, and for which way they are filled.
+/// Memory for the tables of a cycle's rules, and scratch to try a rule. Contracts see what the
+/// tables have, and for which way they are filled.
 #[derive(Drop)]
 pub struct Tables {
     /// A table for each use of a rule.
     by_use: Vec<Table>,
-    /// Room to try a rule, and for a table that is inverted. It lies apart, so that tables are moved
-    /// without it.
+    /// Scratch to try a rule, and for a table that is inverted. It lies apart, so that tables are
+    /// moved without it.
     trial: Box<Table>,
     /// The way along the cycle for which they are filled.
     filled: Option<Direction>,
@@ -46,7 +46,7 @@ impl Tables {
     ghost use Rattle.cam6_rules.specs.Numbers.{named_entries};
     ghost use Rattle.cam6_rules.specs.Filled.{AreTrue, AreTablesOf, way_refusal};
 
-    /// Room for the tables of the longest cycle. None of them is filled.
+    /// Memory for the tables of the longest cycle. None of them is filled.
     pub fn blank(alloc: Global) -> Result<Tables, NoMemory>
         ensures filled { IfOk result (λ tables. tables.filled ≡ None) }
     {
@@ -106,7 +106,7 @@ impl Tables {
         Ok(())
     }
 
-    /// Compiles a rule's text. Tries it at every address, in the room that the tables have for it.
+    /// Compiles a rule's text. Tries it at every address, in the tables' scratch.
     pub(crate) fn compile(
         &mut self,
         alloc: Global,
