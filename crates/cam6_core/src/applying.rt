@@ -137,6 +137,7 @@ impl Core {
         Outcome::Failed(Some(left))
     }
 
+    /// Repairs a board that has failed. It is idle then.
     fn repair(&mut self, board: u64) -> Outcome
         requires { is_dead ((standing self.old).board board) ≡ true }
         ensures takes { Takes self.old (event.Repair board) result self.new }

@@ -43,6 +43,8 @@ impl Core {
         None
     }
 
+    /// Why a lease is refused, if it is: first for the numbers, then for the board, then for the
+    /// user.
     fn lease_refusal(&self, user: u64, board: u64) -> Option<Refused>
         ensures { result ≡ refusal (standing self.now) (event.Lease user board) }
     {
@@ -77,6 +79,7 @@ impl Core {
         None
     }
 
+    /// Why a failure is refused, if it is: there is no such board, or it has failed already.
     fn fail_refusal(&self, board: u64) -> Option<Refused>
         ensures { result ≡ refusal (standing self.now) (event.Fail board) }
     {
@@ -89,6 +92,7 @@ impl Core {
         None
     }
 
+    /// Why a repair is refused, if it is: there is no such board, or it has not failed.
     fn repair_refusal(&self, board: u64) -> Option<Refused>
         ensures { result ≡ refusal (standing self.now) (event.Repair board) }
     {
@@ -101,6 +105,7 @@ impl Core {
         None
     }
 
+    /// Why an eviction is refused, if it is: the cache holds no table.
     fn evict_refusal(&self) -> Option<Refused>
         ensures { result ≡ refusal (standing self.now) event.Evict }
     {
@@ -110,6 +115,8 @@ impl Core {
         None
     }
 
+    /// Why it is refused to collect a reply, if it is: there is no such user, or none waits for
+    /// them.
     fn collect_refusal(&self, user: u64) -> Option<Refused>
         ensures { result ≡ refusal (standing self.now) (event.Collect user) }
     {

@@ -39,18 +39,21 @@ impl SoftStation {
         })
     }
 
+    /// Whether the board holds nothing, and has not failed.
     pub(crate) fn is_idle(&self) -> bool
         ensures { result ≡ is_idle self.now }
     {
         self.station.is_idle()
     }
 
+    /// Whether the board holds the job of a user's lease.
     pub(crate) fn is_loaded(&self) -> bool
         ensures { result ≡ is_loaded self.now }
     {
         self.station.is_loaded()
     }
 
+    /// Whether the board has failed, and isn't repaired yet.
     pub(crate) fn is_dead(&self) -> bool
         ensures { result ≡ is_dead self.now }
     {

@@ -34,7 +34,7 @@ pub struct BoardSeat {
     turns: Arc<Turns>,
 }
 
-/// The most tables that a command makes without a turn.
+/// The most tables that a command makes without the permit to fill.
 const FEW: u8 = 2;
 
 impl Model for BoardSeat {
@@ -126,9 +126,10 @@ impl BoardSeat {
     }
 
     /// Fills the tables that a lease needs, each under the cache's lock, and returns true. After
-    /// two that the cache lacked, the rest needs the turn, kept or not. All need it if the user's
-    /// last command made many. Returns false if another seat has the turn, or no command was taken.
-    /// The caller then puts the command back, and it is held back during that turn.
+    /// two that the cache lacked, the rest needs the permit to fill, cached or not. All need it if
+    /// the user's last command made many. Returns false if another seat has the permit, or no
+    /// command was taken. The caller then puts the command back. It is held back while the permit is
+    /// taken.
     pub fn fill_each<R: Wait>(&mut self, rt: &R, lease: &Lease, cache: &Mutex<TableCache>) -> bool
         ensures tables { IsTrue result → TablesFit lease.now.work self.new.tables }
         ensures others { self.new ≡ record self.old { tables = self.new.tables } }

@@ -3,12 +3,13 @@
 use std::sync::Mutex;
 use std::sync::atomic::{AtomicU32, Ordering};
 
-/// What all seats of a table share: the turn, and which users' last commands made many tables.
+/// What all seats of a table share: one permit to fill, and which users' last commands made many
+/// tables.
 #[derive(Drop)]
 pub(crate) struct Turns {
     /// The seat that holds it has the cache's lock next.
     pub next: Mutex<()>,
-    /// 1 while a seat has the turn, and else 0.
+    /// 1 while a seat has the permit, and else 0.
     taken: AtomicU32,
     /// A bit for each row, 1 if the user's last command made many tables.
     dear: AtomicU32,
@@ -20,6 +21,7 @@ fn bit_of(row: usize) -> u32 {
 }
 
 impl Turns {
+    /// The permit is free, and no user's command is known to have made many tables.
     pub fn new() -> Turns {
         Turns {
             next: Mutex::new(()),
@@ -28,12 +30,12 @@ impl Turns {
         }
     }
 
-    /// Takes the turn, unless another seat has it. Returns whether it did.
+    /// Takes the permit, unless another seat has it. Returns whether it did.
     pub fn try_take(&self) -> bool {
         self.taken.fetch_or(1, Ordering::SeqCst) == 0
     }
 
-    /// Gives the turn back, which this seat has.
+    /// Gives the permit back, which this seat has.
     pub fn give_back(&self) {
         self.taken.store(0, Ordering::SeqCst);
     }
@@ -44,7 +46,7 @@ impl Turns {
         self.dear.load(Ordering::SeqCst) & bit_of(row) != 0
     }
 
-    /// Whether the command in a row must wait without a board. It must if a seat has the turn, and
+    /// Whether the command in a row must wait without a board. It must if a seat has the permit, and
     /// `is_dear` is true of the row.
     pub fn holds_back(&self, row: usize) -> bool {
         self.taken.load(Ordering::SeqCst) != 0 && self.is_dear(row)

@@ -1,6 +1,6 @@
 //! What a worker asks before it goes on.
 
-/// What a gate answers.
+/// The gate's verdict on a band.
 #[derive(Clone, Copy, Debug, PartialEq, Eq)]
 pub enum Turn {
     /// The band may be done.
@@ -13,9 +13,9 @@ pub enum Turn {
 
 /// Tells workers when to go on. It is asked by several threads at once.
 pub trait Gate {
-    /// Asked before each band of a user's command on a board. Returns whether the band is done, the
-    /// command comes off the board, or the worker ends too. Users are numbered from 1, boards from
-    /// 0, the bands of a step from 0: a step at side s has s/16 of them.
+    /// Asked before each band of a user's command on a board. Returns the verdict: the band is done,
+    /// the command comes off the board, or the worker ends too. Users are numbered from 1, boards
+    /// from 0, the bands of a step from 0: a step at side s has s/16 of them.
     fn turn(&self, board: u8, user: u8, band: u8) -> Turn;
 
     /// Asked if no command could be taken for a board. Returns true if its worker is to look again,

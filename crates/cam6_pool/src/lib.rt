@@ -7,7 +7,7 @@
 //! the seat and the board agree as `Serves` says (`specs/Serving.antt`). The call may wait, for the
 //! cache's lock and at its gate, and need not return.
 //!
-//! Users take turns (`specs/Rounds.antt`). A round of looks begins at the user after the one whose
+//! Users come round robin (`specs/Rounds.antt`). A round of looks begins at the user after the one whose
 //! command was taken last, and passes over nobody twice. So as long as a user is neither taken nor
 //! passed over, a worker takes fewer others than there are users (`laws`). No contract says that a
 //! command that waits isn't passed over, that a worker keeps its round from take to take, or that

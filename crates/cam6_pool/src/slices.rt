@@ -36,6 +36,7 @@ fn between(from: Option<Instant>, to: Option<Instant>) -> Option<Duration> {
 }
 
 impl Slice {
+    /// A board without a command, whose worker has not asked yet.
     fn new() -> Slice {
         Slice {
             user: None,

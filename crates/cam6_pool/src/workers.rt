@@ -133,8 +133,8 @@ fn take_next(round: &mut Round) -> Option<(User, Lease, Job)>
     None
 }
 
-/// Serves users with a board until the gate ends it, or the board fails. Users take turns: each
-/// round of looks begins at the user after the one whose command was taken last. Each table is
+/// Serves users with a board until the gate ends it, or the board fails. Users come round robin:
+/// each round of looks begins at the user after the one whose command was taken last. Each table is
 /// filled under the cache's lock, and no lock is held while bands are done. A lease that it has at
 /// its end is put back first: with its half-done step if the gate stopped it, from its home if the
 /// board failed. The seat can serve again, with this board or another one.

@@ -22,6 +22,7 @@ impl Model for Finished {
 }
 
 impl Finished {
+    /// A machine after its command, with the reply for its user.
     pub(crate) fn new(machine: Machine, reply: Reply) -> Finished
         ensures machine { result.machine ≡ machine }
         ensures reply { result.told ≡ reply }

@@ -49,6 +49,8 @@ impl Lease {
     ghost use Rattle.cam6_slot.specs.Stands.{Stands, StandsOut};
     ghost use Rattle.cam6_block.specs.RuleTables.{IsTableBy};
 
+    /// The lease of steps that a board does. Of the step under way `rows` are done: whole bands,
+    /// fewer than all.
     pub(crate) fn new(work: Work, rows: u16, board: u8) -> Lease
         requires rows { rows < width work.home }
         requires bands { rows % band ≡ 0 }

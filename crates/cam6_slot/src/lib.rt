@@ -14,6 +14,10 @@
 //! the image at home is still that of the beginning. After another lease, one band and a loss it
 //! has 32 left. A preempt after 16 bands would have moved its home, with 16 left.
 //!
+//! In the field's words, a type for each state is typestate: a call that ends a state takes its type
+//! and returns that of the next one (Strom and Yemini, "Typestate: A Programming Language Concept for
+//! Enhancing Software Reliability", IEEE Transactions on Software Engineering SE-12(1), 1986).
+//!
 //! A machine has two images. At work one is at home, with the planes of the last whole step at which
 //! the command was taken off a board, and the other one travels.
 //!

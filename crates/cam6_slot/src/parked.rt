@@ -12,6 +12,7 @@ pub enum Parked {
 }
 
 impl Drop for Parked {
+    /// Abandons the step, if one is parked.
     fn drop(self) {
         match self {
             Parked::Spare(spare) => drop(spare),

@@ -33,6 +33,8 @@ impl Queued {
     ghost use Rattle.cam6_slot.specs.Parking.{IsBeside, IsQueued};
     ghost use Rattle.cam6_slot.specs.Stands.{Stands, StandsOut};
 
+    /// A command that waits for a board, with one step left at least, and its image that isn't at
+    /// home.
     pub(crate) fn new(work: Work, parked: Parked) -> Queued
         requires some { work.reached.steps < work.total }
         requires parked { IsBeside work parked }

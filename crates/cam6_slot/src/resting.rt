@@ -57,12 +57,14 @@ impl Resting {
     ghost use Rattle.cam6_slot.specs.Stands.{Stands};
     ghost use Rattle.cam6_slot.specs.Works.{machine_at_home, command_in};
 
+    /// A machine with no command under way.
     pub fn new(machine: Machine) -> Resting
         ensures { result ≡ machine }
     {
         Resting { machine }
     }
 
+    /// Gives the machine back, as the last command left it.
     pub fn into_machine(self) -> Machine
         ensures { result ≡ self }
     {

@@ -88,6 +88,7 @@ impl Work {
         &self.home
     }
 
+    /// Returns what the machine keeps. The clause `work` gives the invariant of steps under way.
     pub(crate) fn kept(&self) -> &Kept
         ensures kept { result.now ≡ self.now.kept }
         ensures work { IsWork self.now }
@@ -95,6 +96,7 @@ impl Work {
         &self.kept
     }
 
+    /// The way along the cycle: forward for a run, backward for steps that are undone.
     pub(crate) fn direction(&self) -> Direction
         ensures { result ≡ self.now.direction }
     {

@@ -101,18 +101,21 @@ impl<B: Board> Station<B> {
         self.board
     }
 
+    /// Whether the board holds nothing, and has not failed.
     pub fn is_idle(&self) -> bool
         ensures { result ≡ is_idle self.now.at }
     {
         matches!(self.post, Post::Idle)
     }
 
+    /// Whether the board holds the job of a user's lease.
     pub fn is_loaded(&self) -> bool
         ensures { result ≡ is_loaded self.now.at }
     {
         matches!(self.post, Post::Loaded(_, _))
     }
 
+    /// Whether the board has failed, and isn't repaired yet.
     pub fn is_dead(&self) -> bool
         ensures { result ≡ is_dead self.now.at }
     {
