@@ -18,6 +18,7 @@ use std::io::BufReader;
 use std::process::ExitCode;
 use std::time::{Clock, Duration};
 
+/// Runs the program on the host, and returns its exit status.
 fn main(rt: HostRuntime) -> ExitCode {
     run(&rt)
 }
@@ -30,6 +31,7 @@ fn run<R: Env + Input + Print + Eprint + AllocGlobal + Clock>(rt: &R) -> ExitCod
     }
 }
 
+/// Returns what the arguments ask for, or why they are refused.
 fn options_given<R: Env + AllocGlobal>(rt: &R) -> Result<DrawOptions, Refused> {
     let words = words_given(rt, Program::Draw)?;
     options_of_draw(rt.alloc(), words.as_slice())

@@ -35,6 +35,7 @@ cam6: type a command a line, such as {\"do\":\"rules\"}. Ctrl-D ends. docs/MANUA
 const EVENTS_ARE_TYPED: &str = "\
 cam6: type an event a line, such as {\"event\":\"evict\"}. Ctrl-D ends. docs/SERVER.md has the events, docs/ERRORS.md the numbers.\n";
 
+/// Runs the program on the host, which has a network for `cam6 serve`.
 fn main(rt: HostRuntime) -> ExitCode {
     run(
         &rt,
@@ -62,6 +63,7 @@ where
     }
 }
 
+/// Returns what the arguments ask for, or why they are refused.
 fn options_given<R: Env + AllocGlobal>(rt: &R) -> Result<Options, Refused> {
     let words = words_given(rt, Program::Cam6)?;
     options(rt.alloc(), words.as_slice())

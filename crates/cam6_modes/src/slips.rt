@@ -64,12 +64,14 @@ fn begins(option: &str, word: &str) -> bool
     word.as_bytes().starts_with(option.as_bytes())
 }
 
+/// Whether the word begins with `--users`, `--boards` or `--cache`.
 fn is_of_sharing(word: &str) -> bool
     ensures { result ≡ is_of_sharing word.now }
 {
     begins("--users", word) || begins("--boards", word) || begins("--cache", word)
 }
 
+/// Whether the word begins with `--port`, `--connections` or `--idle`.
 fn is_of_serving(word: &str) -> bool
     ensures { result ≡ is_of_serving word.now }
 {
@@ -83,12 +85,14 @@ fn is_plain(word: &str) -> bool
     !begins("-", word)
 }
 
+/// Whether the word is a mode that reads lines: `alone` or `replay`.
 fn reads_lines(word: &str) -> bool
     ensures { result ≡ reads_lines word.now }
 {
     word == "alone" || word == "replay"
 }
 
+/// Whether the word is a mode, or `help`.
 fn is_mode(word: &str) -> bool
     ensures { result ≡ is_mode word.now }
 {

@@ -1,4 +1,4 @@
-//! A session or a replay over any reader and writer, with as many turns as the program has.
+//! A session or a replay over any reader and writer, with as many reads as the program has.
 ghost use Rattle.std.specs.Prelude.{IfOk};
 ghost use Rattle.cam6_session.specs.Alone.{AnswersReaderAlone};
 ghost use Rattle.cam6_session.specs.Headline.{WritesRepliesAlone};
@@ -13,7 +13,7 @@ use cam6_session::{End, replay, serve_alone};
 use std::alloc::Global;
 use std::io::{BufRead, Write};
 
-/// How often one session looks at its reader at most.
+/// Reads of one session at most, that is calls of `fill_buf`.
 const TURNS: u64 = 1_099_511_627_776;
 
 /// Answers each line of the reader by one line, as a blank machine of this limit that gets all

@@ -81,7 +81,7 @@ impl Cells {
     }
 
     /// Reads a line of cells, with this number counted from 1. The line's end counts as a blank.
-    /// Returns `Over` after a `!`, and what stands behind that isn't read.
+    /// Returns `Over` after a `!`, and what comes after it isn't read.
     pub(crate) fn read_line(
         &mut self,
         bounds: &Bounds,
@@ -132,7 +132,7 @@ impl Cells {
         }
     }
 
-    /// Puts a digit behind the number that is being read. A number above 512 is a fault.
+    /// Appends a digit to the number that is being read. A number above 512 is a fault.
     fn with_digit(&mut self, line: usize, column: usize, digit: u8) -> Result<Going, Unread>
         ensures { StepsTo (with_digit line column self.old digit) self.new result }
     {

@@ -132,6 +132,7 @@ pub(crate) fn is_blank(byte: u8) -> bool
     byte == b' ' || byte == b'\t' || byte == b'\r'
 }
 
+/// A decimal digit.
 pub(crate) fn is_decimal(byte: u8) -> bool
     ensures { result ≡ is_decimal byte }
 {

@@ -61,6 +61,7 @@ impl ChosenPlanes {
         }
     }
 
+    /// The planes in order, at least one and at most four.
     fn as_slice(&self) -> &[u8]
         ensures { result.now ≡ self.now }
     {
@@ -225,7 +226,7 @@ impl Placement<'_> {
 /// A command line that sets a row.
 type Line = ArrayVec<u8, LINE>;
 
-/// Room for the longest such line.
+/// Bytes that such a line can have.
 const LINE: usize = DIGITS + 128;
 
 /// Pushes bytes to a line that has room for them.

@@ -31,6 +31,7 @@ impl From<AllocError> for Unread {
 
     ghost from_gives = { λ _ e. e ≡ NoMemory };
 
+    /// A refused allocation becomes `NoMemory`, which is no fault of the text.
     fn from(_refused: AllocError) -> Unread {
         Unread::NoMemory
     }
@@ -41,6 +42,7 @@ impl<T: Drop> From<AllocFailed<T>> for Unread {
 
     ghost from_gives = { λ _ e. e ≡ NoMemory };
 
+    /// Drops the value that couldn't be stored, and returns `NoMemory`.
     fn from(_refused: AllocFailed<T>) -> Unread {
         Unread::NoMemory
     }

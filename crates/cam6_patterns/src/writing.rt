@@ -49,6 +49,7 @@ impl<W: Write> Screen for PatternTexts<W> {
 
     ghost contents = { λ s. W.contents s.writer };
 
+    /// Makes the text of the frame, and writes it. The memory of the text before is used again.
     fn show(&mut self, frame: &Frame) -> Result<(), Unshown> {
         match make_text(&mut self.text, self.rule.as_bytes(), frame) {
             Ok(()) => write_bytes(&mut self.writer, &self.text),

@@ -21,6 +21,7 @@ use std::io;
 use std::io::{BufReader, ErrorKind, Read};
 use std::process::ExitCode;
 
+/// Runs the program on the host, and returns its exit status.
 fn main(rt: HostRuntime) -> ExitCode {
     run(&rt)
 }
@@ -34,6 +35,7 @@ fn run<R: Env + Input + Print + Eprint + AllocGlobal>(rt: &R) -> ExitCode {
     }
 }
 
+/// Returns what the arguments ask for, or why they are refused.
 fn options_given<R: Env + AllocGlobal>(rt: &R) -> Result<RleOptions, Refused> {
     let words = words_given(rt, Program::Rle)?;
     options_of_rle(rt.alloc(), words.as_slice())

@@ -21,6 +21,7 @@ pub struct IdleBoard {
 }
 
 impl IdleBoard {
+    /// An empty board at this seat.
     fn new(alloc: Global, seat: BoardSeat) -> Result<IdleBoard, NoMemory>
         requires { IsIdle seat }
     {

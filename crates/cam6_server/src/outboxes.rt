@@ -20,7 +20,7 @@ pub struct Outbox<W: Write + Drop> {
 }
 
 impl<W: Write + Drop> Outbox<W> {
-    /// Makes an outbox that holds nothing back yet. Allocates its room of 16 KiB.
+    /// Makes an outbox that holds nothing back yet. Allocates its buffer of 16 KiB.
     pub fn new(alloc: Global, writer: W) -> io::Result<Outbox<W>>
         ensures whole { IfOk result (λ outbox. outbox.is_broken ≡ false) }
         ensures bytes { IfOk result (λ outbox.
@@ -77,6 +77,8 @@ impl<W: Write + Drop> Write for Outbox<W> {
 
     ghost contents = { λ outbox. written W.contents outbox };
 
+    /// Takes bytes. Sends what is held back if there is no room for more. If that fails, the outbox
+    /// is broken.
     fn write(&mut self, bytes: &[u8]) -> io::Result<usize>
         ensures bound { WritesAtMost result bytes.now }
         ensures bytes { WriteAppends (written W.contents self.old) (written W.contents self.new)

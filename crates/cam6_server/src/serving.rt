@@ -105,6 +105,7 @@ impl From<NoMemory> for Fault {
 
     ghost from_gives = { λ _ fault. fault ≡ NoMemory };
 
+    /// A failed allocation becomes the host's fault `NoMemory`.
     fn from(_refused: NoMemory) -> Fault {
         Fault::NoMemory
     }

@@ -76,6 +76,7 @@ impl<R: Handle> Socket<'_, R> {
 }
 
 impl<R: Handle> Read for Socket<'_, R> {
+    /// Reads again if a signal interrupts it. Gives up after 1,000 tries.
     fn read(&mut self, bytes: &mut [u8]) -> io::Result<usize> {
         let mut stream = self.stream;
         for _ in 0..TRIES {
@@ -89,6 +90,8 @@ impl<R: Handle> Read for Socket<'_, R> {
 }
 
 impl<R: Handle> Write for Socket<'_, R> {
+    /// Writes again if a signal interrupts it, or if the client takes no byte. Gives up after a
+    /// minute, or after 1,000 tries.
     fn write(&mut self, bytes: &[u8]) -> io::Result<usize> {
         let mut stream = self.stream;
         let until = after(self.clock, SEND_SECONDS)?;
@@ -118,7 +121,7 @@ pub struct Link<'a, R: Handle> {
 
 impl<'a, R: Handle> Link<'a, R> {
     /// Makes the two sides of a new connection. From here on the client has ten seconds to take a
-    /// seat. Allocates the room of the outbox, and sets how long a write may wait.
+    /// seat. Allocates the buffer of the outbox, and sets how long a write may wait.
     pub fn new(
         alloc: Global,
         house: &'a House<R>,
@@ -167,6 +170,7 @@ impl<R: Handle> Connection for Link<'_, R> {
         self.terms.sit();
     }
 
+    /// Sends what is held back. If that fails, the next write and the next read fail too.
     fn release(&self) -> Released {
         // The outbox is broken if it fails, so the next write and the next read fail too.
         let _ = self.send();
@@ -195,6 +199,7 @@ impl<R: Handle> Write for &Link<'_, R> {
         }
     }
 
+    /// Sends nothing: answers stay held back. Fails if the outbox is broken.
     fn flush(&mut self) -> io::Result<()> {
         match self.outbox.try_borrow_mut() {
             Ok(mut outbox) => outbox.flush(),

@@ -10,8 +10,8 @@ use std::alloc::Global;
 use std::io::{BufRead, Write};
 
 /// Answers each line of the reader by one line, as a blank machine of this limit that gets all
-/// commands among them. Ends if the input ends, if something fails, or if the turns run out. Each
-/// look at the reader takes one of `turns`.
+/// commands among them. Ends if the input ends, if something fails, or if the reads run out. Each
+/// call of `fill_buf` takes one of `turns`.
 pub fn serve_alone<R: BufRead, W: Write>(
     alloc: Global,
     limit: Side,

@@ -12,12 +12,13 @@
 //! `specs/Answering.antt`). Each of its five ends says exactly which lines were taken, what was
 //! written, and where the one that was asked then stands (`specs/Sessions.antt`). So a session can
 //! go on where it ended. It runs out of memory only before the first line, at a line that takes
-//! memory, or within one that takes room. A replay doesn't end so after a refused event, or after
-//! an ask that ran out of memory. A session runs out of turns only after as many bytes of the
-//! reader as it had turns (`specs/Spending.antt`). `next_line` takes exactly one line, or returns
-//! why it stopped, and counts its turns. Room is taken only for a line that begins as a load, once
-//! it is longer than any other may be. It is given back after the line (`LineBuf`). The premise is
-//! that the bytes of the reader and of the writer are known, as those of memory are.
+//! memory, or within one for which the buffer grows. A replay doesn't end so after a refused event, or
+//! after an ask that ran out of memory. A session runs out of reads only after as many bytes of the
+//! reader as it had reads (`specs/Spending.antt`). A read is a call of `fill_buf`. `next_line` takes
+//! exactly one line, or returns why it stopped, and counts its reads. The buffer grows only for a line
+//! that begins as a load, once it is longer than any other may be. It shrinks after the line
+//! (`LineBuf`). The premise is that the bytes of the reader and of the writer are known, as those of
+//! memory are.
 //!
 //! So, for the two lines `{"do":"run","n":1}` and `{"do":"fly"}`, a private machine writes the two
 //! lines `{"fault":63}` and `{"fault":3}`: no cycle is set, and the second says no command.

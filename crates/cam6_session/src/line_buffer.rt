@@ -8,8 +8,8 @@ use cam6_wire::{LINE_LIMIT, LOAD_LINE_LIMIT, begins_load_in};
 use std::alloc::Global;
 use std::marker::Model;
 
-/// Room for one line. It grows only for a line that begins as a load, and shrinks after it. Of a
-/// line above its limit it keeps only that the line is too long.
+/// The buffer of one line. It grows only for a line that begins as a load, and shrinks after it. Of
+/// a line above its limit it keeps only that the line is too long.
 #[derive(Drop)]
 pub struct LineBuf {
     bytes: Vec<u8>,
@@ -45,7 +45,7 @@ impl LineBuf {
         })
     }
 
-    /// Begins a new line, and gives back what room was taken for a load.
+    /// Begins a new line, and gives back the memory that a load took.
     pub fn clear(&mut self)
         ensures { Holds self.new [] }
     {

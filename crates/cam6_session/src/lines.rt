@@ -19,13 +19,13 @@ pub enum Line {
     EndOfInput,
     /// The reader failed. What was read of a line is given up.
     ReadFault,
-    /// The turns ran out. What was read of a line is given up.
+    /// The reads ran out. What was read of a line is given up.
     TurnBound,
-    /// Room for a long line was refused. What was read of it is given up.
+    /// Memory for a long line was refused. What was read of it is given up.
     NoMemory,
 }
 
-/// What one look at the reader showed of a line.
+/// What one read showed of a line.
 #[derive(Clone, Copy)]
 enum Part {
     More,
@@ -35,7 +35,7 @@ enum Part {
     NoMemory,
 }
 
-/// Reads one line into `line`, without its LF, in place of what was there. Each look at the reader
+/// Reads one line into `line`, without its LF, in place of what was there. Each call of `fill_buf`
 /// takes one of `turns`.
 pub fn next_line<R: BufRead>(reader: &mut R, line: &mut LineBuf, turns: &mut u64) -> Line
     ensures line { Reads result (R.remaining reader.old) (R.remaining reader.new) line.new }
@@ -47,7 +47,7 @@ pub fn next_line<R: BufRead>(reader: &mut R, line: &mut LineBuf, turns: &mut u64
 }
 
 /// Reads one line. Of a line that is too long it reads only enough to know that. Then it returns
-/// `Line::Ended`, and the line's rest is unread. Each look at the reader takes a turn.
+/// `Line::Ended`, and the line's rest is unread. Each call of `fill_buf` takes one of `turns`.
 pub fn next_line_within<R: BufRead>(reader: &mut R, line: &mut LineBuf, turns: &mut u64) -> Line
     ensures line { ReadsWithin result (R.remaining reader.old) (R.remaining reader.new) line.new }
     ensures turns { Turns result turns.old turns.new }
@@ -121,7 +121,7 @@ fn last(line: &LineBuf) -> Line
     }
 }
 
-/// Looks once at the reader, and takes what it shows up to the line's LF, and the LF too.
+/// Reads once. Takes what `fill_buf` shows up to the line's LF, and the LF too.
 fn take_part<R: BufRead>(reader: &mut R, line: &mut LineBuf) -> Part
     ensures { TakesPart result (R.remaining reader.old) (R.remaining reader.new) line.old line.new }
 {

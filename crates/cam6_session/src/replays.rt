@@ -24,7 +24,7 @@ use std::alloc::Global;
 use std::io::{BufRead, Write};
 
 /// Does the event of each line of the reader, and writes its outcome as one line. Ends if the input
-/// ends, if something fails, or if the turns run out. Each look at the reader takes one of `turns`.
+/// ends, if something fails, or if the reads run out. Each call of `fill_buf` takes one of `turns`.
 pub fn replay<R: BufRead, W: Write>(
     alloc: Global,
     reader: &mut R,

@@ -26,7 +26,7 @@ pub enum End {
         /// Whether the line's command was done.
         done: bool,
     },
-    /// The turns ran out. A line without its end is given up.
+    /// The reads ran out. A line without its end is given up.
     TurnBound,
 }
 
@@ -47,6 +47,7 @@ impl From<WriteFault> for Stop {
 
     ghost from_gives = { λ _ stop. stop ≡ WriteFault };
 
+    /// A write that fails stops serving.
     fn from(_fault: WriteFault) -> Stop {
         Stop::WriteFault
     }
@@ -57,6 +58,7 @@ impl From<Stop> for End {
 
     ghost from_gives = { λ stop end. end ≡ end_at stop };
 
+    /// Serving ends for the reason for which it stopped.
     fn from(stop: Stop) -> End {
         match stop {
             Stop::WriteFault => End::WriteFault,
@@ -66,7 +68,7 @@ impl From<Stop> for End {
 }
 
 /// Answers each line of the reader by one line, as a machine that gets all commands among them.
-/// Ends if the input ends, if something fails, or if the turns run out. Each look at the reader
+/// Ends if the input ends, if something fails, or if the reads run out. Each call of `fill_buf`
 /// takes one of `turns`.
 pub fn serve<R: BufRead, W: Write, D: Ask>(
     alloc: Global,
@@ -89,7 +91,7 @@ pub fn serve<R: BufRead, W: Write, D: Ask>(
 }
 
 /// Answers each line of the reader by one line. Ends if the input ends, if something fails, or if
-/// the turns run out. Each look at the reader takes one of `turns`.
+/// the reads run out. Each call of `fill_buf` takes one of `turns`.
 pub fn answer_lines<R: BufRead, W: Write, A: Answerer>(
     alloc: Global,
     reader: &mut R,

@@ -46,12 +46,13 @@ impl<W: Write> Screen for Netpbm<W> {
 
     ghost contents = { λ s. W.contents s.writer };
 
+    /// Writes the frame as one binary PPM, row by row.
     fn show(&mut self, frame: &Frame) -> Result<(), Unshown> {
         write_picture(&mut self.writer, &mut self.pixels, &self.look, frame)
     }
 }
 
-/// Writes a picture. Uses the vector as room for each row of pixels.
+/// Writes a picture. Uses the vector as scratch for each row of pixels.
 fn write_picture<W: Write>(
     writer: &mut W,
     pixels: &mut Vec<u8>,

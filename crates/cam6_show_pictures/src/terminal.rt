@@ -66,6 +66,7 @@ impl<C: Clock, W: Write> Screen for Terminal<C, W> {
 
     ghost contents = { λ s. W.contents s.writer };
 
+    /// Writes the frame over the one before, and then pauses if there is a pause.
     fn show(&mut self, frame: &Frame) -> Result<(), Unshown> {
         write_picture(&mut self.writer, &mut self.line, &self.look, frame)?;
         if let Some(pause) = self.pause {
@@ -75,7 +76,7 @@ impl<C: Clock, W: Write> Screen for Terminal<C, W> {
     }
 }
 
-/// Writes a picture. Uses the vector as room for each line of characters.
+/// Writes a picture. Uses the vector as scratch for each line of characters.
 fn write_picture<W: Write>(
     writer: &mut W,
     line: &mut Vec<u8>,

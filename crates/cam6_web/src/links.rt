@@ -147,6 +147,7 @@ impl<'a, R: Clock> Link<'a, R> {
 }
 
 impl<R: Clock> Paced for &Link<'_, R> {
+    /// Lets all calls from here on take the seconds of this pace together.
     fn pace(&self, pace: Pace) {
         self.allow(seconds_of(pace));
     }
@@ -162,6 +163,7 @@ fn seconds_of(pace: Pace) -> u64 {
 }
 
 impl<R: Clock> Read for &Link<'_, R> {
+    /// While it waits, looks once a second whether the host is still there.
     fn read(&mut self, bytes: &mut [u8]) -> io::Result<usize> {
         let mut stream = self.stream;
         for _ in 0..TRIES {
@@ -177,6 +179,7 @@ impl<R: Clock> Read for &Link<'_, R> {
 }
 
 impl<R: Clock> Write for &Link<'_, R> {
+    /// Writes again if a signal interrupts it. Gives up after 1,000 tries, or once the time is over.
     fn write(&mut self, bytes: &[u8]) -> io::Result<usize> {
         let mut stream = self.stream;
         for _ in 0..TRIES {

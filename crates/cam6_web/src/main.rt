@@ -37,6 +37,7 @@ use std::env::Env;
 use std::net::{Ipv4Addr, Net, TcpListener, TcpStream};
 use std::process::ExitCode;
 
+/// Runs the program on the host, and returns its exit status.
 fn main(rt: HostRuntime) -> ExitCode {
     run(rt)
 }
@@ -58,6 +59,7 @@ fn run<
     }
 }
 
+/// Returns what the arguments ask for, or why they are refused.
 fn options_given<R: Env + AllocGlobal>(rt: &R) -> Result<Options, Refused> {
     let words = words_given(rt, Program::Web)?;
     options_of_web(rt.alloc(), words.as_slice())

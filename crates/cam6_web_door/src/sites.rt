@@ -55,6 +55,7 @@ impl<'a> Service for Site<'a> {
 
     ghost answers = { Answers };
 
+    /// Answers a request, and notes where its socket leads, if the answer opens one.
     fn call(
         &mut self,
         request: &Request<Bytes>,

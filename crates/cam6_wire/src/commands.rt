@@ -90,6 +90,7 @@ fn command_in(alloc: Global, value: &Value) -> Result<Option<Command>, AllocErro
     by_word(alloc, word, value)
 }
 
+/// The command of an object of `do` and `machine`, and no other member.
 #[tactic(auto, unfolding(crate::specs::Commands::load_of))]
 fn load_of(alloc: Global, value: &Value) -> Result<Option<Command>, AllocError>
     ensures { IfOk result (λ command. command ≡ load_of (view value.now)) }
@@ -161,6 +162,7 @@ fn textless_by_word(word: &str, value: &Value) -> Option<Command>
     }
 }
 
+/// The command of an object of `do`, `plane`, `row` and `bits`, and no other member.
 #[tactic(auto, unfolding(crate::specs::Commands::set_of))]
 fn set_of(value: &Value) -> Option<Command>
     ensures { result ≡ set_of (view value.now) }
@@ -185,6 +187,8 @@ pub(crate) fn sole_number(value: &Value, key: &str) -> Option<u64>
     number_at(value, key)
 }
 
+/// The command of an object of `do` and the five members of a rule. It has copies of the rule's
+/// texts.
 #[tactic(auto, unfolding(crate::specs::Commands::rule_of))]
 fn rule_of(alloc: Global, value: &Value) -> Result<Option<Command>, AllocError>
     ensures command { IfOk result (λ command. command ≡ rule_of (view value.now)) }
@@ -202,6 +206,7 @@ fn rule_of(alloc: Global, value: &Value) -> Result<Option<Command>, AllocError>
     Ok(Some(Command::Rule { name, wiring, text }))
 }
 
+/// The command of an object of `do` and `name`, and no other member. It has a copy of the name.
 #[tactic(auto, unfolding(crate::specs::Commands::drop_of))]
 fn drop_of(alloc: Global, value: &Value) -> Result<Option<Command>, AllocError>
     ensures command { IfOk result (λ command. command ≡ drop_of (view value.now)) }
@@ -220,6 +225,7 @@ fn drop_of(alloc: Global, value: &Value) -> Result<Option<Command>, AllocError>
     }))
 }
 
+/// The command of an object of `do` alone that lists the rules.
 #[tactic(auto, unfolding(crate::specs::Commands::listing_of))]
 fn listing_of(value: &Value) -> Option<Command>
     ensures { result ≡ listing_of (view value.now) }
@@ -230,6 +236,7 @@ fn listing_of(value: &Value) -> Option<Command>
     Some(Command::Rules)
 }
 
+/// The command of an object of `do` and `entries`, and no other member.
 #[tactic(auto, unfolding(crate::specs::Commands::cycle_of))]
 fn cycle_of(alloc: Global, value: &Value) -> Result<Option<Command>, AllocError>
     ensures command { IfOk result (λ command. command ≡ cycle_of (view value.now)) }
@@ -246,6 +253,7 @@ fn cycle_of(alloc: Global, value: &Value) -> Result<Option<Command>, AllocError>
     }
 }
 
+/// The command of an object of `do`, `plane` and `row`, and no other member.
 #[tactic(auto, unfolding(crate::specs::Commands::row_of))]
 fn row_of(value: &Value) -> Option<Command>
     ensures { result ≡ row_of (view value.now) }
@@ -258,6 +266,7 @@ fn row_of(value: &Value) -> Option<Command>
     Some(Command::Row { plane, row })
 }
 
+/// The command of an object of `do` and `colours`, and no other member.
 #[tactic(auto, unfolding(crate::specs::Commands::map_of))]
 fn map_of(value: &Value) -> Option<Command>
     ensures { result ≡ map_of (view value.now) }
@@ -269,6 +278,7 @@ fn map_of(value: &Value) -> Option<Command>
     Some(Command::Map { colours })
 }
 
+/// The command of an object of `do` alone that saves the machine.
 #[tactic(auto, unfolding(crate::specs::Commands::save_of))]
 fn save_of(value: &Value) -> Option<Command>
     ensures { result ≡ save_of (view value.now) }

@@ -29,6 +29,8 @@ pub(crate) fn entries_at(
     }
 }
 
+/// The entries that values show, or `None` if one shows none. Looks at all of them before it
+/// allocates.
 fn entries_in(alloc: Global, values: &[Value]) -> Result<Option<NamedEntries>, AllocError>
     ensures entries { IfOk result (λ entries. entries ≡ entries_in (items_view values.now)) }
     ensures memory { option_map_or are_some (entries_in (items_view values.now)) false ≡ false

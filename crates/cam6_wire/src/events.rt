@@ -90,6 +90,8 @@ fn askless_by_word(kind: &str, value: &Value) -> Option<Event>
     }
 }
 
+/// The event of an object of `event`, `user` and `command`, and no other member. It can't load a
+/// machine.
 #[tactic(auto, unfolding(crate::specs::Events::ask_of))]
 fn ask_of(alloc: Global, value: &Value) -> Result<Option<Event>, AllocError>
     ensures event { IfOk result (λ event. event ≡ ask_of (view value.now)) }
@@ -111,6 +113,7 @@ fn ask_of(alloc: Global, value: &Value) -> Result<Option<Event>, AllocError>
     }
 }
 
+/// The event of an object of `event`, `user` and `board`, and no other member.
 #[tactic(auto, unfolding(crate::specs::Events::lease_of))]
 fn lease_of(value: &Value) -> Option<Event>
     ensures { result ≡ lease_of (view value.now) }
@@ -123,6 +126,7 @@ fn lease_of(value: &Value) -> Option<Event>
     Some(Event::Lease(user, board))
 }
 
+/// The event of an object of `event` alone.
 #[tactic(auto, unfolding(crate::specs::Events::evict_of))]
 fn evict_of(value: &Value) -> Option<Event>
     ensures { result ≡ evict_of (view value.now) }

@@ -39,6 +39,7 @@ impl From<AllocError> for LineFault {
 
     ghost from_gives = { λ _ e. e ≡ NoMemory };
 
+    /// A refused allocation becomes `NoMemory`, which is no fault of the line.
     fn from(_refused: AllocError) -> LineFault {
         LineFault::NoMemory
     }
@@ -49,6 +50,7 @@ impl<T: Drop> From<AllocFailed<T>> for LineFault {
 
     ghost from_gives = { λ _ e. e ≡ NoMemory };
 
+    /// Drops the value that couldn't be stored, and returns `NoMemory`.
     fn from(_refused: AllocFailed<T>) -> LineFault {
         LineFault::NoMemory
     }

@@ -17,6 +17,7 @@ pub(crate) fn has_size(value: &Value, size: usize) -> bool
     }
 }
 
+/// The whole number at a key, below 2 to the power of 64, if it has one.
 pub(crate) fn number_at(value: &Value, key: &str) -> Option<u64>
     ensures { result ≡ number_at key.now (view value.now) }
 {
@@ -31,6 +32,7 @@ pub(crate) fn colours_at(value: &Value, key: &str) -> Option<[u64; 16]>
     colours_of(values)
 }
 
+/// The numbers of a list of sixteen whole numbers, or `None` for any other list.
 fn colours_of(values: &[Value]) -> Option<[u64; 16]>
     ensures { result ≡ option_and_then of_states (numbers_of (items_view values.now)) }
 {
@@ -44,6 +46,7 @@ fn colours_of(values: &[Value]) -> Option<[u64; 16]>
     Some(colours)
 }
 
+/// The text at a key, if it has one.
 pub(crate) fn text_at<'a>(value: &'a Value, key: &str) -> Option<&'a str>
     ensures { option_map (λ text. text.now) result ≡ text_at key.now (view value.now) }
 {

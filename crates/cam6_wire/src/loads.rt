@@ -96,6 +96,7 @@ fn planes_at(alloc: Global, value: &Value, key: &str) -> Result<Option<[BitRows;
     }
 }
 
+/// The planes of a list of four planes, or `None` for any other list.
 fn four_planes(alloc: Global, values: &[Value]) -> Result<Option<[BitRows; 4]>, AllocError>
     ensures { IfOk result (λ planes.
         planes ≡ option_and_then of_four (planes_of (items_view values.now))) }
@@ -128,6 +129,7 @@ fn rows_in(alloc: Global, value: &Value) -> Result<Option<BitRows>, AllocError>
     }
 }
 
+/// The rows of a list of hexadecimal digits, or `None` if one is not a row of any side.
 fn rows_of(alloc: Global, values: &[Value]) -> Result<Option<BitRows>, AllocError>
     ensures { IfOk result (λ rows. rows ≡ rows_of (items_view values.now)) }
 {
@@ -158,6 +160,7 @@ fn rules_at(alloc: Global, value: &Value, key: &str) -> Result<Option<NamedRules
     }
 }
 
+/// The rules of a list, or `None` if one of its values is no rule.
 fn rules_in(alloc: Global, values: &[Value]) -> Result<Option<NamedRules>, AllocError>
     ensures { IfOk result (λ rules. rules ≡ rules_in (items_view values.now)) }
 {
@@ -171,6 +174,7 @@ fn rules_in(alloc: Global, values: &[Value]) -> Result<Option<NamedRules>, Alloc
     Ok(Some(NamedRules::new(rules)))
 }
 
+/// The rule of an object of the five members of a rule, and no other, with copies of its texts.
 #[tactic(auto, unfolding(crate::specs::Loads::rule_in))]
 fn rule_in(alloc: Global, value: &Value) -> Result<Option<NamedRule>, AllocError>
     ensures { IfOk result (λ rule. rule ≡ rule_in (view value.now)) }

@@ -65,6 +65,7 @@ fn band_text(alloc: Global, left: u64) -> Result<String, AllocError>
     format!(in alloc; "{{\"left\":{left},\"ok\":\"band\"}}")
 }
 
+/// The JSON value of an outcome. An event that ran out of memory is refused with number 0.
 fn outcome_value(alloc: Global, outcome: &Outcome) -> Result<Value, AllocError>
     ensures { IfOk result (λ value. view value ≡ outcome_data outcome.now) }
 {

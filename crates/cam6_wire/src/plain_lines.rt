@@ -96,7 +96,7 @@ fn plain_set(line: &[u8]) -> Option<Command>
     Some(Command::Set { plane, row, bits })
 }
 
-/// The number of a text that is a front, a number and a brace.
+/// The number of a text that is a prefix, a number and a brace.
 fn number_within(text: &[u8], front: &[u8]) -> Option<u64>
     ensures { IfSome result (λ n. (text.now ≡ front.now ++ decimal n ++ codes "}")
         × (n < 2 ^ 64)) }
@@ -109,7 +109,7 @@ fn number_within(text: &[u8], front: &[u8]) -> Option<u64>
     Some(n)
 }
 
-/// The number in front of a text, spelled in decimal as JSON has it, and what stands behind it.
+/// The number at the start of a text, spelled in decimal as JSON has it, and what comes after it.
 fn number_before(text: &[u8]) -> Option<(u64, &[u8])>
     ensures { IfSome result (λ found. (text.now ≡ decimal found.0 ++ found.1.now)
         × (found.0 < 2 ^ 64)) }
@@ -120,7 +120,7 @@ fn number_before(text: &[u8]) -> Option<(u64, &[u8])>
     Some((n, rest))
 }
 
-/// The number that the digits in front of a text say, modulo 2 to the power of 64.
+/// The number of the digits at the start of a text, modulo 2 to the power of 64.
 fn number_of_digits(text: &[u8]) -> u64 {
     let mut n: u64 = 0;
     for byte in text {
@@ -134,7 +134,7 @@ fn number_of_digits(text: &[u8]) -> u64 {
     n
 }
 
-/// What stands behind a front, if the text begins with it.
+/// What comes after a prefix, if the text begins with it.
 fn behind<'a>(text: &'a [u8], front: &[u8]) -> Option<&'a [u8]>
     ensures { IfSome result (λ rest. text.now ≡ front.now ++ rest.now) }
 {

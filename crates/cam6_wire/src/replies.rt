@@ -63,7 +63,7 @@ fn value_text(alloc: Global, reply: &Reply) -> Result<String, NoMemory>
     Ok(reply_value(alloc, reply)?.to_string(alloc)?)
 }
 
-/// A text that is a front, a number and a brace.
+/// A text that is a prefix, a number and a brace.
 fn number_text(alloc: Global, front: &str, n: usize) -> Result<String, AllocError>
     ensures text { IfOk result (λ text. string_bytes text ≡ front.now ++ decimal n ++ codes "}") }
     ensures fits { n < 2 ^ 64 }
@@ -160,6 +160,7 @@ pub fn fault_line(fault: LineFault) -> &'static str
     }
 }
 
+/// The JSON value of a reply: an object with `ok` or with `fault`.
 pub(crate) fn reply_value(alloc: Global, reply: &Reply) -> Result<Value, AllocError>
     ensures { IfOk result (λ value. view value ≡ reply_data reply.now) }
 {
@@ -169,6 +170,7 @@ pub(crate) fn reply_value(alloc: Global, reply: &Reply) -> Result<Value, AllocEr
     }
 }
 
+/// The value of what a command did: `ok` with the command's word, and what it shows.
 fn done_value(alloc: Global, done: &Done) -> Result<Value, AllocError>
     ensures { IfOk result (λ value. view value ≡ done_data done.now) }
 {
@@ -232,6 +234,7 @@ fn save_value(alloc: Global, machine: &SavedMachine) -> Result<Value, AllocError
     told_value(alloc, "save", "machine", machine)
 }
 
+/// The value of a refusal: `fault` with its number, and where the fault lies, if it lies somewhere.
 fn refusal_value(alloc: Global, refusal: Refusal) -> Result<Value, AllocError>
     ensures { IfOk result (λ value. view value ≡ refusal_data refusal) }
 {
@@ -360,6 +363,7 @@ pub(crate) fn told_value(
     json!(in alloc; {key: told, "ok": word})
 }
 
+/// An array with the digits of each row.
 fn rows_value(alloc: Global, rows: &PlaneRows) -> Result<Value, AllocError>
     ensures { IfOk result (λ value. view value ≡ array (texts rows.now)) }
 {
@@ -370,6 +374,7 @@ fn rows_value(alloc: Global, rows: &PlaneRows) -> Result<Value, AllocError>
     Ok(Value::Array(values))
 }
 
+/// An array with the text of each name.
 fn names_value(alloc: Global, names: &Names) -> Result<Value, AllocError>
     ensures { IfOk result (λ value. view value ≡ array (texts names.now)) }
 {

@@ -66,6 +66,7 @@ fn load_text(alloc: Global, version: Version, saved: &SavedMachine) -> Result<St
     Ok(load_value(alloc, version, saved)?.to_string(alloc)?)
 }
 
+/// The value of the line that loads a machine in a version.
 fn load_value(alloc: Global, version: Version, saved: &SavedMachine) -> Result<Value, AllocError>
     ensures { IfOk result (λ value. view value ≡ load_data (saved_data version saved.now)) }
 {
@@ -119,6 +120,7 @@ fn versioned(alloc: Global, members: Map<String, Value>, version: u8) -> Result<
     Ok(Value::Object(members))
 }
 
+/// An array with a number for each state.
 fn colours_value(alloc: Global, colours: &[u64; 16]) -> Result<Value, AllocError>
     ensures { IfOk result (λ value. view value ≡ array (naturals colours.now)) }
 {
@@ -129,6 +131,7 @@ fn colours_value(alloc: Global, colours: &[u64; 16]) -> Result<Value, AllocError
     Ok(Value::Array(values))
 }
 
+/// An array with an object for each entry.
 fn cycle_value(alloc: Global, entries: &[NamedEntry]) -> Result<Value, AllocError>
     ensures { IfOk result (λ value. view value ≡ array (items_of (map entry_data entries.now))) }
 {
@@ -139,6 +142,7 @@ fn cycle_value(alloc: Global, entries: &[NamedEntry]) -> Result<Value, AllocErro
     Ok(Value::Array(values))
 }
 
+/// An object of `a`, `b`, `grid` and `phase`.
 fn entry_value(alloc: Global, entry: &NamedEntry) -> Result<Value, AllocError>
     ensures { IfOk result (λ value. view value ≡ entry_data entry.now) }
 {
@@ -159,6 +163,7 @@ fn name_text(name: &Option<Text>) -> &str
     }
 }
 
+/// An array with an array of rows for each plane.
 fn planes_value(alloc: Global, planes: &[BitRows; 4]) -> Result<Value, AllocError>
     ensures { IfOk result (λ value. view value ≡ array (items_of (map rows_data planes.now))) }
 {
@@ -180,6 +185,7 @@ fn rows_value(alloc: Global, rows: &[Bits]) -> Result<Value, AllocError>
     Ok(Value::Array(values))
 }
 
+/// An array with an object for each rule.
 fn rules_value(alloc: Global, rules: &[NamedRule]) -> Result<Value, AllocError>
     ensures { IfOk result (λ value. view value ≡ array (items_of (map rule_data rules.now))) }
 {
@@ -190,6 +196,7 @@ fn rules_value(alloc: Global, rules: &[NamedRule]) -> Result<Value, AllocError>
     Ok(Value::Array(values))
 }
 
+/// An object of `half`, `hood`, `minor`, `name` and `text`.
 fn rule_value(alloc: Global, rule: &NamedRule) -> Result<Value, AllocError>
     ensures { IfOk result (λ value. view value ≡ rule_data rule.now) }
 {

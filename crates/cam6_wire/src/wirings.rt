@@ -20,18 +20,21 @@ pub(crate) fn wiring_in(value: &Value) -> Option<Wiring>
     Some(Wiring { half, hood, minor })
 }
 
+/// The half that the text at `half` names.
 fn half_in(value: &Value) -> Option<Half>
     ensures { result ≡ option_and_then half_named (text_at (codes "half") (view value.now)) }
 {
     Half::named(text_at(value, "half")?)
 }
 
+/// The hood that the text at `hood` names.
 fn hood_in(value: &Value) -> Option<Hood>
     ensures { result ≡ option_and_then hood_named (text_at (codes "hood") (view value.now)) }
 {
     Hood::named(text_at(value, "hood")?)
 }
 
+/// The minor that the text at `minor` names.
 fn minor_in(value: &Value) -> Option<Minor>
     ensures { result ≡ option_and_then minor_named (text_at (codes "minor") (view value.now)) }
 {
