@@ -29,7 +29,7 @@ impl IdleBoard {
         Ok(IdleBoard { seat, board })
     }
 
-    /// Serves users until the hall's gate ends it. The board never fails, so it ends in no other way.
+    /// Serves users until the host's gate ends it. The board never fails, so it ends in no other way.
     pub fn serve<R: Handle>(self, hall: &Hall<R>) {
         serve_board(&hall.rt, self.seat, self.board, &hall.cache, &hall.gate);
     }

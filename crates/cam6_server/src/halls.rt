@@ -22,7 +22,7 @@ pub struct Hall<R: Handle> {
     pub places: Mutex<Places>,
 }
 
-/// A hall and its clients.
+/// The state of the server: that of the host, and its clients.
 #[derive(Drop)]
 pub struct House<R: Handle> {
     pub hall: Hall<R>,

@@ -14,7 +14,7 @@ pub trait Handle: Threads + Wait + Clock + RandomSource + AllocGlobal + Copy + D
 
 impl<R: Threads + Wait + Clock + RandomSource + AllocGlobal + Copy + Drop> Handle for R {}
 
-/// The door of the server, the hosts, the largest side of a page's own machine, and the connections.
+/// The router of the server, the hosts, the largest side of a page's own machine, and the connections.
 #[derive(Drop)]
 pub struct Hall<R: Handle> {
     pub rt: R,

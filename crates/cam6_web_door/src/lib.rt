@@ -1,7 +1,7 @@
 //! What a browser may ask of the page's server: the page's files, how many hosts there are, and a
 //! socket for the page itself.
 //!
-//! Contract: `answer_to` returns the answer to a request, for any door and any request
+//! Contract: `answer_to` returns the answer to a request, for any router and any request
 //! (`specs/Answers.antt`). A site puts that answer into the response, with the answer's status, its
 //! fields and its text (`specs/Sites.antt`). `greet` serves a connection with a site. If it returns
 //! an opening, the site opened a socket that leads where the opening says, and the opening has the

@@ -28,7 +28,7 @@ pub struct Site<'a> {
 }
 
 impl<'a> Site<'a> {
-    /// The site behind a door. `has_room` says whether one more socket may be opened.
+    /// The site of a router. `has_room` says whether one more socket may be opened.
     pub fn new(alloc: Global, door: &'a Door, has_room: bool) -> Site<'a>
         ensures door { result.door.now ≡ door.now }
         ensures has_room { result.has_room ≡ has_room }

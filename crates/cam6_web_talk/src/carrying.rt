@@ -8,13 +8,13 @@ ghost use Rattle.cam6_web_talk.specs.Talks.{max_silences};
 use crate::hosts::{Answer, Host, MESSAGE_LIMIT, Silence};
 use crate::pages::{Page, Said, Unheard, Unsent};
 
-/// How often in a row a page may be silent before the talk ends.
+/// How often in a row a page may be silent before the bridge ends.
 const SILENCES: u8 = 3;
 
-/// How many messages and silences a talk has at most.
+/// How many messages and silences a bridge has at most.
 const TURNS: u64 = 1_099_511_627_776;
 
-/// How a talk ended.
+/// How a bridge ended.
 #[derive(Clone, Copy, Debug, PartialEq, Eq)]
 pub enum End {
     /// The page could not be heard, for this reason.
@@ -38,7 +38,7 @@ pub enum End {
 }
 
 /// Hands each text of the page to the host as a line, and sends the host's answer to it as a text,
-/// until something ends the talk. Sends a ping after each silence.
+/// until something ends the bridge. Sends a ping after each silence.
 pub fn carry<P: Page, H: Host>(page: &mut P, host: &mut H) -> End
     ensures { TalksUntil P.talking H.answering result
         (P.stands page.old) (H.stands host.old) (P.stands page.new) (H.stands host.new) }
@@ -73,7 +73,7 @@ fn exchange<P: Page, H: Host>(page: &mut P, host: &mut H, silences: u8) -> Resul
 }
 
 /// Sends a ping to a page that was silent again, after so many silences in a row. Returns how many
-/// there are now. At the third the talk ends without a ping.
+/// there are now. At the third the bridge ends without a ping.
 fn wait_on<P: Page>(page: &mut P, silences: u8) -> Result<u8, End>
     requires { silences < max_silences }
     ensures { IsWaitedOn P.talking result silences (P.stands page.old) (P.stands page.new) }

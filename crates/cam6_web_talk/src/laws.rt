@@ -1,4 +1,4 @@
-//! Laws of talks. Each is the contract of a function that does nothing.
+//! Laws of bridges. Each is the contract of a function that does nothing.
 ghost use Rattle.cam6_web_talk.specs.Laws.{HostIsToldTheTexts};
 
 use crate::pages::Page;

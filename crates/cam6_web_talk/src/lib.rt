@@ -16,7 +16,7 @@
 //!
 //! Stands on: `cam6_writing`, `tungstenite`, `websocket` and `bytes`.
 //!
-//! Read next: `hosts` and `host_lines`; `pages` and `sockets`; `carrying`, the talk;
+//! Read next: `hosts` and `host_lines`; `pages` and `sockets`; `carrying`, the bridge;
 //! `partings`, how the page is told of its end; `talking`, all of it; and `laws`.
 #![tactic(auto)]
 

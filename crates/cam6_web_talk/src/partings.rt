@@ -1,4 +1,4 @@
-//! How a page is told that a talk is over.
+//! How a page is told that a bridge has ended.
 ghost use Rattle.std.specs.Prelude.{◌≡◌, Some, OnOk};
 ghost use Rattle.tungstenite.specs.Connection.{close_step};
 ghost use Rattle.tungstenite.specs.Socket.{Writes};

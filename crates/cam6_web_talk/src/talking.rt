@@ -1,4 +1,4 @@
-//! A talk from the handshake on.
+//! A bridge from the handshake on.
 ghost use Rattle.cam6_web_talk.specs.Talking.{TalksOn};
 
 use crate::carrying::{End, carry};
