@@ -20,8 +20,10 @@ LINE_WORDS = 20
 CLAIMS = re.split(r"^##+ ", text_of("docs/CLAIMS.md"), flags=re.M)[1:]
 # The pages that list the worked examples.
 LISTS = ["docs/GALLERY.md", "docs/EXAMPLES.md"]
-# The folder of an edit, by its mark in docs/WRONG-BODIES.md.
-EDITS = {"gate": "must-fail", "test": "tested-edits", "": "more-edits"}
+# The folder of a mutant, by its mark in docs/MUTANTS.md.
+MUTANTS = {"gate": "must-fail", "test": "tested-mutants", "": "more-mutants"}
+# What the decisions of the past name, and its name of today.
+RENAMED = {"tools/wrong-bodies": "tools/try-mutants"}
 
 
 @cache
@@ -151,8 +153,9 @@ def test_code_that_the_model_quotes_is_there() -> None:
 @pytest.mark.parametrize("page", PAGES)
 def test_a_path_is_there(page: str) -> None:
     """Each path of a test, of a tool and of a crate's file that a page names is there."""
-    text = text_of(page)
-    for path in set(re.findall(r"(?<![\w/.-])(?:tests|tools)/[\w/.-]*\w", text)):
+    text, renamed = text_of(page), RENAMED if page == "docs/DECISIONS.md" else {}
+    named_paths = re.findall(r"(?<![\w/.-])(?:tests|tools)/[\w/.-]*\w", text)
+    for path in {renamed.get(path, path) for path in named_paths}:
         assert (TOP / path).exists() or (TOP / f"{path}.rt.txt").exists() or path.endswith("/NAME"), path
     for path in set(re.findall(r"\bcam6_\w+/[\w/.-]*\w\.(?:rt|antt|py|example)\b", text)):
         assert (CRATES / path).is_file(), path
@@ -198,20 +201,20 @@ def is_test(name: str) -> bool:
     return (CRATES / path).is_file() and f"\nfn {function}(" in text_of(f"crates/{path}")
 
 
-def wrong_bodies() -> Iterator[tuple[str, list[str]]]:
-    """The rows of docs/WRONG-BODIES.md with wrong bodies, each with the crate of its heading."""
-    for section in re.split(r"^## ", text_of("docs/WRONG-BODIES.md"), flags=re.M):
+def mutants() -> Iterator[tuple[str, list[str]]]:
+    """The rows of docs/MUTANTS.md, each with the crate of its heading."""
+    for section in re.split(r"^## ", text_of("docs/MUTANTS.md"), flags=re.M):
         heading = re.match(r"`(\w+)`", section)
         yield from ((heading[1] if heading else "", row) for row in rows(section) if len(row) == 3)
 
 
-@pytest.mark.parametrize(("crate", "row"), wrong_bodies())
-def test_a_wrong_body_has_its_edit_and_its_test(crate: str, row: list[str]) -> None:
-    """Each edit is where the row says, and so is each test. No row is without either."""
-    body, edits, tests = row
-    assert edits != "-" or tests != "-", body
-    for path, mark in re.findall(r"`([\w/]+)`(?: \((gate|test)\))?", edits):
+@pytest.mark.parametrize(("crate", "row"), mutants())
+def test_a_mistake_has_its_mutant_and_its_test(crate: str, row: list[str]) -> None:
+    """Each mutant is where the row says, and so is each test. No row is without either."""
+    mistake, planted_by, tests = row
+    assert planted_by != "-" or tests != "-", mistake
+    for path, mark in re.findall(r"`([\w/]+)`(?: \((gate|test)\))?", planted_by):
         of, _, name = path.rpartition("/")
-        assert (CRATES / (of or crate) / EDITS[mark] / f"{name}.edit").is_file(), path
+        assert (CRATES / (of or crate) / MUTANTS[mark] / f"{name}.edit").is_file(), path
     for name in named(tests):
         assert is_test(name), name
