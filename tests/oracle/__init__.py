@@ -1,1 +1,1 @@
-"""What is right, worked out in plain Python: lines, rules, machines and hosts. Shares nothing with the programs."""
+"""What is right, worked out in Python: lines, rules, machines and hosts. Shares nothing with the programs."""

@@ -4,8 +4,8 @@
 seconds, so that all boards are busy. Then all others ask for shorter steps, and three of them go back. Each of these must
 be answered before any of the eight: so commands were taken off boards, and went on later, maybe elsewhere.
 
-The eight have the largest torus. Their runs come back to their beginning, and so the plain machine does only the step
-that is left over. A step of parity is a sum, so that 512 steps put five copies of the cells onto themselves, which
+The eight have the largest torus. Their runs come back to their beginning, and so the oracle does only the step that
+is left over. A step of parity is a sum, so that 512 steps put five copies of the cells onto themselves, which
 leaves one. A ball crosses the torus in 512 steps. Three cells of Life in a row lie so again after two steps, and a
 block that is turned after four.
 
@@ -46,7 +46,7 @@ class Play:
         self.machine, self.sent, self.came, self.wanted = Alone(side), list[bytes](), list[str | None](), list[str]()
 
     def keep(self, came: str | None, line: bytes, same: bytes = b"") -> None:
-        """Keeps a reply to a line, and the plain machine's reply to this line, or to one that is the same for it."""
+        """Keeps a reply to a line, and the oracle's reply to this line, or to one that is the same for it."""
         self.sent.append(line)
         self.came.append(came)
         self.wanted.append(self.machine.answer(same or line).decode())
@@ -122,7 +122,7 @@ class User(Play):
                 self.ask(do="set", plane=plane, row=y, bits=near(self.side, random, word == "VOTE"))
 
     def end(self, came: str | None) -> None:
-        """Keeps the reply to the steps, and looks at all planes. Fails if a reply is not that of the plain machine."""
+        """Keeps the reply to the steps, and looks at all planes. Fails if a reply is not that of the oracle."""
         self.keep(came, plain(self.steps), plain(self.steps | ({"n": LONG % self.period} if self.is_long else {})))
         for plane in range(4):
             self.ask(do="plane", plane=plane)

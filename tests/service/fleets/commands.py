@@ -1,5 +1,5 @@
 """What a session of a fleet sends: random commands by a seed, several at once now and then, saves and loads, and lines that are
-refused. A small session has few steps, so that a plain machine can do the same.
+refused. A small session has few steps, so that the oracle can do the same.
 """
 
 from __future__ import annotations

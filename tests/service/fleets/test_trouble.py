@@ -1,5 +1,5 @@
 """Sessions of the Python client lose nothing, whatever is killed, stopped, drained or pulled meanwhile. Each has the replies
-of a private machine: of `cam6 alone`, and a small session also those of a plain machine in Python.
+of a private machine: of `cam6 alone`, and a small session also those of the oracle.
 
 The options --fleet-seconds, --fleet-seed and --fleet-sessions make the trouble longer. The figures of a run are printed.
 """
@@ -35,12 +35,12 @@ SEEN = 6
 SYNCS, EVERY = ("checkpoint", "none", "each"), (0.1, 0.02, 0.5)
 # Seconds of a short run, and between the calls of its sessions, and between those of longer runs.
 SHORT, PAUSE, LONG_PAUSE = 60, 0.03, 0.1
-# Every so many sessions one is small, so that a plain machine, which takes milliseconds for a step, can do the same.
+# Every so many sessions one is small, so that the oracle, which takes milliseconds for a step, can do the same.
 SMALL_OF = 4
 # Seconds in which sessions have to end after the trouble has: a session waits for a silent front for a third of its deadline.
 DEADLINE, ENDING = 45, 90
-# Seconds that the plain machine may take for a session, and the program. The plain one does what it can in this time.
-PLAIN_SECONDS, PROGRAM_SECONDS = 300, 7200
+# Seconds that the oracle may take for a session, and the program. The oracle does what it can in this time.
+ORACLE_SECONDS, PROGRAM_SECONDS = 300, 7200
 
 
 class Troubles:
@@ -228,12 +228,12 @@ def clients(pytestconfig: pytest.Config, fleet: Fleet) -> Iterator[list[Client]]
 
 class Judged(NamedTuple):
     """What became of a session: how many of its replies are those of `cam6 alone`, how many nobody read, how many were found to
-    be those of a plain machine, and what is wrong."""
+    be those of the oracle, and what is wrong."""
 
     played: Played
     same: int
     unread: int
-    plain: int
+    by_oracle: int
     wrong: list[str]
 
 
@@ -252,27 +252,27 @@ def compared(played: Played, replies: Iterable[bytes], of: str, may_be_part: boo
 
 def judged(cam6: str, path: Path, is_small: bool, may_be_part: bool) -> Judged:
     """Compares a session, maybe in a process of its own. The program has to reply to each line and no more."""
-    played, plain = read(path), 0
+    played, by_oracle = read(path), 0
     sent = b"".join(line + b"\n" for line, _ in played.lines)
     *replies, rest = ran([cam6, "alone", "--side", "256"], sent, patience=PROGRAM_SECONDS).output.split(b"\n")
     same, unread, wrong = compared(played, replies, "cam6 alone", False)
     if not played.has_ended or len(replies) != len(played.lines) or rest:
         wrong += [f"no last save, or cam6 alone has {len(replies)} replies to {len(played.lines)} lines, and {rest!r}"]
     if is_small:
-        alone, end = Alone(256), time.monotonic() + PLAIN_SECONDS
+        alone, end = Alone(256), time.monotonic() + ORACLE_SECONDS
         in_time = takewhile(lambda _: time.monotonic() < end, played.lines)
         all_in_time = (alone.answer(line) for line, _ in in_time)
-        plain, _, others = compared(played, all_in_time, "a plain machine", may_be_part)
+        by_oracle, _, others = compared(played, all_in_time, "the oracle", may_be_part)
         wrong += others
-    return Judged(played, same, unread, plain, wrong)
+    return Judged(played, same, unread, by_oracle, wrong)
 
 
 def figures(troubles: Troubles, found: list[Judged], fleet: Fleet) -> Iterator[str]:
     """What came of it, in figures."""
     played = [one.played for one in found]
     yield ", ".join(f"{count} {what}" for what, count in sorted(troubles.counts.items()))
-    same, plain = sum(one.same for one in found), sum(one.plain for one in found)
-    yield f"{len(found)} sessions, {same} replies as of cam6 alone, {plain} also as of a plain machine"
+    same, by_oracle = sum(one.same for one in found), sum(one.by_oracle for one in found)
+    yield f"{len(found)} sessions, {same} replies as of cam6 alone, {by_oracle} also as of the oracle"
     yield f"{sum(one.unread for one in found)} replies that nobody read, as their clients were killed before"
     again, sent = sum(one.again for one in played), sum(len(line) + 1 for one in played for line, _ in one.lines)
     yield f"{sum(one.seats for one in played)} new seats, {again} commands played again, {sent} bytes of commands"
