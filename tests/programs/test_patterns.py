@@ -89,15 +89,15 @@ def test_a_malformed_text_is_refused_at_its_place(text: str, words: str, place: 
 
 # Arguments that are refused, and replies that show no frames: the status, and what stands on standard error.
 ROW = '{"colours":"' + 128 * "0" + '","ok":"colours"}\n'
-PLANES, RULE = "--planes wants one to four of the digits 0 to 3", "--rule wants one line,\nand goes with --replies\n"
+PLANES, RULE = "--planes takes one to four different digits", "--rule takes one line, and needs\n--replies\n"
 FAULTS: list[tuple[list[str], str, int, str]] = [
     *((["--planes", planes], "", 2, f"cam6_rle: {PLANES}") for planes in ("", "4", "010")),
     (["--rule", "B3/S23"], "", 2, RULE),
     (["--replies", "--rule", "a\nb"], "", 2, RULE),
     (["--side", "100"], "", 2, "--side"),
     (["--column", "512"], "", 2, "--column"),
-    (["--replies"], "x\n", 3, "cam6_rle: line 1 is no reply\n"),
-    (["--replies"], 127 * ROW, 3, "cam6_rle: line 127 breaks off a frame\n"),
+    (["--replies"], "x\n", 3, "cam6_rle: line 1 is not a reply\n"),
+    (["--replies"], 127 * ROW, 3, "cam6_rle: line 127 leaves a frame incomplete\n"),
 ]
 
 

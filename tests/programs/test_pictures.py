@@ -125,11 +125,11 @@ def test_a_film_keeps_each_colour_and_pictures_that_are_equal(options: list[str]
 ROW, RUN = b'{"colours":"' + 128 * b"0" + b'","ok":"colours"}\n', b'{"ok":"run","position":0}\n'
 DOT, TALL = b"P6\n1 1\n255\n\1\2\3", b"P6\n1 2\n255\n" + bytes(6)
 MANY_COLOURS = b"P6\n257 1\n255\n" + bytes(b for n in range(257) for b in (n % 256, n // 256, 0))
-ONE_OF = "one of --ppm and --text is wanted, and not both\n"
+ONE_OF = "give either --ppm or --text, not both\n"
 REFUSED = [
     ("cam6_draw", b"", 2, ONE_OF),
     ("cam6_draw --ppm --text", b"", 2, ONE_OF),
-    ("cam6_draw --ppm --frames 5", b"", 2, "--frames goes with --text alone\n"),
+    ("cam6_draw --ppm --frames 5", b"", 2, "--frames needs --text\n"),
     *((f"cam6_draw --text --frames {n}", b"", 2, "--frames takes a whole number from 1 to 1000\n") for n in (0, 1001)),
     ("cam6_draw --ppm --scale 17", b"", 2, "--scale takes a whole number from 1 to 16\n"),
     ("cam6_draw --ppm --crop 512 0 1 1", b"", 2, "--crop takes a column and a row from 0 to 511"),
@@ -137,11 +137,11 @@ REFUSED = [
     ("cam6_draw --ppm --crop 1 2 3", b"", 2, "--crop <X> <Y> <W> <H>"),
     ("cam6_draw --ppm --palette 000000", b"", 2, "--palette takes sixteen groups"),
     ("cam6_draw --pmp", b"", 2, "--pmp"),
-    ("cam6_draw --ppm", b"x\n", 3, "cam6_draw: line 1 is no reply\n"),
-    ("cam6_draw --text", RUN + b"[]\n", 3, "cam6_draw: line 2 is no reply\n"),
-    ("cam6_draw --ppm", ROW, 3, "cam6_draw: line 1 breaks off a frame\n"),
-    ("cam6_draw --ppm", ROW + ROW + RUN, 3, "cam6_draw: line 3 breaks off a frame\n"),
-    ("cam6_draw --ppm", 127 * ROW, 3, "cam6_draw: line 127 breaks off a frame\n"),
+    ("cam6_draw --ppm", b"x\n", 3, "cam6_draw: line 1 is not a reply\n"),
+    ("cam6_draw --text", RUN + b"[]\n", 3, "cam6_draw: line 2 is not a reply\n"),
+    ("cam6_draw --ppm", ROW, 3, "cam6_draw: line 1 leaves a frame incomplete\n"),
+    ("cam6_draw --ppm", ROW + ROW + RUN, 3, "cam6_draw: line 3 leaves a frame incomplete\n"),
+    ("cam6_draw --ppm", 127 * ROW, 3, "cam6_draw: line 127 leaves a frame incomplete\n"),
     ("film", b"", 3, "film: there is no picture on standard input\n"),
     ("film", b"P5\n1 1\n255\n\1", 3, "film: picture 1 is no P6 file of 255 levels\n"),
     ("film", DOT + DOT[:-1], 3, "film: picture 2 breaks off\n"),

@@ -66,7 +66,7 @@ abbrev pub IsUnreadable : Program → Refused → ReadKind → Type 0
 IsUnreadable program (Help text) kind = ⊥
 IsUnreadable program (Words text) kind =
     (kind ≢ read.OutOfMemory)
-    × (string_bytes text ≡ told program (codes "a word is not UTF-8\n"))
+    × (string_bytes text ≡ told program (codes "an argument is not UTF-8\n"))
 IsUnreadable program NoMemory kind = ⊤
 
 -- the exit status, with the text; help succeeds

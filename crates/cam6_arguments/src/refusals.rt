@@ -100,6 +100,6 @@ pub fn refusal_of_read(alloc: Global, program: Program, kind: io::ErrorKind) -> 
 {
     match kind {
         io::ErrorKind::OutOfMemory => Refused::NoMemory,
-        _ => unasked(told(alloc, program, "a word is not UTF-8\n")),
+        _ => unasked(told(alloc, program, "an argument is not UTF-8\n")),
     }
 }

@@ -61,10 +61,10 @@ slip words = slip_by (slice_get words 1) (slice_get words 2)
 abbrev pub told_of : Option Slip → List ℕ
 told_of None = []
 told_of (Some SideByItself) =
-    codes "\ncam6: --side stands behind a word: cam6 alone --side 128\n"
+    codes "\ncam6: --side goes after alone, replay or serve: cam6 alone --side 128\n"
 told_of (Some SharingByItself) =
-    codes "\ncam6: what users share stands behind a word: cam6 serve --users 4 --boards 2\n"
+    codes "\ncam6: --users, --boards and --cache go after replay or serve: cam6 serve --users 4\n"
 told_of (Some ServingByItself) =
-    codes "\ncam6: a port, connections and --idle stand behind a word: cam6 serve --port 6006\n"
+    codes "\ncam6: --port, --connections and --idle go after serve: cam6 serve --port 6006\n"
 told_of (Some FileAsWord) =
     codes "\ncam6: lines are read from standard input: cam6 < FILE, or cam6 replay < FILE\n"

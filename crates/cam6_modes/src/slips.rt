@@ -107,13 +107,13 @@ pub fn told_of(slip: Option<Slip>) -> &'static str
     match slip {
         None => "",
         Some(Slip::SideByItself) => {
-            "\ncam6: --side stands behind a word: cam6 alone --side 128\n"
+            "\ncam6: --side goes after alone, replay or serve: cam6 alone --side 128\n"
         }
         Some(Slip::SharingByItself) => {
-            "\ncam6: what users share stands behind a word: cam6 serve --users 4 --boards 2\n"
+            "\ncam6: --users, --boards and --cache go after replay or serve: cam6 serve --users 4\n"
         }
         Some(Slip::ServingByItself) => {
-            "\ncam6: a port, connections and --idle stand behind a word: cam6 serve --port 6006\n"
+            "\ncam6: --port, --connections and --idle go after serve: cam6 serve --port 6006\n"
         }
         Some(Slip::FileAsWord) => {
             "\ncam6: lines are read from standard input: cam6 < FILE, or cam6 replay < FILE\n"

@@ -60,7 +60,7 @@ A line to try: row 0 of plane 0, at side 128.
 /// What `replay` answers.
 const REPLAY_TEXT: &str = "\
 Each line is an event as JSON: a user asks, a board leases the command, does a band of rows, fails. One
-line says what comes of it. Users are numbered from 1, boards from 0.
+line reports its result. Users are numbered from 1, boards from 0.
 
 Exit statuses: 0 the input ended; 2 the arguments are refused; 3 a read failed; 4 a write failed; 5 out
 of memory; 6 turn bound reached.

@@ -19,8 +19,9 @@ at_line program line text = name_of program ++ codes ": line " ++ decimal line +
 -- none at the end of input: the program succeeds
 abbrev pub failure : Program → End → Option (ℕ × List ℕ)
 failure program EndOfInput = None
-failure program (NoReply line) = Some (3, at_line program line (codes " is no reply\n"))
-failure program (BreaksOff line) = Some (3, at_line program line (codes " breaks off a frame\n"))
+failure program (NoReply line) = Some (3, at_line program line (codes " is not a reply\n"))
+failure program (BreaksOff line) =
+    Some (3, at_line program line (codes " leaves a frame incomplete\n"))
 failure program ReadFault = Some (3, told program (codes "read failed\n"))
 failure program WriteFault = Some (4, told program (codes "write failed\n"))
 failure program NoMemory = Some (5, told program (codes "no memory\n"))
@@ -28,8 +29,8 @@ failure program TooManyLines = Some (6, told program (codes "too many lines\n"))
 
 -- why a text is no pattern
 abbrev pub cause_told : Cause → List ℕ
-cause_told cause.NoHeader = codes ": a header is wanted, as x = 3, y = 3\n"
-cause_told cause.Unexpected = codes ": a byte that says nothing here\n"
+cause_told cause.NoHeader = codes ": a header is needed, for example x = 3, y = 3\n"
+cause_told cause.Unexpected = codes ": an unexpected byte\n"
 cause_told cause.CountTooLarge = codes ": a number above " ++ decimal max_columns ++ codes "\n"
 cause_told cause.TooWide = codes ": too wide\n"
 cause_told cause.TooHigh = codes ": too high\n"

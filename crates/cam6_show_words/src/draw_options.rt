@@ -28,9 +28,9 @@ pub enum Way {
 /// Why arguments that clap takes ask for nothing.
 #[derive(Clone, Copy, Debug, Error)]
 pub(crate) enum Unsaid {
-    #[error("one of --ppm and --text is wanted, and not both")]
+    #[error("give either --ppm or --text, not both")]
     Way,
-    #[error("--frames goes with --text alone")]
+    #[error("--frames needs --text")]
     FramesOfFiles,
     #[error("--frames takes a whole number from 1 to 1000")]
     Frames,

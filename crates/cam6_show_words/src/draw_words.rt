@@ -33,14 +33,14 @@ static PART: [&str; 4] = ["X", "Y", "W", "H"];
 /// What help says at its end.
 const HELP: &str = "\
 Each reply to `plane` is one picture. So is each run of replies to `colours`, a row each. Other replies
-are passed over.
+are ignored.
 
 To try it: ./cam6 < FILE | ./cam6_draw --text --crop 0 0 80 48
 
 Exit status:
   0  all lines were replies, and all pictures were written
   2  the arguments are refused
-  3  a line is no reply, a picture breaks off, or a read failed
+  3  a line is not a reply, a frame is incomplete, or a read failed
   4  a write failed
   5  out of memory
   6  too many lines";
@@ -275,7 +275,7 @@ fn ppm_option<'a>(alloc: Global) -> Arg<'a>
     flag(
         alloc,
         "ppm",
-        "Pictures as files of the netpbm programs, one behind the other",
+        "Pictures as netpbm files, one after the other",
     )
 }
 
@@ -287,7 +287,7 @@ fn text_option<'a>(alloc: Global) -> Arg<'a>
     flag(
         alloc,
         "text",
-        "Pictures on a terminal of 256 colours, one over the other",
+        "Pictures on a terminal of 256 colours, each drawn over the one before",
     )
 }
 
@@ -313,7 +313,7 @@ fn crop_option<'a>(alloc: Global) -> Arg<'a>
         .long("crop")
         .num_args(4)
         .value_names(PART.as_slice())
-        .help("Only W columns and H rows from column X and row Y on, over the seams")
+        .help("Only W columns and H rows from column X and row Y on; the edges wrap round")
 }
 
 /// `--palette`.

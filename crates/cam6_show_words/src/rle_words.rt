@@ -34,8 +34,8 @@ The text of a pattern on standard input becomes command lines that set its plane
 left corner lies at column 0 of row 0, or where a remark in it says. --column and --row move it. With
 --replies the replies of cam6 to `plane`, or to `colours` of all rows, become such texts.
 
-Exit statuses: 0 the input ended; 2 the arguments are refused; 3 the text is no pattern, a line is no
-reply, a frame breaks off, or a read failed; 4 a write failed; 5 out of memory; 6 too many lines.
+Exit statuses: 0 the input ended; 2 the arguments are refused; 3 the text is not a pattern, a line is not
+a reply, a frame is incomplete, or a read failed; 4 a write failed; 5 out of memory; 6 too many lines.
 
 Lines to try: a glider, and out again.
   printf 'x = 3, y = 3\\nbo$2bo$3o!\\n' | cam6_rle --column 8 --row 8
@@ -44,8 +44,8 @@ Lines to try: a glider, and out again.
 /// The line for `--rule` without `--replies`, for a `--rule` that isn't one line, and for
 /// `--planes` that are none.
 const NO_TASK_TEXT: &str = "\
-cam6_rle: --planes wants one to four of the digits 0 to 3, none of them twice; --rule wants one line,
-and goes with --replies
+cam6_rle: --planes takes one to four different digits from 0 to 3; --rule takes one line, and needs
+--replies
 ";
 
 /// Returns what the arguments ask for, or why they are refused. The first is the program's name.

@@ -29,10 +29,13 @@ pub fn failure_of(
 {
     let (status, text) = match end {
         End::EndOfInput => return None,
-        End::NoReply { line } => (BAD_INPUT, at_line(alloc, program, line, " is no reply\n")),
+        End::NoReply { line } => (
+            BAD_INPUT,
+            at_line(alloc, program, line, " is not a reply\n"),
+        ),
         End::BreaksOff { line } => (
             BAD_INPUT,
-            at_line(alloc, program, line, " breaks off a frame\n"),
+            at_line(alloc, program, line, " leaves a frame incomplete\n"),
         ),
         End::ReadFault => (BAD_INPUT, told(alloc, program, "read failed\n")),
         End::WriteFault => (WRITE_FAILED, told(alloc, program, "write failed\n")),
@@ -71,8 +74,8 @@ fn cause_text(alloc: Global, cause: Cause) -> Result<String, AllocError>
     ensures { IfOk result (λ told. string_bytes told ≡ cause_told cause) }
 {
     let text = match cause {
-        Cause::NoHeader => ": a header is wanted, as x = 3, y = 3\n",
-        Cause::Unexpected => ": a byte that says nothing here\n",
+        Cause::NoHeader => ": a header is needed, for example x = 3, y = 3\n",
+        Cause::Unexpected => ": an unexpected byte\n",
         Cause::CountTooLarge => return format!(in alloc; ": a number above {}\n", COLUMNS),
         Cause::TooWide => ": too wide\n",
         Cause::TooHigh => ": too high\n",

@@ -16,5 +16,4 @@ pub const FOREIGN: &str = "Only a page of this server may open a socket.\n";
 pub const MALFORMED: &str = "This is no handshake of a WebSocket, or its key is wrong.\n";
 
 /// Of 503.
-pub const FULL: &str =
-    "As many sockets are open as there may be. Close a page, or try again later.\n";
+pub const FULL: &str = "No connection is free. Close a page, or try again later.\n";

@@ -25,13 +25,13 @@ const MAX_CONNECTIONS: u64 = 1_000;
 
 /// What help says at its end.
 const HELP: &str = "\
-A browser shows the page at http://127.0.0.1:6007/. Without --host each page has a machine of its own,
-which is gone with the page. With --host it has the first free seat of `cam6 serve`.
+A browser shows the page at http://127.0.0.1:6007/. Without --host each page has its own machine,
+which ends with the page. With --host each page takes the first free seat of `cam6 serve`.
 
 To try it: ./cam6_web, and open the address that it prints.
 
 Exit status:
-  0  as many connections as asked for were taken, or help or the version was asked for
+  0  all connections of --requests were accepted, or help or the version was asked for
   2  the arguments are refused
   4  a write failed
   5  out of memory
@@ -213,7 +213,7 @@ fn host_option<'a>(alloc: Global) -> Arg<'a>
         alloc,
         "host",
         "ADDRESS:PORT",
-        "Pages sit down at this `cam6 serve`; if given again, at the next one if it is full",
+        "Pages take seats at this `cam6 serve`; repeat it for more hosts, tried in this order",
     )
 }
 
@@ -265,6 +265,6 @@ fn requests_option<'a>(alloc: Global) -> Arg<'a>
         alloc,
         "requests",
         "N",
-        "Connections that are taken before the program ends; without it, or with 0, no end",
+        "Connections to accept before the program ends; without it, or with 0, no end",
     )
 }
