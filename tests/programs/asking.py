@@ -21,8 +21,8 @@ from oracle.wirings import FIRST_PLANE
 from programs.breaking import Breaker
 from programs.texts import rules
 from support.commands import Command, cycle_command, do, rule_command
+from support.line_process import LineProcess
 from support.sessions import assert_replies
-from support.talk import Talk
 
 NAMES = st.sampled_from(["R", "S", "T", "~", "--", "!" * 24, "{}"])
 NO_NAMES = st.sampled_from(["", "-", "x" * 25, "a b", 'a"b', "a\\b", "é", "a\x7f", "\x00", "a\n"])
@@ -82,7 +82,7 @@ class Asking(RuleBasedStateMachine):
 
     def __init__(self, command: list[str], oracle: Alone | Replay) -> None:
         super().__init__()
-        self.command, self.oracle, self.talk = command, oracle, Talk(command)
+        self.command, self.oracle, self.process = command, oracle, LineProcess(command)
         self.lines: list[bytes] = []
         self.came: list[bytes] = []
         self.wanted: list[bytes] = []
@@ -110,7 +110,7 @@ class Asking(RuleBasedStateMachine):
         if wanted is not None:
             self.lines.append(line)
             self.wanted.append(wanted)
-            self.came.append(self.talk.reply(line))
+            self.came.append(self.process.reply(line))
             self.compare()
 
     def tell(self, value: Command) -> None:
@@ -127,7 +127,7 @@ class Asking(RuleBasedStateMachine):
         if last:
             self.lines.append(last)
             self.wanted.append(self.oracle.answer(last))
-        self.came += lines_of(self.talk.rest(last))
+        self.came += lines_of(self.process.rest(last))
         self.compare()
 
     def row(self, data: st.DataObject) -> int:

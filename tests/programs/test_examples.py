@@ -12,9 +12,9 @@ from pathlib import Path
 
 import pytest
 from oracle.examples import Example, Part, outcome_of
+from support.line_process import LineProcess, how_it_ended
 from support.playing import arguments_of, assert_answers, examples
 from support.programs import ran
-from support.talk import Talk, how_it_ended
 
 SESSIONS, EVENTS = "crates/cam6_host/sessions", "crates/cam6_host/events"
 
@@ -38,8 +38,8 @@ def byte_by_byte(command: list[str], data: bytes, short_reads: str, given: Path)
 def command_by_command(command: list[str], data: bytes) -> bytes:
     """What a program writes to a client that waits for each reply."""
     *lines, last = data.split(b"\n")
-    with Talk(command) as talk:
-        return b"".join(talk.answer(line) + b"\n" for line in lines) + talk.rest(last)
+    with LineProcess(command) as process:
+        return b"".join(process.answer(line) + b"\n" for line in lines) + process.rest(last)
 
 
 def alone(cam6: str, part: Part) -> tuple[list[str], bytes]:
@@ -69,10 +69,10 @@ def test_a_session_command_by_command(either_cam6: str, path: Path) -> None:
 def one_by_one(cam6: str, part: Part) -> tuple[bytes, list[bytes], bytes]:
     """The answers of a part, whose short forms are many events; and all events that were sent, with all that came back."""
     assert all(end == b"\n" and b"\n" not in line for line, end in part.sent), "an event is one line"
-    with Talk([cam6, *arguments_of(part.way)]) as talk:
-        answers = b"".join(outcome_of(talk.answer, line) + b"\n" for line, _ in part.sent)
-        rest = talk.rest()
-    return answers + rest, talk.lines, b"".join(answer + b"\n" for answer in talk.answers) + rest
+    with LineProcess([cam6, *arguments_of(part.way)]) as process:
+        answers = b"".join(outcome_of(process.answer, line) + b"\n" for line, _ in part.sent)
+        rest = process.rest()
+    return answers + rest, process.lines, b"".join(answer + b"\n" for answer in process.answers) + rest
 
 
 @pytest.mark.parametrize("path", examples(EVENTS))
@@ -88,6 +88,6 @@ def test_events(either_cam6: str, path: Path) -> None:
 
 @pytest.mark.parametrize("script", ["read line; exec sleep 600", "exec cat > /dev/null"])
 def test_a_program_that_says_nothing_is_not_waited_for(script: str, monkeypatch: pytest.MonkeyPatch) -> None:
-    monkeypatch.setattr("support.talk.PATIENCE", 0.1)
-    with Talk(["sh", "-c", script]) as talk:
-        assert [talk.answer(b"{}"), talk.answer(b"{}"), talk.rest()] == [b"nothing", b"nothing", b"nothing\n"]
+    monkeypatch.setattr("support.line_process.PATIENCE", 0.1)
+    with LineProcess(["sh", "-c", script]) as process:
+        assert [process.answer(b"{}"), process.answer(b"{}"), process.rest()] == [b"nothing", b"nothing", b"nothing\n"]

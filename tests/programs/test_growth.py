@@ -20,9 +20,9 @@ from oracle.machine import Machine
 from programs.test_out_of_memory import cell_at, cycle_of
 from programs.test_saves import LARGE, LARGEST, LARGEST_LOAD, fault, filled
 from support.commands import do, rule_command
+from support.line_process import LineProcess
 from support.programs import Host, Peer, of_process
 from support.sessions import short
-from support.talk import Talk
 
 pytestmark = [pytest.mark.slow, pytest.mark.timeout(1200)]
 
@@ -110,7 +110,7 @@ def assert_no_memory_is_held(trial: Trial, process: int, send: Send, read: Read)
 
 @pytest.mark.parametrize("trial", ALONE, ids=NAMES)
 def test_a_private_machine_holds_no_memory(trial: Trial, cam6: str) -> None:
-    with Talk([cam6, "alone", f"--side={256 if trial in SHORT else 512}"]) as it:
+    with LineProcess([cam6, "alone", f"--side={256 if trial in SHORT else 512}"]) as it:
         assert_no_memory_is_held(trial, it.process.pid, it.say, lambda size: os.read(it.output, size))
         assert it.rest() == b""
 

@@ -126,7 +126,7 @@ class Schedules(Asking):
 
     def teardown(self) -> None:
         """Brings the users to rest who haven't many bands left, and compares their machines."""
-        with self.talk:
+        with self.process:
             for event in Scheduler(Random(0), self.host, {}).to_rest(MOST_BANDS):
                 self.tell(event)
             for user in self.host.with_status("resting")[:6]:

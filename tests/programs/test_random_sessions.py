@@ -46,7 +46,7 @@ class Sessions(Asking):
 
     def teardown(self) -> None:
         """In the end the whole machine is compared. A line without its LF is the last one, or a part of it."""
-        with self.talk:
+        with self.process:
             self.do(do("save"))
             self.end(plain(do("rules"))[: 1 + len(self.lines) % 14])
 

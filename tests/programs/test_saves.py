@@ -17,9 +17,9 @@ from examples.saving import SAVE, blank, entry, first_version, load, rule
 from oracle.lines import LINE_LIMIT, LOAD_HEAD, LOAD_LIMIT, plain
 from oracle.machine import SIDES, Machine
 from support.commands import Command, cycle_command, do, rule_command
+from support.line_process import LineProcess
 from support.programs import Host, Peer
 from support.sessions import short
-from support.talk import Talk
 
 Ask = Callable[[bytes], bytes]
 Asks = Callable[..., Ask]
@@ -71,14 +71,14 @@ def assert_answers(ask: Ask, *pairs: Pair) -> None:
 def alone(cam6: str) -> Iterator[Asks]:
     """Starts private machines of a limit, or other programs, which have to end well in the end."""
     with ExitStack() as stack:
-        talks: list[Talk] = []
+        processes: list[LineProcess] = []
 
         def begin(*words: str, limit: int = 512) -> Ask:
-            talks.append(stack.enter_context(Talk([cam6, *(words or ("alone", "--side", str(limit)))])))
-            return talks[-1].reply
+            processes.append(stack.enter_context(LineProcess([cam6, *(words or ("alone", "--side", str(limit)))])))
+            return processes[-1].reply
 
         yield begin
-        assert [talk.rest() for talk in talks] == [b""] * len(talks)
+        assert [process.rest() for process in processes] == [b""] * len(processes)
 
 
 @pytest.fixture

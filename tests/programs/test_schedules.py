@@ -11,8 +11,8 @@ from oracle.lines import plain
 from oracle.schedules import Scheduler, on
 from programs.test_examples import written_for
 from support.commands import Asker, Command, do
+from support.line_process import LineProcess
 from support.sessions import assert_replies
-from support.talk import Talk
 
 EVENTS = 1_200
 
@@ -64,9 +64,9 @@ class Schedule:
     def compare(self, cam6: str) -> None:
         """Plays the events one by one, and then all at once. Fails if an outcome is not that of the oracle."""
         how = f"./cam6 {' '.join(self.words)}"
-        with Talk([cam6, *self.words]) as talk:
-            assert_replies(self.lines, [*map(talk.answer, self.lines)], self.wanted, how)
-            assert talk.rest() == b""
+        with LineProcess([cam6, *self.words]) as process:
+            assert_replies(self.lines, [*map(process.answer, self.lines)], self.wanted, how)
+            assert process.rest() == b""
         data, all_wanted = (b"".join(line + b"\n" for line in lines) for lines in (self.lines, self.wanted))
         assert written_for([cam6, *self.words], data) == all_wanted
 

@@ -181,7 +181,7 @@ class Program:
                 place, saves = session.asked, session.checkpoints
                 batch = self.sent[place : place + self.story.batch]
                 try:
-                    assert session.talk(batch) == self.want[place : place + self.story.batch]
+                    assert session.query(batch) == self.want[place : place + self.story.batch]
                     assert session.asked == place + len(batch)
                 except GOES_ON:
                     saves = session.checkpoints  # The last one may not be on the disk.
@@ -225,7 +225,7 @@ def test_replies_are_those_of_one_machine_that_never_failed(story: Story, fails:
         disk.begin(None)
         with closing(program.opened(seat)) as session:
             assert session.asked == len(program.sent)
-            assert session.talk([lines.SAVE]) == program.want[-1:]
+            assert session.query([lines.SAVE]) == program.want[-1:]
 
 
 @pytest.mark.slow

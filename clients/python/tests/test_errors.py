@@ -68,7 +68,7 @@ def test_an_example_of_the_page_raises_its_class(number: int, local: Local) -> N
     want = json.loads(answers(sent)[-1])
     assert want["fault"] == number
     machine = local()
-    machine._talk(sent[:-1])
+    machine._query(sent[:-1])
     with pytest.raises(FAULTS[number]) as raised:
         machine.ask(sent[-1])
     fault = raised.value

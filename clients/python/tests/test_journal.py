@@ -139,8 +139,8 @@ def test_a_machine_of_a_journal_that_is_cut(path: Path, port: int, connected: Co
     """It is the one after the commands that the journal still has."""
     sent = commands(21, 12, 1)
     with connected(port, journal=path, every_seconds=5) as machine:
-        machine._talk(sent[:5])
-        machine._talk(sent[5:])
+        machine._query(sent[:5])
+        machine._query(sent[5:])
     data = path.read_bytes()
     first = data.index(b"\n") + 1
     for cut in [first, len(data), *random.Random(21).sample(range(first, len(data)), 25)]:
@@ -148,7 +148,7 @@ def test_a_machine_of_a_journal_that_is_cut(path: Path, port: int, connected: Co
         asked = data[first:cut].count(b'{"ask":') - (b'{"ask":' in data[:cut].rpartition(b"\n")[2])
         with connected(port, journal=path, every_seconds=5) as machine:
             assert session_of(machine).asked == asked
-            assert machine._talk([lines.SAVE]) == answers([*sent[:asked], lines.SAVE], 128)[-1:]
+            assert machine._query([lines.SAVE]) == answers([*sent[:asked], lines.SAVE], 128)[-1:]
 
 
 def test_a_checkpoint_keeps_what_is_not_answered(path: Path, opened: Opened) -> None:
@@ -208,7 +208,7 @@ def test_each_command_is_written_before_it_is_sent(path: Path, connected: Connec
                 missing.append(line)
 
     with Breaking(breaks) as host:
-        connected(host.port, journal=path, every_seconds=5)._talk(commands(4, 20, 1))
+        connected(host.port, journal=path, every_seconds=5)._query(commands(4, 20, 1))
     assert missing == []
 
 

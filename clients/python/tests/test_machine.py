@@ -261,7 +261,7 @@ def test_replies_of_an_interrupted_call_are_dropped(
     with monkeypatch.context() as patch:
         patch.setattr(channel, "_wait", interrupted)
         with contextlib.suppress(KeyboardInterrupt):
-            machine._talk([compact(do="row", plane=0, row=n) for n in range(100)] * 100)
+            machine._query([compact(do="row", plane=0, row=n) for n in range(100)] * 100)
     assert machine.count() == 128
     assert machine.rules() == []
 
@@ -280,7 +280,7 @@ def test_threads_have_their_own_replies(machine: Machine) -> None:
 class Nobody:
     """A transport that nothing may be sent by."""
 
-    def talk(self, sent: Sequence[bytes]) -> list[bytes]:
+    def query(self, sent: Sequence[bytes]) -> list[bytes]:
         """Fails."""
         raise AssertionError(f"sent: {sent!r:.200}")
 

@@ -52,7 +52,7 @@ def test_a_hundred_thousand_lines(where: str, local: Local, host: Callable[..., 
         port = host("--users=4", "--side=128", "--boards=1").port
         machine = cam6.connect("127.0.0.1", port, limit=128, journal=":memory:" if where == "journal" else None)
     with machine:
-        assert machine._talk(sent) == want
+        assert machine._query(sent) == want
         assert machine.session is None or machine.session.asked == 100_000
 
 

@@ -73,7 +73,7 @@ def check(machine: Machine, sent: list[bytes], batch: int, save_after: int = 0) 
     got: list[bytes] = []
     saved = 0
     for at in range(0, len(sent), batch):
-        got += machine._talk(sent[at : at + batch])
+        got += machine._query(sent[at : at + batch])
         transport: Any = machine._transport
         if save_after and len(got) - saved >= save_after and transport.checkpoint():
             saved = len(got)
@@ -245,7 +245,7 @@ def test_a_host_that_answers_otherwise(connected: Connected) -> None:
     with Breaking(breaks) as host:
         machine = connected(host.port, every_seconds=5)
         for line in (RULE, CYCLE, RUN):
-            machine._talk([line])
+            machine._query([line])
         with pytest.raises(cam6.Diverged, match="position.*7.*Before it was"):
             machine.count()
 
@@ -272,7 +272,7 @@ def test_a_command_that_kills_is_given_up(breaking: Breakings, connected: Connec
     machine.set_row(0, 5, "f" * 32)
     started = time.monotonic()
     with pytest.raises(cam6.GaveUp) as raised:
-        machine._talk([CLEAR_1, KILLER, CLEAR_0])
+        machine._query([CLEAR_1, KILLER, CLEAR_0])
     assert time.monotonic() - started < 20
     assert host.heard.count(KILLER) > 2
     assert (raised.value.replies, raised.value.undone) == ([b'{"ok":"clear"}'], [KILLER, CLEAR_0])
@@ -330,9 +330,9 @@ def test_parts_of_a_run_add_up_to_it(breaking: Breakings) -> None:
     """One `run` is asked for."""
     host = breaking()
     session, run = open_session(host.port, 200), compact(do="run", n=25)
-    session.talk([RULE, CYCLE, compact(do="set", plane=0, row=3, bits="f" * 32)])
+    session.query([RULE, CYCLE, compact(do="set", plane=0, row=3, bits="f" * 32)])
     checkpoints = session.checkpoints
-    assert session.talk([run]) == answers([RULE, CYCLE, run], 128)[-1:]
+    assert session.query([run]) == answers([RULE, CYCLE, run], 128)[-1:]
     parts = [json.loads(line)["n"] for line in host.heard if line.startswith(b'{"do":"run"')]
     assert sum(parts) == 25
     assert len(parts) > 1
@@ -344,7 +344,7 @@ def test_parts_of_a_run_add_up_to_it(breaking: Breakings) -> None:
 def test_parts_that_are_refused(n: int, fault: int, breaking: Breakings) -> None:
     """A long run without a cycle has the one fault that a short one has."""
     session = open_session(breaking().port, 200)
-    assert session.talk([compact(do="run", n=n)]) == [b'{"fault":%d}' % fault]
+    assert session.query([compact(do="run", n=n)]) == [b'{"fault":%d}' % fault]
     session.close()
 
 
@@ -352,7 +352,7 @@ def test_parts_that_are_refused(n: int, fault: int, breaking: Breakings) -> None
 def test_breaks_between_parts(number: int, breaking: Breakings) -> None:
     sent = [RULE, CYCLE, OTHER_SET, compact(do="run", n=23), lines.SAVE]
     session = open_session(breaking(once(number, "after")).port, 300)
-    assert session.talk(sent) == answers(sent, 128)
+    assert session.query(sent) == answers(sent, 128)
     session.close()
 
 
@@ -365,7 +365,7 @@ def test_a_program_that_is_started_again_goes_on(sync: str, port: int, connected
     for at in range(0, 30, 10):
         with connected(port, journal=path, sync=sync) as machine:
             assert session_of(machine).asked == at
-            got += machine._talk(sent[at : at + 10])
+            got += machine._query(sent[at : at + 10])
     assert got == answers(sent, 128)
 
 
@@ -374,24 +374,24 @@ def test_a_command_without_an_answer(port: int, connected: Connected, path: Path
     sent = [RULE, CYCLE, OTHER_SET, compact(do="run", n=3), lines.SAVE]
     want = answers(sent, 128)
     with connected(port, journal=path) as machine:
-        machine._talk(sent[:3])
+        machine._query(sent[:3])
         session_of(machine).journal.asked(sent[3:4])
     machine = connected(port, journal=path)
     assert session_of(machine).resumed == [(sent[3], want[3])]
     assert session_of(machine).asked == 4
-    assert machine._talk(sent[4:]) == want[4:]
+    assert machine._query(sent[4:]) == want[4:]
 
 
 def test_a_long_run_that_was_cut(port: int, connected: Connected, path: Path) -> None:
     """A program ended in the middle of a long run. The next one does the rest of it."""
     sent = [RULE, CYCLE, OTHER_SET, compact(do="run", n=20), lines.SAVE]
     session = open_session(port, 300, path)
-    session.talk(sent[:3])
+    session.query(sent[:3])
     session.journal.asked(sent[3:4])
     session._send([], time.monotonic() + 20)
     session.close()
     assert b'"n":17' in session.journal.pending[0]
-    assert connected(port, journal=path)._talk(sent[4:]) == answers(sent, 128)[4:]
+    assert connected(port, journal=path)._query(sent[4:]) == answers(sent, 128)[4:]
 
 
 def test_a_journal_that_is_open_in_another_program(port: int, connected: Connected, path: Path) -> None:
@@ -422,11 +422,11 @@ def test_a_call_that_is_interrupted(port: int, connected: Connected) -> None:
     """Ctrl-C while an answer is awaited: the command is done once all the same."""
     sent = [RULE, CYCLE, OTHER_SET, RUN, lines.SAVE]
     machine = connected(port, every_seconds=5)
-    machine._talk(sent[:3])
+    machine._query(sent[:3])
     with mock.patch.object(session_of(machine).journal, "answered", side_effect=KeyboardInterrupt):
         with pytest.raises(KeyboardInterrupt):
-            machine._talk(sent[3:4])
-    assert machine._talk(sent[4:]) == answers(sent, 128)[4:]
+            machine._query(sent[3:4])
+    assert machine._query(sent[4:]) == answers(sent, 128)[4:]
 
 
 # Programs that are killed: the host, and the one that uses this cam6.
@@ -449,9 +449,9 @@ def test_a_host_is_killed_at_each_tenth_command(host: Hosts, connected: Connecte
     for at in kills:
         killer = threading.Timer(random.Random(at).random() * 0.01, restart, [there])
         killer.start()
-        got += machine._talk(sent[at : at + 10])
+        got += machine._query(sent[at : at + 10])
         killer.join()
-    got += machine._talk(sent[-1:])
+    got += machine._query(sent[-1:])
     assert got == answers(sent, 128)
     # Each kill costs a recovery in its own call or in the next one. One call may recover from two kills at once.
     assert 2 * session_of(machine).recoveries >= len(kills)
@@ -463,7 +463,7 @@ import cam6
 machine = cam6.connect("127.0.0.1", {port}, limit=128, journal={path!r}, every_seconds=0.01, deadline=20)
 sent = [line.encode() for line in sys.stdin.read().split("\\n")]
 while machine.session.asked < len(sent):
-    machine._talk([sent[machine.session.asked]])
+    machine._query([sent[machine.session.asked]])
     print(machine.session.asked, flush=True)
 """
 
@@ -493,7 +493,7 @@ def test_the_program_itself_is_killed(port: int, connected: Connected, path: Pat
         asked.append(part_of(text, sent, source.randrange(1, 12)))
     assert len(asked) > 9
     machine = connected(port, journal=path)
-    assert machine._talk([lines.SAVE]) == answers([*sent, lines.SAVE], 128)[-1:]
+    assert machine._query([lines.SAVE]) == answers([*sent, lines.SAVE], 128)[-1:]
 
 
 # Connections over TLS, with a certificate that the tests have.
@@ -517,7 +517,7 @@ def test_a_session_over_tls(breaking: Breakings, connected: Connected) -> None:
     sent = commands(7, 300, 0) + [lines.SAVE]
     host = breaking(once(200, "after"), tls=server())
     machine = connected(host.port, tls=client(), server_name="localhost", every_seconds=5)
-    assert machine._talk(sent) == answers(sent, 128)
+    assert machine._query(sent) == answers(sent, 128)
     assert session_of(machine).recoveries == 1
 
 

@@ -96,7 +96,7 @@ class Player:
         """The replies to lines. Both are written down."""
         self.write(ask=texts(sent))
         seats, again, begun = session.recoveries, session.replayed, time.monotonic()
-        replies = machine._talk(sent)
+        replies = machine._query(sent)
         seconds, seats, again = time.monotonic() - begun, session.recoveries - seats, session.replayed - again
         self.write(got=texts(replies), seconds=seconds, seats=seats, again=again)
         return replies

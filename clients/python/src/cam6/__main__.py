@@ -102,7 +102,7 @@ def played(machine: Machine, sent: Sequence[bytes], path: str, is_printed: bool)
     faults = 0
     for first in range(0, len(sent), AT_ONCE):
         some = sent[first : first + AT_ONCE]
-        for number, (line, reply) in enumerate(zip(some, machine._talk(some)), first + 1):
+        for number, (line, reply) in enumerate(zip(some, machine._query(some)), first + 1):
             if is_printed:
                 sys.stdout.buffer.write(reply + b"\n")
             if lines.is_fault(reply):
@@ -150,7 +150,7 @@ def seats(asked: argparse.Namespace) -> int:
     address = checked_address(asked.address, 6006)
     for seat in range(1, MOST_SEATS + 1):
         there = connected(address, None, None, 5)
-        reply = there.talk([b'{"seat":%d}' % seat])[0]
+        reply = there.query([b'{"seat":%d}' % seat])[0]
         there.close()
         if reply not in (SEATED, TAKEN):
             return 0 if seat > 1 else told_no_host(asked.address, reply)

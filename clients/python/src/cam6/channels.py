@@ -41,10 +41,10 @@ class Channel:
         self._owed = 0
         self._half: list[bytes] = []
         self._ended: Optional[str] = None
-        # How many seconds `talk` may take, or None.
+        # How many seconds `query` may take, or None.
         self._deadline: Optional[float] = None
 
-    def talk(self, lines: Sequence[bytes]) -> list[bytes]:
+    def query(self, lines: Sequence[bytes]) -> list[bytes]:
         """The replies to lines. Raises `Lost` if the other side ends before, or the deadline passes."""
         replies: list[bytes] = []
         until = None if self._deadline is None else time.monotonic() + self._deadline

@@ -29,7 +29,7 @@ SHOWN_WIDTH = 512
 class Transport(Protocol):
     """What carries lines to a machine."""
 
-    def talk(self, lines: Sequence[bytes]) -> list[bytes]:
+    def query(self, lines: Sequence[bytes]) -> list[bytes]:
         """The replies to lines, in order."""
 
     def close(self) -> None:
@@ -72,12 +72,12 @@ class Machine:
         """Ends the program, or leaves the seat. A seat keeps its machine. A second time it does nothing."""
         self._transport.close()
 
-    def _talk(self, sent: Sequence[bytes]) -> list[bytes]:
+    def _query(self, sent: Sequence[bytes]) -> list[bytes]:
         with self._lock:
-            return self._transport.talk(sent)
+            return self._transport.query(sent)
 
     def _now(self, call: Call[T]) -> T:
-        value = outcome(call, self._talk(call.lines))
+        value = outcome(call, self._query(call.lines))
         if call.side is not None:
             self._side = call.side
         return value
@@ -264,7 +264,7 @@ class Machine:
         replies: list[bytes] = []
         with self._lock:
             for line in call.lines:
-                replies += self._talk([line])
+                replies += self._query([line])
                 if not replies[-1].startswith(call.ok):
                     break
         return outcome(call, replies)
@@ -308,7 +308,7 @@ class Machine:
         each = [*shown.lines, *moved.lines]
         while n > 0:
             some = min(n, ahead)
-            replies = self._talk(each * some)
+            replies = self._query(each * some)
             for at in range(0, len(replies), len(each)):
                 picture = outcome(shown, replies[at : at + 1])
                 outcome(moved, replies[at + 1 : at + len(each)])
@@ -387,5 +387,5 @@ def _truth(value: Any, name: str) -> bool:
 
 def side_of(transport: Transport) -> int:
     """The side of the machine on a channel, which stays as it is."""
-    reply = transport.talk([lines.row_line(0, 0)])[0]
+    reply = transport.query([lines.row_line(0, 0)])[0]
     return len(lines.digits_of_reply(reply)) * 4

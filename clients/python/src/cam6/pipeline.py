@@ -76,7 +76,7 @@ class Pipeline:
         """
         calls = self._calls
         self.reset()
-        replies = self._machine._talk([line for call in calls for line in call.lines])
+        replies = self._machine._query([line for call in calls for line in call.lines])
         results: list[Any] = []
         at = 0
         for index, call in enumerate(calls):

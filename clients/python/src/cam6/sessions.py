@@ -186,7 +186,7 @@ class Session:
 
     # Lines
 
-    def talk(self, sent: Sequence[bytes]) -> list[bytes]:
+    def query(self, sent: Sequence[bytes]) -> list[bytes]:
         """The replies to lines, each as of one machine that never failed.
 
         Raises `GaveUp` if no host did the next of them before the deadline, and `Diverged`.

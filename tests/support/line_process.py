@@ -12,7 +12,7 @@ from subprocess import PIPE
 from support.programs import PATIENCE
 
 
-class Talk:
+class LineProcess:
     """A program that is sent a line when it has answered the one before. All lines and answers are kept.
 
     Nothing is waited for without end. A line that doesn't come in time is `nothing`, and so are all after it.
@@ -67,7 +67,7 @@ class Talk:
             return self.unread + b"nothing\n"
         return self.unread + said + how_it_ended(self.process.returncode, told)
 
-    def __enter__(self) -> Talk:
+    def __enter__(self) -> LineProcess:
         return self
 
     def __exit__(self, *_: object) -> None:
