@@ -1,7 +1,7 @@
 #!/usr/bin/env python3
 """Measures what a host and a front cost, for docs/SCALING.md: processor time and memory, as /proc has them.
 
-It starts hosts, doors and a front on free ports, with the files of deploy/. Other work beside it makes figures worse.
+It starts hosts, edge proxies and a front on free ports, with the files of deploy/. Other work beside it makes figures worse.
 
     python3 fleet.py ../../cam6           all, in a minute or two; HAProxy has to be there
     python3 fleet.py ../../cam6 memory    one part: memory, steps, frames, rest or front
@@ -156,7 +156,7 @@ def rest(cam6: str, folder: Path) -> None:
 
 
 def front(cam6: str, folder: Path) -> None:
-    """What a front and a door add: to a round trip, to a connection, and in memory."""
+    """What a front and an edge proxy add: to a round trip, to a connection, and in memory."""
     fleet = Fleet(Ground(), cam6, folder, users=32, boards=2)
     try:
         fleet.start()
@@ -168,11 +168,11 @@ def front(cam6: str, folder: Path) -> None:
 
 
 def spent_by(fleet: Fleet, play: Callable[[], int]) -> tuple[int, float, float]:
-    """What a play counts, and the processor time of the front and of the doors meanwhile."""
-    doors = fleet.edges.values()
-    before = fleet.front.seconds(), sum(door.seconds() for door in doors)
+    """What a play counts, and the processor time of the front and of the edge proxies meanwhile."""
+    edges = fleet.edges.values()
+    before = fleet.front.seconds(), sum(edge.seconds() for edge in edges)
     count = play()
-    return count, fleet.front.seconds() - before[0], sum(door.seconds() for door in doors) - before[1]
+    return count, fleet.front.seconds() - before[0], sum(edge.seconds() for edge in edges) - before[1]
 
 
 def round_trips(fleet: Fleet) -> None:
@@ -194,9 +194,9 @@ def round_trips(fleet: Fleet) -> None:
                     times.append(time.perf_counter() - begun)
                 return len(times)
 
-            count, by_front, by_doors = spent_by(fleet, play)
+            count, by_front, by_edges = spent_by(fleet, play)
             print(f"front: a line {what}: {1e6 * statistics.median(times):.0f} us (median)", end="")
-            print(f"; {1e6 * by_front / count:.0f} us of a core at the front, {1e6 * by_doors / count:.0f} at the door")
+            print(f"; {1e6 * by_front / count:.0f} us of a core at the front, {1e6 * by_edges / count:.0f} at the edge")
 
 
 def connections(fleet: Fleet) -> None:
@@ -210,10 +210,10 @@ def connections(fleet: Fleet) -> None:
             return 300
 
         begun = time.monotonic()
-        count, by_front, by_doors = spent_by(fleet, play)
+        count, by_front, by_edges = spent_by(fleet, play)
         seconds = time.monotonic() - begun
         print(f"front: {count / seconds:.0f} connections a second {what}", end="")
-        print(f": {1e3 * by_front / count:.2f} ms of a core at the front, {1e3 * by_doors / count:.2f} ms at the door")
+        print(f": {1e3 * by_front / count:.2f} ms of a core at the front, {1e3 * by_edges / count:.2f} ms at the edge")
 
 
 def open_connections(fleet: Fleet) -> None:

@@ -28,7 +28,7 @@ from support.programs import Host, free_port
 import cam6
 from cam6 import Machine, lines, sessions
 from cam6.journal import Journal
-from cam6.sessions import Door, Session
+from cam6.sessions import Connector, Session
 
 ENTRIES = [{"a": "B", "b": "-", "grid": grid, "phase": 0} for grid in ("EVEN", "ODD")]
 RULE = compact(do="rule", name="B", half="A", hood="N/MARG", minor="&/PHASES", text=BALLS)
@@ -320,8 +320,8 @@ def test_a_new_journal_does_not_wait(connected: Connected) -> None:
 
 def open_session(port: int, rate: float, journal: Optional[Path] = None) -> Session:
     """A session that begins with this guess of how fast a board is, and is to save each millisecond."""
-    door = Door([("127.0.0.1", port)], 32, None, None, None)
-    session = Session(door, Journal(str(journal) if journal else None, "none", 128), 0.001, 20)
+    connector = Connector([("127.0.0.1", port)], 32, None, None, None)
+    session = Session(connector, Journal(str(journal) if journal else None, "none", 128), 0.001, 20)
     session._rate = rate
     return session
 

@@ -217,24 +217,26 @@ class Proxy(Service):
 
 
 class Fleet:
-    """Three hosts with their doors, and a front."""
+    """Three hosts with their edge proxies, and a front."""
 
     def __init__(self, ground: Ground, cam6: str, folder: Path, users: int, boards: int) -> None:
         self.ground, self.folder, self.users = ground, folder, users
         self.ports = {name: ground.port(7001) for name in HOSTS}
-        self.doors = {name: ground.port(7200) for name in HOSTS}
+        self.edge_ports = {name: ground.port(7200) for name in HOSTS}
         self.certificates, self.authority = folder / "certificates", folder / "certificates" / "ca.pem"
         words = [str(DEPLOY / "certificates"), str(self.certificates), NAME, *HOSTS]
         subprocess.run(words, check=True, stdout=DEVNULL)
         self.values = WAITS | {"CAM6_USERS": str(users), "CAM6_MOST": "1000", "CAM6_LUA": str(DEPLOY / "renumber.lua")}
         self.values["CAM6_CERTIFICATES"] = str(self.certificates)
-        self.values |= {f"CAM6_{name.upper()}": f"{ground.address(name)}:{port}" for name, port in self.doors.items()}
+        self.values |= {
+            f"CAM6_{name.upper()}": f"{ground.address(name)}:{port}" for name, port in self.edge_ports.items()
+        }
         self.values |= {name: f"127.0.0.1:{ground.port(usual)}" for name, usual in PORTS.items()}
         self.values |= {name: f"{ground.address('front')}:{ground.port(usual)}" for name, usual in TLS_PORTS.items()}
         self.plain, self.tls = self.port_of("CAM6_PLAIN"), self.port_of("CAM6_TLS")
         serve = [cam6, "serve", f"--users={users}", f"--boards={boards}", "--side=256"]
         self.hosts = {name: self.service(name, name, [*serve, f"--port={port}"]) for name, port in self.ports.items()}
-        self.edges = {name: self.edge(name, self.doors[name], f"127.0.0.1:{self.ports[name]}") for name in HOSTS}
+        self.edges = {name: self.edge(name, self.edge_ports[name], f"127.0.0.1:{self.ports[name]}") for name in HOSTS}
         self.front = Proxy(self, "front", "haproxy.cfg", "haproxy")
 
     def port_of(self, value: str) -> int:
@@ -246,7 +248,7 @@ class Fleet:
         return Service(self.ground, node, words, self.folder / f"{name}.log", env)
 
     def edge(self, node: str, port: int, host: str) -> Proxy:
-        """The door of a host."""
+        """The edge proxy of a host, not yet started."""
         own = {"CAM6_EDGE": f"{self.ground.address(node)}:{port}", "CAM6_HOST": host, "CAM6_NODE": node}
         return Proxy(self, node, "haproxy-edge.cfg", f"{node}-{port}", own)
 

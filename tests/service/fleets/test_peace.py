@@ -84,30 +84,30 @@ def test_who_takes_no_seat_is_closed(fleet: Fleet, sent: str, least: float, most
     assert time.monotonic() - begun > least
 
 
-def at_door(fleet: Fleet, port: int, certificate: str | None) -> Peer:
-    """A connection from the front's machine to a door of the first host: with a certificate, none, or no TLS."""
+def connected_to_edge(fleet: Fleet, port: int, certificate: str | None) -> Peer:
+    """A connection from the front's machine to the first host's edge proxy: with a certificate, none, or no TLS."""
     stream = fleet.stream_to("front", fleet.ground.address("one"), port)
     return Peer(stream) if certificate is None else fleet.by_tls(stream, None, certificate)
 
 
 @pytest.mark.parametrize("certificate, wanted", [(None, None), ("", None), ("users.pem", None), ("front.pem", NO_SEAT)])
-def test_a_door_lets_in_the_front_alone(fleet: Fleet, certificate: str | None, wanted: str | None) -> None:
+def test_an_edge_proxy_lets_in_the_front_alone(fleet: Fleet, certificate: str | None, wanted: str | None) -> None:
     came = None
-    with suppress(OSError), at_door(fleet, fleet.doors["one"], certificate) as one:
+    with suppress(OSError), connected_to_edge(fleet, fleet.edge_ports["one"], certificate) as one:
         came = one.ask(SEAT % 99)
     assert came == wanted
 
 
-def test_a_door_whose_host_has_ended_says_so_at_once(fleet: Fleet) -> None:
+def test_an_edge_proxy_whose_host_has_ended_says_so_at_once(fleet: Fleet) -> None:
     port, waits = fleet.ground.port(7299), []
     with fleet.edge("one", port, "127.0.0.1:1"):
         for _ in range(3):
-            with at_door(fleet, port, "front.pem") as one:
+            with connected_to_edge(fleet, port, "front.pem") as one:
                 begun = time.monotonic()
                 with suppress(*OVER):
                     assert one.ask(SEAT % 1) is None
                 waits.append(time.monotonic() - begun)
-    # A door that tried again would do so after a second, each time.
+    # An edge proxy that tried again would do so after a second, each time.
     assert min(waits) < 0.8
 
 

@@ -181,8 +181,8 @@ KINDS = {
     # The front ends, with all connections.
     "front": Kind(lambda one: one.killed("fronts", one.fleet.front), 1, (0.05, 1, 0.2)),
     "reload": Kind(Troubles.front_reloaded, 1),
-    # The host has its users' seats free when it sees that its door has ended.
-    "door": Kind(lambda one: one.killed("doors", *one.some(one.fleet.edges)), 1, (0.05, 2, 0.4), False),
+    # The host has its users' seats free when it sees that its edge proxy has ended.
+    "edge": Kind(lambda one: one.killed("edge proxies", *one.some(one.fleet.edges)), 1, (0.05, 2, 0.4), False),
     "host's cable": Kind(Troubles.host_pulled, 2, (2, 9, 2.5)),
     "users' cable": Kind(lambda one: one.pulled("users", one.fleet.front), 1, (0.5, 9, 9), False),
     # A client's process ends amid its commands. Another one takes its journal up.

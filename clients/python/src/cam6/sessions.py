@@ -33,7 +33,7 @@ FIRST_RATE = 2000.0
 MOST_JOURNAL = 8 << 20
 
 
-class Door:
+class Connector:
     """The addresses of hosts, and how a seat is taken at one of them."""
 
     def __init__(
@@ -106,12 +106,12 @@ class Door:
         return f"All {taken} seats at {where} are taken. Wait until one is free, or start cam6 serve with more --users."
 
 
-def seated(door: Door) -> Connection:
+def seated(connector: Connector) -> Connection:
     """A seat of a host, for a connection without a journal. A seat that has just been left is waited for."""
     until = time.monotonic() + TO_BE_FREE
     while True:
         try:
-            return door.tried(TO_SIT)
+            return connector.tried(TO_SIT)
         except NoSeat:
             if time.monotonic() > until:
                 raise
@@ -131,12 +131,12 @@ class Session:
       played again, and how often it saved.
     """
 
-    def __init__(self, door: Door, journal: Journal, every_seconds: float, deadline: Optional[float]) -> None:
+    def __init__(self, connector: Connector, journal: Journal, every_seconds: float, deadline: Optional[float]) -> None:
         self.journal = journal
         self.every_seconds, self.deadline = every_seconds, deadline
         self.recoveries = self.replayed = self.checkpoints = 0
         self.resumed: list[tuple[bytes, bytes]] = []
-        self._door = door
+        self._connector = connector
         self._there: Optional[Connection] = None
         # Seconds of answers since the last checkpoint, steps a second, and how many answers there were in all.
         self._busy, self._rate, self._done = 0.0, FIRST_RATE, 0
@@ -151,12 +151,12 @@ class Session:
     @property
     def seat(self) -> Optional[int]:
         """The seat, or None before the first one."""
-        return self._door.seat
+        return self._connector.seat
 
     @property
     def address(self) -> Address:
         """The host and the port."""
-        return self._door.address
+        return self._connector.address
 
     @property
     def asked(self) -> int:
@@ -167,9 +167,9 @@ class Session:
         """Takes the first seat. A new journal is not worth waiting for: a mistyped address is told at once."""
         if self.journal.number == 0:
             try:
-                self._rebuild(seated(self._door), self._until())
+                self._rebuild(seated(self._connector), self._until())
             except Lost:
-                if self._door.seat is None:
+                if self._connector.seat is None:
                     raise
         if self._there is None:
             self._recover(self._until(), Lost("No host was reached."))
@@ -328,7 +328,7 @@ class Session:
             if left <= 0:
                 raise GaveUp(str(last)) from last
             try:
-                self._rebuild(self._door.tried(min(left, TO_SIT)), min(until, time.monotonic() + self._patience()))
+                self._rebuild(self._connector.tried(min(left, TO_SIT)), min(until, time.monotonic() + self._patience()))
                 self.recoveries += 1
                 return
             except (Lost, NoSeat) as error:

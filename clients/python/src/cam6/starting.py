@@ -12,7 +12,7 @@ from .cells import SIDES
 from .channels import Channel, Process
 from .journal import MEMORY, SYNCS, Journal
 from .machine import Machine, side_of
-from .sessions import Address, Door, Session, seated
+from .sessions import Address, Connector, Session, seated
 
 # The most seats that a host has.
 MOST_SEATS = 32
@@ -78,7 +78,7 @@ def connect(
     Raises `Lost` if no host can be reached, `NoSeat` if no seat is free, `Diverged` if the host has another limit, and
     `BadJournal`. A journal that has commands already waits for a host until the deadline, and raises `GaveUp`.
     """
-    door = Door(
+    connector = Connector(
         checked_addresses(host, lines.number(port, "port", 1, 65_535)),
         lines.number(seats, "seats", 1, MOST_SEATS),
         None if seat is None else lines.number(seat, "seat", 1, MOST_SEATS),
@@ -90,12 +90,12 @@ def connect(
     every = checked_seconds(every_seconds, "every_seconds", True)
     until = None if deadline is None else checked_seconds(deadline, "deadline", False)
     if journal is None:
-        door.is_bound = seat is not None
-        return opened(seated(door))
+        connector.is_bound = seat is not None
+        return opened(seated(connector))
     path = os.fspath(journal)
     if not isinstance(path, str) or not path:
         raise TypeError(f"journal is a path or {MEMORY!r}, not {journal!r:.60}")
-    session = Session(door, Journal(None if path == MEMORY else path, sync, side_limit), every, until)
+    session = Session(connector, Journal(None if path == MEMORY else path, sync, side_limit), every, until)
     return Machine(session, session.journal.side, session)
 
 
