@@ -1,9 +1,9 @@
 // What a page keeps of its machine: the last save, and the commands since that change it.
 
 import { back, commandOf, isSteps, lineOf, run } from './lines.js';
-import { Shelf } from './shelf.js';
+import { JournalStorage } from './storage.js';
 
-export { kept, nameOfTab } from './shelf.js';
+export { kept, nameOfTab } from './storage.js';
 
 const SLOT_LETTERS = 4096;
 const MOST_STEPS = 65535;
@@ -31,7 +31,7 @@ const stepsOf = command => isSteps(command) ? command.n ?? 0 : 0;
 
 /** The journal of one page. It keeps on in memory if the storage is full or missing. */
 export class Journal {
-  #shelf;
+  #storage;
   /** @type {Noted[][]} */
   #slots = [];
   /** @type {number[]} of the commands of each slot */
@@ -55,14 +55,14 @@ export class Journal {
 
   /**
    * Reads what the storage has under this name.
-   * @param {import('./shelf.js').Store|null} storage null if there is none
+   * @param {import('./storage.js').Store|null} storage null if there is none
    * @param {string} name
    * @param {{random?: () => number, now?: () => number, onRenamed?: (name: string) => void}} by
    */
   constructor(storage, name, { random, now, onRenamed = () => {} } = {}) {
-    this.#shelf = new Shelf(storage, name, { random, now });
+    this.#storage = new JournalStorage(storage, name, { random, now });
     this.onRenamed = onRenamed;
-    const content = this.#shelf.read();
+    const content = this.#storage.read();
     /** @type {boolean} whether the storage has all of the journal, but for replies */
     this.isKept = content !== null;
     if (content !== null) {
@@ -91,7 +91,7 @@ export class Journal {
 
   /** @returns {string} the name under which the journal is kept */
   get name() {
-    return this.#shelf.name;
+    return this.#storage.name;
   }
 
   /** @type {(asked: Asked, reply: string|null, isZero: boolean) => void} */
@@ -209,7 +209,7 @@ export class Journal {
     }
   }
 
-  /** @param {number} slot @returns {import('./shelf.js').Row[]} */
+  /** @param {number} slot @returns {import('./storage.js').Row[]} */
   #rows(slot) {
     return this.#slots[slot].map(({ line, reply, isZero }) => [line, reply, isZero ? 1 : 0]);
   }
@@ -218,21 +218,21 @@ export class Journal {
     if (!this.isKept) {
       return;
     }
-    if (!this.#shelf.isOurs()) {
-      this.#shelf.moveOn();
+    if (!this.#storage.isOurs()) {
+      this.#storage.moveOn();
       this.#replace();
       this.onRenamed(this.name);
       return;
     }
     this.isKept = [...this.#dirty].sort((one, other) => one - other)
-      .every(slot => this.#shelf.write(slot, this.#rows(slot)));
+      .every(slot => this.#storage.write(slot, this.#rows(slot)));
     this.#dirty.clear();
   }
 
   #replace() {
     const { loadLine, first } = this;
     const slots = this.#slots.map((_, slot) => this.#rows(slot));
-    this.isKept = loadLine !== null && this.#shelf.replace({ loadLine, first, count: this.#base, slots });
+    this.isKept = loadLine !== null && this.#storage.replace({ loadLine, first, count: this.#base, slots });
     this.#dirty.clear();
   }
 
@@ -249,8 +249,8 @@ export class Journal {
     this.#base = this.count = count;
     this.first = count === 0 ? loadLine : first;
     later.forEach(entry => this.#put(entry));
-    if (!this.#shelf.isOurs()) {
-      this.#shelf.moveOn();
+    if (!this.#storage.isOurs()) {
+      this.#storage.moveOn();
       this.onRenamed(this.name);
     }
     this.#replace();
@@ -272,7 +272,7 @@ export class Journal {
   /** Forgets all, in the storage too. */
   clear() {
     this.#blank();
-    this.#shelf.clear();
+    this.#storage.clear();
     this.isKept = false;
   }
 }

@@ -66,7 +66,7 @@ function throwFirst(answers) {
  * @property {(host: number) => string} urlOf the address of a host's socket; of 0 for a machine of the page's own
  * @property {number} [hosts] how many hosts there are; 0 for a machine of the page's own
  * @property {import('./host.js').SocketClass} WebSocketClass
- * @property {import('./shelf.js').Store|null} [storage] where the journal is kept
+ * @property {import('./storage.js').Store|null} [storage] where the journal is kept
  * @property {string} [name] the journal's name
  * @property {(name: string) => void} [onRenamed] called with another name if another page has the journal
  * @property {number|null} [seat] the seat that is asked for first

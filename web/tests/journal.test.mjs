@@ -8,7 +8,7 @@ import { FakeStorage } from './fake_storage.mjs';
 
 /**
  * @typedef {import('../lines.js').Command} Command
- * @typedef {import('../shelf.js').Store} Store
+ * @typedef {import('../storage.js').Store} Store
  */
 
 const OK = '{"ok":"run","position":0}';

@@ -34,7 +34,7 @@ use Rattle.cam6_web_page.specs.declared.texts.planes_js.TheConstants as planes_j
 use Rattle.cam6_web_page.specs.declared.texts.queue_js.TheConstants as queue_js
 use Rattle.cam6_web_page.specs.declared.texts.screen_js.TheConstants as screen_js
 use Rattle.cam6_web_page.specs.declared.texts.shapes_js.TheConstants as shapes_js
-use Rattle.cam6_web_page.specs.declared.texts.shelf_js.TheConstants as shelf_js
+use Rattle.cam6_web_page.specs.declared.texts.storage_js.TheConstants as storage_js
 use Rattle.cam6_web_page.specs.declared.texts.style_css.TheConstants as style_css
 use Rattle.cam6_web_page.specs.declared.texts.tools_js.TheConstants as tools_js
 use Rattle.cam6_web_page.specs.declared.texts.torus_js.TheConstants as torus_js
@@ -73,7 +73,7 @@ path_to file.PlanesJs = codes "/planes.js"
 path_to file.QueueJs = codes "/queue.js"
 path_to file.ScreenJs = codes "/screen.js"
 path_to file.ShapesJs = codes "/shapes.js"
-path_to file.ShelfJs = codes "/shelf.js"
+path_to file.StorageJs = codes "/storage.js"
 path_to file.StyleCss = codes "/style.css"
 path_to file.ToolsJs = codes "/tools.js"
 path_to file.TorusJs = codes "/torus.js"
@@ -116,7 +116,7 @@ kind_of file.PlanesJs = kind.Script
 kind_of file.QueueJs = kind.Script
 kind_of file.ScreenJs = kind.Script
 kind_of file.ShapesJs = kind.Script
-kind_of file.ShelfJs = kind.Script
+kind_of file.StorageJs = kind.Script
 kind_of file.StyleCss = kind.Style
 kind_of file.ToolsJs = kind.Script
 kind_of file.TorusJs = kind.Script
@@ -155,7 +155,7 @@ bytes_of file.PlanesJs = planes_js.BYTES.now
 bytes_of file.QueueJs = queue_js.BYTES.now
 bytes_of file.ScreenJs = screen_js.BYTES.now
 bytes_of file.ShapesJs = shapes_js.BYTES.now
-bytes_of file.ShelfJs = shelf_js.BYTES.now
+bytes_of file.StorageJs = storage_js.BYTES.now
 bytes_of file.StyleCss = style_css.BYTES.now
 bytes_of file.ToolsJs = tools_js.BYTES.now
 bytes_of file.TorusJs = torus_js.BYTES.now

@@ -30,7 +30,7 @@ pub mod planes_js;
 pub mod queue_js;
 pub mod screen_js;
 pub mod shapes_js;
-pub mod shelf_js;
+pub mod storage_js;
 pub mod style_css;
 pub mod tools_js;
 pub mod torus_js;

@@ -70,7 +70,7 @@ export function kept(storage) {
 }
 
 /** The place of one journal. Each method that writes returns whether the storage took it. */
-export class Shelf {
+export class JournalStorage {
   #storage;
   #random;
   #now;
