@@ -62,7 +62,7 @@ REFUSED = [pair for line in REFUSED for pair in (line, names())]
 # How often the lines are sent, and how often at first. Then how many kB more may be held after all of them than after the first
 # ones, and than before.
 Trial = tuple[Pairs, int, int, int, float]
-# 16,000 kB are for a machine with its rules, and for what the library keeps of room that was given back. The room of a long line
+# 16,000 kB are for a machine with its rules, and for what the library keeps of memory that was given back. That of a long line
 # is 2,048 kB, so 1,800 kB after lines that load nothing are enough only if it was given back.
 NAMES = ["bytes_alone", "commands", "loads", "refused_lines"]
 SHORT: list[Trial] = [([(b"x", fault(2))] * 1000, 1_000, 10, 200, math.inf), (COMMANDS, 4_700, 47, 200, math.inf)]

@@ -144,7 +144,7 @@ TEXT = re.compile(r"^\s*x\s*=\s*(\d+)\s*,\s*y\s*=\s*(\d+).*\n([^!]*)", re.M)
 TOO_MANY_STATES = re.compile("[P-Zp-z]")
 
 
-def has_room(path: Path) -> bool:
+def fits_a_torus(path: Path) -> bool:
     """Whether a file has a pattern that is no larger than a torus, with the states of four planes."""
     found = TEXT.search(path.read_text(encoding="latin-1"))
     return bool(found and max(int(found[1]), int(found[2])) <= max(SIDES) and not TOO_MANY_STATES.search(found[3]))
@@ -154,7 +154,7 @@ def pytest_generate_tests(metafunc: pytest.Metafunc) -> None:
     """Has each pattern of the folder of `--patterns` be set."""
     if "elsewhere" in metafunc.fixturenames:
         folder = Path(metafunc.config.getoption("patterns"))
-        paths = [pytest.param(path, id=path.name) for path in sorted(folder.rglob("*.rle")) if has_room(path)]
+        paths = [pytest.param(path, id=path.name) for path in sorted(folder.rglob("*.rle")) if fits_a_torus(path)]
         skip = pytest.mark.skip(reason=f"LEFT OUT: {folder} has no patterns")
         metafunc.parametrize("elsewhere", paths or [pytest.param(folder, id="none", marks=skip)])
 

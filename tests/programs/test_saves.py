@@ -95,8 +95,8 @@ def machine_of(fillers: list[str]) -> Command:
     Two rules have the same filler in their comments, and the next two have the next one."""
     rules = []
     for i, (word, (half, hood, minor, text)) in enumerate(islice(cycle(REVERSIBLE.items()), 16)):
-        filler, room = fillers[i // 2 % len(fillers)], MOST_BYTES_OF_A_TEXT - len(f"(  ) {text}".encode())
-        times, rest = divmod(room, len(filler.encode()))
+        filler, most = fillers[i // 2 % len(fillers)], MOST_BYTES_OF_A_TEXT - len(f"(  ) {text}".encode())
+        times, rest = divmod(most, len(filler.encode()))
         rules.append(rule(f"{word}_{i}", f"( {filler * times}{'x' * rest} ) {text}", half, hood, minor))
     a, b = (cycle([rule["name"] for rule in rules if rule["half"] == half]) for half in "AB")
     entries = [entry(next(a), next(b), ("EVEN", "ODD")[i // 3 % 2], i % 4) for i in range(16)]
@@ -156,7 +156,7 @@ def filled(size: int, front: bytes, unit: bytes, rear: bytes = b"") -> bytes:
 
 def loads_of(size: int, more_than_load: int = 4) -> list[Pair]:
     """Lines of so many bytes that begin as a load, with their faults: those of commands, or of events if a load with
-    something after it has fault 3. Lines that have a machine are left out if it has no room."""
+    something after it has fault 3. Lines that have a machine are left out if they are too long."""
     found = [
         (filled(size, LOAD_HEAD, b" "), 2),
         (filled(size, LOAD_HEAD, b"\xff"), 2),

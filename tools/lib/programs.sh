@@ -42,31 +42,31 @@ knock() {
 # Compiles a program without a proof, and keeps it with the sum of the sources. `rt try` drops what it compiles once it has run
 # it, so the program gets a second name while it runs.
 compile() {
-  local program=$1 crate=${CRATE_OF[$1]} room=${top:?}/$KEPT/room.$1.$$ options knocked toolchain
-  mkdir -p "$room"
-  feed "$program" > "$room/feed"
+  local program=$1 crate=${CRATE_OF[$1]} workdir=${top:?}/$KEPT/work.$1.$$ options knocked toolchain
+  mkdir -p "$workdir"
+  feed "$program" > "$workdir/feed"
   options_of "$program"
   # In a group of its own, since a toolchain that is stopped ends all of its group.
-  (cd "crates/$crate" && TMPDIR=$room exec setsid rt try -- "${options[@]}" < "$room/feed") > "$room/written" 2> "$room/told" &
+  (cd "crates/$crate" && TMPDIR=$workdir exec setsid rt try -- "${options[@]}" < "$workdir/feed") > "$workdir/written" 2> "$workdir/told" &
   toolchain=$!
-  echo "$toolchain" > "$room/group"
+  echo "$toolchain" > "$workdir/group"
   while kill -0 "$toolchain" 2> /dev/null; do
-    if [[ ! -x $room/kept ]]; then
-      find "$room" -name program -type f -perm -u+x -exec ln {} "$room/kept" \; -quit 2> /dev/null || true
+    if [[ ! -x $workdir/kept ]]; then
+      find "$workdir" -name program -type f -perm -u+x -exec ln {} "$workdir/kept" \; -quit 2> /dev/null || true
     elif [[ -n $knocked ]]; then
       knock "$knocked"
     fi
     sleep 0.05
   done
-  if ! wait "$toolchain" || [[ ! -x $room/kept ]]; then
+  if ! wait "$toolchain" || [[ ! -x $workdir/kept ]]; then
     echo "${script:?}: no program $program came of 'rt try' in crates/$crate, which said:" >&2
-    tail -n 5 "$room/told" >&2
-    rm -rf "$room"
+    tail -n 5 "$workdir/told" >&2
+    rm -rf "$workdir"
     return 1
   fi
-  mv "$room/kept" "$KEPT/$program"
+  mv "$workdir/kept" "$KEPT/$program"
   echo "$sum" > "$KEPT/$program.sum"
-  rm -rf "$room"
+  rm -rf "$workdir"
 }
 
 # Whether a program of these sources is kept.
@@ -77,14 +77,14 @@ is_kept() {
 # Ends what is being compiled, and removes what there is of it.
 stop_compiling() {
   local group
-  for group in "$top/$KEPT"/room.*."$$"/group; do
+  for group in "$top/$KEPT"/work.*."$$"/group; do
     [[ ! -f $group ]] || kill -- "-$(< "$group")" 2> /dev/null || true
   done
   kill "$@" 2> /dev/null || true
   sleep 0.5
   # A copy of the shell that gets Ctrl-C before it has quite begun ends by nothing else.
   { kill -KILL "$@" && wait "$@"; } 2> /dev/null || true
-  rm -rf "$top/$KEPT"/room.*.$$
+  rm -rf "$top/$KEPT"/work.*.$$
 }
 
 # Compiles those of these programs that aren't kept, side by side.

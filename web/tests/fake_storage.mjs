@@ -1,4 +1,4 @@
-// A browser's storage for tests, with as much room as is said.
+// A browser's storage for tests, with a capacity.
 
 /** Keys and texts, as localStorage has them. */
 export class FakeStorage {
@@ -6,8 +6,8 @@ export class FakeStorage {
   texts = new Map();
   writes = 0;
 
-  constructor(room = 5000000) {
-    this.room = room;
+  constructor(capacity = 5000000) {
+    this.capacity = capacity;
   }
 
   get length() {
@@ -28,7 +28,7 @@ export class FakeStorage {
   setItem(key, value) {
     const text = String(value);
     const used = [...this.texts].reduce((sum, [name, other]) => name === key ? sum : sum + name.length + other.length, 0);
-    if (used + String(key).length + text.length > this.room) {
+    if (used + String(key).length + text.length > this.capacity) {
       throw new Error('QuotaExceededError');
     }
     this.writes++;
@@ -42,7 +42,7 @@ export class FakeStorage {
 
   /** The storage as it is now, for a page that is loaded again. */
   copy() {
-    const other = new FakeStorage(this.room);
+    const other = new FakeStorage(this.capacity);
     other.texts = new Map(this.texts);
     return other;
   }

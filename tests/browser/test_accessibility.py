@@ -1,4 +1,4 @@
-"""The page has room in a small window, has names for who can't see it, and texts that can be read."""
+"""The page fits a small window, names its controls for a screen reader, and has texts of enough contrast."""
 
 from __future__ import annotations
 
@@ -9,7 +9,7 @@ import pytest
 from browser.teacher import Teacher
 
 pytestmark = pytest.mark.browser
-# A window in which all has room, and what has to be in sight there.
+# A window that all fits, and what has to be in sight there.
 SMALL = (1024, 700)
 IN_SIGHT = ("#torus", "#run", "#step", "#back", "#dial", "#scrubber", "#gallery", "#state", "#help", "#panel")
 PALE = (Path(__file__).parent / "pale.js").read_text(encoding="utf-8")
