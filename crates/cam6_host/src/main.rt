@@ -29,11 +29,11 @@ use std::process::ExitCode;
 
 /// The greeting if commands are typed.
 const COMMANDS_ARE_TYPED: &str = "\
-cam6: type a command a line, such as {\"do\":\"rules\"}. Ctrl-D ends. docs/MANUAL.md has the commands, docs/ERRORS.md the numbers.\n";
+cam6: type one command per line, such as {\"do\":\"rules\"}. Ctrl-D ends. Commands: docs/MANUAL.md. Faults: docs/ERRORS.md.\n";
 
 /// The greeting if events are typed.
 const EVENTS_ARE_TYPED: &str = "\
-cam6: type an event a line, such as {\"event\":\"evict\"}. Ctrl-D ends. docs/SERVER.md has the events, docs/ERRORS.md the numbers.\n";
+cam6: type one event per line, such as {\"event\":\"evict\"}. Ctrl-D ends. Events: docs/SERVER.md. Faults: docs/ERRORS.md.\n";
 
 /// Runs the program on the host, which has a network for `cam6 serve`.
 fn main(rt: HostRuntime) -> ExitCode {

@@ -246,7 +246,7 @@ fn scale_by(word: Option<&str>) -> Result<usize, Unsaid>
 fn program<'a>(alloc: Global) -> Result<Command<'a>, AllocError>
     ensures { IfOk result (λ command. app_of command ≡ program_of) }
 {
-    let about = "Draws the cells of replies on standard input, on standard output";
+    let about = "Reads replies from standard input and writes pictures to standard output";
     named(alloc, Program::Draw, about, HELP)
         .arg(ppm_option(alloc))?
         .arg(text_option(alloc))?

@@ -255,7 +255,8 @@ fn planes_of_digits(digits: &[u8]) -> ChosenPlanes
 fn program<'a>(alloc: Global) -> Result<Command<'a>, AllocError>
     ensures { IfOk result (λ command. IsProgram (app_of command)) }
 {
-    let about = "Patterns as run-length text, into command lines of cam6 and out of its replies";
+    let about =
+        "Turns run-length patterns into command lines of cam6, and its replies into patterns";
     named(alloc, Program::Rle, about, PROGRAM_TEXT)
         .arg(side_option(alloc, "The side of the torus"))?
         .arg(move_option(alloc, "column"))?
@@ -281,7 +282,7 @@ fn planes_option<'a>(alloc: Global) -> Arg<'a>
     Arg::new(alloc, "planes")
         .long("planes")
         .default_value("0")
-        .help("The planes of a state's bits, a digit each, the lowest first")
+        .help("The planes for a state's bits, one digit each, the lowest bit first")
 }
 
 /// `--replies`.

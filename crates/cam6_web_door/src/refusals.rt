@@ -13,7 +13,7 @@ pub const NOT_FOUND: &str = "Nothing is here. The page is at /.\n";
 pub const FOREIGN: &str = "Only a page of this server may open a socket.\n";
 
 /// Of 400.
-pub const MALFORMED: &str = "This is no handshake of a WebSocket, or its key is wrong.\n";
+pub const MALFORMED: &str = "This is not a WebSocket handshake, or its key is wrong.\n";
 
 /// Of 503.
 pub const FULL: &str = "No connection is free. Close a page, or try again later.\n";
