@@ -51,7 +51,7 @@ const placeOf = corner => [[0, 0], [0, 1], [1, 1], [1, 0]][corner];
  * @param {string} half
  * @returns {Block}
  */
-function drawn(state, half) {
+function blockOf(state, half) {
   const cells = [[0, 0], [0, 0]];
   for (let corner = 0; corner < 4; corner++) {
     const [y, x] = placeOf(corner);
@@ -66,7 +66,7 @@ function drawn(state, half) {
  * @returns {Block[] | null} null if the cause is another one
  */
 export function blocksOf(answer) {
-  return 'states' in answer ? answer.states.map(state => drawn(state, answer.half)) : null;
+  return 'states' in answer ? answer.states.map(state => blockOf(state, answer.half)) : null;
 }
 
 /** @type {Record<string, number>} the corners from a cell to the one that it sees, clockwise */
@@ -125,7 +125,7 @@ export function meetingOf(answer, known) {
   }
   const name = nameOf(answer, known);
   const rule = known.rules?.find(other => other.name === name);
-  return rule ? drawn(becomes(answer.states[0], rule, answer.phase), answer.half) : null;
+  return rule ? blockOf(becomes(answer.states[0], rule, answer.phase), answer.half) : null;
 }
 
 /** @param {string[]} names */

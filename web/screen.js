@@ -94,7 +94,7 @@ export class Screen {
    * @param {number} state
    * @returns {number}
    */
-  drawn(old, state) {
+  mergeShown(old, state) {
     return old & ~this.shown | state & this.shown;
   }
 }

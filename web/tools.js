@@ -150,7 +150,7 @@ export class Tools {
    */
   put(planes, points, state) {
     for (const [x, y] of points) {
-      planes.put(x, y, this.screen.drawn(planes.get(x, y), state));
+      planes.put(x, y, this.screen.mergeShown(planes.get(x, y), state));
     }
   }
 

@@ -24,7 +24,7 @@ from selenium.webdriver.chrome.service import Service
 from selenium.webdriver.remote.command import Command
 from selenium.webdriver.remote.file_detector import UselessFileDetector
 from selenium.webdriver.remote.webdriver import WebDriver
-from support.programs import Peer, until
+from support.programs import Peer, wait_until
 
 # The width and the height that a page has of a window.
 WINDOW = (1280, 800)
@@ -163,7 +163,7 @@ def firefox(downloads: Path) -> Iterator[Browser]:
             # In a group of its own, so that all of its processes can be ended.
             process = subprocess.Popen(command, stdin=DEVNULL, stdout=file, stderr=file, start_new_session=True)
         try:
-            until(lambda: port.exists() and port.read_text() or process.poll() is not None, START)
+            wait_until(lambda: port.exists() and port.read_text() or process.poll() is not None, START)
             with output.open(errors="replace") as told:
                 if not port.exists():
                     raise OSError(f"Firefox doesn't listen: {told.read()}")

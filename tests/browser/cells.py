@@ -31,7 +31,7 @@ def picture_after(cam6: str, lines: Iterable[str]) -> Image.Image:
     return picture.convert("RGBA")
 
 
-def drawn(picture: Image.Image, ground: tuple[int, ...] = BLACK) -> set[tuple[int, int]]:
+def lit_pixels(picture: Image.Image, ground: tuple[int, ...] = BLACK) -> set[tuple[int, int]]:
     """The columns and rows of the pixels that have another light than the ground."""
     return {divmod(place, picture.width)[::-1] for place, light in enumerate(picture.getdata()) if light != ground}
 
@@ -40,5 +40,5 @@ def difference(came: Image.Image, wanted: Image.Image) -> str:
     """How two pictures differ, in words. It is empty if they don't."""
     if came.size != wanted.size:
         return f"the picture has {came.size} pixels, and not {wanted.size}"
-    places = sorted(drawn(ImageChops.difference(came, wanted), NOTHING))
+    places = sorted(lit_pixels(ImageChops.difference(came, wanted), NOTHING))
     return f"{len(places)} pixels differ, as those at {places[:3]}" if places else ""

@@ -16,7 +16,7 @@ from selenium.webdriver.common.action_chains import ActionChains
 from selenium.webdriver.common.actions.action_builder import ActionBuilder
 from selenium.webdriver.remote.webelement import WebElement
 from selenium.webdriver.support.wait import WebDriverWait
-from support.programs import PATIENCE, TOP, until
+from support.programs import PATIENCE, TOP, wait_until
 from support.sessions import line_of
 
 from browser import cells
@@ -57,7 +57,7 @@ class Teacher:
         """The value of an expression."""
         return self.script(f"return {expression}", *values)
 
-    def until(self, condition: str, *values: object) -> Any:
+    def wait_until(self, condition: str, *values: object) -> Any:
         """Waits until an expression has a value that counts, and returns it."""
         waits = WebDriverWait(self.driver, PATIENCE, POLL)
         return waits.until(lambda _: self.value(condition, *values), f"it never came to be so: {condition} {values}")
@@ -102,18 +102,18 @@ class Teacher:
                 looks[:-1] = []
             return len(looks) > LOOKS and looks[-1][0] - looks[0][0] > STAYS
 
-        assert until(stays), f"the count doesn't settle: {looks}"
+        assert wait_until(stays), f"the count doesn't settle: {looks}"
         return looks[0][1]
 
     def assert_count(self, count: int) -> None:
         """Fails if the count doesn't come to be this one, and stay."""
-        until(lambda: self.count() == count)
+        wait_until(lambda: self.count() == count)
         assert self.settled() == count
 
     def assert_shows(self, lines: list[str]) -> None:
         """Fails if the canvas doesn't come to show what a private machine has after these lines."""
         wanted = cells.picture_after(self.cam6, lines)
-        until(lambda: self.canvas().tobytes() == wanted.tobytes())
+        wait_until(lambda: self.canvas().tobytes() == wanted.tobytes())
         difference = cells.difference(self.canvas(), wanted)
         assert not difference, "\n".join([f"{difference}; wanted is what ./cam6 has after", *lines])
 
@@ -135,17 +135,17 @@ class Teacher:
     def open(self, address: str) -> None:
         """Goes to the page, and waits until it is ready."""
         self.go(address)
-        self.until(READY)
+        self.wait_until(READY)
 
     def reload(self) -> None:
         """Loads the page again."""
         self.driver.refresh()
-        self.until(READY)
+        self.wait_until(READY)
 
     def element(self, selector: str) -> WebElement:
         """An element that is not disabled, as soon as it is there."""
         script = "(found => found && !found.disabled && found)(document.querySelector(arguments[0]))"
-        element: WebElement = self.until(script, selector)
+        element: WebElement = self.wait_until(script, selector)
         return element
 
     def click(self, selector: str, times: int = 1) -> None:
@@ -242,6 +242,6 @@ class Teacher:
         def is_taken() -> bool:
             more = self.value("[outerWidth - innerWidth, outerHeight - innerHeight]")
             self.driver.set_window_size(width + more[0], height + more[1])
-            return until(lambda: self.value("[innerWidth, innerHeight]") == [width, height], ASKS_AGAIN)
+            return wait_until(lambda: self.value("[innerWidth, innerHeight]") == [width, height], ASKS_AGAIN)
 
-        assert until(is_taken), f"the window never comes to be {width} by {height}"
+        assert wait_until(is_taken), f"the window never comes to be {width} by {height}"

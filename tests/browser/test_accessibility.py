@@ -26,8 +26,8 @@ CUT = """arguments[0].filter(selector => {
 
 def test_a_small_window_is_wide_enough_and_has_the_controls_in_sight(own: Teacher) -> None:
     own.size(*SMALL)
-    own.until(f"document.documentElement.scrollWidth <= {SMALL[0]}")
-    own.until(f"document.getElementById('torus').getBoundingClientRect().right <= {SMALL[0]}")
+    own.wait_until(f"document.documentElement.scrollWidth <= {SMALL[0]}")
+    own.wait_until(f"document.getElementById('torus').getBoundingClientRect().right <= {SMALL[0]}")
     assert own.value(CUT, IN_SIGHT) == []
 
 

@@ -69,7 +69,7 @@ def frames_of_page(teacher: Teacher, dial: float) -> tuple[float, float]:
     # To choose a side that is there already does nothing.
     for side in ("128", "256"):
         teacher.choose("#side", side)
-        teacher.until(f"{TORUS}.side === '{side}' && {TORUS}.count === '0'")
+        teacher.wait_until(f"{TORUS}.side === '{side}' && {TORUS}.count === '0'")
     teacher.click("[data-tool=random]")
     teacher.drag((60, 60), (100, 100), (190, 190))
     teacher.slide("#dial", dial)

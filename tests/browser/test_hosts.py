@@ -10,7 +10,7 @@ from http.server import SimpleHTTPRequestHandler, ThreadingHTTPServer
 from pathlib import Path
 
 import pytest
-from support.programs import Host, Page, until
+from support.programs import Host, Page, wait_until
 
 from browser.teacher import READY, TORUS, Teacher, moved
 
@@ -44,13 +44,13 @@ OPEN = """(new Promise(done => {
 def state_is(teacher: Teacher, state: str, text: str = "") -> None:
     """Waits until the page has a state, and says this text of it. It says so only until it tries again."""
     says = f"document.getElementById('state-says').textContent.includes('{text}')"
-    teacher.until(f"{TORUS}.state === '{state}' && {says}")
+    teacher.wait_until(f"{TORUS}.state === '{state}' && {says}")
 
 
 def run_on(teacher: Teacher, steps: int) -> None:
     """Waits until so many more steps are done."""
     more = teacher.count() + steps
-    assert until(lambda: teacher.count() > more), f"the count doesn't come to {more}"
+    assert wait_until(lambda: teacher.count() > more), f"the count doesn't come to {more}"
 
 
 def at_host(teacher: Teacher, address: str) -> list[str]:
@@ -111,7 +111,7 @@ def test_the_page_goes_on_at_another_host(teacher: Teacher, host: Hosts, page: P
     opened = time.monotonic() - begun
     teacher.script(WATCH)
     one.kill()
-    teacher.until("window.states.some(([state]) => state === 'lost')")
+    teacher.wait_until("window.states.some(([state]) => state === 'lost')")
     state_is(teacher, "ready", "of host 2")
     told = [(state, when) for state, when in teacher.value("window.states") if state in ("lost", "ready")]
     assert [state for state, _ in told] == ["lost", "ready"]
@@ -131,11 +131,11 @@ def classroom(host: Hosts, page: Pages) -> str:
 
 def test_each_page_takes_the_first_free_seat_and_has_a_machine(teacher: Teacher, classroom: str) -> None:
     teacher.open(classroom)
-    assert teacher.until(SEAT) == "1"
+    assert teacher.wait_until(SEAT) == "1"
     lines = teacher.set_up(LETTERS)
     with teacher.window():
         teacher.open(classroom)
-        assert teacher.until(SEAT) == "2"
+        assert teacher.wait_until(SEAT) == "2"
         teacher.set_up(BALLS)
     teacher.click("#step")
     teacher.assert_shows([*lines, moved(1)])
@@ -151,13 +151,13 @@ def test_a_page_too_many_says_so_and_takes_a_seat_that_becomes_free(teacher: Tea
             third = teacher.driver.current_window_handle
         teacher.driver.get("about:blank")
         teacher.driver.switch_to.window(third)
-        teacher.until(READY)
-        assert teacher.until(SEAT) == "2"
+        teacher.wait_until(READY)
+        assert teacher.wait_until(SEAT) == "2"
 
 
 def test_a_page_takes_the_seat_in_its_address(teacher: Teacher, classroom: str) -> None:
     teacher.open(f"{classroom}#seat=2")
-    assert teacher.until(SEAT) == "2"
+    assert teacher.wait_until(SEAT) == "2"
 
 
 def test_a_page_of_another_server_gets_no_socket(teacher: Teacher, page: Pages, tmp_path: Path) -> None:

@@ -10,7 +10,7 @@ import pytest
 from PIL import Image, ImageChops
 from pages.texts import sessions_of
 from selenium.webdriver.common.keys import Keys
-from support.programs import TOP, private, until
+from support.programs import TOP, private, wait_until
 from support.sessions import line_of
 
 from browser import cells
@@ -31,7 +31,7 @@ def test_the_session_of_readme_is_clicked_and_typed(own: Teacher) -> None:
     session = [line for line in typed if not re.search('"do":"(plane|count)"', line)]
     own.begin_anew()
     own.write_rule(json.loads(session[0]))
-    own.until("document.getElementById('cycle').children.length === 1")
+    own.wait_until("document.getElementById('cycle').children.length === 1")
     own.pick("pencil", 1)
     own.drag((0, 0))
     own.assert_shows(session[:3])
@@ -40,7 +40,7 @@ def test_the_session_of_readme_is_clicked_and_typed(own: Teacher) -> None:
     assert private(own.cam6, [*session, line_of(do="count", mask=2)])[-1] == '{"count":5,"ok":"count"}'
     own.click("#back")
     # The rule of README can't be undone. The page says why, and nothing has changed.
-    own.until("document.getElementById('trouble').dataset.fault === '64'")
+    own.wait_until("document.getElementById('trouble').dataset.fault === '64'")
     own.assert_shows(session)
 
 
@@ -68,8 +68,8 @@ def test_the_window_shows_the_cells(own: Teacher) -> None:
     # The middle of the window is the corner of the torus: letters lie over both seams.
     shown = cells.picture_after(own.cam6, [*lines, moved(FEW)])
     middle = ImageChops.offset(shown, 50, 50).crop((0, 0, 100, 100))
-    assert len(cells.drawn(middle)) > 50
-    until(lambda: own.seen(-50, -50, 100).tobytes() == middle.tobytes())
+    assert len(cells.lit_pixels(middle)) > 50
+    wait_until(lambda: own.seen(-50, -50, 100).tobytes() == middle.tobytes())
     assert cells.difference(own.seen(-50, -50, 100), middle) == ""
 
 
@@ -88,7 +88,7 @@ def test_time_runs_and_pauses(own: Teacher, press: Callable[[Teacher], None], di
     own.slide("#dial", dial)
     own.script("document.activeElement.blur()")
     press(own)
-    assert until(lambda: own.count() / steps > 1)
+    assert wait_until(lambda: own.count() / steps > 1)
     press(own)
     own.assert_shows([*lines, moved(own.settled())])
 
@@ -96,7 +96,7 @@ def test_time_runs_and_pauses(own: Teacher, press: Callable[[Teacher], None], di
 def test_the_scrubber_goes_to_a_step(own: Teacher) -> None:
     lines = own.set_up(LETTERS)
     own.click("#run")
-    assert until(lambda: own.count() > 40)
+    assert wait_until(lambda: own.count() > 40)
     count = own.pause()
     own.slide("#scrubber", count // 2)
     own.assert_shows([*lines, moved(count // 2)])
@@ -120,7 +120,7 @@ def test_a_fault_is_told_at_its_token(own: Teacher, text: str) -> None:
     title = next(entry["title"] for entry in entries if entry["number"] == reply["fault"])
     own.begin_anew()
     own.write_rule(rule)
-    own.until("!document.getElementById('rule-fault').hidden")
+    own.wait_until("!document.getElementById('rule-fault').hidden")
     token = reply.get("token", "")
     told = own.value("({ ...document.getElementById('rule-fault').dataset })")
     assert told == {"fault": str(reply["fault"]), "token": str(token)}
@@ -131,7 +131,7 @@ def test_a_fault_is_told_at_its_token(own: Teacher, text: str) -> None:
     marked = [(number, text.strip("⏎ \n")) for number, text in own.value(marks)]
     assert marked == ([(str(token), tokens[min(token, len(tokens)) - 1])] if token else [])
     own.write_rule(rule | {"text": ": F CENTER >PLN0 ;"})
-    own.until("document.getElementById('rule-fault').hidden")
+    own.wait_until("document.getElementById('rule-fault').hidden")
 
 
 def test_the_pencil_draws_a_line(own: Teacher) -> None:
@@ -158,18 +158,20 @@ def test_a_pattern_is_pasted_and_a_text_that_is_none_is_named_with_its_line(own:
     own.click("#pattern")
     own.fill("#paste-text", "x = 3, y = 3\nbo$2b?$3o!")
     own.click("#paste")
-    assert "2" in own.until("(place => !place.hidden && place.textContent)(document.getElementById('paste-fault'))")
+    assert "2" in own.wait_until(
+        "(place => !place.hidden && place.textContent)(document.getElementById('paste-fault'))"
+    )
     own.fill("#paste-text", GLIDER)
     own.click("#paste")
-    own.until("document.getElementById('torus').dataset.piece && !document.querySelector('dialog[open]')")
+    own.wait_until("document.getElementById('torus').dataset.piece && !document.querySelector('dialog[open]')")
     own.key(Keys.ENTER)
-    assert until(lambda: len(cells.drawn(own.canvas())) == len(GLIDER_CELLS))
-    found = cells.drawn(own.canvas())
+    assert wait_until(lambda: len(cells.lit_pixels(own.canvas())) == len(GLIDER_CELLS))
+    found = cells.lit_pixels(own.canvas())
     left, top = (min(places) for places in zip(*found))
     assert {(x - left, y - top) for x, y in found} == GLIDER_CELLS
     # It is in the machine too, which the page brings along.
     own.reload()
-    assert until(lambda: cells.drawn(own.canvas()) == found)
+    assert wait_until(lambda: cells.lit_pixels(own.canvas()) == found)
 
 
 def test_a_page_that_is_loaded_again_goes_on(own: Teacher) -> None:
@@ -216,5 +218,5 @@ def test_a_picture_has_a_pixel_for_each_cell_and_a_film_the_states_one_after_ano
 @pytest.mark.parametrize("entry, each, is_hidden", [("critters", "2", False), (LETTERS, "1", True)])
 def test_a_rule_that_flashes_has_a_warning(own: Teacher, entry: str, each: str, is_hidden: bool) -> None:
     own.set_up(entry)
-    own.until(f"document.getElementById('warning').hidden === {str(is_hidden).lower()}")
+    own.wait_until(f"document.getElementById('warning').hidden === {str(is_hidden).lower()}")
     assert own.value("document.getElementById('each').value") == each

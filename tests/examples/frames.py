@@ -51,10 +51,10 @@ def terminal(colour: Callable[[int, int], int]) -> str:
     return f"\x1b[H{lines}\x1b[J"
 
 
-def drawn() -> str:
+def draw_frames() -> str:
     """Both frames."""
     return terminal(in_plane) + terminal(in_colours)
 
 
 # The functions that make the texts of files.
-FILES = {"crates/cam6_draw/stdin": replies, "crates/cam6_draw/stdout": drawn}
+FILES = {"crates/cam6_draw/stdin": replies, "crates/cam6_draw/stdout": draw_frames}

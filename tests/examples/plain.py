@@ -56,13 +56,13 @@ class Torus(NamedTuple):
         """Cells, moved over the torus."""
         return frozenset(((x + columns) % self.side, (y + rows) % self.side) for x, y in cells)
 
-    def beside(self, cell: Cell, ways: Iterable[Cell]) -> list[Cell]:
+    def cells_at(self, cell: Cell, ways: Iterable[Cell]) -> list[Cell]:
         """The cells that lie these ways from one."""
         return [((cell[0] + i) % self.side, (cell[1] + j) % self.side) for i, j in ways]
 
     def counts(self, cells: Cells, ways: Iterable[Cell]) -> Counter[Cell]:
         """How many of its neighbours are set, of each cell that has one."""
-        return Counter(one for cell in cells for one in self.beside(cell, ways))
+        return Counter(one for cell in cells for one in self.cells_at(cell, ways))
 
     def place(self, cell: Cell) -> int:
         """The place of a cell in its block, clockwise from the upper left one."""
@@ -72,7 +72,7 @@ class Torus(NamedTuple):
         """The blocks that have one of these cells, each as its cells, clockwise from the upper left one."""
         odd = self.is_odd
         corners = {(x - (x + odd) % 2, y - (y + odd) % 2) for x, y in cells}
-        return [self.beside(corner, PLACES) for corner in {(x % self.side, y % self.side) for x, y in corners}]
+        return [self.cells_at(corner, PLACES) for corner in {(x % self.side, y % self.side) for x, y in corners}]
 
     def shown(self, name: str, own: int) -> Plane:
         """What the cells see under a name, in the half whose first plane this is."""

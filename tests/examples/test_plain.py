@@ -64,7 +64,7 @@ def banks(torus: Torus, cells: Cells) -> Iterable[Cell]:
     """A cell of three or four set neighbours is set, one of two that meet at a corner is cleared, and each other one stays."""
     counts = torus.counts(cells, FOUR)
     for cell in cells | counts.keys():
-        north, south, *_ = (one in cells for one in torus.beside(cell, FOUR))
+        north, south, *_ = (one in cells for one in torus.cells_at(cell, FOUR))
         if counts[cell] > 2 or cell in cells and not (counts[cell] == 2 and north != south):
             yield cell
 

@@ -81,9 +81,9 @@ class PlacedExample(Example):
 
     def want(self, text: str) -> None:
         """Wants a line, or several."""
-        before = self.part().wanted.count(b"\n")
+        before = self.last_part().wanted.count(b"\n")
         super().want(text)
-        self.places += [self.wanted_at] * (self.part().wanted.count(b"\n") - before)
+        self.places += [self.wanted_at] * (self.last_part().wanted.count(b"\n") - before)
 
 
 def answered(path: Path) -> str:

@@ -148,7 +148,7 @@ class Example:
             raise Unplayable(f"{self.name}: its head doesn't say which line is wrong")
         return int(said[1])
 
-    def part(self) -> Part:
+    def last_part(self) -> Part:
         """The last part. Lines before the first one are a session."""
         if not self.parts:
             self.parts.append(Part("session"))
@@ -156,11 +156,11 @@ class Example:
 
     def send(self, text: str, end: bytes = b"\n") -> None:
         """Sends a line."""
-        self.part().sent.append((written_out(text, self.named), end))
+        self.last_part().sent.append((written_out(text, self.named), end))
 
     def want(self, text: str) -> None:
         """Wants a line."""
-        self.part().wanted += written_out(text, self.named) + b"\n"
+        self.last_part().wanted += written_out(text, self.named) + b"\n"
 
     def end_rows(self) -> None:
         """Ends the rows that were begun: they are wanted, or sent."""

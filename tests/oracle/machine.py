@@ -78,12 +78,12 @@ class Machine:
 
     def step(self, way: str) -> None:
         """The planes after the entry at the position, or before it. A half without a rule keeps its planes."""
-        entry = self.entries[self.position]
-        new = list(self.torus.planes)
+        entry, new = self.entries[self.position], list(self.torus.planes)
+        of_half = self.torus.step_half if way == "after" else self.torus.undo_half
         for half, first in FIRST_PLANE.items():
             if entry[half.lower()] != "-":
                 rule = self.rules[entry[half.lower()]]
-                new[first : first + 2] = getattr(self.torus, way)(rule, entry["grid"], entry["phase"])
+                new[first : first + 2] = of_half(rule, entry["grid"], entry["phase"])
         self.torus.planes = new
 
     def has_row(self, plane: int, row: int) -> bool:

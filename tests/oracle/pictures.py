@@ -25,7 +25,7 @@ def pictures(replies: str) -> Iterator[Image.Image]:
             rows = []
 
 
-def drawn(
+def draw(
     replies: str, scale: int, window: Sequence[int] | None, palette: Sequence[Light] | None = None
 ) -> list[Image.Image]:
     """The pictures in a window, column, row, width and height, with so many pixels for a cell each way. A window goes round

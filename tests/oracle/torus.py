@@ -76,14 +76,14 @@ class Torus:
             row[first::2] = shifted(self.row(own, y + j - PLACES[place][1]), i - right)[first::2]
         return bytes(row)
 
-    def after(self, rule: Rule, grid: str, phase: int) -> list[list[bytes]]:
+    def step_half(self, rule: Rule, grid: str, phase: int) -> list[list[bytes]]:
         """The two planes of the rule's half after a step."""
         rows, half = range(self.side), rule.key.half
         said = said_to(rule, [b"".join(self.shown(name, half, grid, phase, y) for y in rows) for name in rule.names])
         bits = (said.translate(BITS[place]) for place in (0, 1))
         return [[plane[y * self.side : (y + 1) * self.side] for y in rows] for plane in bits]
 
-    def before(self, rule: Rule, grid: str, phase: int) -> list[list[bytes]]:
+    def undo_half(self, rule: Rule, grid: str, phase: int) -> list[list[bytes]]:
         """The two planes of the rule's half before a step: of each block the state that becomes this one."""
         odd, own, half = int(grid == "ODD"), FIRST_PLANE[rule.key.half], self.side // 2
         was, old = bytearray(256), [[bytearray(self.side) for _ in range(self.side)] for _ in range(2)]

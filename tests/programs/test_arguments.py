@@ -17,7 +17,7 @@ import pytest
 from oracle.lines import plain
 from oracle.schedules import on
 from support.commands import Command, cycle_command, do, rule_command
-from support.programs import TOP, Host, Peer, Ran, ran, until
+from support.programs import TOP, Host, Peer, Ran, ran, wait_until
 
 EXAMPLES = TOP / "crates" / "cam6_host" / "arguments.examples"
 STATEMENT = TOP / "crates" / "cam6_modes" / "specs" / "Statuses.antt"
@@ -116,7 +116,7 @@ def test_a_host_has_these_users_and_boards(words: str, users: int, boards: int, 
         # It reads no input, so one that can't be read makes no difference.
         it = host(*words.split(), f"--connections={users + 1}", stdin=stream.fileno())
     # Each board has a thread, beside the program's first one and one for a user.
-    assert until(lambda: it.of_process("Threads") == 1 + boards, 10), it.of_process("Threads")
+    assert wait_until(lambda: it.of_process("Threads") == 1 + boards, 10), it.of_process("Threads")
     for user in range(1, users + 1):
         with Peer(it.port, user) as peer:
             assert peer.said == '{"ok":"seat"}'

@@ -20,7 +20,7 @@ from contextlib import ExitStack, closing, suppress
 from pathlib import Path
 
 import pytest
-from support.programs import TOP, until
+from support.programs import TOP, wait_until
 
 pytestmark = pytest.mark.xdist_group("live")
 
@@ -61,7 +61,7 @@ class Live:
 
     def address(self) -> str:
         """The address that it prints, or nothing."""
-        until(lambda: not self.read() or ADDRESS.search(self.said), START)
+        wait_until(lambda: not self.read() or ADDRESS.search(self.said), START)
         found = ADDRESS.search(self.said)
         return found[1].decode() if found else ""
 
@@ -143,7 +143,7 @@ def test_both_programs_end_with_their_terminal(live: Starts) -> None:
     address = it.address()
     assert address
     it.terminal.close()
-    assert until(lambda: not it.left(), END), it.left()
+    assert wait_until(lambda: not it.left(), END), it.left()
     assert hosts_at(address) == "", "nobody listens"
 
 
@@ -177,7 +177,7 @@ def test_a_later_message_of_each_program_is_passed_on(word: bytes, live: Starts)
     with ExitStack() as stack:
         for _ in range(8):
             stack.enter_context(socket.create_connection(("127.0.0.1", int(words[words.index(b"--port") + 1]))))
-        assert until(lambda: it.read() and b": cannot accept a connection" in it.said, START), it.said
+        assert wait_until(lambda: it.read() and b": cannot accept a connection" in it.said, START), it.said
     it.press_ctrl_c()
     assert (it.status(), it.left()) == (0, [])
 
@@ -199,7 +199,7 @@ def test_all_that_a_program_says_is_passed_on(live: Starts, tmp_path: Path, monk
     loud.chmod(0o755)
     monkeypatch.setenv("CAM6", str(loud))
     it = live()
-    assert until(lambda: it.read() and it.said.endswith(b"no end"), START), it.said
+    assert wait_until(lambda: it.read() and it.said.endswith(b"no end"), START), it.said
     it.press_ctrl_c()
     assert (it.status(), it.left()) == (0, [])
     assert it.said.startswith(b"before\r\n")

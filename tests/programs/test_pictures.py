@@ -15,7 +15,7 @@ from pathlib import Path
 
 import pytest
 from PIL import Image, ImageSequence
-from oracle.pictures import drawn
+from oracle.pictures import draw
 from support.programs import TOP, assert_refused, ran
 from support.tools import tool
 
@@ -79,7 +79,7 @@ OPTIONS.add_argument("--crop", type=int, nargs=4)
 OPTIONS.add_argument("--palette", type=lambda lights: [tuple(bytes.fromhex(light)) for light in lights.split(",")])
 
 
-def beside(images: list[Image.Image], gap: int) -> Image.Image:
+def join_pictures(images: list[Image.Image], gap: int) -> Image.Image:
     """Pictures side by side on white, with so many pixels between two."""
     width = sum(image.width + gap for image in images) - gap
     strip = Image.new("RGB", (width, images[0].height), "white")
@@ -96,14 +96,14 @@ def test_the_programs_and_the_oracle_draw_it(name: str, cam6: str, cam6_draw: st
     assert (done.status, len(told)) == (0, len(drawing.lines))
     assert not [reply for reply in told if "fault" in reply]
     asked, theirs = OPTIONS.parse_args(drawing.draw), ran([cam6_draw, "--ppm", *drawing.draw], done.output)
-    ours = drawn(done.output.decode(), asked.scale, asked.crop, asked.palette)
+    ours = draw(done.output.decode(), asked.scale, asked.crop, asked.palette)
     assert theirs.status == 0
     if not drawing.is_film:
         assert pixels_of(ours[-1:]) == wanted
         assert files_in(theirs.output)[-1:] == wanted
         return
     gap = int(drawing.film[drawing.film.index("--gap") + 1]) if "--strip" in drawing.film else None
-    assert pixels_of(ours if gap is None else [beside(ours, gap)]) == wanted
+    assert pixels_of(ours if gap is None else [join_pictures(ours, gap)]) == wanted
     packed = ran([*FILM, *drawing.film], theirs.output)
     assert packed.status == 0
     assert pictures_in(BytesIO(packed.output)) == wanted

@@ -33,8 +33,8 @@ def usual(cam6: str) -> Session:
 
 
 @pytest.fixture
-def beside(host: Hosts, usual: Session) -> Iterator[Hosts]:
-    """Starts a host at which a user goes on until the test has ended: `beside(2, "--users=5")` is one with user 2."""
+def host_with_user(host: Hosts, usual: Session) -> Iterator[Hosts]:
+    """Starts a host at which a user goes on until the test has ended: `host_with_user(2, "--users=5")` is one with user 2."""
     with ExitStack() as stack:
 
         def begin(user: int, *options: str) -> Host:

@@ -10,7 +10,7 @@ from collections.abc import Callable
 from concurrent.futures import ThreadPoolExecutor
 
 import pytest
-from support.programs import END, Host, Peer, private, until
+from support.programs import END, Host, Peer, private, wait_until
 from support.sessions import assert_replies
 
 from .users import CELL, NO_JSON, NO_NAMES, NO_SEAT, ONE_NAME, PARITY, PLANES, ROW, RULES, RUN, SEAT, SEATED, START
@@ -23,9 +23,9 @@ GRACE = 5
 
 
 @pytest.fixture
-def there(beside: Hosts) -> Host:
+def there(host_with_user: Hosts) -> Host:
     """A host of five users that doesn't end by itself. User 2 goes on beside the test."""
-    return beside(2, "--users=5", "--connections=0")
+    return host_with_user(2, "--users=5", "--connections=0")
 
 
 def is_free(there: Host, user: int) -> None:
@@ -114,8 +114,8 @@ def test_3000_connections_hold_no_more_memory_or_threads_than_300(there: Host) -
     memory, threads = there.of_process("VmRSS"), there.of_process("Threads")
     for number in range(3000):
         Peer(there.port, 9 if number % 2 else 1).close()
-    assert until(lambda: there.of_process("Threads") - threads < 20, GRACE)
-    assert until(lambda: there.of_process("VmRSS") - memory < 2000, GRACE)
+    assert wait_until(lambda: there.of_process("Threads") - threads < 20, GRACE)
+    assert wait_until(lambda: there.of_process("VmRSS") - memory < 2000, GRACE)
 
 
 def stacks(host: Host) -> int:
@@ -130,9 +130,9 @@ def stacks(host: Host) -> int:
 def test_the_memory_of_60_connections_comes_back_when_they_close(host: Hosts) -> None:
     one = host("--users=4")
     with connected(Peer, one.port, 60):
-        assert until(lambda: stacks(one) > 60)
+        assert wait_until(lambda: stacks(one) > 60)
     # Nobody connects after them. Two are of boards, and the C library keeps 40 MB of stacks for threads to come.
-    assert until(lambda: stacks(one) < 12, 1 + GRACE), stacks(one)
+    assert wait_until(lambda: stacks(one) < 12, 1 + GRACE), stacks(one)
 
 
 def limit(host: Host, kind: int, most: int) -> int:
@@ -146,8 +146,8 @@ def test_connections_without_a_thread_are_closed_and_others_are_served(there: Ho
     # There is room for what a session takes and for the stacks of threads that have ended, and for no other.
     threads, said = there.of_process("Threads"), set()
     with connected(Peer, there.port, 3):
-        assert until(lambda: there.of_process("Threads") == threads + 3)
-    assert until(lambda: there.of_process("Threads") == threads)
+        assert wait_until(lambda: there.of_process("Threads") == threads + 3)
+    assert wait_until(lambda: there.of_process("Threads") == threads)
     before = limit(there, resource.RLIMIT_AS, there.of_process("VmSize") * 1024 + 4_000_000)
     with connected(Peer, there.port, 30) as peers:
         for peer in peers:
@@ -170,7 +170,7 @@ def test_who_finds_no_file_left_is_answered_once_others_have_gone(there: Host) -
     most = max(files(there)) + 5
     before = limit(there, resource.RLIMIT_NOFILE, most)
     with connected(Peer, there.port, 20):
-        assert until(lambda: len(there.said) > 1)
+        assert wait_until(lambda: len(there.said) > 1)
         waits = Peer(there.port)
         waits.send(f"{SEAT % 9}\n")
         assert there.is_running()
@@ -193,7 +193,7 @@ def test_a_host_that_had_a_client_does_not_end_if_nobody_can_be_accepted(host: H
     with Peer(one.port, 1) as peer:
         peer.ask(PARITY)
     is_free(one, 1)
-    assert until(lambda: files(one) == own)
+    assert wait_until(lambda: files(one) == own)
     before = without_files(one)
     # The call that waits for a connection has a file for it already.
     is_free(one, 1)

@@ -11,7 +11,7 @@ from contextlib import suppress
 from statistics import median
 
 import pytest
-from support.programs import END, Peer, Ran, private, until
+from support.programs import END, Peer, Ran, private, wait_until
 from support.sessions import line_of
 
 from .users import BACK, NO_JSON, NO_NAMES, NO_SEAT, ONE_NAME, PARITY, ROW, RULES, RUN, SEAT, SEATED, START, TAKEN
@@ -31,10 +31,10 @@ def first_answer(port: int, line: str) -> str | None:
     return None
 
 
-def test_of_300_silent_clients_68_may_wait_for_a_seat(beside: Hosts) -> None:
-    one, begun = beside(1, "--users=4"), time.monotonic()
+def test_of_300_silent_clients_68_may_wait_for_a_seat(host_with_user: Hosts) -> None:
+    one, begun = host_with_user(1, "--users=4"), time.monotonic()
     with connected(Peer, one.port, 300) as peers:
-        assert until(lambda: closed(peers, 0.1) >= 300 - (4 + MORE), WAIT - 2)
+        assert wait_until(lambda: closed(peers, 0.1) >= 300 - (4 + MORE), WAIT - 2)
         assert closed(peers, 0.5) == 300 - (4 + MORE)
         assert time.monotonic() - begun < WAIT
         # So is who comes then.
@@ -42,8 +42,8 @@ def test_of_300_silent_clients_68_may_wait_for_a_seat(beside: Hosts) -> None:
 
 
 @pytest.mark.slow
-def test_silent_clients_are_closed_after_ten_seconds(beside: Hosts) -> None:
-    one, begun = beside(1, "--users=4"), time.monotonic()
+def test_silent_clients_are_closed_after_ten_seconds(host_with_user: Hosts) -> None:
+    one, begun = host_with_user(1, "--users=4"), time.monotonic()
     with connected(Peer, one.port, 300) as peers:
         assert closed(peers, WAIT + GRACE) == 300
         assert time.monotonic() - begun > WAIT - 1
@@ -81,27 +81,29 @@ FIRST_LINES = {
 
 
 @pytest.mark.parametrize("line, wanted", FIRST_LINES.values(), ids=FIRST_LINES)
-def test_a_first_line_is_text_and_has_a_greatest_length(beside: Hosts, line: bytes, wanted: list[str | None]) -> None:
-    with Peer(beside(2, "--users=2").port) as peer:
+def test_a_first_line_is_text_and_has_a_greatest_length(
+    host_with_user: Hosts, line: bytes, wanted: list[str | None]
+) -> None:
+    with Peer(host_with_user(2, "--users=2").port) as peer:
         peer.send(line + b"\n")
         assert [peer.read() for _ in wanted] == wanted
 
 
-def test_of_60_clients_that_send_a_load_first_eight_are_heard(beside: Hosts) -> None:
-    one = beside(1, "--users=4")
+def test_of_60_clients_that_send_a_load_first_eight_are_heard(host_with_user: Hosts) -> None:
+    one = host_with_user(1, "--users=4")
     before = one.of_process("VmRSS")
     with connected(Peer, one.port, 60) as peers:
         for peer in peers:
             with suppress(ConnectionError):
                 peer.send(LOAD + "0" * 2_000_000)
-        assert until(lambda: closed(peers, 0.1) >= 60 - LONG, WAIT - 2)
+        assert wait_until(lambda: closed(peers, 0.1) >= 60 - LONG, WAIT - 2)
         assert closed(peers, 0.5) == 60 - LONG
         assert one.of_process("VmRSS") - before < 30_000
 
 
 @pytest.mark.slow
-def test_who_reads_nothing_loses_the_seat_after_a_minute(beside: Hosts) -> None:
-    one = beside(3, "--users=3")
+def test_who_reads_nothing_loses_the_seat_after_a_minute(host_with_user: Hosts) -> None:
+    one = host_with_user(3, "--users=3")
     with Peer(one.port, 1) as deaf, Peer(one.port, 2) as shut:
         fill(deaf)
         fill(shut)
@@ -114,8 +116,8 @@ def test_who_reads_nothing_loses_the_seat_after_a_minute(beside: Hosts) -> None:
             seated(Peer, one.port, user, end - time.monotonic()).close()
 
 
-def test_a_seat_is_free_after_two_seconds_of_silence_and_its_machine_stays(beside: Hosts) -> None:
-    one = beside(3, "--users=3", "--idle=2")
+def test_a_seat_is_free_after_two_seconds_of_silence_and_its_machine_stays(host_with_user: Hosts) -> None:
+    one = host_with_user(3, "--users=3", "--idle=2")
     with Peer(one.port, 1) as quiet:
         quiet.ask(PARITY)
         assert closed([quiet], 2 + GRACE) == 1
@@ -123,18 +125,18 @@ def test_a_seat_is_free_after_two_seconds_of_silence_and_its_machine_stays(besid
             assert again.ask(RULES) == ONE_NAME
 
 
-def test_who_says_something_each_second_keeps_the_seat(beside: Hosts) -> None:
+def test_who_says_something_each_second_keeps_the_seat(host_with_user: Hosts) -> None:
     # A busy machine may add some seconds.
-    with Peer(beside(3, "--users=3", "--idle=4").port, 2) as lively:
+    with Peer(host_with_user(3, "--users=3", "--idle=4").port, 2) as lively:
         end = time.monotonic() + 9
         while time.monotonic() < end:
             assert lively.ask(RULES) == NO_NAMES
             time.sleep(1)
 
 
-def test_runs_are_no_silence(cam6: str, beside: Hosts) -> None:
+def test_runs_are_no_silence(cam6: str, host_with_user: Hosts) -> None:
     session = [*START, RUN % 65535, ROW % 7]
-    with Peer(beside(3, "--users=3", "--idle=2").port, 1) as peer:
+    with Peer(host_with_user(3, "--users=3", "--idle=2").port, 1) as peer:
         begun = time.monotonic()
         said = answers(peer, session)
         # So many runs take three seconds, for which the client says nothing.
@@ -177,9 +179,9 @@ def longest_part(user: Peer, other: Peer, line: str) -> float:
     return max(waits) / taken.result()
 
 
-def test_beside_sixteen_expensive_tables_another_user_waits_for_a_few(beside: Hosts) -> None:
+def test_beside_sixteen_expensive_tables_another_user_waits_for_a_few(host_with_user: Hosts) -> None:
     # Each table is filled under the cache's lock, and others may have it in between. So a wait is some of sixteen fillings.
-    one = beside(1)
+    one = host_with_user(1)
     with Peer(one.port, 2) as user, Peer(one.port, 3) as other:
         prepare(user, other, 16)
         assert median(longest_part(user, other, line) for line in (RUN % 1, BACK) * 4) < 1 / 2

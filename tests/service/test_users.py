@@ -30,7 +30,7 @@ from oracle.machine import Alone
 from oracle.wirings import FIRST_PLANE
 from programs.texts import rules
 from support.commands import cycle_command, do, rule_command
-from support.programs import END, Host, Peer, Ran, until
+from support.programs import END, Host, Peer, Ran, wait_until
 from support.sessions import assert_replies, line_of
 from support.stateful import play
 
@@ -146,7 +146,7 @@ def test_32_users_on_eight_boards_have_the_replies_of_private_machines(host: Hos
         user.begin()
     for user in long:
         user.peer.send(plain(user.steps) + b"\n")
-    assert until(lambda: running(one) >= BOARDS)
+    assert wait_until(lambda: running(one) >= BOARDS)
     for user in others:
         user.peer.send(plain(user.steps) + b"\n")
     came = [user.peer.read() for user in others]

@@ -11,7 +11,7 @@ from contextlib import AbstractContextManager, suppress
 from functools import partial
 
 import pytest
-from support.programs import Page, Peer, until
+from support.programs import Page, Peer, wait_until
 from websockets.exceptions import InvalidStatus
 from websockets.frames import Opcode
 
@@ -88,7 +88,7 @@ def test_a_crowd_that_says_nothing_is_bounded(page: Pages, readme: Session) -> N
             assert max(threads, crowded.of_process("Threads")) <= SOCKETS + MORE_THREADS
             assert at_once < closed(many, REQUEST + GRACE) == CROWD, "those that are taken are closed after ten seconds"
             assert time.monotonic() - begun > REQUEST - 1
-        assert until(lambda: get(crowded.port, "/").status == 200, 5)
+        assert wait_until(lambda: get(crowded.port, "/").status == 200, 5)
         assert crowded.of_process("VmRSS") - before < HELD, "kilobytes are held for a crowd"
 
 
@@ -111,8 +111,8 @@ def test_so_many_sockets_are_open_and_no_more(page: Pages, options: tuple[str, .
         assert status_of(port, fields={"Origin": "http://x"}) == 403, "another origin is told before that"
         assert [one.ask("{}") for one in many] == [NO_COMMAND] * most, "those that are open go on"
         many[0].leave()
-        assert until(lambda: status_of(port) == 101, 5), "there is room after one was closed"
-    assert until(lambda: status_of(port) == 101, 5), "there is room after all of them went"
+        assert wait_until(lambda: status_of(port) == 101, 5), "there is room after one was closed"
+    assert wait_until(lambda: status_of(port) == 101, 5), "there is room after all of them went"
 
 
 # What sockets send without reading: each for planes, for faults, and for pongs.
@@ -137,7 +137,7 @@ def test_sockets_that_never_read_are_held_back(page: Pages, readme: Session) -> 
     with ThreadPoolExecutor() as pool, connected(kind, asked.port, len(ASKS)) as deaf, goes_on(asked, readme):
         sending = [pool.submit(send, *pair) for pair in zip(ASKS, deaf)]
         wait(sending, 36)
-        assert until(sending[-1].done, 30), f"pings are neither all taken nor held back: {sent}"
+        assert wait_until(sending[-1].done, 30), f"pings are neither all taken nor held back: {sent}"
         assert sent["planes"] < most or sent["pings"] < most
         assert asked.of_process("VmRSS") - before < HELD_FOR_DEAF, "kilobytes are held for sockets that never read"
 

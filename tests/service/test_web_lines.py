@@ -8,7 +8,7 @@ from collections.abc import Iterator
 from concurrent.futures import ThreadPoolExecutor
 
 import pytest
-from support.programs import Page, private, until
+from support.programs import Page, private, wait_until
 from support.sessions import assert_replies, line_of
 from websockets.frames import Opcode
 
@@ -121,6 +121,6 @@ def test_a_message_that_is_no_line_closes_the_socket(host: Recorder, one: Socket
     threading.Thread(target=one.try_to_send, args=(data,), daemon=True).start()
     (code, reason), end = row["close"], one.closed()
     assert end and end[0] in (code, *row.get("or", [])) and reason in (None, end[1])
-    assert until(told.has_ended.is_set), "the connection to the host is still open"
+    assert wait_until(told.has_ended.is_set), "the connection to the host is still open"
     assert told.data == b"first\n"
     assert steady.ask("on") == "[on]"

@@ -7,7 +7,7 @@ from collections.abc import Callable, Iterator
 from functools import partial
 
 import pytest
-from support.programs import Host, Page, free_port, private, until
+from support.programs import Host, Page, free_port, private, wait_until
 from support.sessions import assert_replies
 from websockets.frames import Opcode
 
@@ -98,7 +98,7 @@ def test_pages_that_only_come_and_go_leave_nothing(host: Hosts, page: Pages) -> 
             if number % 3:
                 one.send(SEAT % (1 + number % 4))
     seated(Socket, served.port, 1, SEAT_PATIENCE).close()
-    assert until(lambda: served.of_process("Threads") <= 12, 10), served.of_process("Threads")
+    assert wait_until(lambda: served.of_process("Threads") <= 12, 10), served.of_process("Threads")
 
 
 def test_sockets_of_the_second_path_are_those_of_the_second_host(host: Hosts, page: Pages, readme: Session) -> None:

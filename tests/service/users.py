@@ -10,7 +10,7 @@ from selectors import EVENT_READ, DefaultSelector
 from threading import Event
 from typing import NamedTuple, TypeVar
 
-from support.programs import END, PATIENCE, TOP, Host, Page, Peer, until
+from support.programs import END, PATIENCE, TOP, Host, Page, Peer, wait_until
 from support.sessions import assert_replies, line_of
 
 Hosts = Callable[..., Host]
@@ -121,7 +121,7 @@ def steady(peer: Peer, session: Session, pause: float = 0) -> Iterator[Callable[
     with peer, ThreadPoolExecutor(1) as pool:
         going = pool.submit(go_on)
         try:
-            assert until(lambda: rounds or going.done(), END)
+            assert wait_until(lambda: rounds or going.done(), END)
             yield lambda: rounds
         finally:
             enough.set()

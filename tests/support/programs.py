@@ -80,7 +80,7 @@ def of_process(pid: int, name: str) -> int:
         return next((int(line.split()[1]) for line in lines if line.startswith(f"{name}:")), 0)
 
 
-def until(is_so: Callable[[], Any], seconds: float = PATIENCE, pause: float = 0.02) -> bool:
+def wait_until(is_so: Callable[[], Any], seconds: float = PATIENCE, pause: float = 0.02) -> bool:
     """Waits until something is so, for so many seconds at most. Returns whether it came to be so."""
     end = time.monotonic() + seconds
     while not (found := is_so()) and time.monotonic() < end:
@@ -140,7 +140,7 @@ class Listener:
 
     def begin(self) -> None:
         """Starts the program again, at the same port."""
-        assert until(self.begins, START), self.said
+        assert wait_until(self.begins, START), self.said
 
     def kill(self) -> None:
         """Ends the program at once."""

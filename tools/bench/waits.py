@@ -228,7 +228,7 @@ class Hostile:
                     raise SystemExit(f"waits.py: {reply!r}")
 
 
-def beside(program: str, text_of: Callable[[int], str], hostile: int, *words: str) -> None:
+def measure_beside_hostile(program: str, text_of: Callable[[int], str], hostile: int, *words: str) -> None:
     """A user beside so many hostile ones."""
     host = Host(program, *words)
     user = host.user(1)
@@ -260,8 +260,8 @@ def main() -> None:
     lone(asked.program, asked.count)
     bothered(asked.program, max(asked.count // 20, 1))
     for text_of in [choosing_text, uneven_text]:
-        beside(asked.program, text_of, 1)
-        beside(asked.program, text_of, 8, "--users", "9", "--boards", "8")
+        measure_beside_hostile(asked.program, text_of, 1)
+        measure_beside_hostile(asked.program, text_of, 8, "--users", "9", "--boards", "8")
 
 
 if __name__ == "__main__":

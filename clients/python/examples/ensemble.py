@@ -157,7 +157,7 @@ def kept_or_done(plan: Plan, rule: str, seed: int, number: int) -> Counts:
     return counts
 
 
-def part(rule: str, seed: int, plan: Plan, number: int) -> tuple[Counts, float]:
+def run_part(rule: str, seed: int, plan: Plan, number: int) -> tuple[Counts, float]:
     """The counts of a part, and how many seconds it took here."""
     began = time.perf_counter()
     if plan.folder is None:
@@ -218,7 +218,7 @@ def client_of(asked: argparse.Namespace) -> Iterator[Any]:
 def submitted(client: Any, plan: Plan, tasks: Sequence[Task], number: int, retries: int) -> list[Any]:
     """A part of each of these tasks, as futures. Later parts go first, so that tasks end early."""
     futures: list[Any] = client.map(
-        part,
+        run_part,
         [rule for rule, _ in tasks],
         [seed for _, seed in tasks],
         plan=plan,

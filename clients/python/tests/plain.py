@@ -45,7 +45,7 @@ class Torus(torus.Torus):
     def step(self, rule: Any, grid: str = "EVEN", phase: int = 0) -> None:
         """A step by a rule of one half."""
         first = FIRST_PLANE[rule.half]
-        self.planes[first : first + 2] = self.after(kept(rule), grid, phase)
+        self.planes[first : first + 2] = self.step_half(kept(rule), grid, phase)
 
 
 def played(program: str, commands: Iterable[dict[str, Any]], side: int = 128) -> list[dict[str, Any]]:

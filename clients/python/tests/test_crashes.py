@@ -274,10 +274,10 @@ def test_the_next_program_has_a_checkpoint_on_the_disk(sync: str, path: Path) ->
     lives = Lives(path, sync)
     with lives.disk.used():
         first = lives.opened()
-        first.asked([RUN])
+        first.record_commands([RUN])
         first.checkpoint(SAVED)
         second = lives.ends(first, Failure(SYNC_FOLDER, kind="kill"))
-        assert second.drop() == [RUN]
+        assert second.drop_pending() == [RUN]
         last = lives.ends(second, Failure(CUT, kind="power"))
         assert (list(last.pending), last.number) == ([], 0)
 
@@ -292,7 +292,7 @@ def test_what_is_asked_for_after_a_failed_checkpoint_is_on_the_disk(at: int, kin
         lives.disk.begin(Failure(at, kind=kind))
         with pytest.raises(GOES_ON):
             first.checkpoint(SAVED)
-        first.asked([RUN])
+        first.record_commands([RUN])
         last = lives.ends(first, Failure(CUT, kind="power"))
         assert (list(last.pending), last.number) == ([RUN], 1)
 
@@ -330,8 +330,8 @@ def test_a_damaged_middle_is_told(data: st.DataObject, asked: list[bytes], count
     with tempfile.TemporaryDirectory() as folder:
         path = Path(folder) / "journal"
         with closing(Journal(str(path), "none", LIMIT)) as made:
-            made.asked(asked)
-            made.answered([b'{"fault":2}'] * min(count, len(asked)))
+            made.record_commands(asked)
+            made.record_replies([b'{"fault":2}'] * min(count, len(asked)))
         rows = path.read_bytes().splitlines(keepends=True)
         place = data.draw(st.integers(1, len(rows) - 2), "place")
         row = rows[place][: data.draw(st.integers(0, len(rows[place]) - 2), "kept")]
@@ -414,7 +414,7 @@ def known_to(made: Journal) -> Known:
     return Known(made.load, tuple(made.tail), tuple(made.pending), made.number)
 
 
-def said(data: Optional[bytes]) -> Known:
+def known_from(data: Optional[bytes]) -> Known:
     """What the content of a file says."""
     made = Journal(None, "none", LIMIT)
     made._read(data or b"", "what is left")
@@ -513,37 +513,39 @@ class Journals(RuleBasedStateMachine):
     @invariant()
     def is_written(self) -> None:
         """If the program ended now, or the computer, the file would say what it may."""
-        assert said(self.disk.path.read_bytes()) in self.file
+        assert known_from(self.disk.path.read_bytes()) in self.file
         for renames in range(len(self.disk.before) + 1):
-            assert said(self.disk.left(0, renames)) in self.power
+            assert known_from(self.disk.left(0, renames)) in self.power
 
     @rule(sent=st.lists(st.sampled_from([RUN, LOAD, b"\xff\xc3", compact(do="clear", plane=0), COUNT]), max_size=3))
     def ask(self, sent: list[bytes]) -> None:
         """Commands are asked for."""
         acts: list[Act] = [partial(Known.asked, line=line) for line in sent]
         sync = Sync.SYNCED if self.sync == "each" else Sync.NEVER
-        self.do(lambda: self.journal.asked(sent), acts, sync, is_known=False)
+        self.do(lambda: self.journal.record_commands(sent), acts, sync, is_known=False)
 
     @precondition(lambda self: bool(self.now.pending))
     @rule(count=st.integers(1, 3))
     def answer(self, count: int) -> None:
         """The first ones have answers."""
         replies = [REPLIES.get(line, DONE) for line in self.now.pending[:count]]
-        self.do(lambda: self.journal.answered(replies), [partial(Known.answered, reply=reply) for reply in replies])
+        self.do(
+            lambda: self.journal.record_replies(replies), [partial(Known.answered, reply=reply) for reply in replies]
+        )
 
     @precondition(lambda self: b'"run"' in b"".join(self.now.pending[:1]))
     @rule(steps=st.integers(0, 3))
-    def part(self, steps: int) -> None:
+    def do_part(self, steps: int) -> None:
         """Some steps of the first one are done."""
         steps = min(steps, json.loads(self.now.pending[0])["n"])
         part = compact(do="run", n=steps)
-        self.do(lambda: self.journal.part(part, DONE), [partial(Known.parted, steps=steps)])
+        self.do(lambda: self.journal.record_part(part, DONE), [partial(Known.parted, steps=steps)])
 
     @precondition(lambda self: bool(self.now.pending))
     @rule()
     def drop(self) -> None:
         """Those without an answer are given up."""
-        self.do(self.journal.drop, [Known.dropped], Sync.SYNCED)
+        self.do(self.journal.drop_pending, [Known.dropped], Sync.SYNCED)
 
     @rule(load=st.sampled_from([LOAD, SAVED]))
     def save(self, load: bytes) -> None:

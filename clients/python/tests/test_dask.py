@@ -19,7 +19,7 @@ from typing import Any
 
 import ensembles
 import pytest
-from support.programs import free_port, until
+from support.programs import free_port, wait_until
 
 pytestmark = [pytest.mark.slow, pytest.mark.ensemble]
 
@@ -167,7 +167,7 @@ def test_a_computer_is_lost(cam6: str, tmp_path: Path) -> None:
     with computers(cam6, tmp_path) as (address, [lost, _]):
         command = [sys.executable, ensembles.SCRIPT, "--compare", "--scheduler", address, "--folder", str(kept), *steps]
         with subprocess.Popen(command, env=ensembles.environment(cam6), **how) as run:
-            until(lambda: run.poll() is not None or kept.is_dir() and len(os.listdir(kept)) > 12, 600, 0.01)
+            wait_until(lambda: run.poll() is not None or kept.is_dir() and len(os.listdir(kept)) > 12, 600, 0.01)
             assert run.poll() is None
             os.killpg(lost.pid, signal.SIGKILL)
             said = run.communicate(timeout=600)[0]

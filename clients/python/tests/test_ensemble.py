@@ -38,8 +38,8 @@ def plan(cam6: str, tmp_path: Path) -> Any:
 
 def counts_by(plan: Any, rule: str = "critters", seed: int = 1, **changes: Any) -> list[int]:
     """The counts of a task, whose parts this process does in order, by the plan with some changes."""
-    changed, part = dataclasses.replace(plan, **changes), ensembles.script().part
-    return [count for number in range(changed.parts) for count in part(rule, seed, changed, number)[0]]
+    changed, run_part = dataclasses.replace(plan, **changes), ensembles.script().run_part
+    return [count for number in range(changed.parts) for count in run_part(rule, seed, changed, number)[0]]
 
 
 @pytest.mark.parametrize(
@@ -71,7 +71,7 @@ def test_a_part_whose_program_fails_leaves_nothing(plan: Any, tmp_path: Path) ->
 
 def test_a_part_before_that_is_not_there(plan: Any) -> None:
     with pytest.raises(FileNotFoundError, match="do all workers see this folder"):
-        ensembles.script().part("critters", 1, plan, 1)
+        ensembles.script().run_part("critters", 1, plan, 1)
 
 
 RIGHT = {("life", 0): [1, 2], ("life", 1): [3, 4]}

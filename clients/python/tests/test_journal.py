@@ -42,13 +42,25 @@ def written(made: Journal) -> list[Any]:
     run, clear_1, clear_2 = compact(do="run", n=500), compact(do="clear", plane=1), compact(do="clear", plane=2)
     ran, load = b'{"ok":"run","position":0}', lines.LOAD_HEAD + b"{}}"
     entries: list[tuple[Callable[..., Any], list[Any]]] = [
-        *((made.asked, [[RULE]]), (made.answered, [[b'{"ok":"rule"}']])),
-        *((made.asked, [[CYCLE]]), (made.asked, [[run]])),
-        *((made.answered, [[b'{"ok":"cycle"}']]), (made.part, [compact(do="run", n=200), ran])),
-        *((made.asked, [[b"\xff\xc3\xa9 no text"]]), (made.answered, [[ran]]), (made.answered, [[b'{"fault":2}']])),
-        *((made.asked, [[compact(do="count", mask=3)]]), (made.answered, [[b'{"count":1,"ok":"count"}']])),
-        *((made.asked, [[clear_1]]), (made.drop, []), (made.asked, [[load]]), (made.answered, [[b'{"ok":"load"}']])),
-        (made.asked, [[clear_2]]),
+        *((made.record_commands, [[RULE]]), (made.record_replies, [[b'{"ok":"rule"}']])),
+        *((made.record_commands, [[CYCLE]]), (made.record_commands, [[run]])),
+        *((made.record_replies, [[b'{"ok":"cycle"}']]), (made.record_part, [compact(do="run", n=200), ran])),
+        *(
+            (made.record_commands, [[b"\xff\xc3\xa9 no text"]]),
+            (made.record_replies, [[ran]]),
+            (made.record_replies, [[b'{"fault":2}']]),
+        ),
+        *(
+            (made.record_commands, [[compact(do="count", mask=3)]]),
+            (made.record_replies, [[b'{"count":1,"ok":"count"}']]),
+        ),
+        *(
+            (made.record_commands, [[clear_1]]),
+            (made.drop_pending, []),
+            (made.record_commands, [[load]]),
+            (made.record_replies, [[b'{"ok":"load"}']]),
+        ),
+        (made.record_commands, [[clear_2]]),
     ]
     states = [state_of(made)]
     for act, said in entries:
@@ -79,7 +91,7 @@ def test_a_file_that_is_cut_at_any_byte(path: Path, opened: Opened) -> None:
         path.write_bytes(data[:cut])
         with closing(Journal(str(path), "none", 128)) as one:
             assert state_of(one) == states[sum(end <= cut for end in ends) - 1], f"cut after {cut} bytes"
-            one.asked([b"next"])
+            one.record_commands([b"next"])
         with closing(Journal(str(path), "none", 128)) as again:
             assert again.pending[-1] == b"next"
 
@@ -153,8 +165,8 @@ def test_a_machine_of_a_journal_that_is_cut(path: Path, port: int, connected: Co
 
 def test_a_checkpoint_keeps_what_is_not_answered(path: Path, opened: Opened) -> None:
     made = opened(sync="checkpoint")
-    made.asked([RULE, CYCLE, b"rest"])
-    made.answered([b'{"ok":"rule"}', b'{"ok":"cycle"}'])
+    made.record_commands([RULE, CYCLE, b"rest"])
+    made.record_replies([b'{"ok":"rule"}', b'{"ok":"cycle"}'])
     plain = Plain(128)
     plain.answer(RULE)
     made.checkpoint(plain.load_line())
@@ -172,13 +184,13 @@ def test_a_full_disk(path: Path, opened: Opened) -> None:
     disk = Disk(path)
     with disk.used():
         made = opened()
-        made.asked([RULE])
+        made.record_commands([RULE])
         disk.begin(Failure(at=0, cut=7, kind="error"))
         with pytest.raises(OSError):
-            made.asked([CYCLE])
+            made.record_commands([CYCLE])
         assert (list(made.pending), made.number) == ([RULE], 1)
-        made.answered([b'{"ok":"rule"}'])
-        made.asked([CYCLE])
+        made.record_replies([b'{"ok":"rule"}'])
+        made.record_commands([CYCLE])
         want = state_of(made)
         made.close()
     assert state_of(opened()) == want
@@ -191,9 +203,9 @@ def test_the_file_is_on_the_disk_when_it_should_be(
     calls: list[int] = []
     made = opened(sync=sync)
     monkeypatch.setattr(os, "fsync", calls.append)
-    made.asked([RULE])
+    made.record_commands([RULE])
     assert len(calls) == at_asked
-    made.answered([b'{"ok":"rule"}'])
+    made.record_replies([b'{"ok":"rule"}'])
     made.checkpoint(lines.blank(128))
     assert len(calls) == at_asked + at_checkpoint
 

@@ -286,7 +286,7 @@ def test_a_program_that_is_started_again_gives_it_up(breaking: Breakings, connec
     port = breaking(kills).port
     with connected(port, journal=path) as machine:
         machine.set_row(0, 5, "f" * 32)
-        session_of(machine).journal.asked([KILLER])
+        session_of(machine).journal.record_commands([KILLER])
     with pytest.raises(cam6.GaveUp) as raised:
         connected(port, journal=path, deadline=3)
     assert raised.value.undone == [KILLER]
@@ -375,7 +375,7 @@ def test_a_command_without_an_answer(port: int, connected: Connected, path: Path
     want = answers(sent, 128)
     with connected(port, journal=path) as machine:
         machine._query(sent[:3])
-        session_of(machine).journal.asked(sent[3:4])
+        session_of(machine).journal.record_commands(sent[3:4])
     machine = connected(port, journal=path)
     assert session_of(machine).resumed == [(sent[3], want[3])]
     assert session_of(machine).asked == 4
@@ -387,7 +387,7 @@ def test_a_long_run_that_was_cut(port: int, connected: Connected, path: Path) ->
     sent = [RULE, CYCLE, OTHER_SET, compact(do="run", n=20), lines.SAVE]
     session = open_session(port, 300, path)
     session.query(sent[:3])
-    session.journal.asked(sent[3:4])
+    session.journal.record_commands(sent[3:4])
     session._send([], time.monotonic() + 20)
     session.close()
     assert b'"n":17' in session.journal.pending[0]
@@ -405,7 +405,7 @@ def test_a_journal_that_has_commands_waits_for_a_host(host: Hosts, connected: Co
     there = host(*SMALL)
     with connected(there.port, journal=path) as machine:
         machine.set_row(0, 5, "f" * 32)
-        session_of(machine).journal.asked([CLEAR_1])
+        session_of(machine).journal.record_commands([CLEAR_1])
     there.kill()
     with pytest.raises(cam6.GaveUp):
         connected(there.port, journal=path, deadline=0.3)

@@ -21,7 +21,7 @@ from typing import Self
 
 import pytest
 from service.users import SEAT, TAKEN
-from support.programs import TOP, Env, Peer, free_port, of_process, until
+from support.programs import TOP, Env, Peer, free_port, of_process, wait_until
 
 DEPLOY, NAME, HOSTS = TOP / "deploy", "cam6.example", ("one", "two", "three")
 NODES = ("users", "gone", "front", *HOSTS)
@@ -185,7 +185,7 @@ class Proxy(Service):
 
     def start(self, *more: str) -> None:
         super().start(*more)
-        until(lambda: self.is_there() or self.process.poll() is not None, START)
+        wait_until(lambda: self.is_there() or self.process.poll() is not None, START)
         assert self.is_there(), f"{' '.join(self.words)} is not there; {self.log} says why"
 
     def is_there(self) -> bool:
@@ -265,7 +265,7 @@ class Fleet:
 
     def is_ready(self, seconds: float) -> bool:
         """Whether all hosts are up, within so many seconds."""
-        return until(lambda: all(map(self.front.is_up, HOSTS)), seconds)
+        return wait_until(lambda: all(map(self.front.is_up, HOSTS)), seconds)
 
     def stream_to(self, node: str, address: str, port: int, source: str = "") -> socket.socket:
         """A connection from a node to an address."""

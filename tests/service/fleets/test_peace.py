@@ -17,7 +17,7 @@ import pytest
 from service.pages import Answer, Socket, get
 from service.users import BALLS, NO_JSON, NO_NAMES, NO_SEAT, PLANES, ROW, RULES, RUN, SAVE, SEAT, SEATED, START
 from service.users import answers, closed, seated
-from support.programs import Peer, private, until
+from support.programs import Peer, private, wait_until
 from support.sessions import assert_replies
 
 from .services import DEPLOY, HOSTS, NAME, OVER, Fleet, Proxy, ended_by_sigterm
@@ -148,9 +148,9 @@ def test_the_seat_is_free_of_a_user_whose_machine_is_gone(cabled: Fleet, seat: i
             # The run takes longer than the cable is in place: some two seconds.
             before = cabled.hosts[name].seconds()
             one.send(f"{RUN % min(steps, 65535)}\n")
-            assert until(lambda: cabled.hosts[name].seconds() > before, pause=0.002), "the host doesn't run"
+            assert wait_until(lambda: cabled.hosts[name].seconds() > before, pause=0.002), "the host doesn't run"
         with cabled.ground.pulled("gone"):
-            assert until(lambda: not cabled.is_taken(name, seat), GONE + GRACE)
+            assert wait_until(lambda: not cabled.is_taken(name, seat), GONE + GRACE)
 
 
 def test_one_address_has_so_many_connections_and_no_more(fleet: Fleet) -> None:
@@ -159,7 +159,7 @@ def test_one_address_has_so_many_connections_and_no_more(fleet: Fleet) -> None:
         for _ in range(PER_SOURCE + 20):
             with suppress(ConnectionResetError):
                 many.append(stack.enter_context(fleet.user("127.0.0.9")))
-        until(lambda: len(many) - closed(many, 0) <= PER_SOURCE, WAIT / 2)
+        wait_until(lambda: len(many) - closed(many, 0) <= PER_SOURCE, WAIT / 2)
         assert len(many) - closed(many, 0) == PER_SOURCE
         assert fleet.answer_of(SEAT % 99) == NO_SEAT, "another address is served beside it"
 
@@ -175,7 +175,7 @@ def seats(fleet: Fleet) -> Iterator[Callable[[str], Peer]]:
         return Peer(fleet.stream_to("front", "127.0.0.1", fleet.port_of(value)))
 
     with Proxy(fleet, "front", "haproxy-seats.cfg", "haproxy-seats") as proxy:
-        assert until(lambda: all(proxy.is_up(name, name) for name in HOSTS), GRACE)
+        assert wait_until(lambda: all(proxy.is_up(name, name) for name in HOSTS), GRACE)
         yield connect
 
 
@@ -250,7 +250,7 @@ class Pages:
 def test_a_browser_stays_with_a_program_and_goes_on_at_the_other_one(fleet: Fleet, cam6_web: str, cam6: str) -> None:
     pages, lines = Pages(fleet, cam6_web), [*BALLS, RUN % 9, SAVE]
     with pages.programs["one"], pages.programs["two"], pages.front:
-        assert until(lambda: all(pages.front.is_up(name, "pages") for name in pages.programs), GRACE)
+        assert wait_until(lambda: all(pages.front.is_up(name, "pages") for name in pages.programs), GRACE)
         first = pages.get("/")
         found = re.search(r"cam6=(one|two)", first.fields.get("set-cookie", ""))
         assert first.status == 200 and found

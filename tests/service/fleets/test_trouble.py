@@ -24,7 +24,7 @@ from typing import Any, NamedTuple
 import pytest
 from oracle.machine import Alone
 from service.users import NO_SEAT, SEAT
-from support.programs import TOP, ran, until
+from support.programs import TOP, ran, wait_until
 
 from .services import HOSTS, NAME, Fleet, Service
 from .session import Played, Player, read
@@ -95,7 +95,7 @@ class Troubles:
 
     def is_seen_as(self, name: str, state: str) -> None:
         """The front has to see in time that a host is in a state."""
-        is_so = until(lambda: self.fleet.front.state(name) == state, SEEN)
+        is_so = wait_until(lambda: self.fleet.front.state(name) == state, SEEN)
         self.note(is_so, f"the front doesn't see within {SEEN} seconds that host {name} is {state}")
 
     def are_answered(self, when: str) -> None:
@@ -120,7 +120,7 @@ class Troubles:
         with self.fleet.hosts[name].stopped():
             if is_watched:
                 self.is_seen_as(name, "DOWN")
-                have_gone = until(lambda: self.fleet.front.stats(name)["scur"] == "0", SEEN)
+                have_gone = wait_until(lambda: self.fleet.front.stats(name)["scur"] == "0", SEEN)
                 self.note(have_gone, f"users of the stopped host {name} are not told to go")
             yield
         self.is_seen_as(name, "UP")
@@ -130,12 +130,12 @@ class Troubles:
         (name,) = self.some_hosts()
         self.fleet.is_ready(10)
         self.fleet.front.ask(f"set server fleet/{name} state drain")
-        until(lambda: self.fleet.front.state(name) == "DRAIN", 2)
+        wait_until(lambda: self.fleet.front.state(name) == "DRAIN", 2)
         before = self.fleet.front.stats(name)["stot"]
         self.are_answered(f"while host {name} is drained")
         self.note(self.fleet.front.stats(name)["stot"] == before, f"the drained host {name} gets a new user")
         self.fleet.front.ask(f"set server fleet/{name} state maint")
-        have_gone = until(lambda: self.fleet.front.stats(name)["scur"] == "0", 3)
+        have_gone = wait_until(lambda: self.fleet.front.stats(name)["scur"] == "0", 3)
         self.note(have_gone, f"users of host {name} in maintenance don't go elsewhere")
         self.fleet.hosts[name].kill()
         yield
@@ -221,7 +221,7 @@ def clients(pytestconfig: pytest.Config, fleet: Fleet) -> Iterator[list[Client]]
     with ExitStack() as stack:
         for client in made:
             stack.enter_context(client.service)
-        have_begun = until(lambda: all(read(client.record).lines for client in made), ENDING)
+        have_begun = wait_until(lambda: all(read(client.record).lines for client in made), ENDING)
         assert have_begun, [client.last_lines() for client in made]
         yield made
 
@@ -292,7 +292,7 @@ def test_sessions_lose_nothing_in_trouble(
     troubles.play(seconds)
     troubles.note(fleet.is_ready(20), f"the hosts are not all up at the end: {[*map(fleet.front.state, HOSTS)]}")
     (fleet.folder / "over").touch()
-    until(lambda: all(client.service.process.poll() is not None for client in clients), ENDING)
+    wait_until(lambda: all(client.service.process.poll() is not None for client in clients), ENDING)
     wrong = troubles.wrong + [client.last_lines() for client in clients if client.service.process.poll() != 0]
     with ProcessPoolExecutor() as pool:
         asked = [(cam6, client.record, client.is_small, seconds > SHORT) for client in clients]

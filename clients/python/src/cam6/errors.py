@@ -77,7 +77,7 @@ class Fault(Cam6Error):
         self.phase: Optional[int] = reply.get("phase")
         states = reply.get("states")
         self.states: Optional[tuple[int, int]] = (states[0], states[1]) if states else None
-        super().__init__(self._told())
+        super().__init__(self._describe())
 
     def __reduce__(self) -> tuple[Any, ...]:
         return type(self), (self.reply, self.line), {"index": self.index, "results": self.results}
@@ -97,7 +97,7 @@ class Fault(Cam6Error):
         """What to do."""
         return sentences(self.number)[2]
 
-    def _told(self) -> str:
+    def _describe(self) -> str:
         parts = [f"{self.number}: {self.sentence} {self.advice}"]
         if self.token is not None:
             parts.append(shown_token(command_of(self.line).get("text", ""), self.token))

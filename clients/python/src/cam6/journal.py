@@ -119,29 +119,29 @@ class Journal:
             self.pending.append(bytes_of(said["ask"]))
             self.number += 1
         elif "part" in said:
-            self._part(bytes_of(said["part"]), bytes_of(said["reply"]))
+            self._apply_part(bytes_of(said["part"]), bytes_of(said["reply"]))
         elif "done" in said:
             # A command that changed the machine, of a file that an earlier version wrote anew.
             self.tail.append((bytes_of(said["done"]), bytes_of(said["reply"])))
         elif "drop" in said:
-            self._drop(int(said["drop"]))
+            self._apply_drop(int(said["drop"]))
         else:
-            self._answered(None if said["reply"] is None else bytes_of(said["reply"]))
+            self._apply_reply(None if said["reply"] is None else bytes_of(said["reply"]))
 
     # What happens, in memory
 
-    def _part(self, line: bytes, reply: bytes) -> None:
+    def _apply_part(self, line: bytes, reply: bytes) -> None:
         self.tail.append((line, reply))
         self.pending[0] = rest_of(self.pending[0], line)
 
-    def _answered(self, reply: Optional[bytes]) -> None:
+    def _apply_reply(self, reply: Optional[bytes]) -> None:
         line = self.pending.popleft()
         if reply == lines.LOADED:
             self.load, self.tail = line, []
         elif reply is not None:
             self.tail.append((line, reply))
 
-    def _drop(self, count: int) -> None:
+    def _apply_drop(self, count: int) -> None:
         if count != len(self.pending):
             raise ValueError
         self.pending.clear()
@@ -149,31 +149,31 @@ class Journal:
 
     # What happens, in memory and in the file
 
-    def asked(self, commands: Sequence[bytes]) -> None:
+    def record_commands(self, commands: Sequence[bytes]) -> None:
         """Commands are about to be sent. If they can't be written, raises `OSError`, and nothing has changed."""
         self._write([{"ask": text_of(command)} for command in commands], self.sync == "each", is_known=False)
         self.pending.extend(commands)
         self.number += len(commands)
 
-    def part(self, line: bytes, reply: bytes) -> None:
+    def record_part(self, line: bytes, reply: bytes) -> None:
         """Some steps of the first command without an answer were done."""
-        self._part(line, reply)
+        self._apply_part(line, reply)
         self._write([{"part": text_of(line), "reply": text_of(reply)}], False)
 
-    def answered(self, replies: Sequence[bytes]) -> None:
+    def record_replies(self, replies: Sequence[bytes]) -> None:
         """The first commands without an answer have these replies."""
         rows = []
         for reply in replies:
             kept = reply if reply.startswith(lines.CHANGES) else None
-            self._answered(kept)
+            self._apply_reply(kept)
             rows.append({"reply": None if kept is None else text_of(kept)})
         self._write(rows, False)
 
-    def drop(self) -> list[bytes]:
+    def drop_pending(self) -> list[bytes]:
         """The commands without an answer are given up. Returns them."""
         dropped = list(self.pending)
         if dropped:
-            self._drop(len(dropped))
+            self._apply_drop(len(dropped))
             self._write([{"drop": len(dropped)}], self.sync != "none")
         return dropped
 

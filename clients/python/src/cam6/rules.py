@@ -292,7 +292,7 @@ def margolus_table(
     `blocks`. Raises RuleError with the line if the text is no such table.
     """
     table = _table_of(text)
-    return blocks(table.after, states or table.states, half=half, edge=edge, name=name)
+    return blocks(table.next_block, states or table.states, half=half, edge=edge, name=name)
 
 
 class _Table:
@@ -303,7 +303,7 @@ class _Table:
         self.variables: Dict[str, List[str]] = {}
         self.transitions: List[Tuple[List[str], List[str]]] = []
 
-    def after(self, block: Block) -> Tuple[int, ...]:
+    def next_block(self, block: Block) -> Tuple[int, ...]:
         for left, right in self.transitions:
             for places in _SYMMETRIES[self.symmetries]:
                 found = self.bound([left[place] for place in places], block)

@@ -167,17 +167,17 @@ class Session:
         """Takes the first seat. A new journal is not worth waiting for: a mistyped address is told at once."""
         if self.journal.number == 0:
             try:
-                self._rebuild(seated(self._connector), self._until())
+                self._rebuild(seated(self._connector), self._time_of_deadline())
             except Lost:
                 if self._connector.seat is None:
                     raise
         if self._there is None:
-            self._recover(self._until(), Lost("No host was reached."))
+            self._recover(self._time_of_deadline(), Lost("No host was reached."))
         self.recoveries = 0
         waiting = list(self.journal.pending)
         self.resumed = list(zip(waiting, self._finish()))
 
-    def _until(self) -> float:
+    def _time_of_deadline(self) -> float:
         return float("inf") if self.deadline is None else time.monotonic() + self.deadline
 
     def _patience(self) -> float:
@@ -198,7 +198,7 @@ class Session:
         try:
             self._finish()  # What is left of a call that was interrupted.
             while left:
-                self.journal.asked(left[0])
+                self.journal.record_commands(left[0])
                 del left[0]
                 replies += self._finish()
                 self._checkpoint_if_due()
@@ -210,7 +210,7 @@ class Session:
     def _finish(self) -> list[bytes]:
         """The replies to all commands without an answer."""
         replies: list[bytes] = []
-        until, wait = self._until(), FIRST_WAIT
+        until, wait = self._time_of_deadline(), FIRST_WAIT
         self._is_sent = False
         while self.journal.pending:
             done = self._done
@@ -223,10 +223,10 @@ class Session:
                 failure = cause
                 self._leave()
             if self._done != done:
-                until, wait = self._until(), FIRST_WAIT
+                until, wait = self._time_of_deadline(), FIRST_WAIT
             elif isinstance(failure, GaveUp) or failure and time.monotonic() >= until:
                 sentence = self._why_given_up(failure)
-                raise GaveUp(sentence, self.journal.drop(), replies) from failure
+                raise GaveUp(sentence, self.journal.drop_pending(), replies) from failure
             elif failure:
                 wait = paused(wait, until)
         return replies
@@ -248,7 +248,7 @@ class Session:
         def heard(some: list[bytes]) -> None:
             self._done += len(some)
             replies.extend(some)
-            self.journal.answered(some)
+            self.journal.record_replies(some)
 
         try:
             if short:
@@ -284,7 +284,7 @@ class Session:
             heard(replies)
             return
         self._done += 1
-        self.journal.part(part, replies[0])
+        self.journal.record_part(part, replies[0])
         rate = steps / max(time.monotonic() - started, 1e-6)
         self._rate = min(max(rate, self._rate / 4, 1.0), self._rate * 4)
 
